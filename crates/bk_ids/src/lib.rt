@@ -5,6 +5,7 @@ mod guid;
 mod name;
 mod path;
 mod record;
+mod sequence;
 mod text;
 mod unit;
 
@@ -12,5 +13,6 @@ pub use guid::Guid;
 pub use name::{Name, NameError};
 pub use path::{Branch, Lsn, Path};
 pub use record::{Body, CellImage, ExtentId, Mark, Place, Rec, RecoveryModel};
+pub use sequence::Sequence;
 pub use text::Text;
 pub use unit::UnitId;

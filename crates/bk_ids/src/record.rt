@@ -1,6 +1,7 @@
 use crate::guid::Guid;
 use crate::name::Name;
 use crate::path::Lsn;
+use crate::sequence::Sequence;
 use crate::text::Text;
 
 /// The place of a cell: its file from 1, its page there, and its slot on the page, below 63.
@@ -107,7 +108,7 @@ pub enum Body {
         first: u64,
         count: u32,
         value: Text,
-        extents: Vec<ExtentId>,
+        extents: Sequence<ExtentId>,
     },
     /// The database was recovered, and this branch began.
     Recovery {
