@@ -87,20 +87,19 @@ has_key rows key = is_some (lookup (is_at (nat_cmp key)) rows)
 abbrev pub most_rows : ℕ
 most_rows = 64512
 
--- the first rule that a statement breaks
-unfoldable pub broken : World → Statement → Option Rule
-broken w s = by s.item where
-  by : Item → Option Rule
-  by (item.CreateDatabase name) = when (nat_lt 0 (length w.databases)) (NotBuilt s.line)
-  by (item.Use name) = found (database_named w.databases name) NoSuchDatabase (λ db. None)
-  by (item.CreateTable name) = found (current_database w) NoSuchDatabase (λ db. when (nat_lt 0 (length (tables w db))) (NotBuilt s.line))
-  by (item.Insert table key value) = found (current_database w) NoSuchDatabase (λ db.
-    found (table_named (tables w db) table) NoSuchTable (λ t.
-    or_else (when (nat_le most_rows (length (visible w db t))) (NotBuilt s.line))
-    (when (has_key (visible w db t) key) (DuplicateKey key))))
-  by (item.Select table) = found (current_database w) NoSuchDatabase (λ db.
-    found (table_named (tables w db) table) NoSuchTable (λ t. None))
-  by item.NotBuilt = Some (NotBuilt s.line)
+-- the first rule that an item on this line breaks
+unfoldable pub broken : World → ℕ → Item → Option Rule
+broken w line (item.CreateDatabase name) = when (nat_lt 0 (length w.databases)) (NotBuilt line)
+broken w line (item.Use name) = found (database_named w.databases name) NoSuchDatabase (λ db. None)
+broken w line (item.CreateTable name) = found (current_database w) NoSuchDatabase (λ db.
+  when (nat_lt 0 (length (tables w db))) (NotBuilt line))
+broken w line (item.Insert table key value) = found (current_database w) NoSuchDatabase (λ db.
+  found (table_named (tables w db) table) NoSuchTable (λ t.
+  or_else (when (nat_le most_rows (length (visible w db t))) (NotBuilt line))
+  (when (has_key (visible w db t) key) (DuplicateKey key))))
+broken w line (item.Select table) = found (current_database w) NoSuchDatabase (λ db.
+  found (table_named (tables w db) table) NoSuchTable (λ t. None))
+broken w line item.NotBuilt = Some (NotBuilt line)
 
 -- What an accepted statement changes.
 
@@ -207,12 +206,14 @@ accepted w choice (item.Select table) now = with_found (current_database w) (λ 
   with_found (table_named (tables w db) table) (λ t. unchanged (Selected (visible w db t))))
 accepted w choice item.NotBuilt now = unchanged Done
 
+-- the outcome, but for a rule that is broken
+abbrev pub unless : Option Rule → Outcome → Outcome
+unless (Some rule) outcome = unchanged (Refused rule)
+unless None outcome = outcome
+
 -- the outcome of a statement
 unfoldable pub step : World → Choice → Statement → ℕ → Outcome
-step w choice s now = by (broken w s) where
-  by : Option Rule → Outcome
-  by (Some rule) = unchanged (Refused rule)
-  by None = accepted w choice s.item now
+step w choice s now = unless (broken w s.line s.item) (accepted w choice s.item now)
 
 -- which choices an item has. None of these items has one to make yet.
 abbrev pub IsAllowed : World → Choice → Item → Type 0
