@@ -1,0 +1,17 @@
+//! What a program sees of the outside: a device of named files with an output, a source of bytes, and a clock.
+#![tactic(auto)]
+
+mod clock;
+mod device;
+mod source;
+
+use thiserror::Error;
+
+pub use clock::Clock;
+pub use device::Device;
+pub use source::Source;
+
+/// A fault of a device or a source, whose count rose in the call that answered it.
+#[derive(Clone, Copy, Debug, PartialEq, Eq, Error)]
+#[error("the device or the source has failed")]
+pub struct Failed;
