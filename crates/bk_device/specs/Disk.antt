@@ -1,9 +1,14 @@
 -- What a device holds, and what a crash may leave of it.
-use Rattle.std.specs.Prelude.{◌≡◌, ◌≤◌, ℕ, List, Option}
+use Rattle.std.specs.Prelude.{◌≡◌, ◌≤◌, ℕ, List, Option, if◌then◌else◌}
+use Rattle.std.specs.Str.{bytes_eq}
 
 -- the contents of all files by name, none where a file is absent; a name and a content are bytes
 abbrev pub Files : Type 0
 Files = List ℕ → Option (List ℕ)
+
+-- the files with this content under one name
+abbrev pub replaced : Files → List ℕ → Option (List ℕ) → Files
+replaced files name content other = if bytes_eq name other then content else files other
 
 pub record Disk : Type 1 where
   -- what a read gives

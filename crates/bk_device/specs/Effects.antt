@@ -11,6 +11,10 @@ MayLeaveOwn own disk image = (name : List ℕ) → own name → disk.may name (i
 abbrev pub MayLeaveOthers : (List ℕ → Type 0) → Disk → Files → Type 0
 MayLeaveOthers own disk image = (name : List ℕ) → (own name → ⊥) → disk.may name (image name)
 
+-- this name alone
+abbrev pub IsName : List ℕ → List ℕ → Type 0
+IsName name other = other ≡ name
+
 -- Own names alone were touched, nothing was told, and a crash meanwhile or now leaves files that have P.
 pub record Effect (own : List ℕ → Type 0) (P : Files → Type 0) (old new : Disk) : Type 0 where
   -- other names: what a read gives is the same, and a crash may leave nothing more of them
@@ -21,6 +25,11 @@ pub record Effect (own : List ℕ → Type 0) (P : Files → Type 0) (old new : 
   pub now : (image : Files) → MayLeaveOwn own new image → P image
   -- what a crash at some moment left
   pub time : Elapses old new (λ image heard. P image × MayLeaveOthers own old image × (heard ≡ old.told))
+
+-- Under these names a read gives the same, and a crash may leave nothing more.
+pub record KeepsFiles (names : List ℕ → Type 0) (old new : Disk) : Type 0 where
+  pub same : (name : List ℕ) → names name → new.files name ≡ old.files name
+  pub nothing_more : (name : List ℕ) → names name → (content : Option (List ℕ)) → new.may name content → old.may name content
 
 -- Each crash at this moment or later left files and told bytes that have Q.
 pub record LeavesSince (entry : ℕ) (Q : Files → List ℕ → Type 0) (disk : Disk) : Type 0 where
