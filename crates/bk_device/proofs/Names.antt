@@ -1,5 +1,5 @@
 -- Files by name, one of them replaced.
-use Rattle.std.proofs.Common.{◌≡◌, ◌≢◌, ◌⊎◌, ℕ, List, Option, Bool, true, false, refl, inl, inr, subst, ap, sym, ◌∙◌}
+use Rattle.std.proofs.Common.{◌≡◌, ◌≢◌, ◌⊎◌, ℕ, List, Option, Bool, true, false, refl, inl, inr, sym, ◌∙◌}
 use Rattle.std.specs.Prelude.{if◌then◌else◌}
 use Rattle.std.specs.Str.{bytes_eq}
 use Rattle.std.proofs.lemmas.Slice.Eq.{bytes_eq-Decides}
@@ -19,8 +19,9 @@ unequal name other test same =
 pub same_or_other : (name other : List ℕ) → (other ≡ name) ⊎ (other ≢ name)
 same_or_other name other =
     elim (true_or_false (bytes_eq name other)) [
-        inl test ↦ inl (sym ((bytes_eq-Decides name other).0 test))
-        | inr test ↦ inr (unequal name other test) ]
+      | inl test ↦ inl (sym ((bytes_eq-Decides name other).0 test))
+      | inr test ↦ inr (unequal name other test)
+    ]
 
 pub replaced-same : (files : Files) (name : List ℕ) (content : Option (List ℕ)) → replaced files name content name ≡ content
 replaced-same files name content =

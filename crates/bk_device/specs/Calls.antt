@@ -1,5 +1,5 @@
 -- What one call does to a device, and what a crash during it or after it may leave.
-use Rattle.std.specs.Prelude.{◌≡◌, ◌≢◌, ◌⊎◌, ◌<◌, ◌≤◌, ℕ, ◌+◌, ◌-◌, min, max, List, [], ◌++◌, length, take, drop, Option, None, Some, unwrap_or, slice_index, option_map}
+use Rattle.std.specs.Prelude.{◌≡◌, ◌≢◌, ◌⊎◌, ◌<◌, ◌≤◌, ℕ, ◌+◌, max, List, [], ◌++◌, length, take, drop, Option, None, Some, unwrap_or, slice_index, option_map}
 use Rattle.bk_device.specs.Disk.{Files, Disk, MayLeave}
 
 -- the bytes of a file, none where it is absent

@@ -1,7 +1,7 @@
 -- What calls, or a whole layer, did to a device.
 use Rattle.std.specs.Prelude.{◌≡◌, ◌⊎◌, ◌≤◌, ℕ, List, [], ◌∷◌, Option}
 use Rattle.bk_device.specs.Calls.{Elapses}
-use Rattle.bk_device.specs.Disk.{Files, Disk, MayLeave}
+use Rattle.bk_device.specs.Disk.{Files, Disk}
 
 -- these files, under the names that a layer owns, may be left of the disk by a crash now
 abbrev pub MayLeaveOwn : (List ℕ → Type 0) → Disk → Files → Type 0

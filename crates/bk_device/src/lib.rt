@@ -5,11 +5,10 @@ mod clock;
 mod device;
 mod source;
 
-use thiserror::Error;
-
 pub use clock::Clock;
 pub use device::Device;
 pub use source::Source;
+use thiserror::Error;
 
 /// A fault of a device or a source, whose count rose in the call that answered it.
 #[derive(Clone, Copy, Debug, PartialEq, Eq, Error)]
