@@ -2,3 +2,4 @@ pub mod Calls
 pub mod Counts
 pub mod Disk
 pub mod Effects
+pub mod Sources

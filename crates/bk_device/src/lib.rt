@@ -3,10 +3,14 @@
 
 mod clock;
 mod device;
+mod fixed_clock;
+mod mem_source;
 mod source;
 
 pub use clock::Clock;
 pub use device::Device;
+pub use fixed_clock::FixedClock;
+pub use mem_source::MemSource;
 pub use source::Source;
 use thiserror::Error;
 
