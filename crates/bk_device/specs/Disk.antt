@@ -1,5 +1,5 @@
 -- What a device holds, and what a crash may leave of it.
-use Rattle.std.specs.Prelude.{◌≡◌, ◌≤◌, ℕ, List, Option, if◌then◌else◌}
+use Rattle.std.specs.Prelude.{◌≡◌, ◌≤◌, ℕ, List, [], Option, None, if◌then◌else◌}
 use Rattle.std.specs.Str.{bytes_eq}
 
 -- the contents of all files by name, none where a file is absent; a name and a content are bytes
@@ -42,3 +42,7 @@ pub record IsLawful (disk : Disk) : Type 0 where
   pub counts_now : (since : ℕ) (image : Files) → since ≤ disk.moment → MayLeave disk image → disk.left since image disk.told
   -- at this moment nothing else was left
   pub only_now : (image : Files) (heard : List ℕ) → disk.left disk.moment image heard → MayLeave disk image × (heard ≡ disk.told)
+
+-- of a device that tells nothing
+abbrev pub unknown_disk : Disk
+unknown_disk = record { files = λ _. None; may = λ _ _. Unit {0}; told = []; moment = 0; left = λ _ _ _. Unit {0} }

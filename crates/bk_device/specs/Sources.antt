@@ -1,10 +1,6 @@
 -- Sources and clocks in memory.
 use Rattle.std.specs.Prelude.{ℕ, ◌+◌, ◌*◌, ◌-◌, ◌^◌, min, List}
 
--- a count after one more, which stays at its greatest value
-abbrev pub one_more : ℕ → ℕ
-one_more count = min (count + 1) (2 ^ 64 - 1)
-
 -- the answer of this number, from 0, of a clock that adds a step at each call, never past the greatest u64
 abbrev pub time_after : ℕ → ℕ → ℕ → ℕ
 time_after start step i = min (start + i * step) (2 ^ 64 - 1)

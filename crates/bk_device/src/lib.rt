@@ -3,15 +3,21 @@
 
 mod clock;
 mod device;
+mod file_device;
 mod fixed_clock;
 mod mem_source;
 mod source;
+mod stdin_source;
+mod system_clock;
 
 pub use clock::Clock;
 pub use device::Device;
+pub use file_device::FileDevice;
 pub use fixed_clock::FixedClock;
 pub use mem_source::MemSource;
 pub use source::Source;
+pub use stdin_source::StdinSource;
+pub use system_clock::SystemClock;
 use thiserror::Error;
 
 /// A fault of a device or a source, whose count rose in the call that answered it.

@@ -1,8 +1,8 @@
 // A source over bytes in memory.
 ghost use Rattle.std.specs.Prelude.{◌≡◌, ◌<◌, ◌≤◌, ◌+◌, ◌++◌, ◌∷◌, ◌↔◌, [], length, take, drop, min, IsErr, IfOk, OnOk, OnErr, Contains};
 ghost use Rattle.bk_device.specs.Calls.{filled};
-ghost use Rattle.bk_device.specs.Counts.{HasRisen};
-ghost use Rattle.bk_device.specs.Sources.{SourceState, one_more};
+ghost use Rattle.bk_device.specs.Counts.{one_more};
+ghost use Rattle.bk_device.specs.Sources.{SourceState};
 
 use crate::{Failed, Source};
 use std::alloc::{AllocError, Global};
