@@ -24,3 +24,6 @@ use thiserror::Error;
 #[derive(Clone, Copy, Debug, PartialEq, Eq, Error)]
 #[error("the device or the source has failed")]
 pub struct Failed;
+
+#[cfg(test)]
+mod tests;
