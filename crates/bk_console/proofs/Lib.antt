@@ -1,3 +1,5 @@
+pub mod Asking
+pub mod Answering
 pub mod Tables
 pub mod Broken
 pub mod Steps

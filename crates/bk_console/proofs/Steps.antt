@@ -42,7 +42,8 @@ stepped-refused w line i now rule e = record {
   choice = some_choice;
   allowed = tt;
   replied = ap (λ o. (unless o (accepted w some_choice i now)).reply) e;
-  becomes = ap (λ o. last_world w (unless o (accepted w some_choice i now)).parts) e }
+  becomes = ap (λ o. last_world w (unless o (accepted w some_choice i now)).parts) e;
+}
 
 pub stepped : (w : World) (line : ℕ) (i : Item) (now : ℕ) (reply : Reply) (next : World) → None ≡ broken w line i
     → reply ≡ (accepted w some_choice i now).reply → next ≡ last_world w (accepted w some_choice i now).parts → Step w (record { item = i; line = line }) now reply next
@@ -51,7 +52,8 @@ stepped w line i now reply next e r n = record {
   choice = some_choice;
   allowed = tt;
   replied = r ∙ ap (λ o. (unless o (accepted w some_choice i now)).reply) e;
-  becomes = n ∙ ap (λ o. last_world w (unless o (accepted w some_choice i now)).parts) e }
+  becomes = n ∙ ap (λ o. last_world w (unless o (accepted w some_choice i now)).parts) e;
+}
 
 -- The current database.
 
@@ -85,19 +87,22 @@ created-keeps w name now none =
     let branch = drawn w (w.counter + 1) in
     let line = first_line branch (min now latest) in
     let here : line_of (line ∷ w.history) branch ≡ line = ap (λ t. cond t line (line_of w.history branch)) (is_guid-refl branch) in
-    let one : entries (line ∷ w.history) ((record { guid = branch; start = 1 }) ∷ []) 2 ≡ line.entries = ap (λ (l : Line). filter (λ e. eqb e.lsn 1) l.entries) here in
-    (new_database name (drawn w w.counter) branch,
-     ap (λ ds. ds ++ new_database name (drawn w w.counter) branch ∷ []) none,
-     record {
-       name = refl;
-       idle = refl;
-       goes_on = record {
-         branch = branch;
-         last = refl;
-         there = ap (λ t. cond t true (has_line w.history branch)) (is_guid-refl branch);
-         starts = (omega arith, tt);
-         below = subst (λ (l : Line). AllByRecursion (λ e. e.lsn < 2) l.entries) (sym here) (lit< tt, tt) };
-       table = (ap tables_of one, λ n. ap (λ es. rows_of n [] es) one) })
+    let one : entries (line ∷ w.history) ((record { guid = branch; start = 1 }) ∷ []) 2 ≡ line.entries = ap (λ (l : Line). filter (λ e. eqb e.lsn 1) l.entries) here in (
+      new_database name (drawn w w.counter) branch,
+      ap (λ ds. ds ++ new_database name (drawn w w.counter) branch ∷ []) none,
+      record {
+        name = refl;
+        idle = refl;
+        goes_on = record {
+          branch = branch;
+          last = refl;
+          there = ap (λ t. cond t true (has_line w.history branch)) (is_guid-refl branch);
+          starts = (omega arith, tt);
+          below = subst (λ (l : Line). AllByRecursion (λ e. e.lsn < 2) l.entries) (sym here) (lit< tt, tt);
+        };
+        table = (ap tables_of one, λ n. ap (λ es. rows_of n [] es) one);
+      },
+    )
 
 -- what the checks of CREATE DATABASE leave
 pub none-there : (w : World) (o : Option KeptDatabase) (line : ℕ) (name : List ℕ) → KeepsDatabases w o → None ≡ broken w line (CreateDatabase name) → w.databases ≡ []
@@ -144,7 +149,6 @@ table_room w line name e = by (current_database w) refl
 -- One entry more, and a later end.
 module _ (w : World) (db : Database) (kept : KeptDatabase) (only : w.databases ≡ db ∷ []) (keeps : KeepsDatabase w.history db kept)
     (entry : Entry) (ts : List Touch) (later : ℕ) (above : db.end ≤ entry.lsn) (below : entry.lsn < later) where
-
   pub logged-only : (logged w db entry ts later).databases ≡ (record db { end = later }) ∷ []
   unfolding logged
   logged-only =
@@ -183,17 +187,21 @@ table_added-keeps w db kept only keeps none name now table named empty =
     let made : TableSpec = record { number = length (tables w db) + 1; name = name; group = 0 } in
     let entry : Entry = plain_entry db.end (entry_time w db now) (table_made made) in
     let above : db.end ≤ entry.lsn = omega arith in
-    let below : entry.lsn < db.end + 1 = omega arith in
-    (record db { end = db.end + 1 },
-     logged-only w db kept only keeps entry [] (db.end + 1) above below,
-     record {
-       name = keeps.name;
-       idle = keeps.idle;
-       goes_on = logged-goes_on w db kept only keeps entry [] (db.end + 1) above below;
-       table = (made,
-         logged-tables w db kept only keeps entry [] (db.end + 1) above below ∙ ap (λ ts. ts ++ made ∷ []) none,
-         sym named,
-         logged-rows w db kept only keeps entry [] (db.end + 1) above below made.number ∙ no_table w.history db kept.table keeps.table none made.number ∙ sym empty) })
+    let below : entry.lsn < db.end + 1 = omega arith in (
+      record db { end = db.end + 1 },
+      logged-only w db kept only keeps entry [] (db.end + 1) above below,
+      record {
+        name = keeps.name;
+        idle = keeps.idle;
+        goes_on = logged-goes_on w db kept only keeps entry [] (db.end + 1) above below;
+        table = (
+          made,
+          logged-tables w db kept only keeps entry [] (db.end + 1) above below ∙ ap (λ ts. ts ++ made ∷ []) none,
+          sym named,
+          logged-rows w db kept only keeps entry [] (db.end + 1) above below made.number ∙ no_table w.history db kept.table keeps.table none made.number ∙ sym empty,
+        );
+      },
+    )
 
 -- INSERT.
 
@@ -208,19 +216,23 @@ row_added-keeps w db kept only keeps spec old is made named rows key value now t
     let above : db.end ≤ entry.lsn = omega arith in
     let below : entry.lsn < db.end + 3 = omega arith in
     let own : eqb spec.number spec.number ≡ true = grind (arith, nat_tests) in
-    let before = rows_below w.history db.path db.end spec.number in
-    (record db { end = db.end + 3 },
-     logged-only w db kept only keeps entry ts (db.end + 3) above below,
-     record {
-       name = keeps.name;
-       idle = keeps.idle;
-       goes_on = logged-goes_on w db kept only keeps entry ts (db.end + 3) above below;
-       table = (spec,
-         logged-tables w db kept only keeps entry ts (db.end + 3) above below ∙ append-nil _ ∙ made,
-         named ∙ sym same,
-         logged-rows w db kept only keeps entry ts (db.end + 3) above below spec.number
-         ∙ ap (λ t. cond t (insert_entry nat_cmp before key value) before) own
-         ∙ ap (λ r. insert_entry nat_cmp r key value) rows ∙ sym more) })
+    let before = rows_below w.history db.path db.end spec.number in (
+      record db { end = db.end + 3 },
+      logged-only w db kept only keeps entry ts (db.end + 3) above below,
+      record {
+        name = keeps.name;
+        idle = keeps.idle;
+        goes_on = logged-goes_on w db kept only keeps entry ts (db.end + 3) above below;
+        table = (
+          spec,
+          logged-tables w db kept only keeps entry ts (db.end + 3) above below ∙ append-nil _ ∙ made,
+          named ∙ sym same,
+          logged-rows w db kept only keeps entry ts (db.end + 3) above below spec.number
+              ∙ ap (λ t. cond t (insert_entry nat_cmp before key value) before) own
+              ∙ ap (λ r. insert_entry nat_cmp r key value) rows ∙ sym more,
+        );
+      },
+    )
 
 -- The whole step of CREATE TABLE and INSERT.
 
@@ -240,7 +252,8 @@ table-leads-from w db kept is only keeps none name now new adds = record {
   replied = sym (ap (λ o. (with_found o (λ d. in_one (table_added w d name now) Done)).reply) is);
   becomes = sym (ap (λ o. last_world w (with_found o (λ d. in_one (table_added w d name now) Done)).parts) is);
   current = refl;
-  databases = subst (λ o. KeepsDatabases (table_added w db name now) o) (sym adds.3) (table_added-keeps w db kept only keeps none name now adds.0 adds.1 adds.2) }
+  databases = subst (λ o. KeepsDatabases (table_added w db name now) o) (sym adds.3) (table_added-keeps w db kept only keeps none name now adds.0 adds.1 adds.2);
+}
 
 pub table-leads : (w : World) (o : Option KeptDatabase) (line : ℕ) (name : List ℕ) → KeepsDatabases w o → None ≡ broken w line (CreateTable name)
     → (now : ℕ) (new : Option KeptDatabase) → AddsTable o name new → Leads w (CreateTable name) now Done new
@@ -266,11 +279,11 @@ row_room w line name key value e = by (current_database w) refl
     by : (o : Option Database) → current_database w ≡ o → (db : Database) × (spec : TableSpec) × (current_database w ≡ Some db) × (table_named (tables w db) name ≡ Some spec)
     by None is =
         let refused : broken w line (Insert name key value) ≡ Some NoSuchDatabase =
-            ap (λ o. found o NoSuchDatabase (λ db. found (table_named (tables w db) name) NoSuchTable (λ t. or_else (when (leb most_rows (length (visible w db t))) (NotBuilt line)) (when (has_key (visible w db t) key) (DuplicateKey key))))) is in
+        ap (λ o. found o NoSuchDatabase (λ db. found (table_named (tables w db) name) NoSuchTable (λ t. or_else (when (leb most_rows (length (visible w db t))) (NotBuilt line)) (when (has_key (visible w db t) key) (DuplicateKey key))))) is in
         cc
     by (Some db) is =
         let left : None ≡ found (table_named (tables w db) name) NoSuchTable (λ t. or_else (when (leb most_rows (length (visible w db t))) (NotBuilt line)) (when (has_key (visible w db t) key) (DuplicateKey key))) =
-            e ∙ ap (λ o. found o NoSuchDatabase (λ db. found (table_named (tables w db) name) NoSuchTable (λ t. or_else (when (leb most_rows (length (visible w db t))) (NotBuilt line)) (when (has_key (visible w db t) key) (DuplicateKey key))))) is in
+        e ∙ ap (λ o. found o NoSuchDatabase (λ db. found (table_named (tables w db) name) NoSuchTable (λ t. or_else (when (leb most_rows (length (visible w db t))) (NotBuilt line)) (when (has_key (visible w db t) key) (DuplicateKey key))))) is in
         let there = in_table db (table_named (tables w db) name) refl left in
         (db, there.0, is, there.1)
 
@@ -298,12 +311,13 @@ row-leads-from w db kept is only keeps name spec found_it key value now new (Som
     record {
       next = row_added w db spec key value now;
       replied = sym (ap (λ o. (with_found o (λ d. with_found (table_named (tables w d) name) (λ s. in_one (row_added w d s key value now) (Counted 1)))).reply) is
-        ∙ ap (λ o. (with_found o (λ s. in_one (row_added w db s key value now) (Counted 1))).reply) found_it);
+          ∙ ap (λ o. (with_found o (λ s. in_one (row_added w db s key value now) (Counted 1))).reply) found_it);
       becomes = sym (ap (λ o. last_world w (with_found o (λ d. with_found (table_named (tables w d) name) (λ s. in_one (row_added w d s key value now) (Counted 1)))).parts) is
-        ∙ ap (λ o. last_world w (with_found o (λ s. in_one (row_added w db s key value now) (Counted 1))).parts) found_it);
+          ∙ ap (λ o. last_world w (with_found o (λ s. in_one (row_added w db s key value now) (Counted 1))).parts) found_it);
       current = refl;
       databases = subst (λ o. KeepsDatabases (row_added w db spec key value now) o) (sym adds.3)
-        (row_added-keeps w db kept only keeps spec old there ones named rows key value now adds.0 adds.1 adds.2) }
+          (row_added-keeps w db kept only keeps spec old there ones named rows key value now adds.0 adds.1 adds.2);
+    }
 
 pub row-leads : (w : World) (o : Option KeptDatabase) (line : ℕ) (name : List ℕ) (key : ℕ) (value : List ℕ) → KeepsDatabases w o → None ≡ broken w line (Insert name key value)
     → (now : ℕ) (new : Option KeptDatabase) → AddsRow o key value new → Leads w (Insert name key value) now (Counted 1) new
@@ -320,10 +334,10 @@ unfolding accepted
 select-steps w line name t now rows f same =
     stepped w line (Select name) now (Selected rows) w (select w name (Ok t) line f)
     (sym (ap (λ o. (with_found o (λ db. with_found (table_named (tables w db) name) (λ s. unchanged (Selected (visible w db s))))).reply) f.2
-     ∙ ap (λ o. (with_found o (λ s. unchanged (Selected (visible w f.0 s)))).reply) f.3
-     ∙ ap Selected (visible-kept w name t f ∙ sym same)))
+    ∙ ap (λ o. (with_found o (λ s. unchanged (Selected (visible w f.0 s)))).reply) f.3
+    ∙ ap Selected (visible-kept w name t f ∙ sym same)))
     (sym (ap (λ o. last_world w (with_found o (λ db. with_found (table_named (tables w db) name) (λ s. unchanged (Selected (visible w db s))))).parts) f.2
-     ∙ ap (λ o. last_world w (with_found o (λ s. unchanged (Selected (visible w f.0 s)))).parts) f.3))
+    ∙ ap (λ o. last_world w (with_found o (λ s. unchanged (Selected (visible w f.0 s)))).parts) f.3))
 
 pub created-current : (w : World) (name : List ℕ) (now : ℕ) → current_name (created w name now) ≡ current_name w
 unfolding created

@@ -165,7 +165,13 @@ impl Instance {
     }
 
     // `INSERT`
-    fn insert(&mut self, table: &Name, key: u64, value: &Text, line: u32) -> Result<Reply, AllocError>
+    fn insert(
+        &mut self,
+        table: &Name,
+        key: u64,
+        value: &Text,
+        line: u32,
+    ) -> Result<Reply, AllocError>
         ensures { IfOk result (λ reply. Goes self.old line (Insert table.now key value.now) reply self.new) }
     {
         if let Some(rule) = self.broken_insert(table, key, value, line) {
@@ -218,7 +224,12 @@ fn add_table(alloc: Global, database: &mut Option<Database>, name: &Name) -> Res
 }
 
 // Adds a row to the database's table.
-fn add_row(alloc: Global, database: &mut Option<Database>, key: u64, value: &Text) -> Result<(), AllocError>
+fn add_row(
+    alloc: Global,
+    database: &mut Option<Database>,
+    key: u64,
+    value: &Text,
+) -> Result<(), AllocError>
     ensures { OnOk result (AddsRow database.old key value.now database.new) }
 {
     if let Some(database) = database {

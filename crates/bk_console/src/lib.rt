@@ -1,5 +1,12 @@
 //! The console: a script in, a reply to each statement out.
 #![tactic(auto)]
 
+mod answers;
+mod command_line;
 mod instance;
+mod reading;
 mod report;
+mod status;
+
+pub use command_line::{Options, WordsError, words};
+pub use status::Status;

@@ -1,3 +1,4 @@
 pub mod Histories
 pub mod Folds
 pub mod Worlds
+pub mod Runs

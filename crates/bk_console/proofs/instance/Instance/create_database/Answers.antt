@@ -14,9 +14,11 @@ pub returns : goal.returns
 unfolding accepted
 returns c = λ w kept now.
     let e = c.in_default.ensures w kept in
-    let none = none-there w c.args.self.now.database c.args.line c.args.name.now kept.databases e in
-    (created w c.args.name.now now,
-     stepped w c.args.line (CreateDatabase c.args.name.now) now Done _ e refl refl,
-     record {
-       current = created-current w c.args.name.now now ∙ kept.current;
-       databases = subst (λ n. KeepsDatabases (created w c.args.name.now now) (Some (record { name = n; table = None }))) (sym c.in_ok-name.ensures) (created-keeps w c.args.name.now now none) })
+    let none = none-there w c.args.self.now.database c.args.line c.args.name.now kept.databases e in (
+      created w c.args.name.now now,
+      stepped w c.args.line (CreateDatabase c.args.name.now) now Done _ e refl refl,
+      record {
+        current = created-current w c.args.name.now now ∙ kept.current;
+        databases = subst (λ n. KeepsDatabases (created w c.args.name.now now) (Some (record { name = n; table = None }))) (sym c.in_ok-name.ensures) (created-keeps w c.args.name.now now none);
+      },
+    )

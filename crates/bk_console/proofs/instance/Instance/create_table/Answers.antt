@@ -10,7 +10,8 @@ returns-in-Some c = λ w kept now. (w, stepped-refused w c.args.line (CreateTabl
 pub returns : goal.returns
 returns c = λ w kept now.
     let e = c.in_default.ensures w kept in
-    let to = table-leads w c.args.self.now.database c.args.line c.args.name.now kept.databases e now c.add_table.new.database c.in_ok-add_table.ensures in
-    (to.next,
-     stepped w c.args.line (CreateTable c.args.name.now) now Done to.next e to.replied to.becomes,
-     record { current = to.current ∙ kept.current; databases = to.databases })
+    let to = table-leads w c.args.self.now.database c.args.line c.args.name.now kept.databases e now c.add_table.new.database c.in_ok-add_table.ensures in (
+      to.next,
+      stepped w c.args.line (CreateTable c.args.name.now) now Done to.next e to.replied to.becomes,
+      record { current = to.current ∙ kept.current; databases = to.databases },
+    )

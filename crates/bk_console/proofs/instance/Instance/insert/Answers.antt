@@ -11,7 +11,8 @@ returns-in-Some c = λ w kept now.
 pub returns : goal.returns
 returns c = λ w kept now.
     let e = c.in_default.ensures w kept in
-    let to = row-leads w c.args.self.now.database c.args.line c.args.table.now c.args.key c.args.value.now kept.databases e now c.add_row.new.database c.in_ok-add_row.ensures in
-    (to.next,
-     stepped w c.args.line (Insert c.args.table.now c.args.key c.args.value.now) now (Counted 1) to.next e to.replied to.becomes,
-     record { current = to.current ∙ kept.current; databases = to.databases })
+    let to = row-leads w c.args.self.now.database c.args.line c.args.table.now c.args.key c.args.value.now kept.databases e now c.add_row.new.database c.in_ok-add_row.ensures in (
+      to.next,
+      stepped w c.args.line (Insert c.args.table.now c.args.key c.args.value.now) now (Counted 1) to.next e to.replied to.becomes,
+      record { current = to.current ∙ kept.current; databases = to.databases },
+    )

@@ -16,9 +16,13 @@ returns-in-Some c = λ w kept.
 pub returns-in_default : goal.returns-in_default
 unfolding tables
 returns-in_default c = λ w kept.
-    let f = c.in_ok-database.ensures w kept in
-    (f.0, f.1, elim c.in_default.branch [
-      in_default-via-in-Some+else-same v ↦
-        let k = subst (λ t. KeepsTable w.history f.0 t) v.in-Some.is f.2.table in
-        table-other w.history f.0 v.in-Some.table c.args.name.now k (λ same. cc (v.same.ensures.1 same, v.if-same.false))
-    | in_default-via-in_default v ↦ table-none w.history f.0 _ c.args.name.now f.2.table v.in_default.not-Some ])
+    let f = c.in_ok-database.ensures w kept in (
+      f.0,
+      f.1,
+      elim c.in_default.branch [
+        | in_default-via-in-Some+else-same v ↦
+            let k = subst (λ t. KeepsTable w.history f.0 t) v.in-Some.is f.2.table in
+            table-other w.history f.0 v.in-Some.table c.args.name.now k (λ same. cc (v.same.ensures.1 same, v.if-same.false))
+        | in_default-via-in_default v ↦ table-none w.history f.0 _ c.args.name.now f.2.table v.in_default.not-Some
+      ],
+    )

@@ -10,9 +10,11 @@ returns-in-Some c = λ w kept now. (w, stepped-refused w c.args.line (Use c.args
 
 pub returns : goal.returns
 unfolding accepted
-returns c = λ w kept now.
-    (with_current w c.args.name.now,
-     stepped w c.args.line (Use c.args.name.now) now Done _ (c.in_default.ensures w kept) refl refl,
-     record {
-       current = used-current w c.args.name.now ∙ ap Some (sym c.in_ok-copy.ensures);
-       databases = used-keeps w c.args.name.now c.args.self.now.database kept.databases })
+returns c = λ w kept now. (
+  with_current w c.args.name.now,
+  stepped w c.args.line (Use c.args.name.now) now Done _ (c.in_default.ensures w kept) refl refl,
+  record {
+    current = used-current w c.args.name.now ∙ ap Some (sym c.in_ok-copy.ensures);
+    databases = used-keeps w c.args.name.now c.args.self.now.database kept.databases;
+  },
+)
