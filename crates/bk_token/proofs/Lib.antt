@@ -1,0 +1,5 @@
+pub mod OpeningLemmas
+pub mod RunLemmas
+pub mod QuoteLemmas
+pub mod CommentLemmas
+pub mod PieceLemmas
