@@ -3,3 +3,4 @@ pub mod RunLemmas
 pub mod QuoteLemmas
 pub mod CommentLemmas
 pub mod PieceLemmas
+pub mod TokenLemmas

@@ -6,6 +6,7 @@ use Rattle.bk_token.specs.Pieces.{IsPieceBy, IsPiece, IsClosed, IsUnclosed, IsQu
 use Rattle.bk_token.specs.declared.opening.Opening.{Opening}
 use Rattle.bk_token.specs.declared.opening.Opening.TheVariants.{Blank, DashComment, SlashComment, Letter, Digit, Quote, NationalQuote, Bracket, DoubleQuote, ColonByte, SignByte, Other}
 use Rattle.bk_token.specs.declared.token.Kind.{Kind}
+use Rattle.bk_token.specs.declared.token.Token.{Token}
 
 -- how many bytes there are up to and with the quote that closes, where two in a row stand for one and
 -- the last one read may be the first of two; none where the line ends before it
@@ -59,3 +60,8 @@ pub record CutsQuotation (kind : Kind) (front : List ℕ) (close : ℕ) (bytes :
   pub nonempty : 0 < len
   pub within : len ≤ length bytes
   pub piece : IsQuotation kind front close (take len bytes) (drop len bytes) found
+
+-- the token that a piece is, if it is one
+abbrev pub as_token : Option Kind → ℕ → ℕ → ℕ → List Token
+as_token None start last line = []
+as_token (Some kind) start last line = record { kind = kind; start = start; «end» = last; line = line } ∷ []

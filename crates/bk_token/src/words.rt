@@ -1,5 +1,16 @@
 //! Words, names and texts.
 
+ghost use Rattle.std.specs.Prelude.{◌≡◌, ◌<◌, ◌-◌, IfOk, map, length, slice_range};
+ghost use Rattle.std.specs.List.{list_all};
+ghost use Rattle.std.specs.Option.{option_map};
+ghost use Rattle.bk_token.specs.Bytes as class;
+ghost use Rattle.bk_token.specs.Tokens.{bytes_of};
+ghost use Rattle.bk_token.specs.Contents as spec;
+
+use crate::plain::between;
+use crate::token::{Kind, Token};
+use std::alloc::{AllocError, Global};
+
 /// The words that no name may be.
 pub const RESERVED: [&[u8]; 24] = [
     b"ALTER",
@@ -27,3 +38,89 @@ pub const RESERVED: [&[u8]; 24] = [
     b"WHERE",
     b"WITH",
 ];
+
+/// The bytes of a token of this script: of its span, those that the script has.
+pub fn bytes_of<'a>(src: &'a [u8], token: &Token) -> &'a [u8]
+    ensures { result.now ≡ bytes_of src.now token.now }
+{
+    between(src, token.start, token.end)
+}
+
+/// The token is this word, in any case.
+#[tactic(auto, unfolding(crate::specs::Contents::is_word))]
+pub fn is_word(src: &[u8], token: &Token, keyword: &[u8]) -> bool
+    ensures { result ≡ spec.is_word src.now token.now keyword.now }
+{
+    token.kind == Kind::Word && bytes_of(src, token).eq_ignore_ascii_case(keyword)
+}
+
+/// The word is one that no name may be, in any case.
+#[tactic(auto, unfolding(crate::specs::Contents::is_reserved))]
+pub fn is_reserved(word: &[u8]) -> bool
+    ensures { result ≡ spec.is_reserved word.now }
+{
+    RESERVED.iter().any(|reserved| word.eq_ignore_ascii_case(reserved))
+}
+
+// The bytes behind the front and before the last.
+fn inside(bytes: &[u8], front: usize) -> &[u8]
+    ensures { result.now ≡ slice_range bytes.now front (length bytes.now - 1) }
+{
+    between(bytes, front, bytes.len().saturating_sub(1))
+}
+
+fn folded(alloc: Global, close: u8, bytes: &[u8]) -> Result<Vec<u8>, AllocError>
+    ensures { IfOk result (λ v. v.items ≡ spec.folded close bytes.now) }
+{
+    let mut content = Vec::new(alloc);
+    let mut rest = bytes;
+    while let [b, after @ ..] = rest {
+        content.push(*b)?;
+        rest = match after {
+            [second, behind @ ..] if *b == close && *second == close => behind,
+            _ => after,
+        };
+    }
+    Ok(content)
+}
+
+/// The content of a text, none of another token: without the N, the quotes around it, and each second
+/// quote within. It fails only where memory runs out.
+pub fn text_of(alloc: Global, src: &[u8], token: &Token) -> Result<Option<Vec<u8>>, AllocError>
+    ensures { IfOk result (λ text. option_map (λ v. v.items) text ≡ spec.text_of src.now token.now) }
+{
+    if token.kind != Kind::Text {
+        return Ok(None);
+    }
+    Ok(Some(text_content(alloc, bytes_of(src, token))?))
+}
+
+#[tactic(auto, unfolding(crate::specs::Contents::text_content))]
+fn text_content(alloc: Global, bytes: &[u8]) -> Result<Vec<u8>, AllocError>
+    ensures { IfOk result (λ v. v.items ≡ spec.text_content bytes.now) }
+{
+    let front = if bytes.first() == Some(&b'N') { 2 } else { 1 };
+    folded(alloc, b'\'', inside(bytes, front))
+}
+
+#[tactic(auto, unfolding(crate::specs::Contents::quoted_content))]
+fn quoted_content(alloc: Global, bytes: &[u8]) -> Result<Vec<u8>, AllocError>
+    ensures { IfOk result (λ v. v.items ≡ spec.quoted_content bytes.now) }
+{
+    let close = if bytes.first() == Some(&b'[') { b']' } else { b'"' };
+    folded(alloc, close, inside(bytes, 1))
+}
+
+/// The name that the token is, none where it is none: a word that isn't reserved, or the content of a
+/// name in brackets or double quotes. It fails only where memory runs out.
+pub fn name_of(alloc: Global, src: &[u8], token: &Token) -> Result<Option<Vec<u8>>, AllocError>
+    ensures { IfOk result (λ name. option_map (λ v. v.items) name ≡ spec.name_of src.now token.now) }
+{
+    let bytes = bytes_of(src, token);
+    match token.kind {
+        Kind::Word if is_reserved(bytes) => Ok(None),
+        Kind::Word => Ok(Some(Vec::from_slice(alloc, bytes)?)),
+        Kind::Quoted => Ok(Some(quoted_content(alloc, bytes)?)),
+        _ => Ok(None),
+    }
+}
