@@ -33,9 +33,13 @@ folded close (b ∷ c ∷ bs) = if b == close && c == close then close ∷ folde
 unfoldable pub text_content : List ℕ → List ℕ
 text_content bytes = folded 39 (slice_range bytes (if begins (λ b. b == 78) bytes then 2 else 1) (length bytes - 1))
 
+-- what closes a name: a bracket where it opens with one, else a double quote
+abbrev pub closing_quote : List ℕ → ℕ
+closing_quote bytes = if begins (λ b. b == 91) bytes then 93 else 34
+
 -- the content of a name in brackets or double quotes
 unfoldable pub quoted_content : List ℕ → List ℕ
-quoted_content bytes = folded (if begins (λ b. b == 91) bytes then 93 else 34) (slice_range bytes 1 (length bytes - 1))
+quoted_content bytes = folded (closing_quote bytes) (slice_range bytes 1 (length bytes - 1))
 
 -- the content of a text token, none of others
 abbrev pub text_by : Kind → List ℕ → Option (List ℕ)

@@ -1,8 +1,9 @@
 //! Words, names and texts.
 
 ghost use Rattle.std.specs.Prelude.{◌≡◌, ◌<◌, ◌-◌, IfOk, map, length, slice_range};
-ghost use Rattle.std.specs.List.{list_all};
+ghost use Rattle.std.specs.List.{list_any};
 ghost use Rattle.std.specs.Option.{option_map};
+ghost use Rattle.std.specs.Str.{str_eq_ignore_ascii_case};
 ghost use Rattle.bk_token.specs.Bytes as class;
 ghost use Rattle.bk_token.specs.Tokens.{bytes_of};
 ghost use Rattle.bk_token.specs.Contents as spec;
@@ -46,12 +47,31 @@ pub fn bytes_of<'a>(src: &'a [u8], token: &Token) -> &'a [u8]
     between(src, token.start, token.end)
 }
 
+fn same_word(a: &[u8], b: &[u8]) -> bool
+    ensures { result ≡ str_eq_ignore_ascii_case a.now b.now }
+{
+    a.eq_ignore_ascii_case(b)
+}
+
 /// The token is this word, in any case.
 #[tactic(auto, unfolding(crate::specs::Contents::is_word))]
 pub fn is_word(src: &[u8], token: &Token, keyword: &[u8]) -> bool
     ensures { result ≡ spec.is_word src.now token.now keyword.now }
 {
-    token.kind == Kind::Word && bytes_of(src, token).eq_ignore_ascii_case(keyword)
+    token.kind == Kind::Word && same_word(bytes_of(src, token), keyword)
+}
+
+fn is_among(word: &[u8], words: &[&[u8]]) -> bool
+    ensures { result ≡ list_any (λ w. str_eq_ignore_ascii_case word.now w.now) words.entry.now }
+{
+    let mut rest = words;
+    while let [first, after @ ..] = rest {
+        if same_word(word, first) {
+            return true;
+        }
+        rest = after;
+    }
+    false
 }
 
 /// The word is one that no name may be, in any case.
@@ -59,7 +79,7 @@ pub fn is_word(src: &[u8], token: &Token, keyword: &[u8]) -> bool
 pub fn is_reserved(word: &[u8]) -> bool
     ensures { result ≡ spec.is_reserved word.now }
 {
-    RESERVED.iter().any(|reserved| word.eq_ignore_ascii_case(reserved))
+    is_among(word, &RESERVED)
 }
 
 // The bytes behind the front and before the last.
@@ -103,12 +123,20 @@ fn text_content(alloc: Global, bytes: &[u8]) -> Result<Vec<u8>, AllocError>
     folded(alloc, b'\'', inside(bytes, front))
 }
 
+fn closing_quote(bytes: &[u8]) -> u8
+    ensures { result ≡ spec.closing_quote bytes.now }
+{
+    match bytes {
+        [b'[', ..] => b']',
+        _ => b'"',
+    }
+}
+
 #[tactic(auto, unfolding(crate::specs::Contents::quoted_content))]
 fn quoted_content(alloc: Global, bytes: &[u8]) -> Result<Vec<u8>, AllocError>
     ensures { IfOk result (λ v. v.items ≡ spec.quoted_content bytes.now) }
 {
-    let close = if bytes.first() == Some(&b'[') { b']' } else { b'"' };
-    folded(alloc, close, inside(bytes, 1))
+    folded(alloc, closing_quote(bytes), inside(bytes, 1))
 }
 
 /// The name that the token is, none where it is none: a word that isn't reserved, or the content of a
