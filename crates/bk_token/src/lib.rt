@@ -84,3 +84,6 @@ pub fn slices()
     ensures { (src : List ℕ) (ts : List TokenOf) → AreTokens src ts → All (IsItsSlice src) ts }
 {
 }
+
+#[cfg(test)]
+mod tests;
