@@ -4,3 +4,4 @@ pub mod QuoteLemmas
 pub mod CommentLemmas
 pub mod PieceLemmas
 pub mod TokenLemmas
+pub mod ContentLemmas

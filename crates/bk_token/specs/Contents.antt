@@ -1,7 +1,7 @@
 -- What tokens say: words, names and texts.
 use Rattle.std.specs.Prelude.{◌≡◌, ℕ, ◌-◌, Bool, true, false, not, ◌&&◌, ◌==◌, if◌then◌else◌, List, [], ◌∷◌, length, take, drop, map, slice_range, Option, Some, None}
 use Rattle.std.specs.List.{list_any, list_all}
-use Rattle.std.specs.Str.{str_eq_ignore_ascii_case}
+use Rattle.std.specs.Str.{is_utf8, str_eq_ignore_ascii_case}
 use Rattle.bk_token.specs.Bytes.{is_blank, begins}
 use Rattle.bk_token.specs.Pieces.{first_of_bytes}
 use Rattle.bk_token.specs.Tokens.{bytes_of}
@@ -41,9 +41,13 @@ closing_quote bytes = if begins (λ b. b == 91) bytes then 93 else 34
 unfoldable pub quoted_content : List ℕ → List ℕ
 quoted_content bytes = folded (closing_quote bytes) (slice_range bytes 1 (length bytes - 1))
 
+-- bytes as a text, where they are valid UTF-8
+abbrev pub as_text : List ℕ → Option (List ℕ)
+as_text bytes = if is_utf8 bytes then Some bytes else None
+
 -- the content of a text token, none of others
 abbrev pub text_by : Kind → List ℕ → Option (List ℕ)
-text_by Text bytes = Some (text_content bytes)
+text_by Text bytes = as_text (text_content bytes)
 text_by _ bytes = None
 
 abbrev pub text_of : List ℕ → Token → Option (List ℕ)
@@ -51,8 +55,8 @@ text_of src t = text_by t.kind (bytes_of src t)
 
 -- the name that a token is: a word that isn't reserved, or the content of a name in quotes
 abbrev pub name_by : Kind → List ℕ → Option (List ℕ)
-name_by Word bytes = if is_reserved bytes then None else Some bytes
-name_by Quoted bytes = Some (quoted_content bytes)
+name_by Word bytes = if is_reserved bytes then None else as_text bytes
+name_by Quoted bytes = as_text (quoted_content bytes)
 name_by _ bytes = None
 
 abbrev pub name_of : List ℕ → Token → Option (List ℕ)

@@ -3,6 +3,7 @@
 ghost use Rattle.std.specs.Prelude.{◌≡◌, ◌<◌, ◌-◌, IfOk, map, length, slice_range};
 ghost use Rattle.std.specs.List.{list_any};
 ghost use Rattle.std.specs.Option.{option_map};
+ghost use Rattle.std.specs.String.{string_bytes};
 ghost use Rattle.std.specs.Str.{str_eq_ignore_ascii_case};
 ghost use Rattle.bk_token.specs.Bytes as class;
 ghost use Rattle.bk_token.specs.Tokens.{bytes_of};
@@ -104,15 +105,24 @@ fn folded(alloc: Global, close: u8, bytes: &[u8]) -> Result<Vec<u8>, AllocError>
     Ok(content)
 }
 
+fn as_text(bytes: Vec<u8>) -> Option<String>
+    ensures { option_map string_bytes result ≡ spec.as_text bytes.items }
+{
+    match String::from_utf8(bytes) {
+        Ok(text) => Some(text),
+        Err(_) => None,
+    }
+}
+
 /// The content of a text, none of another token: without the N, the quotes around it, and each second
 /// quote within. It fails only where memory runs out.
-pub fn text_of(alloc: Global, src: &[u8], token: &Token) -> Result<Option<Vec<u8>>, AllocError>
-    ensures { IfOk result (λ text. option_map (λ v. v.items) text ≡ spec.text_of src.now token.now) }
+pub fn text_of(alloc: Global, src: &[u8], token: &Token) -> Result<Option<String>, AllocError>
+    ensures { IfOk result (λ text. option_map string_bytes text ≡ spec.text_of src.now token.now) }
 {
     if token.kind != Kind::Text {
         return Ok(None);
     }
-    Ok(Some(text_content(alloc, bytes_of(src, token))?))
+    Ok(as_text(text_content(alloc, bytes_of(src, token))?))
 }
 
 #[tactic(auto, unfolding(crate::specs::Contents::text_content))]
@@ -139,16 +149,23 @@ fn quoted_content(alloc: Global, bytes: &[u8]) -> Result<Vec<u8>, AllocError>
     folded(alloc, closing_quote(bytes), inside(bytes, 1))
 }
 
+fn word_name(alloc: Global, bytes: &[u8]) -> Result<Option<String>, AllocError>
+    ensures { IfOk result (λ name. option_map string_bytes name ≡ spec.name_by Kind.Word bytes.now) }
+{
+    if is_reserved(bytes) {
+        return Ok(None);
+    }
+    Ok(as_text(Vec::from_slice(alloc, bytes)?))
+}
+
 /// The name that the token is, none where it is none: a word that isn't reserved, or the content of a
 /// name in brackets or double quotes. It fails only where memory runs out.
-pub fn name_of(alloc: Global, src: &[u8], token: &Token) -> Result<Option<Vec<u8>>, AllocError>
-    ensures { IfOk result (λ name. option_map (λ v. v.items) name ≡ spec.name_of src.now token.now) }
+pub fn name_of(alloc: Global, src: &[u8], token: &Token) -> Result<Option<String>, AllocError>
+    ensures { IfOk result (λ name. option_map string_bytes name ≡ spec.name_of src.now token.now) }
 {
-    let bytes = bytes_of(src, token);
     match token.kind {
-        Kind::Word if is_reserved(bytes) => Ok(None),
-        Kind::Word => Ok(Some(Vec::from_slice(alloc, bytes)?)),
-        Kind::Quoted => Ok(Some(quoted_content(alloc, bytes)?)),
+        Kind::Word => word_name(alloc, bytes_of(src, token)),
+        Kind::Quoted => Ok(as_text(quoted_content(alloc, bytes_of(src, token))?)),
         _ => Ok(None),
     }
 }
