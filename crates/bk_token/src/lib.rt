@@ -14,14 +14,15 @@ mod token;
 mod words;
 
 pub use token::{Kind, Token};
-pub use plain::is_plain;
+pub use plain::{all_blank, is_plain};
+pub use runs::line_feeds;
 pub use words::{RESERVED, bytes_of, is_reserved, is_word, name_of, text_of};
 
 use piece::{Piece, first_piece};
-use runs::line_feeds;
 use std::alloc::{AllocError, Global};
 
-fn line_number(feeds: usize) -> u32
+/// The line behind so many line feeds, from 1. All lines from 4,294,967,295 on count as that one.
+pub fn line_number(feeds: usize) -> u32
     ensures { result ≡ min (feeds + 1) 4294967295 }
 {
     u32::try_from(feeds).map_or(u32::MAX, |feeds| feeds.saturating_add(1))

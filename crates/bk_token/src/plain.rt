@@ -8,7 +8,8 @@ ghost use Rattle.bk_token.specs.Contents as spec;
 use crate::opening::is_blank;
 use crate::token::Token;
 
-fn all_blank(bytes: &[u8]) -> bool
+/// All of the bytes are blanks: spaces, tabs, carriage returns, line feeds.
+pub fn all_blank(bytes: &[u8]) -> bool
     ensures { result ≡ list_all class.is_blank bytes.now }
 {
     bytes.iter().all(|b| is_blank(*b))

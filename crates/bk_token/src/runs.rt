@@ -30,6 +30,7 @@ pub fn line_len(bytes: &[u8]) -> usize
     bytes.iter().take_while(|b| **b != b'\n').count()
 }
 
+/// How many line feeds there are.
 pub fn line_feeds(bytes: &[u8]) -> usize
     ensures { result ≡ count_by class.is_line_feed bytes.now }
 {

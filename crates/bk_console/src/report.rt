@@ -1,0 +1,52 @@
+// The text of a reply.
+ghost use Rattle.std.specs.Prelude.{◌≡◌, ◌++◌, ℕ, IfOk, OnOk, flat_map, length};
+ghost use Rattle.std.specs.String.{string_bytes};
+ghost use Rattle.bk_world.specs.declared.reply.Reply.TheVariants.{Selected};
+ghost use Rattle.bk_world.specs.Text.{reply_text, row_text};
+
+use bk_ids::Text;
+use bk_world::Reply;
+use std::alloc::{AllocError, Global};
+
+/// The bytes of a reply, each line ended by a line feed.
+pub fn text(alloc: Global, reply: &Reply) -> Result<String, AllocError>
+    ensures { IfOk result (λ text. string_bytes text ≡ reply_text reply.now) }
+{
+    match reply {
+        Reply::Done => String::from_str(alloc, "Done.\n"),
+        Reply::Counted { rows } => format!(in alloc; "({rows} rows)\n"),
+        Reply::Selected { rows } => table_text(alloc, rows.as_slice()),
+        Reply::Refused { rule } => format!(in alloc; "Refused {rule}\n"),
+    }
+}
+
+// Each row, and how many they are.
+fn table_text(alloc: Global, rows: &[(u64, Text)]) -> Result<String, AllocError>
+    ensures { IfOk result (λ text. string_bytes text ≡ reply_text (Selected rows.now)) }
+{
+    let mut text = rows_text(alloc, rows)?;
+    let count = rows.len();
+    text.push_str(&format!(in alloc; "({count} rows)\n")?)?;
+    Ok(text)
+}
+
+// The rows, one a line.
+fn rows_text(alloc: Global, rows: &[(u64, Text)]) -> Result<String, AllocError>
+    ensures { IfOk result (λ text. string_bytes text ≡ flat_map row_text rows.now) }
+{
+    let mut text = String::new(alloc);
+    for (key, value) in rows {
+        add_row(alloc, &mut text, *key, value)?;
+    }
+    Ok(text)
+}
+
+// One row more.
+fn add_row(alloc: Global, text: &mut String, key: u64, value: &Text) -> Result<(), AllocError>
+    ensures { OnOk result (string_bytes text.new ≡ string_bytes text.old ++ row_text (key, value.now)) }
+{
+    text.push_str(&format!(in alloc; "{key}\t")?)?;
+    text.push_str(value.as_str())?;
+    text.push_str("\n")?;
+    Ok(())
+}

@@ -1,0 +1,5 @@
+pub mod Calls
+pub mod Counts
+pub mod Disk
+pub mod Effects
+pub mod Sources

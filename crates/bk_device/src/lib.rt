@@ -1,0 +1,29 @@
+//! What a program sees of the outside: a device of named files with an output, a source of bytes, and a clock.
+#![tactic(auto)]
+
+mod clock;
+mod device;
+mod file_device;
+mod fixed_clock;
+mod mem_source;
+mod source;
+mod stdin_source;
+mod system_clock;
+
+pub use clock::Clock;
+pub use device::Device;
+pub use file_device::FileDevice;
+pub use fixed_clock::FixedClock;
+pub use mem_source::MemSource;
+pub use source::Source;
+pub use stdin_source::StdinSource;
+pub use system_clock::SystemClock;
+use thiserror::Error;
+
+/// A fault of a device or a source, whose count rose in the call that answered it.
+#[derive(Clone, Copy, Debug, PartialEq, Eq, Error)]
+#[error("the device or the source has failed")]
+pub struct Failed;
+
+#[cfg(test)]
+mod tests;

@@ -1,0 +1,3 @@
+pub mod Guid
+pub mod Name
+pub mod Path

@@ -1,0 +1,18 @@
+//! What the other crates name things by: GUIDs, log sequence numbers, recovery paths, names and texts.
+#![tactic(auto)]
+
+mod guid;
+mod name;
+mod path;
+mod record;
+mod sequence;
+mod text;
+mod unit;
+
+pub use guid::Guid;
+pub use name::{Name, NameError};
+pub use path::{Branch, Lsn, Path};
+pub use record::{Body, CellImage, ExtentId, Mark, Place, Rec, RecoveryModel};
+pub use sequence::Sequence;
+pub use text::Text;
+pub use unit::UnitId;

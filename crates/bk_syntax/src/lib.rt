@@ -1,0 +1,5 @@
+//! Reads the statements of a script.
+#![tactic(auto)]
+
+mod forms;
+mod stuck;

@@ -1,0 +1,13 @@
+-- What one entry more shows: tables, rows, the last model and time.
+use Rattle.std.proofs.Common.{◌≡◌, ℕ, List, [], ◌∷◌, ◌++◌, refl, sym, ◌∙◌, ap, append_assoc}
+use Rattle.std.proofs.lemmas.List.{append-nil}
+use Rattle.bk_world.specs.Entry.{Entry}
+use Rattle.bk_world.specs.Rows.{Rows, rows_of, rows_after, tables_of, table_of}
+
+pub rows_of-more : (table : ℕ) (rows : Rows) (es : List Entry) (e : Entry) → rows_of table rows (es ++ e ∷ []) ≡ rows_after table (rows_of table rows es) e.change
+rows_of-more table rows [] e = refl
+rows_of-more table rows (first ∷ es) e = rows_of-more table (rows_after table rows first.change) es e
+
+pub tables_of-more : (es : List Entry) (e : Entry) → tables_of (es ++ e ∷ []) ≡ tables_of es ++ table_of e.change
+tables_of-more [] e = append-nil (table_of e.change)
+tables_of-more (first ∷ es) e = ap (λ more. table_of first.change ++ more) (tables_of-more es e) ∙ sym (append_assoc (table_of first.change) (tables_of es) (table_of e.change))

@@ -1,0 +1,3 @@
+pub mod Histories
+pub mod Folds
+pub mod Worlds

@@ -1,0 +1,9 @@
+pub mod Entry
+pub mod History
+pub mod Rows
+pub mod Medium
+pub mod World
+pub mod Machine
+pub mod Run
+pub mod Sound
+pub mod Text

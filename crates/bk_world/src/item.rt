@@ -1,0 +1,25 @@
+use bk_ids::{Name, Text};
+
+/// One item of a script: a statement, or what is none that this program knows yet.
+#[derive(Debug, Drop)]
+pub enum Item {
+    /// `CREATE DATABASE name`
+    CreateDatabase { name: Name },
+    /// `USE name`
+    Use { name: Name },
+    /// `CREATE TABLE name (k BIGINT PRIMARY KEY, v VARCHAR(112))`
+    CreateTable { name: Name },
+    /// `INSERT INTO table VALUES (key, value)`
+    Insert { table: Name, key: u64, value: Text },
+    /// `SELECT * FROM table`
+    Select { table: Name },
+    /// Anything else.
+    NotBuilt,
+}
+
+/// An item with its line in the script, from 1.
+#[derive(Debug, Drop)]
+pub struct Statement {
+    pub item: Item,
+    pub line: u32,
+}

@@ -1,0 +1,17 @@
+//! The written machine: what a database, its history, a medium and the whole world are, what a step does, what a
+//! crash leaves. The definitions stand in `specs/`; here are the types that the program passes along.
+#![tactic(auto)]
+
+mod database;
+mod header;
+mod item;
+mod msdb;
+mod reply;
+mod rule;
+
+pub use database::{Base, FileSpec, State, Status, TableSpec, Unit};
+pub use header::{Header, HeaderFile, SetKind};
+pub use item::{Item, Statement};
+pub use msdb::{BackupRow, MarkRow, RestoreKind, RestoreRow};
+pub use reply::Reply;
+pub use rule::Rule;
