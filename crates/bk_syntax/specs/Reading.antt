@@ -16,5 +16,5 @@ Gives view (Err stuck) read = Fails stuck read
 
 -- how many bytes stand before the next `;` outside a text
 abbrev pub piece_len : Bool → List ℕ → ℕ
-piece_len open [] = 0
-piece_len open (b ∷ bs) = if b == 59 && not open then 0 else 1 + piece_len (in_text open b) bs
+piece_len within [] = 0
+piece_len within (b ∷ bs) = if b == 59 && not within then 0 else 1 + piece_len (in_text within b) bs

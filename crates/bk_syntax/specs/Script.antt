@@ -10,12 +10,12 @@ use Rattle.bk_syntax.specs.Forms.{item_by}
 
 -- whether a text is open behind this byte: `'` opens and closes it, and the end of the line closes it
 abbrev pub in_text : Bool → ℕ → Bool
-in_text open b = if b == 39 then not open else open && not (b == 10)
+in_text within b = if b == 39 then not within else within && not (b == 10)
 
 -- the pieces between each `;` outside a text
 abbrev pub pieces : Bool → List ℕ → List (List ℕ)
-pieces open [] = [] ∷ []
-pieces open (b ∷ bs) = if b == 59 && not open then [] ∷ pieces false bs else onto_first b (pieces (in_text open b) bs)
+pieces within [] = [] ∷ []
+pieces within (b ∷ bs) = if b == 59 && not within then [] ∷ pieces false bs else onto_first b (pieces (in_text within b) bs)
 
 -- the item of a piece: what the grammar reads in its tokens
 abbrev pub IsItem : List ℕ → Item → Type 0
