@@ -14,6 +14,7 @@ mod token;
 mod words;
 
 pub use token::{Kind, Token};
+pub use opening::is_blank;
 pub use plain::{all_blank, is_plain};
 pub use runs::line_feeds;
 pub use words::{RESERVED, bytes_of, is_reserved, is_word, name_of, text_of};

@@ -22,6 +22,7 @@ pub enum Opening {
     Other,
 }
 
+/// The byte is a space, a tab, a carriage return or a line feed.
 pub fn is_blank(b: u8) -> bool
     ensures { result ≡ class.is_blank b }
 {
