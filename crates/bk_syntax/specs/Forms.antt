@@ -1,0 +1,176 @@
+-- The statements that are read so far, as a grammar over tokens. What is read is a value and the tokens behind it.
+use Rattle.std.specs.Prelude.{◌≡◌, ℕ, ◌^◌, ◌-◌, Bool, true, false, ◌&&◌, ◌||◌, ◌==◌, nat_lt, nat_le, if◌then◌else◌, List, [], ◌∷◌, length, codes, Option, Some, None, unwrap_or}
+use Rattle.bk_ids.specs.Name.{same_name}
+use Rattle.bk_token.specs.Bytes.{begins}
+use Rattle.bk_token.specs.Contents.{is_word_kind, is_word, text_of, name_of, is_plain}
+use Rattle.bk_token.specs.Tokens.{bytes_of}
+use Rattle.bk_token.specs.declared.token.Kind.{Kind}
+use Rattle.bk_token.specs.declared.token.Kind.TheVariants.{Number, Sign}
+use Rattle.bk_token.specs.declared.token.Token.{Token}
+use Rattle.bk_world.specs.declared.item.Item.{Item}
+use Rattle.bk_world.specs.declared.item.Item.TheVariants.{CreateDatabase, Use, CreateTable, Insert, Select, NotBuilt}
+
+infixl 10 ◌>>=◌
+
+-- the first thing, and then the next, which may look at it
+abbrev pub ◌>>=◌ : {A B : Type 0} → Option A → (A → Option B) → Option B
+None >>= next = None
+(Some x) >>= next = next x
+
+-- this keyword, in any case
+unfoldable pub keyword : List ℕ → List ℕ → List Token → Option (List Token)
+keyword src word [] = None
+keyword src word (t ∷ ts) = if is_word src t word then Some ts else None
+
+abbrev pub is_sign_kind : ℕ → Kind → Bool
+is_sign_kind b (Sign s) = s == b
+is_sign_kind b _ = false
+
+-- this sign
+unfoldable pub sign : ℕ → List Token → Option (List Token)
+sign b [] = None
+sign b (t ∷ ts) = if is_sign_kind b t.kind then Some ts else None
+
+abbrev pub number_by : Kind → List Token → Option (ℕ × List Token)
+number_by (Number n) ts = Some (n, ts)
+number_by _ ts = None
+
+-- a number
+unfoldable pub number : List Token → Option (ℕ × List Token)
+number [] = None
+number (t ∷ ts) = number_by t.kind ts
+
+-- a number that a key may be
+unfoldable pub key : List Token → Option (ℕ × List Token)
+key ts = do
+  n ← number ts
+  if nat_lt n.0 (2 ^ 63) then Some n else None
+
+-- the number 112
+unfoldable pub width : List Token → Option (List Token)
+width ts = do
+  n ← number ts
+  if n.0 == 112 then Some n.1 else None
+
+-- a name without quotes, of 1 to 64 bytes
+unfoldable pub name : List ℕ → List Token → Option (List ℕ × List Token)
+name src [] = None
+name src (t ∷ ts) = do
+  text ← name_of src t
+  if is_word_kind t.kind && nat_lt 0 (length text) && nat_le (length text) 64 then Some (text, ts) else None
+
+-- the names of the databases that the server keeps for itself
+abbrev pub is_system : List ℕ → Bool
+is_system text = same_name text (codes "master") || same_name text (codes "msdb") || same_name text (codes "tempdb")
+
+-- the name of a database of the user
+unfoldable pub database : List ℕ → List Token → Option (List ℕ × List Token)
+database src ts = do
+  n ← name src ts
+  if is_system n.0 then None else Some n
+
+-- a text without an N, of at most 112 bytes
+unfoldable pub value : List ℕ → List Token → Option (List ℕ × List Token)
+value src [] = None
+value src (t ∷ ts) = do
+  text ← text_of src t
+  if begins (λ b. b == 39) (bytes_of src t) && nat_le (length text) 112 then Some (text, ts) else None
+
+-- no token is left
+abbrev pub finished : List Token → Item → Option Item
+finished [] item = Some item
+finished (t ∷ ts) item = None
+
+-- .. name
+unfoldable pub create_database : List ℕ → List Token → Option Item
+create_database src ts = do
+  made ← database src ts
+  finished made.1 (CreateDatabase made.0)
+
+-- k BIGINT PRIMARY KEY
+unfoldable pub key_column : List ℕ → List Token → Option (List Token)
+key_column src ts = do
+  column ← keyword src (codes "K") ts
+  bigint ← keyword src (codes "BIGINT") column
+  primary ← keyword src (codes "PRIMARY") bigint
+  keyword src (codes "KEY") primary
+
+-- v VARCHAR ( 112 )
+unfoldable pub value_column : List ℕ → List Token → Option (List Token)
+value_column src ts = do
+  column ← keyword src (codes "V") ts
+  varchar ← keyword src (codes "VARCHAR") column
+  opened ← sign 40 varchar
+  bytes ← width opened
+  sign 41 bytes
+
+-- ( k BIGINT PRIMARY KEY , v VARCHAR ( 112 ) )
+unfoldable pub columns : List ℕ → List Token → Option (List Token)
+columns src ts = do
+  opened ← sign 40 ts
+  first ← key_column src opened
+  comma ← sign 44 first
+  second ← value_column src comma
+  sign 41 second
+
+-- .. name ( k BIGINT PRIMARY KEY , v VARCHAR ( 112 ) )
+unfoldable pub create_table : List ℕ → List Token → Option Item
+create_table src ts = do
+  made ← name src ts
+  rest ← columns src made.1
+  finished rest (CreateTable made.0)
+
+-- DATABASE .. | TABLE ..
+unfoldable pub create : List ℕ → List Token → Option Item
+create src [] = None
+create src (t ∷ ts) =
+    if is_word src t (codes "DATABASE") then create_database src ts
+    else (if is_word src t (codes "TABLE") then create_table src ts
+    else None)
+
+-- .. name
+unfoldable pub use_database : List ℕ → List Token → Option Item
+use_database src ts = do
+  used ← database src ts
+  finished used.1 (Use used.0)
+
+-- ( n , text )
+unfoldable pub row : List ℕ → List Token → Option ((ℕ × List ℕ) × List Token)
+row src ts = do
+  opened ← sign 40 ts
+  n ← key opened
+  comma ← sign 44 n.1
+  text ← value src comma
+  closed ← sign 41 text.1
+  Some ((n.0, text.0), closed)
+
+-- INTO name VALUES ( n , text )
+unfoldable pub insert : List ℕ → List Token → Option Item
+insert src ts = do
+  into ← keyword src (codes "INTO") ts
+  table ← name src into
+  values ← keyword src (codes "VALUES") table.1
+  added ← row src values
+  finished added.1 (Insert table.0 added.0.0 added.0.1)
+
+-- * FROM name
+unfoldable pub select : List ℕ → List Token → Option Item
+select src ts = do
+  all ← sign 42 ts
+  from ← keyword src (codes "FROM") all
+  table ← name src from
+  finished table.1 (Select table.0)
+
+-- CREATE .. | USE .. | INSERT .. | SELECT ..
+unfoldable pub form : List ℕ → List Token → Option Item
+form src [] = None
+form src (t ∷ ts) =
+    if is_word src t (codes "CREATE") then create src ts
+    else (if is_word src t (codes "USE") then use_database src ts
+    else (if is_word src t (codes "INSERT") then insert src ts
+    else (if is_word src t (codes "SELECT") then select src ts
+    else None)))
+
+-- the item that a piece of the script is, by its tokens: one of the forms without a comment, or not built
+unfoldable pub item_by : List ℕ → List Token → Item
+item_by src ts = if is_plain src ts then unwrap_or (form src ts) NotBuilt else NotBuilt

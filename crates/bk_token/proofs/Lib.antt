@@ -1,0 +1,7 @@
+pub mod OpeningLemmas
+pub mod RunLemmas
+pub mod QuoteLemmas
+pub mod CommentLemmas
+pub mod PieceLemmas
+pub mod TokenLemmas
+pub mod ContentLemmas

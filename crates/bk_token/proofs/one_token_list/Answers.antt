@@ -1,0 +1,5 @@
+use Rattle.bk_token.proofs.TokenLemmas.{one_list}
+use Rattle.bk_token.proofs.one_token_list.Goals as goal
+
+pub returns : goal.returns
+returns c = one_list

@@ -1,0 +1,10 @@
+use Rattle.std.proofs.Common.{◌≡◌, length}
+use Rattle.std.specs.Prelude.{reverse}
+use Rattle.bk_token.specs.Pieces.{is_blank_line}
+use Rattle.bk_token.proofs.runs.is_blank_so_far.Given as goal
+
+abbrev pub invariant-loop-rest : goal.invariant-loop-rest
+invariant-loop-rest l = is_blank_line (reverse l.rest) ≡ is_blank_line (reverse l.before)
+
+abbrev pub decreases-loop-rest : goal.decreases-loop-rest
+decreases-loop-rest l = length l.rest

@@ -1,0 +1,5 @@
+pub mod Bytes
+pub mod Contents
+pub mod Pieces
+pub mod Reading
+pub mod Tokens
