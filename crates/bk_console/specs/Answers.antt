@@ -63,7 +63,7 @@ pub record CutAll (old : Instance) (ss : List Statement) (clock_tells : Type 0) 
   pub replies : List Reply
   -- how often the clock was asked: also for the statement that has no reply
   pub times : ℕ
-  pub asked_each : length replies ≤ times × times ≤ length replies + 1
+  pub asked_each : (length replies ≤ times) × (times ≤ length replies + 1)
   pub each_moment : length moments ≡ length replies
   pub within : length replies ≤ length ss
   pub asked : Asked clock_tells before after moments times

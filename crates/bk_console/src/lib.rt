@@ -3,10 +3,12 @@
 
 mod answers;
 mod command_line;
+mod console;
 mod instance;
 mod reading;
 mod report;
 mod status;
 
 pub use command_line::{Options, WordsError, words};
+pub use console::run;
 pub use status::Status;

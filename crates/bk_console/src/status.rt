@@ -1,3 +1,12 @@
+ghost use Rattle.std.specs.Prelude.{◌≡◌};
+ghost use Rattle.bk_console.specs.Run.{code_of, words_status, read_status, answer_status};
+ghost use Rattle.bk_console.specs.declared.status.Status.TheVariants.{NoMemory};
+
+use crate::answers::AnswerError;
+use crate::command_line::WordsError;
+use crate::reading::ReadError;
+use std::alloc::AllocError;
+
 /// How a call of `run` ended: the program's exit status.
 #[derive(Clone, Copy, Debug, PartialEq, Eq)]
 pub enum Status {
@@ -13,4 +22,55 @@ pub enum Status {
     NoMemory = 6,
     /// The script has more than 16,777,216 bytes.
     ScriptTooLong = 8,
+}
+
+impl Status {
+    /// Its number.
+    pub fn code(self) -> u8
+        ensures { result ≡ code_of self }
+    {
+        self as u8
+    }
+}
+
+impl From<WordsError> for Status {
+    ghost from_gives = { λ error status. status ≡ words_status error };
+
+    fn from(error: WordsError) -> Self {
+        match error {
+            WordsError::Usage => Status::Usage,
+            WordsError::NoMemory => Status::NoMemory,
+        }
+    }
+}
+
+impl From<ReadError> for Status {
+    ghost from_gives = { λ error status. status ≡ read_status error };
+
+    fn from(error: ReadError) -> Self {
+        match error {
+            ReadError::TooLong => Status::ScriptTooLong,
+            ReadError::Fault => Status::SourceFault,
+            ReadError::NoMemory => Status::NoMemory,
+        }
+    }
+}
+
+impl From<AnswerError> for Status {
+    ghost from_gives = { λ error status. status ≡ answer_status error };
+
+    fn from(error: AnswerError) -> Self {
+        match error {
+            AnswerError::Console => Status::ConsoleFault,
+            AnswerError::NoMemory => Status::NoMemory,
+        }
+    }
+}
+
+impl From<AllocError> for Status {
+    ghost from_gives = { λ _ status. status ≡ NoMemory };
+
+    fn from(_: AllocError) -> Self {
+        Status::NoMemory
+    }
 }
