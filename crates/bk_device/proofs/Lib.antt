@@ -1,3 +1,5 @@
 pub mod Effects
+pub mod Lookups
 pub mod Names
+pub mod Replay
 pub mod Torn

@@ -1,10 +1,12 @@
 //! What a program sees of the outside: a device of named files with an output, a source of bytes, and a clock.
 #![tactic(auto)]
 
+mod cache;
 mod clock;
 mod device;
 mod file_device;
 mod fixed_clock;
+mod held;
 mod mem_source;
 mod source;
 mod stdin_source;
