@@ -1,5 +1,2 @@
-pub mod Effects
 pub mod Lookups
-pub mod Names
-pub mod Replay
-pub mod Torn
+pub mod Memories

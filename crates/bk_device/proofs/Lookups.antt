@@ -6,8 +6,9 @@ use Rattle.std.specs.Str.{bytes_eq}
 use Rattle.std.proofs.Math.Path.{fun_ext}
 use Rattle.std.proofs.lemmas.Slice.Eq.{bytes_eq-Decides}
 use Rattle.bk_device.specs.Disk.{Files, replaced}
-use Rattle.bk_device.specs.Held.{look, place_of}
-use Rattle.bk_device.proofs.Names.{true_or_false}
+use Rattle.bk_device.specs.Held.{place_of}
+use Rattle.bk_device.specs.Replay.{look}
+use Rattle.bk_device.specs.Names.{true_or_false}
 
 equal : (name other : List ℕ) → bytes_eq name other ≡ true → name ≡ other
 equal name other test = (bytes_eq-Decides name other).0 test

@@ -1,8 +1,9 @@
 -- The contents of the files that a device in memory holds, by name.
-use Rattle.std.specs.Prelude.{ℕ, List, [], ◌∷◌, Option, None, Some, option_map, string_bytes, not, if◌then◌else◌}
+use Rattle.std.specs.Prelude.{ℕ, List, Option, None, Some, option_map, string_bytes, not}
 use Rattle.std.specs.List.{prefix_len}
 use Rattle.std.specs.Str.{bytes_eq}
 use Rattle.bk_device.specs.Disk.{Files}
+use Rattle.bk_device.specs.Replay.{look}
 use Rattle.bk_device.specs.declared.held.Held.{Held}
 use Rattle.bk_device.specs.declared.held.Version.{Version}
 use Rattle.bk_device.specs.declared.held.Version.TheVariants.{Same, Absent, Bytes}
@@ -24,11 +25,6 @@ current_of held = over held.current (durable_of held)
 
 abbrev pub name_of : Held → List ℕ
 name_of held = string_bytes held.name
-
--- contents by name, each that of the first entry that has the name
-abbrev pub look : {X : Type 0} → (X → List ℕ) → (X → Option (List ℕ)) → List X → Files
-look key content [] name = None
-look key content (entry ∷ rest) name = if bytes_eq (key entry) name then content entry else look key content rest name
 
 -- how many entries stand before the first that has the name
 abbrev pub place_of : {X : Type 0} → (X → List ℕ) → List X → List ℕ → ℕ

@@ -4,10 +4,10 @@ use Rattle.std.specs.Prelude.{option_map}
 use Rattle.std.proofs.lemmas.List.{take_all, append-nil}
 use Rattle.bk_device.specs.Calls.{contents, written, LeavesWrite, LeavesCut, LeavesRemoval, LeavesSame, Elapses, CallsOn, ChangesNothing, TellsFront, TellsBytes}
 use Rattle.bk_device.specs.Disk.{Files, Disk, MayLeave, IsDurable, IsLawful, replaced}
-use Rattle.bk_device.specs.Replay.{Step, begun, left_by, later, later_told, after, replay, Memory, disk_of, IsNext, IsStill}
+use Rattle.bk_device.specs.Replay.{Step, begun, left_by, later, later_told, after, replay, Memory, disk_of, IsNext, IsStill, files_of, durable_after, replay_durable, durable_files_of}
 use Rattle.bk_device.specs.Replay.Step.{Wrote, Synced, CutTo, Removed, Told}
-use Rattle.bk_device.proofs.Names.{same_or_other, replaced-same, replaced-other}
-use Rattle.bk_device.proofs.Torn.{torn-written}
+use Rattle.bk_device.specs.Names.{same_or_other, replaced-same, replaced-other}
+use Rattle.bk_device.specs.Torn.{torn-written}
 
 begun_lawful : (files : Files) (told : List ℕ) → IsLawful (begun files told)
 begun_lawful files told = record {
@@ -69,7 +69,7 @@ replay_lawful disk [] lawful = lawful
 replay_lawful disk (step ∷ steps) lawful = replay_lawful (after disk step) steps (after_lawful disk step lawful)
 
 pub memory_lawful : (memory : Memory) → IsLawful (disk_of memory)
-memory_lawful memory = replay_lawful (begun memory.begin memory.told_before) memory.steps (begun_lawful memory.begin memory.told_before)
+memory_lawful memory = replay_lawful (begun (files_of memory.begin) memory.told_before) memory.steps (begun_lawful (files_of memory.begin) memory.told_before)
 
 replay-more : (disk : Disk) (steps : List Step) (step : Step) → replay disk (steps ++ step ∷ []) ≡ after (replay disk steps) step
 replay-more disk [] step = refl
@@ -78,15 +78,15 @@ replay-more disk (first ∷ steps) step = replay-more (after disk first) steps s
 pub disk_of-next : (old new : Memory) (step : Step) → IsNext old new step → disk_of new ≡ after (disk_of old) step
 disk_of-next old new step next =
     ap (λ (files : Files). replay (begun files new.told_before) new.steps) next.begin
-    ∙ ap (λ (told : List ℕ). replay (begun old.begin told) new.steps) next.told_before
-    ∙ ap (λ (steps : List Step). replay (begun old.begin old.told_before) steps) next.steps
-    ∙ replay-more (begun old.begin old.told_before) old.steps step
+    ∙ ap (λ (told : List ℕ). replay (begun (files_of old.begin) told) new.steps) next.told_before
+    ∙ ap (λ (steps : List Step). replay (begun (files_of old.begin) old.told_before) steps) next.steps
+    ∙ replay-more (begun (files_of old.begin) old.told_before) old.steps step
 
 pub disk_of-still : (old new : Memory) → IsStill old new → disk_of new ≡ disk_of old
 disk_of-still old new still =
     ap (λ (files : Files). replay (begun files new.told_before) new.steps) still.begin
-    ∙ ap (λ (told : List ℕ). replay (begun old.begin told) new.steps) still.told_before
-    ∙ ap (λ (steps : List Step). replay (begun old.begin old.told_before) steps) still.steps
+    ∙ ap (λ (told : List ℕ). replay (begun (files_of old.begin) told) new.steps) still.told_before
+    ∙ ap (λ (steps : List Step). replay (begun (files_of old.begin) old.told_before) steps) still.steps
 
 -- what each call did
 
@@ -210,3 +210,88 @@ told old new bytes next =
         nothing_forgotten = λ since image heard early left. inl (early, left);
       };
     })
+
+-- the files as each was last synced
+
+durable-more : (disk : Disk) (durable : Files) (steps : List Step) (step : Step) → replay_durable disk durable (steps ++ step ∷ []) ≡ durable_after (replay disk steps) (replay_durable disk durable steps) step
+durable-more disk durable [] step = refl
+durable-more disk durable (first ∷ steps) step = durable-more (after disk first) (durable_after disk durable first) steps step
+
+pub durable_files_of-next : (old new : Memory) (step : Step) → IsNext old new step → durable_files_of new ≡ durable_after (disk_of old) (durable_files_of old) step
+durable_files_of-next old new step next =
+    ap (λ (files : Files). replay_durable (begun files new.told_before) files new.steps) next.begin
+    ∙ ap (λ (told : List ℕ). replay_durable (begun (files_of old.begin) told) (files_of old.begin) new.steps) next.told_before
+    ∙ ap (λ (steps : List Step). replay_durable (begun (files_of old.begin) old.told_before) (files_of old.begin) steps) next.steps
+    ∙ durable-more (begun (files_of old.begin) old.told_before) (files_of old.begin) old.steps step
+
+pub durable_files_of-still : (old new : Memory) → IsStill old new → durable_files_of new ≡ durable_files_of old
+durable_files_of-still old new still =
+    ap (λ (files : Files). replay_durable (begun files new.told_before) files new.steps) still.begin
+    ∙ ap (λ (told : List ℕ). replay_durable (begun (files_of old.begin) told) (files_of old.begin) new.steps) still.told_before
+    ∙ ap (λ (steps : List Step). replay_durable (begun (files_of old.begin) old.told_before) (files_of old.begin) steps) still.steps
+
+-- they are among what a crash may leave
+
+durable_after_left : (disk : Disk) (durable : Files) (step : Step) → IsLawful disk → MayLeave disk durable → MayLeave (after disk step) (durable_after disk durable step)
+unfolding after
+durable_after_left disk durable (Wrote name at bytes) lawful left other =
+    elim (same_or_other name other) [ inl same ↦ inl (same, (durable other, left other, inl refl)) | inr differ ↦ inr (differ, left other) ]
+durable_after_left disk durable (Synced name) lawful left other =
+    elim (same_or_other name other) [
+      | inl same ↦
+          let here : replaced durable name (disk.files name) other ≡ disk.files name = ap (replaced durable name (disk.files name)) same ∙ replaced-same durable name (disk.files name) in
+          inl (same, (durable other, left other, here))
+      | inr differ ↦
+          let May : Option (List ℕ) → Type 0 = λ content. disk.may other content in
+          inr (differ, subst May (sym (replaced-other durable name (disk.files name) other differ)) (left other))
+    ]
+durable_after_left disk durable (CutTo name len) lawful left other =
+    elim (same_or_other name other) [ inl same ↦ inl (same, (durable other, left other, inl refl)) | inr differ ↦ inr (differ, left other) ]
+durable_after_left disk durable (Removed name) lawful left other =
+    elim (same_or_other name other) [ inl same ↦ inl (same, (durable other, left other, inl refl)) | inr differ ↦ inr (differ, left other) ]
+durable_after_left disk durable (Told bytes) lawful left other = left other
+
+replay_durable_left : (disk : Disk) (durable : Files) (steps : List Step) → IsLawful disk → MayLeave disk durable → MayLeave (replay disk steps) (replay_durable disk durable steps)
+replay_durable_left disk durable [] lawful left = left
+replay_durable_left disk durable (step ∷ steps) lawful left =
+    replay_durable_left (after disk step) (durable_after disk durable step) steps (after_lawful disk step lawful) (durable_after_left disk durable step lawful left)
+
+pub durable_left : (memory : Memory) → MayLeave (disk_of memory) (durable_files_of memory)
+durable_left memory = replay_durable_left (begun (files_of memory.begin) memory.told_before) (files_of memory.begin) memory.steps (begun_lawful (files_of memory.begin) memory.told_before) (λ name. refl)
+
+-- calls one after the other
+
+pub still_then : {a b c : Memory} → IsStill a b → IsStill b c → IsStill a c
+still_then first second = record { begin = second.begin ∙ first.begin; told_before = second.told_before ∙ first.told_before; steps = second.steps ∙ first.steps }
+
+pub next_after : {a b c : Memory} {step : Step} → IsStill a b → IsNext b c step → IsNext a c step
+next_after {step = step} first second = record {
+  begin = second.begin ∙ first.begin;
+  told_before = second.told_before ∙ first.told_before;
+  steps = second.steps ∙ ap (λ (steps : List Step). steps ++ step ∷ []) first.steps;
+}
+
+-- what a read gives after a call
+
+pub files_still : {old new : Memory} → IsStill old new → (name : List ℕ) → (disk_of new).files name ≡ (disk_of old).files name
+files_still {old} {new} still name = ap (λ (disk : Disk). disk.files name) (disk_of-still old new still)
+
+pub wrote_files : (old new : Memory) (name : List ℕ) (at : ℕ) (bytes : List ℕ) → IsNext old new (Wrote name at bytes) → (disk_of new).files name ≡ Some (written (contents ((disk_of old).files name)) at bytes)
+unfolding after
+wrote_files old new name at bytes next = ap (λ (disk : Disk). disk.files name) (disk_of-next old new (Wrote name at bytes) next) ∙ replaced-same (disk_of old).files name (Some (written (contents ((disk_of old).files name)) at bytes))
+
+pub cut_files : (old new : Memory) (name : List ℕ) (len : ℕ) → IsNext old new (CutTo name len) → (disk_of new).files name ≡ option_map (take len) ((disk_of old).files name)
+unfolding after
+cut_files old new name len next = ap (λ (disk : Disk). disk.files name) (disk_of-next old new (CutTo name len) next) ∙ replaced-same (disk_of old).files name (option_map (take len) ((disk_of old).files name))
+
+pub removed_files : (old new : Memory) (name : List ℕ) → IsNext old new (Removed name) → (disk_of new).files name ≡ None
+unfolding after
+removed_files old new name next = ap (λ (disk : Disk). disk.files name) (disk_of-next old new (Removed name) next) ∙ replaced-same (disk_of old).files name None
+
+pub synced_files : (old new : Memory) (name : List ℕ) → IsNext old new (Synced name) → (disk_of new).files name ≡ (disk_of old).files name
+unfolding after
+synced_files old new name next = ap (λ (disk : Disk). disk.files name) (disk_of-next old new (Synced name) next)
+
+pub told_bytes : (old new : Memory) (bytes : List ℕ) → IsNext old new (Told bytes) → (disk_of new).told ≡ (disk_of old).told ++ bytes
+unfolding after
+told_bytes old new bytes next = ap (λ (disk : Disk). disk.told) (disk_of-next old new (Told bytes) next)
