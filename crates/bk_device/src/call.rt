@@ -34,7 +34,7 @@ impl Call {
         Ok(Call::Write {
             name: String::from_str(alloc, name)?,
             at,
-            bytes: bytes.to_vec(alloc)?,
+            bytes: Vec::from_slice(alloc, bytes)?,
         })
     }
 
@@ -67,7 +67,7 @@ impl Call {
         ensures { IfOk result (λ call. step_of call ≡ Told bytes.now) }
     {
         Ok(Call::Tell {
-            bytes: bytes.to_vec(alloc)?,
+            bytes: Vec::from_slice(alloc, bytes)?,
         })
     }
 }

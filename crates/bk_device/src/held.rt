@@ -68,7 +68,7 @@ impl Held {
             return write_into(content, at, bytes);
         }
         let mut content = match self.content() {
-            Some(content) => content.to_vec(alloc)?,
+            Some(content) => Vec::from_slice(alloc, content)?,
             None => Vec::new(alloc),
         };
         write_into(&mut content, at, bytes)?;
@@ -88,7 +88,7 @@ impl Held {
             return Ok(());
         }
         let front = match self.content() {
-            Some(content) => content[..len.min(content.len())].to_vec(alloc)?,
+            Some(content) => Vec::from_slice(alloc, &content[..len.min(content.len())])?,
             None => return Ok(()),
         };
         self.current = Version::Bytes(front);
