@@ -1,3 +1,2 @@
-pub mod Effects
-pub mod Names
-pub mod Torn
+pub mod Lookups
+pub mod Memories

@@ -1,5 +1,12 @@
 pub mod Calls
+pub mod Compose
 pub mod Counts
 pub mod Disk
 pub mod Effects
+pub mod Held
+pub mod Memory
+pub mod Names
+pub mod Replay
+pub mod Replayed
 pub mod Sources
+pub mod Torn

@@ -1,10 +1,14 @@
 //! What a program sees of the outside: a device of named files with an output, a source of bytes, and a clock.
 #![tactic(auto)]
 
+mod cache;
+mod call;
 mod clock;
 mod device;
 mod file_device;
 mod fixed_clock;
+mod held;
+mod mem_device;
 mod mem_source;
 mod source;
 mod stdin_source;
@@ -14,6 +18,7 @@ pub use clock::Clock;
 pub use device::Device;
 pub use file_device::FileDevice;
 pub use fixed_clock::FixedClock;
+pub use mem_device::MemDevice;
 pub use mem_source::MemSource;
 pub use source::Source;
 pub use stdin_source::StdinSource;

@@ -32,7 +32,7 @@ impl MemSource {
         ensures { IfOk result (λ s. s ≡ record { rest = bytes.now; failing = []; calls = 0; faults = 0 }) }
     {
         Ok(MemSource {
-            bytes: bytes.to_vec(alloc)?,
+            bytes: Vec::from_slice(alloc, bytes)?,
             at: 0,
             failing: Vec::new(alloc),
             calls: 0,

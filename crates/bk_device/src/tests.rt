@@ -82,3 +82,59 @@ fn the_standard_input(rt: HostRuntime) -> Result<(), Fail> {
     assert_eq!(rt; source.read(&mut buf)?, 0);
     Ok(())
 }
+
+#[test]
+fn files_in_memory(rt: HostRuntime) -> Result<(), Fail> {
+    let mut device = MemDevice::new(rt.alloc());
+    let mut buf = [7u8; 6];
+    assert_eq!(rt; device.len("a")?, None);
+    assert_eq!(rt; device.read("a", 0, &mut buf)?, 0);
+    device.remove("a")?;
+    device.write("a", 0, b"hello")?;
+    device.write("b", 0, b"other")?;
+    device.sync("a")?;
+    device.write("a", 4, b"p!!")?;
+    device.cut("a", 6)?;
+    assert_eq!(rt; device.len("a")?, Some(6));
+    assert_eq!(rt; device.read("a", 2, &mut buf)?, 4);
+    assert_eq!(rt; buf.as_slice(), b"llp!\x07\x07".as_slice());
+    device.remove("a")?;
+    device.sync("a")?;
+    assert_eq!(rt; device.len("a")?, None);
+    assert_eq!(rt; device.len("b")?, Some(5));
+    device.tell(b"one")?;
+    device.tell(b" two")?;
+    assert_eq!(rt; device.told(), b"one two".as_slice());
+    Ok(())
+}
+
+#[test]
+fn a_device_fails_where_it_was_asked_to(rt: HostRuntime) -> Result<(), Fail> {
+    let mut device = MemDevice::new(rt.alloc());
+    device.fail_at(2)?;
+    device.fail_at(4)?;
+    device.write("a", 0, b"one")?;
+    assert!(rt; device.write("a", 3, b" two").is_err());
+    device.tell(b"one")?;
+    assert!(rt; device.tell(b" two").is_err());
+    assert_eq!(rt; device.len("a")?, Some(3));
+    assert_eq!(rt; device.told(), b"one".as_slice());
+    Ok(())
+}
+
+#[test]
+fn ten_thousand_writes_and_reads(rt: HostRuntime) -> Result<(), Fail> {
+    let mut device = MemDevice::new(rt.alloc());
+    let mut end = 0u64;
+    let mut buf = [0u8; 8];
+    for _ in 0..10_000u64 {
+        if device.len("log")? == Some(end) || end == 0 {
+            device.write("log", end, b"a record")?;
+            device.sync("log")?;
+            assert_eq!(rt; device.read("log", end, &mut buf)?, 8);
+            end = end.wrapping_add(8);
+        }
+    }
+    assert_eq!(rt; device.len("log")?, Some(80_000));
+    Ok(())
+}

@@ -3,7 +3,7 @@ use Rattle.std.proofs.Common.{◌≡◌, ◌≢◌, ◌⊎◌, ℕ, List, [], �
 use Rattle.bk_device.specs.Calls.{CallsOn, ChangesNothing, TellsFront, TellsBytes}
 use Rattle.bk_device.specs.Disk.{Files, Disk, MayLeave, IsDurable, IsLawful, replaced}
 use Rattle.bk_device.specs.Effects.{MayLeaveOwn, MayLeaveOthers, IsName, Effect, KeepsFiles, LeavesSince, Among}
-use Rattle.bk_device.proofs.Names.{same_or_other, replaced-same, replaced-other}
+use Rattle.bk_device.specs.Names.{same_or_other, replaced-same, replaced-other}
 
 -- an effect, then an effect
 pub effect_then : {own : List ℕ → Type 0} {P : Files → Type 0} {a b c : Disk} → Effect own P a b → Effect own P b c → Effect own P a c

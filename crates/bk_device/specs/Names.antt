@@ -5,11 +5,11 @@ use Rattle.std.specs.Str.{bytes_eq}
 use Rattle.std.proofs.lemmas.Slice.Eq.{bytes_eq-Decides}
 use Rattle.bk_device.specs.Disk.{Files, replaced}
 
-true_or_false : (b : Bool) → (b ≡ true) ⊎ (b ≡ false)
+pub true_or_false : (b : Bool) → (b ≡ true) ⊎ (b ≡ false)
 true_or_false true = inl refl
 true_or_false false = inr refl
 
-unequal : (name other : List ℕ) → bytes_eq name other ≡ false → other ≢ name
+pub unequal : (name other : List ℕ) → bytes_eq name other ≡ false → other ≢ name
 unequal name other test same =
     let tested : bytes_eq name other ≡ true = (bytes_eq-Decides name other).1 (sym same) in
     let both : true ≡ false = sym tested ∙ test in
