@@ -39,7 +39,8 @@ nothing-ran st rest rest_after ct coming dt told status bytes read few too_long 
   begun = λ some. absurd (omega (arith, some));
   front = λ t. (0, sym (append-nil told));
   done = λ h. absurd (not_done h);
-  cut = λ h. absurd (not_cut h) }
+  cut = λ h. absurd (not_cut h);
+}
 
 -- the words were refused
 pub refused-words : (st : Type 0) (rest : List ℕ) (ct : Type 0) (coming : ℕ → ℕ) (dt : Type 0) (told : List ℕ) (e : WordsError) → Ran st rest rest ct coming coming dt told told (code_of (words_status e))
@@ -64,12 +65,11 @@ pub stopped-before : (st : Type 0) (rest rest_after : List ℕ) (ct : Type 0) (c
     (bytes : List ℕ) → (st → (rest ≡ bytes) × (rest_after ≡ [])) → length bytes ≤ script_bytes → Ran st rest rest_after ct coming coming dt told told 6
 stopped-before st rest rest_after ct coming dt told bytes whole short =
     nothing-ran st rest rest_after ct coming dt told 6 bytes (λ t. (whole t).0 ∙ sym (append-nil bytes) ∙ ap (λ r. bytes ++ r) (sym (whole t).1)) (omega arith)
-      (λ h. absurd (omega (arith, h))) (λ h. inr refl) (λ h. omega (arith, h)) (λ h. omega (arith, h))
+    (λ h. absurd (omega (arith, h))) (λ h. inr refl) (λ h. omega (arith, h)) (λ h. omega (arith, h))
 
 module _ (st : Type 0) (rest rest_after : List ℕ) (ct : Type 0) (coming coming_after : ℕ → ℕ) (dt : Type 0) (told told_after : List ℕ)
     (bytes : List ℕ) (whole : st → (rest ≡ bytes) × (rest_after ≡ [])) (short : length bytes ≤ script_bytes) (statements : List Statement) (script : IsScript bytes statements)
     (start : Instance) (keeps : Keeps (opened (empty_world 1)) start) where
-
   is_whole : IsWhole st bytes rest_after statements
   is_whole = record { script = script; to_its_end = λ t. (whole t).1; short = short }
 
@@ -97,7 +97,8 @@ module _ (st : Type 0) (rest rest_after : List ℕ) (ct : Type 0) (coming coming
         begun = λ some. is_whole;
         front = λ t. (length (replies_text all.replies), all.text t ∙ ap (λ texts. told ++ texts) (sym (take-length (replies_text all.replies))));
         done = λ h. (is_whole, all.each_reply, sym all.each_reply, all.text);
-        cut = λ h. absurd (omega (arith, h)) }
+        cut = λ h. absurd (omega (arith, h));
+      }
 
   -- an answer was cut short
   pub cut-short : (e : AnswerError) (asks : Type 0) → CutAll start statements ct coming coming_after dt told told_after asks → (e ≡ answer.Console → asks)
@@ -121,7 +122,8 @@ module _ (st : Type 0) (rest rest_after : List ℕ) (ct : Type 0) (coming coming
         begun = λ some. is_whole;
         front = cut.front;
         done = λ h. absurd (not_zero e h);
-        cut = λ h. cut.some (console (is_console e h)) }
+        cut = λ h. cut.some (console (is_console e h));
+      }
     where
       not_eight : (e : AnswerError) → code_of (answer_status e) ≡ 8 → ⊥
       not_eight answer.Console h = omega (arith, h)

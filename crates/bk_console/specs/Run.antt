@@ -65,23 +65,20 @@ pub record Ran (source_tells : Type 0) (rest rest_after : List ℕ) (clock_tells
   pub last : World
   -- how often the clock was asked
   pub times : ℕ
-
   -- the bytes that were read, at most one above the limit, which is exactly where the script is too long
   pub read : source_tells → rest ≡ bytes ++ rest_after
   pub few : length bytes ≤ script_bytes + 1
   pub too_long : status ≡ 8 → script_bytes < length bytes
   pub long : script_bytes < length bytes → (status ≡ 8) ⊎ (status ≡ 6)
-
   -- the machine's run over a front of the script, at the moments that the clock showed
   pub run : IsRun (opened (empty_world 1)) (take (length replies) statements) moments replies last
   pub asked : Asked clock_tells coming coming_after moments times
   pub asked_each : (length replies ≤ times) × (times ≤ length replies + 1)
   pub begun : 0 < length replies → IsWhole source_tells bytes rest_after statements
-
   -- whole texts of replies, and then perhaps a front of the next
   pub front : told_tells → TellsFront (replies_text replies) told told_after
   -- at the end every statement has its reply, and all are told whole
   pub done : status ≡ 0 → IsWhole source_tells bytes rest_after statements
-    × (length replies ≡ length statements) × (times ≡ length replies) × (told_tells → told_after ≡ told ++ replies_text replies)
+      × (length replies ≡ length statements) × (times ≡ length replies) × (told_tells → told_after ≡ told ++ replies_text replies)
   -- a fault of the console comes where a reply is told
   pub cut : status ≡ 4 → 0 < length replies

@@ -12,3 +12,6 @@ mod status;
 pub use command_line::{Options, WordsError, words};
 pub use console::run;
 pub use status::Status;
+
+#[cfg(test)]
+mod tests;

@@ -12,7 +12,8 @@ loop-statement-init g c = record {
   answered = AnsweredAll-none _ _ _ _ _;
   files = λ t name. refl;
   disk_faults = refl;
-  never_falls = omega arith }
+  never_falls = omega arith;
+}
 
 pub loop-statement-preserved : goal.loop-statement-preserved
 loop-statement-preserved g c =
@@ -23,10 +24,11 @@ loop-statement-preserved g c =
     record {
       answered = subst (λ ss. AnsweredAll c.args.instance.now c.answer.new.instance ss g.C.Clock.tells (g.C.Clock.coming c.args.clock.now) (g.C.Clock.coming c.answer.new.clock)
           g.D.Device.tells (g.D.Device.disk c.args.device.now).told (g.D.Device.disk c.answer.new.device).told) (sym more)
-        (AnsweredAll-more _ _ _ _ _ _ _ _ _ _ _ _ before.answered _ now.answered);
+          (AnsweredAll-more _ _ _ _ _ _ _ _ _ _ _ _ before.answered _ now.answered);
       files = λ t name. now.files t name ∙ before.files t name;
       disk_faults = now.disk_faults ∙ before.disk_faults;
-      never_falls = omega (arith, now.never_falls, before.never_falls) }
+      never_falls = omega (arith, now.never_falls, before.never_falls);
+    }
 
 pub returns-in_err-answer-clause-cut_short : goal.returns-in_err-answer-clause-cut_short
 returns-in_err-answer-clause-cut_short g c =
@@ -36,6 +38,6 @@ returns-in_err-answer-clause-cut_short g c =
     let p = err_from_is_err_and c.from_residual.result c.from_residual.ensures.1 in
     let more = take_more c.args.statements.now i c.statement-item.result c.loop-statement-test.true ∙ ap (λ s. take i c.args.statements.now ++ s ∷ []) (sym c.statement-item.is) in
     OnErr-from _ (CutAll-from _ _ _ _ _ _ _ _ _ _ _ _ before.answered c.args.statements.now
-      (ap (λ k. take k c.args.statements.now) short)
-      (ap (λ k. take (k + 1) c.args.statements.now) short ∙ more)
-      (omega (arith, short, c.loop-statement-test.true)) _ _ (λ h. let same : c.in_err-answer.field-0.0 ≡ Console = cc (p.1, p.2, h) in ap Err same) c.in_err-answer.ensures.cut_short)
+    (ap (λ k. take k c.args.statements.now) short)
+    (ap (λ k. take (k + 1) c.args.statements.now) short ∙ more)
+    (omega (arith, short, c.loop-statement-test.true)) _ _ (λ h. let same : c.in_err-answer.field-0.0 ≡ Console = cc (p.1, p.2, h) in ap Err same) c.in_err-answer.ensures.cut_short)

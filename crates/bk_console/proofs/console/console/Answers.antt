@@ -24,11 +24,11 @@ pub returns-in_err-answer_all-clause-run : goal.returns-in_err-answer_all-clause
 returns-in_err-answer_all-clause-run g c =
     let p = err_from_is_err_and c.from_residual-in_err-answer_all.result c.from_residual-in_err-answer_all.ensures.1 in
     rw (p.1, p.2) (cut-short _ _ _ _ _ _ _ _ _ c.in_ok-script.script.items c.in_ok-script.ensures.whole c.in_ok-script.ensures.short
-      c.deref-2.result.now
-      (subst (λ b. IsScript b c.deref-2.result.now) c.deref.ensures.value (subst (λ ss. IsScript c.deref.result.now ss) (sym c.deref-2.ensures.value) c.in_ok-statements.ensures)) _ (c.new-instance.ensures 1)
-      c.in_err-answer_all.field-0.0 _ c.in_err-answer_all.ensures.cut_short (λ h. ap Err h))
+    c.deref-2.result.now
+    (subst (λ b. IsScript b c.deref-2.result.now) c.deref.ensures.value (subst (λ ss. IsScript c.deref.result.now ss) (sym c.deref-2.ensures.value) c.in_ok-statements.ensures)) _ (c.new-instance.ensures 1)
+    c.in_err-answer_all.field-0.0 _ c.in_err-answer_all.ensures.cut_short (λ h. ap Err h))
 
 pub returns-clause-run : goal.returns-clause-run
 returns-clause-run g c = all-answered _ _ _ _ _ _ _ _ _ c.in_ok-script.script.items c.in_ok-script.ensures.whole c.in_ok-script.ensures.short
     c.deref-2.result.now
-      (subst (λ b. IsScript b c.deref-2.result.now) c.deref.ensures.value (subst (λ ss. IsScript c.deref.result.now ss) (sym c.deref-2.ensures.value) c.in_ok-statements.ensures)) _ (c.new-instance.ensures 1) _ c.in_ok-answer_all.ensures.answered
+    (subst (λ b. IsScript b c.deref-2.result.now) c.deref.ensures.value (subst (λ ss. IsScript c.deref.result.now ss) (sym c.deref-2.ensures.value) c.in_ok-statements.ensures)) _ (c.new-instance.ensures 1) _ c.in_ok-answer_all.ensures.answered

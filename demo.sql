@@ -1,0 +1,11 @@
+CREATE DATABASE Sales;
+USE Sales;
+CREATE TABLE orders (k BIGINT PRIMARY KEY, v VARCHAR(112));
+INSERT INTO orders VALUES (12, 'twelve boxes of paper');
+INSERT INTO orders VALUES (7, 'a desk');
+INSERT INTO orders VALUES (30, 'it''s a lamp');
+SELECT * FROM Orders;
+INSERT INTO orders VALUES (7, 'another desk');
+SELECT * FROM invoices;
+USE Stock;
+BACKUP DATABASE Sales TO DISK = 'sales.bak';
