@@ -1,5 +1,5 @@
 -- What is appended to a branch at or above a number leaves what every path shows below that number.
-use Rattle.std.proofs.Common.{◌≡◌, ◌<◌, ◌≤◌, ℕ, zero, suc, ◌+◌, ◌-◌, subst, Bool, true, false, cond, List, [], ◌∷◌, ◌++◌, Option, None, Some, length, refl, sym, ◌∙◌, ap, arith, ltb, leb, eqb, filter, add-one, add-zero, add-suc, append_assoc}
+use Rattle.std.proofs.Common.{◌≡◌, ◌<◌, ◌≤◌, ℕ, zero, suc, ◌+◌, ◌-◌, subst, Bool, true, false, cond, List, [], ◌∷◌, ◌++◌, Option, None, Some, refl, sym, ◌∙◌, ap, arith, ltb, leb, eqb, filter, add-zero, add-suc}
 use Rattle.std.specs.List.{AllByRecursion}
 use Rattle.std.proofs.lemmas.List.{append-nil}
 use Rattle.std.proofs.lemmas.List.Elements.{filter-append}
@@ -153,7 +153,7 @@ module _ (h : History) (path : List Branch) (end : ℕ) (on : GoesOn h path end)
       let yes : ltb entry.lsn later ≡ true = grind (arith, nat_tests, lt) in
       let more : end + (later - end) ≡ later = omega arith in
       let same : along (entry_on (appended h on.branch (entry ∷ []) ts)) path later ≡ along (entry_on h) path end ++ one_if (ltb entry.lsn later) entry =
-          rw more at (grown (later - end)) in
+      rw more at (grown (later - end)) in
       ap (λ b. along (entry_on (appended_to h b (entry ∷ []) ts)) path later) on.last
       ∙ same ∙ ap (λ t. along (entry_on h) path end ++ cond t (entry ∷ []) []) yes
 
@@ -174,4 +174,5 @@ module _ (h : History) (path : List Branch) (end : ℕ) (on : GoesOn h path end)
     starts = starts-more path later (omega arith) on.starts;
     below = subst (λ es. AllByRecursion (λ e. e.lsn < later) es)
         (sym (ap (λ b. (line_of (appended_to h b (entry ∷ []) ts) on.branch).entries) on.last ∙ ap (λ (line : Line). line.entries) (line_of-appended h on.branch (entry ∷ []) ts on.there)))
-        (below-more (line_of h on.branch).entries later (omega arith) lt on.below) }
+        (below-more (line_of h on.branch).entries later (omega arith) lt on.below);
+  }

@@ -1,11 +1,11 @@
 -- Sessions and databases of a world after a change of one of them.
-use Rattle.std.proofs.Common.{◌≡◌, ℕ, Bool, true, false, cond, List, [], ◌∷◌, Option, Some, None, eqb, refl, sym, ◌∙◌, ap, arith}
+use Rattle.std.proofs.Common.{◌≡◌, ℕ, Bool, true, false, cond, List, [], ◌∷◌, None, eqb, refl, ◌∙◌, ap, arith}
 use Rattle.std.proofs.lemmas.Bool.Decides.{nat_tests}
 use Rattle.std.proofs.lemmas.Slice.Eq.{bytes_eq-Decides}
 use Rattle.bk_ids.specs.declared.guid.Guid.{Guid}
 use Rattle.bk_ids.specs.Name.{same_name, lowered}
 use Rattle.bk_world.specs.History.{is_guid}
-use Rattle.bk_world.specs.World.{World, Session, Database, session_numbered, with_session, with_database}
+use Rattle.bk_world.specs.World.{Session, session_numbered, with_session}
 
 pub is_guid-refl : (g : Guid) → is_guid g g ≡ true
 is_guid-refl g = grind (arith, nat_tests)

@@ -5,5 +5,7 @@ pub mod Medium
 pub mod World
 pub mod Machine
 pub mod Run
+pub mod Crash
+pub mod Events
 pub mod Sound
 pub mod Text

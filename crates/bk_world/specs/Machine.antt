@@ -1,12 +1,11 @@
 -- The machine: which rule a statement breaks first, what it changes in its parts, and what it replies.
 -- SQL Server: CREATE DATABASE, USE, CREATE TABLE, INSERT, SELECT (Transact-SQL).
-use Rattle.std.specs.Prelude.{◌≡◌, ℕ, zero, suc, ◌+◌, max, min, take, codes, Bool, true, false, List, [], ◌∷◌, ◌++◌, length, Option, Some, None, is_some, is_none, nat_lt, nat_le, ◌==◌, not, if◌then◌else◌}
+use Rattle.std.specs.Prelude.{◌≡◌, ℕ, zero, suc, ◌+◌, max, min, take, codes, Bool, false, List, [], ◌∷◌, ◌++◌, length, Option, Some, None, is_some, nat_lt, nat_le, ◌==◌, if◌then◌else◌}
 use Rattle.std.specs.Ordering.{nat_cmp}
 use Rattle.std.specs.BTreeMap.{is_at}
 use Rattle.std.specs.Map.{lookup}
 use Rattle.std.specs.Str.{is_utf8}
 use Rattle.bk_ids.specs.declared.guid.Guid.{Guid}
-use Rattle.bk_ids.specs.declared.path.Branch.{Branch}
 use Rattle.bk_ids.specs.declared.record.Place.{Place}
 use Rattle.bk_ids.specs.declared.record.RecoveryModel.TheVariants.{Full}
 use Rattle.bk_ids.specs.declared.unit.UnitId.TheVariants.{File}
@@ -26,7 +25,7 @@ use Rattle.bk_world.specs.declared.rule.Rule.TheVariants.{NoSuchDatabase, NoSuch
 use Rattle.bk_world.specs.Entry.{Entry, Change, RowChange, rows_set, table_made, model_set}
 use Rattle.bk_world.specs.History.{History, Touch, Line, appended}
 use Rattle.bk_world.specs.Rows.{Rows, rows_changed, rows_below, tables_below, time_below}
-use Rattle.bk_world.specs.World.{World, Database, Session, Open, with_database, with_session, session_numbered, current_database, database_named}
+use Rattle.bk_world.specs.World.{World, Database, Open, with_database, with_session, session_numbered, current_database, database_named}
 
 -- What a step may choose.
 pub record Choice : Type 0 where
@@ -92,13 +91,13 @@ unfoldable pub broken : World → ℕ → Item → Option Rule
 broken w line (item.CreateDatabase name) = when (nat_lt 0 (length w.databases)) (NotBuilt line)
 broken w line (item.Use name) = found (database_named w.databases name) NoSuchDatabase (λ db. None)
 broken w line (item.CreateTable name) = found (current_database w) NoSuchDatabase (λ db.
-  when (nat_lt 0 (length (tables w db))) (NotBuilt line))
+    when (nat_lt 0 (length (tables w db))) (NotBuilt line))
 broken w line (item.Insert table key value) = found (current_database w) NoSuchDatabase (λ db.
-  found (table_named (tables w db) table) NoSuchTable (λ t.
-  or_else (when (nat_le most_rows (length (visible w db t))) (NotBuilt line))
-  (when (has_key (visible w db t) key) (DuplicateKey key))))
+    found (table_named (tables w db) table) NoSuchTable (λ t.
+    or_else (when (nat_le most_rows (length (visible w db t))) (NotBuilt line))
+    (when (has_key (visible w db t) key) (DuplicateKey key))))
 broken w line (item.Select table) = found (current_database w) NoSuchDatabase (λ db.
-  found (table_named (tables w db) table) NoSuchTable (λ t. None))
+    found (table_named (tables w db) table) NoSuchTable (λ t. None))
 broken w line item.NotBuilt = Some (NotBuilt line)
 
 -- What an accepted statement changes.
@@ -131,11 +130,25 @@ default_file name = record { number = 1; group = 0; extents = 128; name = name; 
 -- a database as it is made: its first record is number 1
 unfoldable pub new_database : List ℕ → Guid → Guid → Database
 new_database name family branch = record {
-  name = name; family = family; groups = codes "PRIMARY" ∷ []; files = default_file name ∷ [];
-  log_name = default_log name; log_path = default_log name;
-  path = (record { guid = branch; start = 1 }) ∷ []; end = 2;
-  archive = 1; kept = 1; checkpoint = 1; chain = false; began = false; base = None; status = status.Online;
-  units = (record { id = File 1; state = state.Online }) ∷ []; job = None; transactions = [] }
+  name = name;
+  family = family;
+  groups = codes "PRIMARY" ∷ [];
+  files = default_file name ∷ [];
+  log_name = default_log name;
+  log_path = default_log name;
+  path = (record { guid = branch; start = 1 }) ∷ [];
+  end = 2;
+  archive = 1;
+  kept = 1;
+  checkpoint = 1;
+  chain = false;
+  began = false;
+  base = None;
+  status = status.Online;
+  units = (record { id = File 1; state = state.Online }) ∷ [];
+  job = None;
+  transactions = [];
+}
 
 -- an entry without a mark
 abbrev pub plain_entry : ℕ → ℕ → Change → Entry
@@ -148,11 +161,12 @@ first_line branch time = record { branch = branch; entries = plain_entry 1 time 
 -- a database is made, with two GUIDs drawn: its family, then its first branch
 unfoldable pub created : World → List ℕ → ℕ → World
 created w name now =
-  let branch : Guid = drawn w (w.counter + 1) in
-  record w {
-    counter = w.counter + 2;
-    history = first_line branch (min now latest) ∷ w.history;
-    databases = w.databases ++ new_database name (drawn w w.counter) branch ∷ [] }
+    let branch : Guid = drawn w (w.counter + 1) in
+    record w {
+      counter = w.counter + 2;
+      history = first_line branch (min now latest) ∷ w.history;
+      databases = w.databases ++ new_database name (drawn w w.counter) branch ∷ [];
+    }
 
 -- the current session's current database is set
 unfoldable pub with_current : World → List ℕ → World
@@ -167,19 +181,20 @@ appended_to history (Some branch) entries touches = appended history branch entr
 unfoldable pub logged : World → Database → Entry → List Touch → ℕ → World
 logged w db entry touches end = record w {
   history = appended_to w.history (last_branch db.path) (entry ∷ []) touches;
-  databases = with_database w.databases db.name (λ d. record d { end = end }) }
+  databases = with_database w.databases db.name (λ d. record d { end = end });
+}
 
 -- a table is made in PRIMARY, with one record
 unfoldable pub table_added : World → Database → List ℕ → ℕ → World
 table_added w db name now =
-  let table : TableSpec = record { number = length (tables w db) + 1; name = name; group = 0 } in
-  logged w db (plain_entry db.end (entry_time w db now) (table_made table)) [] (db.end + 1)
+    let table : TableSpec = record { number = length (tables w db) + 1; name = name; group = 0 } in
+    logged w db (plain_entry db.end (entry_time w db now) (table_made table)) [] (db.end + 1)
 
 -- a row is added by a transaction of its own, with three records: its begin, its write and its commit
 unfoldable pub row_added : World → Database → TableSpec → ℕ → List ℕ → ℕ → World
 row_added w db table key value now =
-  let change : RowChange = record { table = table.number; key = key; value = Some value } in
-  logged w db (plain_entry (db.end + 2) (entry_time w db now) (rows_set (change ∷ [])))
+    let change : RowChange = record { table = table.number; key = key; value = Some value } in
+    logged w db (plain_entry (db.end + 2) (entry_time w db now) (rows_set (change ∷ [])))
     ((record { lsn = db.end + 1; group = table.group }) ∷ []) (db.end + 3)
 
 -- an outcome of one part
@@ -201,9 +216,9 @@ accepted w choice (item.CreateDatabase name) now = in_one (created w name now) D
 accepted w choice (item.Use name) now = in_one (with_current w name) Done
 accepted w choice (item.CreateTable name) now = with_found (current_database w) (λ db. in_one (table_added w db name now) Done)
 accepted w choice (item.Insert table key value) now = with_found (current_database w) (λ db.
-  with_found (table_named (tables w db) table) (λ t. in_one (row_added w db t key value now) (Counted 1)))
+    with_found (table_named (tables w db) table) (λ t. in_one (row_added w db t key value now) (Counted 1)))
 accepted w choice (item.Select table) now = with_found (current_database w) (λ db.
-  with_found (table_named (tables w db) table) (λ t. unchanged (Selected (visible w db t))))
+    with_found (table_named (tables w db) table) (λ t. unchanged (Selected (visible w db t))))
 accepted w choice item.NotBuilt now = unchanged Done
 
 -- the outcome, but for a rule that is broken

@@ -1,5 +1,5 @@
 -- The world: one instance with its databases, media, standby files, tables of msdb and sessions.
-use Rattle.std.specs.Prelude.{ℕ, ◌+◌, Bool, false, List, [], ◌∷◌, Option, Some, None, ◌==◌, if◌then◌else◌}
+use Rattle.std.specs.Prelude.{ℕ, Bool, false, List, [], ◌∷◌, Option, Some, None, ◌==◌, if◌then◌else◌}
 use Rattle.bk_ids.specs.declared.guid.Guid.{Guid}
 use Rattle.bk_ids.specs.declared.path.Branch.{Branch}
 use Rattle.bk_ids.specs.declared.record.Mark.{Mark}
@@ -100,8 +100,19 @@ pub record World : Type 0 where
 -- the world of an instance that has nothing yet
 unfoldable pub empty_world : ℕ → World
 empty_world instance = record {
-  instance = instance; counter = 1; history = []; databases = []; media = []; standbys = [];
-  backups = []; restores = []; marks = []; session = 1; sessions = []; closed = false }
+  instance = instance;
+  counter = 1;
+  history = [];
+  databases = [];
+  media = [];
+  standbys = [];
+  backups = [];
+  restores = [];
+  marks = [];
+  session = 1;
+  sessions = [];
+  closed = false;
+}
 
 -- a run begins with session 1 and no current database
 unfoldable pub opened : World → World

@@ -5,6 +5,7 @@
 mod database;
 mod header;
 mod item;
+mod laws;
 mod msdb;
 mod reply;
 mod rule;
@@ -12,6 +13,7 @@ mod rule;
 pub use database::{Base, FileSpec, State, Status, TableSpec, Unit};
 pub use header::{Header, HeaderFile, SetKind};
 pub use item::{Item, Statement};
+pub use laws::{one_entry_more_is_shown_last, what_is_below_stays};
 pub use msdb::{BackupRow, MarkRow, RestoreKind, RestoreRow};
 pub use reply::Reply;
 pub use rule::Rule;
