@@ -2,7 +2,8 @@
 #![tactic(auto)]
 
 ghost use Rattle.std.specs.Prelude.{◌≡◌, ℕ, List, IfOk, OnOk, All, ◌+◌, ◌++◌, ◌<◌, ◌^◌, min};
-ghost use Rattle.bk_token.specs.Tokens.{AreTokens, SpansRise, IsItsSlice};
+ghost use Rattle.bk_token.specs.Tokens.{AreTokens, SpansRise, IsItsSlice, bytes_of};
+ghost use Rattle.bk_token.specs.Contents.{SaysBy};
 ghost use Rattle.bk_token.specs.Reading.{as_token};
 ghost use Rattle.bk_token.specs.declared.token.Token.{Token as TokenOf};
 
@@ -84,6 +85,12 @@ pub fn spans_rise()
 /// The bytes of each token are a piece of its kind.
 pub fn slices()
     ensures { (src : List ℕ) (ts : List TokenOf) → AreTokens src ts → All (IsItsSlice src) ts }
+{
+}
+
+/// What a text or a name in quotes says is what its bytes spell.
+pub fn contents()
+    ensures { (src : List ℕ) (ts : List TokenOf) → AreTokens src ts → All (λ t. SaysBy t.kind (bytes_of src t)) ts }
 {
 }
 
