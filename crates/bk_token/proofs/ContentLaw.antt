@@ -1,18 +1,18 @@
 -- The content of a text or a name in quotes is what is spelled between its quotes.
-use Rattle.std.proofs.Common.{◌≡◌, ℕ, zero, suc, ◌+◌, ◌-◌, ◌<◌, ◌≤◌, ◌^◌, ltb, Bool, true, false, cond, ◌&&◌, eqb, List, [], ◌∷◌, ◌++◌, length, take, drop, get_or, refl, ap, sym, ◌∙◌, subst, ◌⊎◌, inl, inr, ⊎_elim, append_assoc, append-nil, length-append, IsUtf8, Option, Some, None, arith, rules}
+use Rattle.std.proofs.Common.{◌≡◌, ℕ, zero, suc, ◌+◌, ◌-◌, ◌<◌, ◌^◌, ltb, Bool, true, false, cond, eqb, List, [], ◌∷◌, ◌++◌, length, take, drop, get_or, refl, ap, sym, ◌∙◌, inl, inr, ⊎_elim, append_assoc, length-append, IsUtf8, Some, arith}
 use Rattle.std.specs.Prelude.{All, slice_range}
 use Rattle.std.proofs.Math.Seq.{take-append_seam, drop-append_seam, drop-append-add, get_or-append_seam}
-use Rattle.std.proofs.lemmas.Bool.{eq-eqb, eqb-true, lt-ltb}
+use Rattle.std.proofs.lemmas.Bool.{eq-eqb, eqb-true}
 use Rattle.std.proofs.lemmas.List.Elements.{All-weaker}
-use Rattle.std.proofs.lemmas.Str.{IsUtf8-append, IsUtf8-nil, IsUtf8-from_ascii, IsUtf8-take, IsUtf8-drop, IsCharBoundary-before_ascii, IsCharBoundary-after_ascii}
+use Rattle.std.proofs.lemmas.Str.{IsUtf8-append, IsUtf8-from_ascii, IsUtf8-take, IsUtf8-drop, IsCharBoundary-before_ascii, IsCharBoundary-after_ascii}
 use Rattle.bk_token.specs.Pieces.{doubled}
 use Rattle.bk_token.specs.Contents.{folded, text_content, quoted_content, as_text, IsSpelled, SaysBy}
-use Rattle.bk_token.specs.Pieces.{IsClosed, IsQuotation, IsPieceBy, IsPiece, opening, is_go, number_kind, decimal, begins_line, first_of_bytes}
+use Rattle.bk_token.specs.Pieces.{IsClosed, IsQuotation, IsPieceBy, opening, is_go, decimal, begins_line}
 use Rattle.bk_token.specs.Tokens.{AreTokens, IsItsSlice, bytes_of}
 use Rattle.bk_token.specs.declared.opening.Opening.{Opening}
 use Rattle.bk_token.specs.declared.opening.Opening.TheVariants.{Blank, DashComment, SlashComment, Letter, Digit, Quote, NationalQuote, Bracket, DoubleQuote, ColonByte, SignByte, Other}
 use Rattle.bk_token.specs.declared.token.Kind.{Kind}
-use Rattle.bk_token.specs.declared.token.Kind.TheVariants.{Word, Quoted, Text, Number, Sign, Go, Colon, Bad}
+use Rattle.bk_token.specs.declared.token.Kind.TheVariants.{Word, Quoted, Text, Number, Go, Colon, Bad}
 use Rattle.bk_token.specs.declared.token.Token.{Token}
 use Rattle.bk_token.proofs.ContentLemmas.{as_text-valid}
 use Rattle.bk_token.proofs.TokenLemmas.{slices}
