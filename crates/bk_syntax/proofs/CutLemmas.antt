@@ -1,9 +1,9 @@
 -- The pieces of a script, and the statements read so far.
-use Rattle.std.proofs.Common.{◌≡◌, ℕ, suc, ◌+◌, ◌-◌, ◌<◌, ◌≤◌, Bool, true, false, not, cond, ◌&&◌, eqb, List, [], ◌∷◌, ◌++◌, length, take, drop, refl, ap, sym, ◌∙◌, subst, append_assoc, append-nil, length-append, arith, rules}
+use Rattle.std.proofs.Common.{◌≡◌, ℕ, suc, ◌+◌, ◌<◌, ◌≤◌, Bool, true, false, not, cond, ◌&&◌, eqb, List, [], ◌∷◌, ◌++◌, length, take, drop, refl, ap, sym, ◌∙◌, append_assoc, append-nil, arith}
 use Rattle.std.specs.Prelude.{count_by}
 use Rattle.std.specs.List.{onto_first}
 use Rattle.std.proofs.lemmas.Bool.{and_parts, eqb-true}
-use Rattle.std.proofs.lemmas.List.{take-append-drop, length-take-le, length-drop, drop-drop}
+use Rattle.std.proofs.lemmas.List.{length-drop, drop-drop}
 use Rattle.std.proofs.lemmas.List.Sums.{sum_by-append}
 use Rattle.std.proofs.Math.Seq.{take-add, take-length}
 use Rattle.bk_token.specs.Bytes.{is_line_feed}
@@ -70,9 +70,9 @@ turn src found first at feeds n more so_far len before read counted =
       within = omega (arith, before);
       counted = rw front (omega (arith, so_far.counted, counted, sum_by-append (λ b. cond (is_line_feed b) 1 0) (take at src) (take n bytes ++ 59 ∷ []), sum_by-append (λ b. cond (is_line_feed b) 1 0) (take n bytes) (59 ∷ [])));
       goes_on = λ later statements.
-        let moved : AreStatements (take at src ++ (take n bytes ++ 59 ∷ [])) (pieces false (drop (n + 1) bytes)) later = rw (← front, rest) statements in
-        let whole : AreStatements (take at src) (take n bytes ∷ pieces false (drop (n + 1) bytes)) (first ++ later) = (first, later, read, moved, refl) in
-        rw append_assoc (so_far.goes_on (first ++ later) (rw ends.cut whole));
+          let moved : AreStatements (take at src ++ (take n bytes ++ 59 ∷ [])) (pieces false (drop (n + 1) bytes)) later = rw (← front, rest) statements in
+          let whole : AreStatements (take at src) (take n bytes ∷ pieces false (drop (n + 1) bytes)) (first ++ later) = (first, later, read, moved, refl) in
+          rw append_assoc (so_far.goes_on (first ++ later) (rw ends.cut whole));
     }
 
 -- the last turn

@@ -1,5 +1,5 @@
 -- The statements that are read so far, as a grammar over tokens. What is read is a value and the tokens behind it.
-use Rattle.std.specs.Prelude.{◌≡◌, ℕ, ◌^◌, ◌-◌, Bool, true, false, ◌&&◌, ◌||◌, ◌==◌, nat_lt, nat_le, if◌then◌else◌, List, [], ◌∷◌, length, codes, Option, Some, None, unwrap_or}
+use Rattle.std.specs.Prelude.{ℕ, ◌^◌, Bool, false, ◌&&◌, ◌||◌, ◌==◌, nat_lt, nat_le, if◌then◌else◌, List, [], ◌∷◌, length, codes, Option, Some, None, unwrap_or}
 use Rattle.bk_ids.specs.Name.{same_name}
 use Rattle.bk_token.specs.Bytes.{begins}
 use Rattle.bk_token.specs.Contents.{is_word_kind, is_word, text_of, name_of, is_plain}
@@ -11,7 +11,6 @@ use Rattle.bk_world.specs.declared.item.Item.{Item}
 use Rattle.bk_world.specs.declared.item.Item.TheVariants.{CreateDatabase, Use, CreateTable, Insert, Select, NotBuilt}
 
 infixl 10 ◌>>=◌
-
 -- the first thing, and then the next, which may look at it
 abbrev pub ◌>>=◌ : {A B : Type 0} → Option A → (A → Option B) → Option B
 None >>= next = None

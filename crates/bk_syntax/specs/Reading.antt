@@ -1,5 +1,5 @@
 -- How the reader answers, and how far a piece goes.
-use Rattle.std.specs.Prelude.{◌≡◌, ℕ, ◌+◌, Bool, true, false, not, ◌&&◌, ◌==◌, if◌then◌else◌, List, [], ◌∷◌, Option, Some, None, Result, Ok, Err}
+use Rattle.std.specs.Prelude.{◌≡◌, ℕ, ◌+◌, Bool, not, ◌&&◌, ◌==◌, if◌then◌else◌, List, [], ◌∷◌, Option, Some, None, Result, Ok, Err}
 use Rattle.bk_syntax.specs.Script.{in_text}
 use Rattle.bk_syntax.specs.declared.stuck.Stuck.{Stuck}
 use Rattle.bk_syntax.specs.declared.stuck.Stuck.TheVariants.{Memory, Form}

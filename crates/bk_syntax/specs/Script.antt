@@ -1,5 +1,5 @@
 -- The statements of a script that is cut at each `;` outside a text.
-use Rattle.std.specs.Prelude.{◌≡◌, ℕ, Bool, true, false, not, ◌&&◌, ◌==◌, if◌then◌else◌, MatchBool, List, [], ◌∷◌, ◌++◌}
+use Rattle.std.specs.Prelude.{◌≡◌, ℕ, Bool, false, not, ◌&&◌, ◌==◌, if◌then◌else◌, MatchBool, List, [], ◌∷◌, ◌++◌}
 use Rattle.std.specs.List.{list_all, onto_first, take_while}
 use Rattle.bk_token.specs.Bytes.{is_blank}
 use Rattle.bk_token.specs.Tokens.{AreTokens, line_behind}

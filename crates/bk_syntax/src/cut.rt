@@ -75,11 +75,7 @@ fn line_of(piece: &[u8], feeds: usize) -> u32
 }
 
 // The statement that a piece is, none where it is blank.
-fn statement_of(
-    alloc: Global,
-    piece: &[u8],
-    feeds: usize,
-) -> Result<Option<Statement>, AllocError>
+fn statement_of(alloc: Global, piece: &[u8], feeds: usize) -> Result<Option<Statement>, AllocError>
     requires { feeds + length piece.now < 2 ^ 64 }
     ensures { IfOk result (λ s. (before : List ℕ) → feeds ≡ count_by is_line_feed before → IsRead before piece.now (option_to_list s)) }
 {

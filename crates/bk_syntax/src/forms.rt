@@ -66,11 +66,7 @@ fn width(tokens: &[Token]) -> Result<&[Token], Stuck>
 }
 
 #[tactic(auto, unfolding(crate::specs::Forms::name))]
-fn name<'t>(
-    alloc: Global,
-    src: &[u8],
-    tokens: &'t [Token],
-) -> Result<(Name, &'t [Token]), Stuck>
+fn name<'t>(alloc: Global, src: &[u8], tokens: &'t [Token]) -> Result<(Name, &'t [Token]), Stuck>
     ensures { Gives (λ x. (x.0, x.1.now)) result (spec.name src.now tokens.now) }
 {
     let [token, rest @ ..] = tokens else {
@@ -126,11 +122,7 @@ fn begins_with_quote(bytes: &[u8]) -> bool
 }
 
 #[tactic(auto, unfolding(crate::specs::Forms::value))]
-fn value<'t>(
-    alloc: Global,
-    src: &[u8],
-    tokens: &'t [Token],
-) -> Result<(Text, &'t [Token]), Stuck>
+fn value<'t>(alloc: Global, src: &[u8], tokens: &'t [Token]) -> Result<(Text, &'t [Token]), Stuck>
     ensures { Gives (λ x. (x.0, x.1.now)) result (spec.value src.now tokens.now) }
 {
     let [token, rest @ ..] = tokens else {

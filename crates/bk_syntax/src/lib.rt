@@ -14,8 +14,7 @@ pub use cut::statements;
 /// Bytes are the script of exactly one list of statements.
 pub fn one_statement_list()
     ensures { (src : List ℕ) (statements others : List Statement) → IsScript src statements → IsScript src others → statements ≡ others }
-{
-}
+{}
 
 #[cfg(test)]
 mod tests;

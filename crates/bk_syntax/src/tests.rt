@@ -43,7 +43,8 @@ fn read(rt: &HostRuntime, script: &str) -> Result<String, Fail> {
 
 #[test]
 fn the_first_script_is_read(rt: HostRuntime) -> Result<(), Fail> {
-    let script = "CREATE DATABASE S; USE S; CREATE TABLE t (k BIGINT PRIMARY KEY, v VARCHAR(112)); INSERT INTO t VALUES (1, 'a'); SELECT * FROM t; INSERT INTO t VALUES (1, 'x'); SELECT * FROM u; USE X; FOO;";
+    let script =
+        "CREATE DATABASE S; USE S; CREATE TABLE t (k BIGINT PRIMARY KEY, v VARCHAR(112)); INSERT INTO t VALUES (1, 'a'); SELECT * FROM t; INSERT INTO t VALUES (1, 'x'); SELECT * FROM u; USE X; FOO;";
     let found = read(&rt, script)?;
     assert_eq!(rt;
         found.as_str(),
@@ -58,10 +59,22 @@ const SCRIPTS: [(&str, &str); 26] = [
     (" ;\n;", ""),
     ("use a", "1 use a; "),
     ("\n\nUSE a;\r\n use\nb ; ", "3 use a; 4 use b; "),
-    ("insert into T values(0,'a;b''c');;", "1 insert T 0 \"a;b'c\"; "),
-    ("INSERT INTO t VALUES (1, 'a;\nUSE x; USE y", "1 not built; 2 use y; "),
-    ("INSERT INTO t VALUES (9223372036854775807, '')", "1 insert t 9223372036854775807 \"\"; "),
-    ("INSERT INTO t VALUES (9223372036854775808, '')", "1 not built; "),
+    (
+        "insert into T values(0,'a;b''c');;",
+        "1 insert T 0 \"a;b'c\"; ",
+    ),
+    (
+        "INSERT INTO t VALUES (1, 'a;\nUSE x; USE y",
+        "1 not built; 2 use y; ",
+    ),
+    (
+        "INSERT INTO t VALUES (9223372036854775807, '')",
+        "1 insert t 9223372036854775807 \"\"; ",
+    ),
+    (
+        "INSERT INTO t VALUES (9223372036854775808, '')",
+        "1 not built; ",
+    ),
     ("INSERT INTO t VALUES (1, N'a')", "1 not built; "),
     ("USE [a]", "1 not built; "),
     ("USE \"a\"", "1 not built; "),
@@ -70,16 +83,37 @@ const SCRIPTS: [(&str, &str); 26] = [
     ("USE a\nGO\n", "1 not built; "),
     (":wait\n;USE a", "1 not built; 2 use a; "),
     ("USE select", "1 not built; "),
-    ("USE MASTER; CREATE DATABASE msdb; use TempDb", "1 not built; 1 not built; 1 not built; "),
-    ("CREATE TABLE master (K bigint primary key, V varchar(112))", "1 create table master; "),
-    ("CREATE TABLE t (k BIGINT PRIMARY KEY, v VARCHAR(111))", "1 not built; "),
-    ("CREATE TABLE t (v BIGINT PRIMARY KEY, k VARCHAR(112))", "1 not built; "),
+    (
+        "USE MASTER; CREATE DATABASE msdb; use TempDb",
+        "1 not built; 1 not built; 1 not built; ",
+    ),
+    (
+        "CREATE TABLE master (K bigint primary key, V varchar(112))",
+        "1 create table master; ",
+    ),
+    (
+        "CREATE TABLE t (k BIGINT PRIMARY KEY, v VARCHAR(111))",
+        "1 not built; ",
+    ),
+    (
+        "CREATE TABLE t (v BIGINT PRIMARY KEY, k VARCHAR(112))",
+        "1 not built; ",
+    ),
     ("CREATE DATABASE", "1 not built; "),
     ("CREATE DATABASE a b", "1 not built; "),
     ("SELECT * FROM t WHERE k = 1", "1 not built; "),
-    ("USE a234567890123456789012345678901234567890123456789012345678901234", "1 use a234567890123456789012345678901234567890123456789012345678901234; "),
-    ("USE a2345678901234567890123456789012345678901234567890123456789012345", "1 not built; "),
-    ("é; USE é; INSERT INTO t VALUES (1, 'é')", "1 not built; 1 not built; 1 insert t 1 \"é\"; "),
+    (
+        "USE a234567890123456789012345678901234567890123456789012345678901234",
+        "1 use a234567890123456789012345678901234567890123456789012345678901234; ",
+    ),
+    (
+        "USE a2345678901234567890123456789012345678901234567890123456789012345",
+        "1 not built; ",
+    ),
+    (
+        "é; USE é; INSERT INTO t VALUES (1, 'é')",
+        "1 not built; 1 not built; 1 insert t 1 \"é\"; ",
+    ),
 ];
 
 #[test]

@@ -5,3 +5,4 @@ pub mod CommentLemmas
 pub mod PieceLemmas
 pub mod TokenLemmas
 pub mod ContentLemmas
+pub mod ContentLaw

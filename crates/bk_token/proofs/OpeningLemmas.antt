@@ -1,8 +1,8 @@
 -- What an opening says of the first bytes.
-use Rattle.std.proofs.Common.{◌≡◌, ℕ, ◌<◌, Bool, true, false, cond, ◌&&◌, ◌||◌, eqb, List, [], ◌∷◌, length, get_or, take, ◌≤◌, refl, arith, rules}
+use Rattle.std.proofs.Common.{◌≡◌, ℕ, Bool, true, false, cond, ◌&&◌, eqb, List, [], ◌∷◌, length, get_or, ◌≤◌, refl, arith}
 use Rattle.std.specs.Char.{is_ascii_digit}
 use Rattle.std.proofs.lemmas.Grind.{common_steps}
-use Rattle.bk_token.specs.Bytes.{is_within_line, is_blank, begins_word, is_word_byte, is_sign, begins}
+use Rattle.bk_token.specs.Bytes.{is_blank, begins_word, is_sign, begins}
 use Rattle.bk_token.specs.Pieces.{opening, opening_mark}
 use Rattle.bk_token.specs.Reading.{Opens}
 use Rattle.bk_token.specs.declared.opening.Opening.{Opening}

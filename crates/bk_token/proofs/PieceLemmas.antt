@@ -1,20 +1,18 @@
 -- What the code reads at the front of the bytes is a piece.
-use Rattle.std.proofs.Common.{◌≡◌, ℕ, ◌+◌, ◌-◌, ◌<◌, ◌≤◌, ◌^◌, Bool, true, false, cond, ◌&&◌, eqb, ltb, List, [], ◌∷◌, ◌++◌, length, take, drop, refl, ap, sym, ◌∙◌, subst, inl, inr, Option, Some, None, arith, rules}
-use Rattle.std.specs.Prelude.{SomeIff}
+use Rattle.std.proofs.Common.{◌≡◌, ℕ, ◌+◌, ◌<◌, ◌≤◌, ◌^◌, Bool, true, cond, List, [], ◌∷◌, ◌++◌, length, take, drop, refl, ap, sym, ◌∙◌, inr, Option, Some, None, arith}
 use Rattle.std.specs.Char.{is_ascii_digit}
 use Rattle.std.specs.List.{prefix_len}
-use Rattle.std.proofs.lemmas.List.{take-append-drop, length-take-le, length-drop}
+use Rattle.std.proofs.lemmas.List.{take-append-drop, length-take-le}
 use Rattle.std.proofs.lemmas.List.Sums.{prefix_len-le-length}
 use Rattle.std.proofs.Math.Seq.{take-append-add, drop-append-add}
 use Rattle.std.proofs.lemmas.Bool.{lt-ltb, le-ltb}
-use Rattle.std.proofs.lemmas.Grind.{common_steps}
 use Rattle.bk_token.specs.Bytes.{begins, is_within_line, is_word_byte, IsRun}
-use Rattle.bk_token.specs.Pieces.{is_go, decimal, number_kind, begins_line, IsUnclosed, IsQuotation, IsPieceBy, IsPiece, opening, open_comment_len}
-use Rattle.bk_token.specs.Reading.{Cuts, CutsBy, CutsClosed, CutsQuotation, comment_from}
+use Rattle.bk_token.specs.Pieces.{is_go, decimal, number_kind, IsUnclosed, IsQuotation, IsPieceBy, opening, open_comment_len}
+use Rattle.bk_token.specs.Reading.{Cuts, CutsBy, CutsQuotation, comment_from}
 use Rattle.bk_token.specs.declared.opening.Opening.{Opening}
-use Rattle.bk_token.specs.declared.opening.Opening.TheVariants.{Blank, DashComment, SlashComment, Letter, Digit, Quote, NationalQuote, Bracket, DoubleQuote, ColonByte, SignByte, Other}
+use Rattle.bk_token.specs.declared.opening.Opening.TheVariants.{DashComment, SlashComment, Letter, Digit}
 use Rattle.bk_token.specs.declared.token.Kind.{Kind}
-use Rattle.bk_token.specs.declared.token.Kind.TheVariants.{Word, Quoted, Text, Number, Sign, Go, Colon, Bad}
+use Rattle.bk_token.specs.declared.token.Kind.TheVariants.{Word, Number, Go, Bad}
 use Rattle.bk_token.proofs.RunLemmas.{prefix_run, prefix_len-some}
 use Rattle.bk_token.proofs.CommentLemmas.{comment_from-open, comment_from-le}
 

@@ -1,8 +1,7 @@
 -- What closes a quote: the content that is spelled before it, and none other.
-use Rattle.std.proofs.Common.{◌≡◌, ℕ, suc, ◌+◌, ◌<◌, ◌≤◌, Bool, true, false, not, cond, ◌&&◌, eqb, List, [], ◌∷◌, ◌++◌, length, take, drop, refl, ap, sym, ◌∙◌, ◌⊎◌, inl, inr, ⊎_elim, subst, IsUtf8, append_assoc, length-append, Option, Some, None, arith, rules}
+use Rattle.std.proofs.Common.{◌≡◌, ℕ, ◌+◌, ◌<◌, ◌≤◌, Bool, true, false, cond, eqb, List, [], ◌∷◌, ◌++◌, length, take, drop, refl, ap, sym, ◌∙◌, ◌⊎◌, inl, inr, ⊎_elim, subst, IsUtf8, append_assoc, length-append, Some, None, arith}
 use Rattle.std.specs.List.{list_all}
-use Rattle.std.proofs.lemmas.Grind.{common_steps}
-use Rattle.std.proofs.lemmas.Bool.{and_parts, not-true, eqb-true, eq-eqb, false≢true}
+use Rattle.std.proofs.lemmas.Bool.{and_parts, not-true, eqb-true, eq-eqb}
 use Rattle.std.proofs.lemmas.List.{length-take-le, take-append-drop}
 use Rattle.std.proofs.Math.Seq.{take-append_seam, drop-append_seam}
 use Rattle.bk_token.specs.Bytes.{begins, is_within_line}
@@ -35,9 +34,9 @@ closing-doubled close at (b ∷ bs) rest c10 line ends =
     let byte : List ℕ = cond (eqb b close) (close ∷ close ∷ []) (b ∷ []) in
     let parts = and_parts (is_within_line b) (list_all is_within_line bs) line in
     rw append_assoc (
-      closing-byte close at b (doubled close bs ++ close ∷ rest) (eqb b close) c10 (within_line b parts.0) refl
-      ∙ closing-doubled close (at + length byte) bs rest c10 parts.1 ends
-      ∙ ap Some (omega (arith, length-append byte (doubled close bs))))
+    closing-byte close at b (doubled close bs ++ close ∷ rest) (eqb b close) c10 (within_line b parts.0) refl
+    ∙ closing-doubled close (at + length byte) bs rest c10 parts.1 ends
+    ∙ ap Some (omega (arith, length-append byte (doubled close bs))))
 
 -- what was read up to the quote that closes
 pub record Found (close at : ℕ) (bs : List ℕ) (n : ℕ) : Type 0 where
@@ -95,8 +94,8 @@ found_first close at b n bs false true e10 e more read =
       len = omega (arith, closed.1);
     })
     (λ second.
-      let again : at + 1 + 1 ≡ at + 2 = omega arith in
-      found_byte close at b (b ∷ bs) second.0 n true e e10 (ap (λ c. c ∷ bs) (eqb-true b close e) ∙ ap (λ l. close ∷ l) second.1) (subst (λ k. Found close k second.0 n) again second.2))
+    let again : at + 1 + 1 ≡ at + 2 = omega arith in
+    found_byte close at b (b ∷ bs) second.0 n true e e10 (ap (λ c. c ∷ bs) (eqb-true b close e) ∙ ap (λ l. close ∷ l) second.1) (subst (λ k. Found close k second.0 n) again second.2))
     (more read)
 
 found : (close : ℕ) (state : Bool) (at n : ℕ) (bs : List ℕ) → closing close state at bs ≡ Some n → FoundBy state close at bs n
@@ -116,10 +115,11 @@ pub closed_closing : (front : List ℕ) (close : ℕ) (text rest : List ℕ) →
 closed_closing front close text rest c10 closed =
     let D : List ℕ = doubled close closed.content in
     let whole : text ++ rest ≡ front ++ (D ++ close ∷ rest) = ap (λ l. l ++ rest) closed.spelled ∙ append_assoc front (D ++ close ∷ []) rest ∙ ap (λ l. front ++ l) (append_assoc D (close ∷ []) rest) in
-    let behind : drop (length front) (text ++ rest) ≡ D ++ close ∷ rest = ap (drop (length front)) whole ∙ drop-append_seam front (D ++ close ∷ rest) in
-    (0 + length D + 1,
-    ap (closing close false 0) behind ∙ closing-doubled close 0 closed.content rest c10 closed.one_line closed.ends,
-    ap length closed.spelled ∙ simp length-append (omega arith))
+    let behind : drop (length front) (text ++ rest) ≡ D ++ close ∷ rest = ap (drop (length front)) whole ∙ drop-append_seam front (D ++ close ∷ rest) in (
+      0 + length D + 1,
+      ap (closing close false 0) behind ∙ closing-doubled close 0 closed.content rest c10 closed.one_line closed.ends,
+      ap length closed.spelled ∙ simp length-append (omega arith),
+    )
 
 -- what reading finds is closed
 cut_front : (front content_end rest : List ℕ) (n : ℕ) → n ≡ length front + length content_end → (take n (front ++ (content_end ++ rest)) ≡ front ++ content_end) × (drop n (front ++ (content_end ++ rest)) ≡ rest)

@@ -1,23 +1,22 @@
 -- Bytes have one token list, and its spans rise.
-use Rattle.std.proofs.Common.{◌≡◌, ℕ, ◌+◌, ◌-◌, ◌<◌, ◌≤◌, Bool, true, false, cond, eqb, List, [], ◌∷◌, ◌++◌, length, take, drop, refl, ap, sym, ◌∙◌, subst, inl, inr, ◌⊎◌, ⊎_elim, append_assoc, append-nil, length-append, min, Option, Some, None, arith, rules}
+use Rattle.std.proofs.Common.{◌≡◌, ℕ, ◌+◌, ◌-◌, ◌<◌, ◌≤◌, Bool, true, false, cond, eqb, List, [], ◌∷◌, ◌++◌, length, take, drop, refl, ap, sym, ◌∙◌, subst, ⊎_elim, append_assoc, append-nil, length-append, min, Option, Some, None, arith}
 use Rattle.std.specs.Prelude.{All, count_by}
-use Rattle.std.specs.Char.{is_ascii_digit}
 use Rattle.std.specs.List.{prefix_len}
-use Rattle.std.proofs.Math.Seq.{take-append_seam, drop-append_seam, take-append-add, drop-append-add}
+use Rattle.std.proofs.Math.Seq.{take-append_seam, drop-append_seam, drop-append-add}
 use Rattle.std.proofs.lemmas.Bool.{both_ways}
 use Rattle.std.proofs.lemmas.List.{take-append-drop, length-take-le, length-drop, drop-drop}
 use Rattle.std.proofs.Math.Seq.{take-add}
 use Rattle.std.proofs.lemmas.List.Sums.{sum_by-append}
 use Rattle.std.proofs.Math.ListN.{drop_of_length-le}
 use Rattle.std.proofs.lemmas.List.Elements.{All-nil, All-cons}
-use Rattle.bk_token.specs.Bytes.{begins, is_line_feed, is_within_line, is_word_byte, IsRun}
-use Rattle.bk_token.specs.Pieces.{opening, is_go, number_kind, first_of_bytes, open_comment_len, doubled, IsBlockComment, IsClosed, IsUnclosed, IsQuotation, IsPieceBy, IsPiece}
+use Rattle.bk_token.specs.Bytes.{begins, is_line_feed, is_within_line, IsRun}
+use Rattle.bk_token.specs.Pieces.{opening, is_go, number_kind, first_of_bytes, open_comment_len, IsBlockComment, IsQuotation, IsPieceBy, IsPiece}
 use Rattle.bk_token.specs.Reading.{closing, Opens, Cuts, as_token}
-use Rattle.bk_token.specs.Tokens.{AreTokensFrom, ended, passed, token, AreTokens, SpansRise, bytes_of, IsItsSlice, token_of, line_behind}
+use Rattle.bk_token.specs.Tokens.{AreTokensFrom, ended, passed, token, AreTokens, SpansRise, IsItsSlice, token_of, line_behind}
 use Rattle.bk_token.specs.declared.opening.Opening.{Opening}
 use Rattle.bk_token.specs.declared.opening.Opening.TheVariants.{Blank, DashComment, SlashComment, Letter, Digit, Quote, NationalQuote, Bracket, DoubleQuote, ColonByte, SignByte, Other}
 use Rattle.bk_token.specs.declared.token.Kind.{Kind}
-use Rattle.bk_token.specs.declared.token.Kind.TheVariants.{Word, Quoted, Text, Number, Sign, Go, Colon, Bad}
+use Rattle.bk_token.specs.declared.token.Kind.TheVariants.{Word, Sign, Go}
 use Rattle.bk_token.specs.declared.token.Token.{Token}
 use Rattle.bk_token.proofs.RunLemmas.{prefix_len-run}
 use Rattle.bk_token.proofs.QuoteLemmas.{closed_closing}
@@ -40,20 +39,20 @@ quotation_one : (kind : Kind) (front : List ℕ) (close : ℕ) (text rest text' 
 quotation_one kind front close text rest text' rest' k k' c10 e q q' =
     ⊎_elim
     (λ closed.
-      ⊎_elim
-      (λ closed'.
-        let one = closed_closing front close text rest c10 closed.1 in
-        let other = closed_closing front close text' rest' c10 closed'.1 in
-        let same : closing close false 0 (drop (length front) (text ++ rest)) ≡ closing close false 0 (drop (length front) (text' ++ rest')) = ap (λ l. closing close false 0 (drop (length front) l)) e in
-        let n_is : one.0 ≡ other.0 = cc (one.1, other.1, same) in
-        (omega (arith, one.2, other.2, n_is), closed.0 ∙ sym closed'.0))
-      (λ bad'. absurd (bad'.2 text rest (sym e) closed.1))
-      q')
+    ⊎_elim
+    (λ closed'.
+    let one = closed_closing front close text rest c10 closed.1 in
+    let other = closed_closing front close text' rest' c10 closed'.1 in
+    let same : closing close false 0 (drop (length front) (text ++ rest)) ≡ closing close false 0 (drop (length front) (text' ++ rest')) = ap (λ l. closing close false 0 (drop (length front) l)) e in
+    let n_is : one.0 ≡ other.0 = cc (one.1, other.1, same) in
+    (omega (arith, one.2, other.2, n_is), closed.0 ∙ sym closed'.0))
+    (λ bad'. absurd (bad'.2 text rest (sym e) closed.1))
+    q')
     (λ bad.
-      ⊎_elim
-      (λ closed'. absurd (bad.2 text' rest' e closed'.1))
-      (λ bad'. (run_one is_within_line text rest text' rest' e bad.1 bad'.1, bad.0 ∙ sym bad'.0))
-      q')
+    ⊎_elim
+    (λ closed'. absurd (bad.2 text' rest' e closed'.1))
+    (λ bad'. (run_one is_within_line text rest text' rest' e bad.1 bad'.1, bad.0 ∙ sym bad'.0))
+    q')
     q
 
 -- a kind that the text and its neighbours decide
@@ -227,7 +226,7 @@ turn src found at feeds len more line k so_far cut counted line_is =
       within = omega (arith, so_far.within, cut.within, length-drop at src);
       counted = rw before_next (omega (arith, so_far.counted, counted, sum_by-append (λ b. cond (is_line_feed b) 1 0) before text));
       goes_on = λ ts tokens.
-        let moved : AreTokensFrom (before ++ text) (drop len (drop at src)) ts = rw (← before_next, ← rest_next) tokens in
-        let whole = one_more before (drop at src) text (drop len (drop at src)) k ts at (at + len) line (sym (take-append-drop len (drop at src))) cut.piece (sym size) (omega (arith, size, text_size)) (line_is ∙ ap (λ n. min (n + 1) 4294967295) so_far.counted) moved in
-        rw append_assoc (so_far.goes_on (as_token k at (at + len) line ++ ts) whole);
+          let moved : AreTokensFrom (before ++ text) (drop len (drop at src)) ts = rw (← before_next, ← rest_next) tokens in
+          let whole = one_more before (drop at src) text (drop len (drop at src)) k ts at (at + len) line (sym (take-append-drop len (drop at src))) cut.piece (sym size) (omega (arith, size, text_size)) (line_is ∙ ap (λ n. min (n + 1) 4294967295) so_far.counted) moved in
+          rw append_assoc (so_far.goes_on (as_token k at (at + len) line ++ ts) whole);
     }

@@ -1,9 +1,9 @@
 -- What tokens say: words, names and texts.
-use Rattle.std.specs.Prelude.{◌≡◌, ℕ, ◌-◌, Bool, true, false, not, ◌&&◌, ◌==◌, if◌then◌else◌, List, [], ◌∷◌, length, take, drop, map, slice_range, Option, Some, None}
+use Rattle.std.specs.Prelude.{◌≡◌, ℕ, ◌-◌, Bool, true, false, ◌&&◌, ◌==◌, if◌then◌else◌, List, [], ◌∷◌, ◌++◌, ◌⊎◌, length, drop, slice_range, Option, Some, None}
 use Rattle.std.specs.List.{list_any, list_all}
 use Rattle.std.specs.Str.{is_utf8, str_eq_ignore_ascii_case}
 use Rattle.bk_token.specs.Bytes.{is_blank, begins}
-use Rattle.bk_token.specs.Pieces.{first_of_bytes}
+use Rattle.bk_token.specs.Pieces.{doubled}
 use Rattle.bk_token.specs.Tokens.{bytes_of}
 use Rattle.bk_token.specs.declared.token.Kind.{Kind}
 use Rattle.bk_token.specs.declared.token.Kind.TheVariants.{Word, Quoted, Text}
@@ -70,3 +70,15 @@ is_plain_from from src (t ∷ ts) = list_all is_blank (slice_range src from t.st
 -- no comment stands among the tokens
 abbrev pub is_plain : List ℕ → List Token → Bool
 is_plain src ts = is_plain_from 0 src ts
+
+-- the bytes are this content in these quotes
+abbrev pub IsSpelled : List ℕ → ℕ → List ℕ → List ℕ → Type 0
+IsSpelled front close bytes content = bytes ≡ front ++ (doubled close content ++ close ∷ [])
+
+-- what a text or a name in quotes says is what its bytes spell
+abbrev pub SaysBy : Kind → List ℕ → Type 0
+SaysBy Text bytes = (content : List ℕ) × (text_by Text bytes ≡ Some content)
+    × (IsSpelled (39 ∷ []) 39 bytes content ⊎ IsSpelled (78 ∷ 39 ∷ []) 39 bytes content)
+SaysBy Quoted bytes = (content : List ℕ) × (name_by Quoted bytes ≡ Some content)
+    × (IsSpelled (91 ∷ []) 93 bytes content ⊎ IsSpelled (34 ∷ []) 34 bytes content)
+SaysBy _ bytes = Unit {0}

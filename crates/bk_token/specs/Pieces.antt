@@ -1,10 +1,10 @@
 -- The pieces of a script: what is passed over, and what is a token. A piece is its text, with the
 -- bytes before it and the bytes that follow.
-use Rattle.std.specs.Prelude.{◌≡◌, ℕ, zero, suc, ◌+◌, ◌-◌, ◌*◌, ◌^◌, Bool, true, false, not, ◌&&◌, ◌||◌, ◌==◌, nat_lt, if◌then◌else◌, ◌⊎◌, List, [], ◌∷◌, ◌++◌, length, reverse, fold, codes, IsUtf8, Option, Some, None}
+use Rattle.std.specs.Prelude.{◌≡◌, ℕ, ◌+◌, ◌-◌, ◌*◌, ◌^◌, Bool, true, false, not, ◌&&◌, ◌||◌, ◌==◌, nat_lt, if◌then◌else◌, ◌⊎◌, List, [], ◌∷◌, ◌++◌, length, reverse, fold, codes, IsUtf8, Option, Some, None}
 use Rattle.std.specs.Char.{is_ascii_digit}
 use Rattle.std.specs.List.{list_all, flat_map}
 use Rattle.std.specs.Str.{str_eq_ignore_ascii_case}
-use Rattle.bk_token.specs.Bytes.{is_line_feed, is_within_line, is_blank, begins_word, is_word_byte, is_sign, begins, IsRun}
+use Rattle.bk_token.specs.Bytes.{is_within_line, is_blank, begins_word, is_word_byte, is_sign, begins, IsRun}
 use Rattle.bk_token.specs.declared.opening.Opening.{Opening}
 use Rattle.bk_token.specs.declared.opening.Opening.TheVariants.{Blank, DashComment, SlashComment, Letter, Digit, Quote, NationalQuote, Bracket, DoubleQuote, ColonByte, SignByte, Other}
 use Rattle.bk_token.specs.declared.token.Kind.{Kind}

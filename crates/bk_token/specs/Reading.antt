@@ -2,9 +2,9 @@
 use Rattle.std.specs.Prelude.{◌<◌, ◌≤◌, length, take, drop, ◌≡◌, ℕ, ◌+◌, ◌-◌, ◌&&◌, Bool, true, false, ◌==◌, if◌then◌else◌, List, [], ◌∷◌, Option, Some, None}
 use Rattle.std.specs.Char.{is_ascii_digit}
 use Rattle.bk_token.specs.Bytes.{is_within_line, is_word_byte, begins}
-use Rattle.bk_token.specs.Pieces.{IsPieceBy, IsPiece, IsClosed, IsUnclosed, IsQuotation}
+use Rattle.bk_token.specs.Pieces.{IsPieceBy, IsPiece, IsClosed, IsQuotation}
 use Rattle.bk_token.specs.declared.opening.Opening.{Opening}
-use Rattle.bk_token.specs.declared.opening.Opening.TheVariants.{Blank, DashComment, SlashComment, Letter, Digit, Quote, NationalQuote, Bracket, DoubleQuote, ColonByte, SignByte, Other}
+use Rattle.bk_token.specs.declared.opening.Opening.TheVariants.{DashComment, SlashComment, Letter, Digit, Quote, NationalQuote, Bracket, DoubleQuote}
 use Rattle.bk_token.specs.declared.token.Kind.{Kind}
 use Rattle.bk_token.specs.declared.token.Token.{Token}
 

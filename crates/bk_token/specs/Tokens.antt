@@ -1,5 +1,5 @@
 -- The token list of a script.
-use Rattle.std.specs.Prelude.{◌≡◌, ℕ, ◌+◌, ◌<◌, ◌≤◌, min, List, [], ◌∷◌, ◌++◌, length, count_by, take, drop, slice_range, All, Option, Some, None}
+use Rattle.std.specs.Prelude.{◌≡◌, ℕ, ◌+◌, ◌<◌, ◌≤◌, min, List, [], ◌∷◌, ◌++◌, length, count_by, take, drop, slice_range, Some, None}
 use Rattle.bk_token.specs.Bytes.{is_line_feed}
 use Rattle.bk_token.specs.Pieces.{IsPiece}
 use Rattle.bk_token.specs.declared.token.Kind.{Kind}

@@ -2,7 +2,8 @@
 #![tactic(auto)]
 
 ghost use Rattle.std.specs.Prelude.{◌≡◌, ℕ, List, IfOk, OnOk, All, ◌+◌, ◌++◌, ◌<◌, ◌^◌, min};
-ghost use Rattle.bk_token.specs.Tokens.{AreTokens, SpansRise, IsItsSlice};
+ghost use Rattle.bk_token.specs.Tokens.{AreTokens, SpansRise, IsItsSlice, bytes_of};
+ghost use Rattle.bk_token.specs.Contents.{SaysBy};
 ghost use Rattle.bk_token.specs.Reading.{as_token};
 ghost use Rattle.bk_token.specs.declared.token.Token.{Token as TokenOf};
 
@@ -13,14 +14,13 @@ mod runs;
 mod token;
 mod words;
 
-pub use token::{Kind, Token};
 pub use opening::is_blank;
+use piece::{Piece, first_piece};
 pub use plain::{all_blank, is_plain};
 pub use runs::line_feeds;
-pub use words::{RESERVED, bytes_of, is_reserved, is_word, name_of, text_of};
-
-use piece::{Piece, first_piece};
 use std::alloc::{AllocError, Global};
+pub use token::{Kind, Token};
+pub use words::{RESERVED, bytes_of, is_reserved, is_word, name_of, text_of};
 
 /// The line behind so many line feeds, from 1. All lines from 4,294,967,295 on count as that one.
 pub fn line_number(feeds: usize) -> u32
@@ -29,12 +29,7 @@ pub fn line_number(feeds: usize) -> u32
     u32::try_from(feeds).map_or(u32::MAX, |feeds| feeds.saturating_add(1))
 }
 
-fn add(
-    found: &mut Vec<Token>,
-    piece: Piece,
-    start: usize,
-    feeds: usize,
-) -> Result<(), AllocError>
+fn add(found: &mut Vec<Token>, piece: Piece, start: usize, feeds: usize) -> Result<(), AllocError>
     requires { start + piece.len < 2 ^ 64 }
     ensures { OnOk result (found.new.items ≡ found.old.items ++ as_token piece.kind start (start + piece.len) (min (feeds + 1) 4294967295)) }
 {
@@ -72,20 +67,22 @@ pub fn tokens(alloc: Global, src: &[u8]) -> Result<Vec<Token>, AllocError>
 /// Bytes have exactly one token list.
 pub fn one_token_list()
     ensures { (src : List ℕ) (ts us : List TokenOf) → AreTokens src ts → AreTokens src us → ts ≡ us }
-{
-}
+{}
 
 /// The spans of tokens rise, and lie within the bytes.
 pub fn spans_rise()
     ensures { (src : List ℕ) (ts : List TokenOf) → AreTokens src ts → SpansRise 0 src ts }
-{
-}
+{}
 
 /// The bytes of each token are a piece of its kind.
 pub fn slices()
     ensures { (src : List ℕ) (ts : List TokenOf) → AreTokens src ts → All (IsItsSlice src) ts }
-{
-}
+{}
+
+/// What a text or a name in quotes says is what its bytes spell.
+pub fn contents()
+    ensures { (src : List ℕ) (ts : List TokenOf) → AreTokens src ts → All (λ t. SaysBy t.kind (bytes_of src t)) ts }
+{}
 
 #[cfg(test)]
 mod tests;

@@ -26,7 +26,10 @@ fn kinds(rt: &HostRuntime, script: &str) -> Result<String, Fail> {
 const SCRIPTS: [(&str, &str); 30] = [
     ("", ""),
     (" \t\r\n", ""),
-    ("SELECT * FROM t;", "word 0-6/1 sign 7-8/1 word 9-13/1 word 14-15/1 sign 15-16/1 "),
+    (
+        "SELECT * FROM t;",
+        "word 0-6/1 sign 7-8/1 word 9-13/1 word 14-15/1 sign 15-16/1 ",
+    ),
     ("a\nb\r\nc", "word 0-1/1 word 2-3/2 word 5-6/3 "),
     ("8192KB", "number 0-4/1 word 4-6/1 "),
     ("x1$#@_ _y", "word 0-6/1 word 7-9/1 "),
@@ -42,17 +45,29 @@ const SCRIPTS: [(&str, &str); 30] = [
     ("xN'a'", "word 0-2/1 text 2-5/1 "),
     ("'a;\n'b'", "bad 0-3/1 text 4-7/2 "),
     ("N'a\nb", "bad 0-3/1 word 4-5/2 "),
-    ("[a]]b].\"c\"\"d\"", "quoted 0-6/1 sign 6-7/1 quoted 7-13/1 "),
+    (
+        "[a]]b].\"c\"\"d\"",
+        "quoted 0-6/1 sign 6-7/1 quoted 7-13/1 ",
+    ),
     ("[a\nb]", "bad 0-2/1 word 3-4/2 bad 4-5/2 "),
     ("\"a\n", "bad 0-2/1 "),
     ("''", "text 0-2/1 "),
     ("'''' [] \"\"", "text 0-4/1 quoted 5-7/1 quoted 8-10/1 "),
-    ("18446744073709551615 18446744073709551616", "number 0-20/1 bad 21-41/1 "),
+    (
+        "18446744073709551615 18446744073709551616",
+        "number 0-20/1 bad 21-41/1 ",
+    ),
     ("a\n go\t\nb", "word 0-1/1 go 3-5/2 word 7-8/3 "),
     ("GO", "go 0-2/1 "),
-    ("GO 5\nGO;\nGO--x\n/* */ GO", "word 0-2/1 number 3-4/1 word 5-7/2 sign 7-8/2 word 9-11/3 word 21-23/4 "),
+    (
+        "GO 5\nGO;\nGO--x\n/* */ GO",
+        "word 0-2/1 number 3-4/1 word 5-7/2 sign 7-8/2 word 9-11/3 word 21-23/4 ",
+    ),
     ("/* \nGO\n:x */", ""),
-    (":wait\n :wait", "colon 0-1/1 word 1-5/1 bad 7-8/2 word 8-12/2 "),
+    (
+        ":wait\n :wait",
+        "colon 0-1/1 word 1-5/1 bad 7-8/2 word 8-12/2 ",
+    ),
     ("é'é'[é]", "bad 0-1/1 bad 1-2/1 text 2-6/1 quoted 6-10/1 "),
 ];
 

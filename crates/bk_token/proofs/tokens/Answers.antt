@@ -1,9 +1,9 @@
-use Rattle.std.proofs.Common.{◌≡◌, ◌+◌, ◌-◌, ℕ, take, drop, ap, refl, subst, arith, ◌∙◌}
+use Rattle.std.proofs.Common.{◌≡◌, ◌+◌, ◌-◌, take, drop, ap, refl, subst, arith, ◌∙◌}
 use Rattle.std.specs.Prelude.{count_by}
 use Rattle.std.proofs.lemmas.List.{take_rest}
 use Rattle.bk_token.specs.Bytes.{is_line_feed}
 use Rattle.bk_token.specs.Reading.{Cuts}
-use Rattle.bk_token.proofs.TokenLemmas.{TokensSoFar, turn, all_read, spans_rise, slices}
+use Rattle.bk_token.proofs.TokenLemmas.{turn, all_read, spans_rise, slices}
 use Rattle.bk_token.proofs.tokens.Goals as goal
 
 pub loop-at-preserved : goal.loop-at-preserved

@@ -1,6 +1,3 @@
-use Rattle.std.proofs.Common.{◌≡◌, List, [], ◌∷◌, length, get_or, drop, sym, refl, ap, ◌∙◌, arith, rules, ℕ, subst}
-use Rattle.bk_token.specs.Pieces.{opening_mark}
-use Rattle.bk_token.specs.Reading.{Opens}
 use Rattle.bk_token.proofs.OpeningLemmas.{opens_first}
 use Rattle.bk_token.proofs.opening.opening_of.Goals as goal
 

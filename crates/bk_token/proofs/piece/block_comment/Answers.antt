@@ -1,4 +1,4 @@
-use Rattle.std.proofs.Common.{◌≡◌, ℕ, ◌+◌, drop, ◌∙◌, ap, rules, arith}
+use Rattle.std.proofs.Common.{◌+◌, ◌∙◌, ap}
 use Rattle.std.proofs.lemmas.List.{take_rest}
 use Rattle.bk_token.specs.Reading.{comment_from}
 use Rattle.bk_token.proofs.PieceLemmas.{cuts_block_comment, two_within}

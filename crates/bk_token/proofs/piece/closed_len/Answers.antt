@@ -1,9 +1,7 @@
-use Rattle.std.proofs.Common.{◌≡◌, ℕ, ◌+◌, drop, take, length, ◌-◌, ◌∙◌, sym, ap, rules, arith, false, Option, Some, None, IsUtf8, subst}
-use Rattle.std.specs.Prelude.{MatchOption}
+use Rattle.std.proofs.Common.{◌≡◌, drop, ◌∙◌, sym, ap, false, Some, None}
 use Rattle.std.proofs.lemmas.List.{take_rest}
 use Rattle.std.proofs.lemmas.Bool.{MatchBool-at_true, MatchBool-at_false}
-use Rattle.bk_token.specs.Pieces.{IsUnclosed}
-use Rattle.bk_token.specs.Reading.{closing, CutsClosed}
+use Rattle.bk_token.specs.Reading.{closing}
 use Rattle.bk_token.proofs.QuoteLemmas.{cuts_closed, unclosed_none, unclosed_utf8}
 use Rattle.bk_token.proofs.piece.closed_len.Goals as goal
 

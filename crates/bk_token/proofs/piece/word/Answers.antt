@@ -1,4 +1,4 @@
-use Rattle.std.proofs.Common.{◌∙◌, ap, cond, Some, take, drop, List, ℕ}
+use Rattle.std.proofs.Common.{◌∙◌, ap, cond, Some, take}
 use Rattle.std.proofs.lemmas.List.{take_rest}
 use Rattle.bk_token.specs.Pieces.{is_go}
 use Rattle.bk_token.specs.declared.token.Kind.TheVariants.{Word, Go}
