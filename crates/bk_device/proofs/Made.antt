@@ -31,41 +31,43 @@ none_made source old new = record { below = λ k d none. absurd (omega arith) }
 -- one more is changed in its place
 pub made_in_place : (source : Held → Option (List ℕ)) (old items : List Held) (i : ℕ) (e made : Held) → i < length items → AreSame old items i → IsMadeFrom source (get_or items i e) made → AreMade source old items i → AreMade source old (set items i made) (i + 1)
 made_in_place source old items i e made inside same one made_below = record {
-    below = λ k d under. elim (below_or_at k i under) [
-        inl before ↦
-            let differ : k ≢ i = λ (eq : k ≡ i). absurd (omega arith) in
-            let Made : Held → Type 0 = λ h. IsMadeFrom source (get_or old k d) h in
-            subst Made (sym (get_or-set_other items i k made d differ)) (made_below.below k d before)
-        | inr at ↦
-            let there : get_or old i d ≡ get_or items i e = sym (same.above i d (omega arith)) ∙ get_or_default items i d e inside in
-            let put : get_or (set items i made) i d ≡ made = get_or-set_same items i made d inside in
-            let From : Held → Type 0 = λ h. IsMadeFrom source h (get_or (set items i made) i d) in
-            let To : Held → Type 0 = λ h. IsMadeFrom source (get_or items i e) h in
-            let At : ℕ → Type 0 = λ n. IsMadeFrom source (get_or old n d) (get_or (set items i made) n d) in
-            subst At (sym at) (subst From (sym there) (subst To (sym put) one)) ];
+  below = λ k d under. elim (below_or_at k i under) [
+    | inl before ↦
+        let differ : k ≢ i = λ (eq : k ≡ i). absurd (omega arith) in
+        let Made : Held → Type 0 = λ h. IsMadeFrom source (get_or old k d) h in
+        subst Made (sym (get_or-set_other items i k made d differ)) (made_below.below k d before)
+    | inr at ↦
+        let there : get_or old i d ≡ get_or items i e = sym (same.above i d (omega arith)) ∙ get_or_default items i d e inside in
+        let put : get_or (set items i made) i d ≡ made = get_or-set_same items i made d inside in
+        let From : Held → Type 0 = λ h. IsMadeFrom source h (get_or (set items i made) i d) in
+        let To : Held → Type 0 = λ h. IsMadeFrom source (get_or items i e) h in
+        let At : ℕ → Type 0 = λ n. IsMadeFrom source (get_or old n d) (get_or (set items i made) n d) in
+        subst At (sym at) (subst From (sym there) (subst To (sym put) one))
+  ];
 }
 
 pub same_beyond : (old items : List Held) (i : ℕ) (made : Held) → AreSame old items i → AreSame old (set items i made) (i + 1)
 same_beyond old items i made same = record {
-    above = λ k d over.
-        let differ : k ≢ i = λ (eq : k ≡ i). absurd (omega arith) in
-        get_or-set_other items i k made d differ ∙ same.above k d (omega arith);
+  above = λ k d over.
+      let differ : k ≢ i = λ (eq : k ≡ i). absurd (omega arith) in
+      get_or-set_other items i k made d differ ∙ same.above k d (omega arith);
 }
 
 -- one more is added
 pub made_at_end : (source : Held → Option (List ℕ)) (old items : List Held) (i : ℕ) (e made : Held) → length items ≡ i → i < length old → IsMadeFrom source (get_or old i e) made → AreMade source old items i → AreMade source old (items ++ made ∷ []) (i + 1)
 made_at_end source old items i e made size inside one made_below = record {
-    below = λ k d under. elim (below_or_at k i under) [
-        inl before ↦
-            let Made : Held → Type 0 = λ h. IsMadeFrom source (get_or old k d) h in
-            subst Made (sym (get_or_append_left items (made ∷ []) d k (omega arith))) (made_below.below k d before)
-        | inr at ↦
-            let there : get_or old i d ≡ get_or old i e = get_or_default old i d e inside in
-            let put : get_or (items ++ made ∷ []) i d ≡ made = get_or_push items made d i size in
-            let From : Held → Type 0 = λ h. IsMadeFrom source h (get_or (items ++ made ∷ []) i d) in
-            let To : Held → Type 0 = λ h. IsMadeFrom source (get_or old i e) h in
-            let At : ℕ → Type 0 = λ n. IsMadeFrom source (get_or old n d) (get_or (items ++ made ∷ []) n d) in
-            subst At (sym at) (subst From (sym there) (subst To (sym put) one)) ];
+  below = λ k d under. elim (below_or_at k i under) [
+    | inl before ↦
+        let Made : Held → Type 0 = λ h. IsMadeFrom source (get_or old k d) h in
+        subst Made (sym (get_or_append_left items (made ∷ []) d k (omega arith))) (made_below.below k d before)
+    | inr at ↦
+        let there : get_or old i d ≡ get_or old i e = get_or_default old i d e inside in
+        let put : get_or (items ++ made ∷ []) i d ≡ made = get_or_push items made d i size in
+        let From : Held → Type 0 = λ h. IsMadeFrom source h (get_or (items ++ made ∷ []) i d) in
+        let To : Held → Type 0 = λ h. IsMadeFrom source (get_or old i e) h in
+        let At : ℕ → Type 0 = λ n. IsMadeFrom source (get_or old n d) (get_or (items ++ made ∷ []) n d) in
+        subst At (sym at) (subst From (sym there) (subst To (sym put) one))
+  ];
 }
 
 look_same : {X : Type 0} (key : X → List ℕ) (source made : X → Option (List ℕ)) (old new : List X) → length new ≡ length old → ((k : ℕ) (d : X) → k < length old → (key (get_or new k d) ≡ key (get_or old k d)) × (made (get_or new k d) ≡ source (get_or old k d))) → (name : List ℕ) → look key made new name ≡ look key source old name

@@ -1,5 +1,5 @@
 // The files of a device in memory, by name.
-ghost use Rattle.std.specs.Prelude.{◌≡◌, ◌≤◌, ◌<◌, [], None, Some, length, take, option_map, position, IfOk, IsSomeAnd, MatchOption, OnOk, OnErr};
+ghost use Rattle.std.specs.Prelude.{◌≡◌, ◌≤◌, ◌<◌, [], None, Some, length, take, option_map, position, IfOk, IsSomeAnd, if◌then◌else◌, MatchOption, OnOk, OnErr};
 ghost use Rattle.std.specs.Str.{bytes_eq};
 ghost use Rattle.bk_device.specs.Calls.{contents, written};
 ghost use Rattle.bk_device.specs.Disk.{replaced};
@@ -131,6 +131,19 @@ impl Cache {
         for file in self.held.iter_mut() {
             file.forget();
         }
+    }
+
+    // What a read gives, or what was last synced, is what was there from the beginning.
+    pub fn restart(&mut self, keep: bool)
+        ensures current { current_files self.new.held.items ≡ (if keep then current_files self.old.held.items else durable_files self.old.held.items) }
+        ensures durable { durable_files self.new.held.items ≡ current_files self.new.held.items }
+        ensures begin { begin_files self.new.held.items ≡ current_files self.new.held.items }
+    {
+        if keep {
+            self.keep();
+            return;
+        }
+        self.forget();
     }
 
     // Files that held from the beginning what a read of these gives.

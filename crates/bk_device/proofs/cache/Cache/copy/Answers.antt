@@ -1,7 +1,7 @@
 -- Each file is copied from the one in its place.
 use Rattle.std.proofs.Common.{◌≡◌, ◌+◌, [], ◌∷◌, ◌++◌, ℕ, List, length, ap, ◌∙◌, arith, subst, sym}
 use Rattle.std.proofs.lemmas.List.{length_push}
-use Rattle.bk_device.specs.Held.{current_of, begin_files, durable_files, current_files}
+use Rattle.bk_device.specs.Held.{current_of, current_files}
 use Rattle.bk_device.specs.declared.held.Held.{Held}
 use Rattle.bk_device.proofs.Made.{AreMade, IsMadeFrom, made_at_end, made_begin, made_durable, made_current}
 use Rattle.bk_device.proofs.cache.Cache.copy.Goals as goal
@@ -12,7 +12,8 @@ loop-file-preserved c =
     let copied : IsMadeFrom current_of c.file-item.result c.in_ok-copy.field-0 = record { name = c.in_ok-copy.ensures.name; begin = c.in_ok-copy.ensures.begin; durable = c.in_ok-copy.ensures.durable; current = c.in_ok-copy.ensures.current } in
     let From : Held → Type 0 = λ held. IsMadeFrom current_of held c.in_ok-copy.field-0 in
     let one = made_at_end current_of c.deref-file-items.result.now c.loop-file.held.items c.loop-file.file-index c.file-item.result c.in_ok-copy.field-0 c.loop-file.invariant.1 c.loop-file-test.true (subst From c.file-item.is copied) c.loop-file.invariant.0 in
-    (subst Made (sym c.in_ok-push.ensures.items) one, ap length c.in_ok-push.ensures.items ∙ length_push c.loop-file.held.items c.in_ok-copy.field-0 ∙ ap (λ (n : ℕ). n + 1) c.loop-file.invariant.1)
+    let pushed : c.push.new.self.items ≡ c.loop-file.held.items ++ c.in_ok-copy.field-0 ∷ [] = c.in_ok-push.ensures.items in
+    (subst Made (sym pushed) one, ap length c.in_ok-push.ensures.items ∙ length_push c.loop-file.held.items c.in_ok-copy.field-0 ∙ ap (λ (n : ℕ). n + 1) c.loop-file.invariant.1)
 
 same_length : (c : goal.After-result-1) → length c.loop-file.held.items ≡ length c.deref-file-items.result.now
 same_length c = omega (arith, c.loop-file.invariant.1)

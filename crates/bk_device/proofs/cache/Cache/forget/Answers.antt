@@ -1,16 +1,16 @@
 -- Each file is made from the one in its place.
-use Rattle.std.proofs.Common.{◌≡◌, ℕ, List, length, take, drop, ◌++◌, ap, ◌∙◌, arith, length-set}
+use Rattle.std.proofs.Common.{◌≡◌, length, take, drop, ◌++◌, ap, ◌∙◌, arith, length-set}
 use Rattle.std.specs.Prelude.{string_bytes}
 use Rattle.bk_device.specs.Held.{durable_of, begin_files, durable_files, current_files}
-use Rattle.bk_device.specs.declared.held.Held.{Held}
-use Rattle.bk_device.proofs.Made.{AreMade, IsMadeFrom, made_in_place, same_beyond, made_begin, made_durable, made_current, put_back}
+use Rattle.bk_device.proofs.Made.{AreMade, made_in_place, same_beyond, made_begin, made_durable, made_current, put_back}
 use Rattle.bk_device.proofs.cache.Cache.forget.Goals as goal
 
 pub loop-file-preserved : goal.loop-file-preserved
-loop-file-preserved c =
-    (made_in_place durable_of _ _ _ c.file-item.result _ (omega arith) c.loop-file.invariant.1 (record { name = ap string_bytes c.forget.ensures.name; begin = c.forget.ensures.begin; durable = c.forget.ensures.durable; current = c.forget.ensures.current }) c.loop-file.invariant.0,
-    same_beyond _ _ _ _ c.loop-file.invariant.1,
-    length-set c.loop-file.file-items c.loop-file.file-index c.forget.new.self ∙ c.loop-file.invariant.2)
+loop-file-preserved c = (
+  made_in_place durable_of _ _ _ c.file-item.result _ (omega arith) c.loop-file.invariant.1 (record { name = ap string_bytes c.forget.ensures.name; begin = c.forget.ensures.begin; durable = c.forget.ensures.durable; current = c.forget.ensures.current }) c.loop-file.invariant.0,
+  same_beyond _ _ _ _ c.loop-file.invariant.1,
+  length-set c.loop-file.file-items c.loop-file.file-index c.forget.new.self ∙ c.loop-file.invariant.2,
+)
 
 kept : (c : goal.After-self-1) → take c.args.self.now.held.len (c.loop-file.file-items ++ drop (length c.loop-file.file-items) c.args.self.now.held.items) ≡ c.loop-file.file-items
 kept c = let same = ap length c.deref_mut-file-items.ensures.value in put_back c.args.self.now.held.len c.loop-file.file-items c.args.self.now.held.items (c.loop-file.invariant.2 ∙ same) (omega (arith, c.deref_mut-file-items.ensures.len, same))
