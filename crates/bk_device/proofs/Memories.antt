@@ -3,16 +3,16 @@ use Rattle.std.proofs.Common.{◌≡◌, ◌≤◌, ℕ, List, [], ◌∷◌, �
 use Rattle.std.specs.Prelude.{if◌then◌else◌, Result, Ok, Err, OnOk, OnErr, option_map}
 use Rattle.std.specs.Str.{bytes_eq}
 use Rattle.std.proofs.Math.Path.{fun_ext}
-use Rattle.std.proofs.lemmas.List.{map_push, length-append}
+use Rattle.std.proofs.lemmas.List.{map_push, length-append, take_all}
 use Rattle.bk_device.specs.Calls.{contents, written}
 use Rattle.bk_device.specs.Disk.{Files, Disk, replaced}
 use Rattle.bk_device.specs.Held.{name_of, begin_of, begin_files, durable_files, current_files}
 use Rattle.bk_device.specs.Memory.{begin_list, step_of, IsReplayed}
-use Rattle.bk_device.specs.Replay.{Step, look, after, Memory, files_of, disk_of, durable_files_of, IsNext, IsStill}
+use Rattle.bk_device.specs.Replay.{Step, look, begun, replay, after, Memory, files_of, disk_of, durable_files_of, IsNext, IsStill}
 use Rattle.bk_device.specs.Replay.Step.{Wrote, Synced, CutTo, Removed, Told}
 use Rattle.bk_device.specs.declared.held.Held.{Held}
 use Rattle.bk_device.specs.declared.call.Call.{Call}
-use Rattle.bk_device.specs.Replayed.{disk_of-next, disk_of-still, durable_files_of-next, durable_files_of-still}
+use Rattle.bk_device.specs.Replayed.{disk_of-next, disk_of-still, durable_files_of-next, durable_files_of-still, fresh_disk, fresh_durable}
 
 begin_list_at : (held : List Held) (name : List ℕ) → files_of (begin_list held) name ≡ begin_files held name
 begin_list_at [] name = refl
@@ -119,3 +119,34 @@ pub room_in : (held : List Held) (heard : List ℕ) (past : ℕ) (inside old : M
 room_in held heard past inside old name at is replayed room =
     let Room : Files → Type 0 = λ files. at ≤ length (contents (files name)) in
     subst Room (files_in held heard past inside old is replayed) room
+
+-- the device began anew
+pub replayed_fresh : (held : List Held) (heard : List ℕ) (past : ℕ) (memory : Memory) → memory.begin ≡ begin_list held → memory.told_before ≡ heard → memory.steps ≡ [] → begin_files held ≡ current_files held → durable_files held ≡ current_files held → past ≤ length heard → IsReplayed held heard past memory
+replayed_fresh held heard past memory begin told none same_begin same_durable enough =
+    let listed : files_of memory.begin ≡ current_files held = ap files_of begin ∙ files_of-begin_list held ∙ same_begin in
+    record {
+      current = sym (ap (λ (disk : Disk). disk.files) (fresh_disk memory none) ∙ listed);
+      durable = same_durable ∙ sym (fresh_durable memory none ∙ listed);
+      told = sym (ap (λ (disk : Disk). disk.told) (fresh_disk memory none) ∙ told);
+      enough = enough;
+    }
+
+-- what a read gives, and what was told, of a device that began anew
+
+pub fresh_files : (held : List Held) (told : List ℕ) (steps : List Step) → steps ≡ [] → begin_files held ≡ current_files held → (replay (begun (files_of (begin_list held)) told) steps).files ≡ current_files held
+fresh_files held told steps none same_begin = ap (λ (s : List Step). (replay (begun (files_of (begin_list held)) told) s).files) none ∙ files_of-begin_list held ∙ same_begin
+
+pub fresh_told : (held : List Held) (heard told : List ℕ) (steps : List Step) → told ≡ heard → steps ≡ [] → (replay (begun (files_of (begin_list held)) told) steps).told ≡ heard
+fresh_told held heard told steps same none = ap (λ (s : List Step). (replay (begun (files_of (begin_list held)) told) s).told) none ∙ same
+
+-- all of what was told was told before
+pub all_before : (n : ℕ) (heard : List ℕ) → n ≡ length heard → take n heard ≡ heard
+all_before n heard is = take_all n heard (omega arith)
+
+-- what was told by the device
+pub told_in : (held : List Held) (heard : List ℕ) (past : ℕ) (inside old : Memory) → inside ≡ old → IsReplayed held heard past inside → (disk_of old).told ≡ heard
+told_in held heard past inside old is replayed = sym (replayed.told ∙ ap (λ (memory : Memory). (disk_of memory).told) is)
+
+-- the files as last synced of the device
+pub durable_in : (held : List Held) (heard : List ℕ) (past : ℕ) (inside old : Memory) → inside ≡ old → IsReplayed held heard past inside → durable_files_of old ≡ durable_files held
+durable_in held heard past inside old is replayed = sym (replayed.durable ∙ ap durable_files_of is)

@@ -1,5 +1,5 @@
 -- The contents of the files that a device in memory holds, by name.
-use Rattle.std.specs.Prelude.{ℕ, List, Option, None, Some, option_map, string_bytes, not}
+use Rattle.std.specs.Prelude.{ℕ, List, Option, None, Some, option_map, string_bytes, not, ◌-◌, slice_set, slice_index}
 use Rattle.std.specs.List.{prefix_len}
 use Rattle.std.specs.Str.{bytes_eq}
 use Rattle.bk_device.specs.Disk.{Files}
@@ -25,6 +25,10 @@ current_of held = over held.current (durable_of held)
 
 abbrev pub name_of : Held → List ℕ
 name_of held = string_bytes held.name
+
+-- a content with another byte at this offset
+abbrev pub flipped : ℕ → List ℕ → List ℕ
+flipped at content = slice_set content at (255 - slice_index content at)
 
 -- how many entries stand before the first that has the name
 abbrev pub place_of : {X : Type 0} → (X → List ℕ) → List X → List ℕ → ℕ

@@ -102,6 +102,10 @@ pub record Memory : Type 0 where
   pub disk_faults : ℕ
   pub tell_faults : ℕ
 
+-- what a new device in memory holds
+abbrev pub unused : Memory
+unused = record { begin = []; told_before = []; steps = []; failing = []; calls = 0; stop = None; writes = 0; disk_faults = 0; tell_faults = 0 }
+
 -- a list of files as files by name: the first of a name counts
 abbrev pub files_of : List (List ℕ × Option (List ℕ)) → Files
 files_of files = look (λ file. file.0) (λ file. file.1) files

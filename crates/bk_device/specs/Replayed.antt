@@ -1,9 +1,9 @@
 -- A device in memory keeps what every device keeps, and each call on it does what it is to do.
 use Rattle.std.proofs.Common.{◌≡◌, ◌≢◌, ℕ, List, [], ◌∷◌, ◌++◌, length, take, Option, None, Some, refl, inl, inr, subst, ap, sym, ◌∙◌, arith}
-use Rattle.std.specs.Prelude.{option_map}
+use Rattle.std.specs.Prelude.{option_map, Bool, true, false, if◌then◌else◌}
 use Rattle.std.proofs.lemmas.List.{take_all, append-nil}
 use Rattle.bk_device.specs.Calls.{contents, written, LeavesWrite, LeavesCut, LeavesRemoval, LeavesSame, Elapses, CallsOn, ChangesNothing, TellsFront, TellsBytes}
-use Rattle.bk_device.specs.Disk.{Files, Disk, MayLeave, IsDurable, IsLawful, replaced}
+use Rattle.bk_device.specs.Disk.{Files, Disk, MayLeave, IsDurable, IsSettled, IsLawful, replaced}
 use Rattle.bk_device.specs.Replay.{Step, begun, left_by, later, later_told, after, replay, Memory, disk_of, IsNext, IsStill, files_of, durable_after, replay_durable, durable_files_of}
 use Rattle.bk_device.specs.Replay.Step.{Wrote, Synced, CutTo, Removed, Told}
 use Rattle.bk_device.specs.Names.{same_or_other, replaced-same, replaced-other}
@@ -295,3 +295,19 @@ synced_files old new name next = ap (λ (disk : Disk). disk.files name) (disk_of
 pub told_bytes : (old new : Memory) (bytes : List ℕ) → IsNext old new (Told bytes) → (disk_of new).told ≡ (disk_of old).told ++ bytes
 unfolding after
 told_bytes old new bytes next = ap (λ (disk : Disk). disk.told) (disk_of-next old new (Told bytes) next)
+
+-- a device that did no call since it began
+
+pub fresh_disk : (memory : Memory) → memory.steps ≡ [] → disk_of memory ≡ begun (files_of memory.begin) memory.told_before
+fresh_disk memory none = ap (λ (steps : List Step). replay (begun (files_of memory.begin) memory.told_before) steps) none
+
+pub fresh_durable : (memory : Memory) → memory.steps ≡ [] → durable_files_of memory ≡ files_of memory.begin
+fresh_durable memory none = ap (λ (steps : List Step). replay_durable (begun (files_of memory.begin) memory.told_before) (files_of memory.begin) steps) none
+
+pub fresh_settled : (memory : Memory) → memory.steps ≡ [] → IsSettled (disk_of memory)
+fresh_settled memory none = let From : Disk → Type 0 = λ disk. IsSettled disk in subst From (sym (fresh_disk memory none)) (λ name content left. left)
+
+-- what stands after a restart might have been left
+pub restart_left : (memory : Memory) (keep : Bool) → MayLeave (disk_of memory) (if keep then (disk_of memory).files else durable_files_of memory)
+restart_left memory true = (memory_lawful memory).reads
+restart_left memory false = durable_left memory

@@ -1,9 +1,9 @@
 // The files of a device in memory, by name.
-ghost use Rattle.std.specs.Prelude.{◌≡◌, ◌≤◌, ◌<◌, [], None, Some, length, take, option_map, position, IfOk, MatchOption, OnOk, OnErr};
+ghost use Rattle.std.specs.Prelude.{◌≡◌, ◌≤◌, ◌<◌, [], None, Some, length, take, option_map, position, IfOk, IsSomeAnd, if◌then◌else◌, MatchOption, OnOk, OnErr};
 ghost use Rattle.std.specs.Str.{bytes_eq};
 ghost use Rattle.bk_device.specs.Calls.{contents, written};
 ghost use Rattle.bk_device.specs.Disk.{replaced};
-ghost use Rattle.bk_device.specs.Held.{name_of, place_of, begin_files, durable_files, current_files};
+ghost use Rattle.bk_device.specs.Held.{name_of, place_of, begin_files, durable_files, current_files, flipped};
 
 use crate::held::Held;
 use std::alloc::{AllocError, Global};
@@ -99,5 +99,66 @@ impl Cache {
         if let Some(i) = self.find(name) {
             self.held[i].sync();
         }
+    }
+
+    // The byte of this file at this offset is another.
+    pub fn damage(&mut self, name: &str, at: usize)
+        requires { IsSomeAnd (current_files self.old.held.items name.now) (λ content. at < length content) }
+        ensures current { current_files self.new.held.items ≡ replaced (current_files self.old.held.items) name.now (option_map (flipped at) (current_files self.old.held.items name.now)) }
+    {
+        if let Some(i) = self.find(name) {
+            self.held[i].damage(at);
+        }
+    }
+
+    // What a read gives is what was there from the beginning.
+    pub fn keep(&mut self)
+        ensures current { current_files self.new.held.items ≡ current_files self.old.held.items }
+        ensures durable { durable_files self.new.held.items ≡ current_files self.old.held.items }
+        ensures begin { begin_files self.new.held.items ≡ current_files self.old.held.items }
+    {
+        for file in self.held.iter_mut() {
+            file.keep();
+        }
+    }
+
+    // What was last synced is what was there from the beginning.
+    pub fn forget(&mut self)
+        ensures current { current_files self.new.held.items ≡ durable_files self.old.held.items }
+        ensures durable { durable_files self.new.held.items ≡ durable_files self.old.held.items }
+        ensures begin { begin_files self.new.held.items ≡ durable_files self.old.held.items }
+    {
+        for file in self.held.iter_mut() {
+            file.forget();
+        }
+    }
+
+    // What a read gives, or what was last synced, is what was there from the beginning.
+    pub fn restart(&mut self, keep: bool)
+        ensures current { current_files self.new.held.items ≡ (if keep then current_files self.old.held.items else durable_files self.old.held.items) }
+        ensures durable { durable_files self.new.held.items ≡ current_files self.new.held.items }
+        ensures begin { begin_files self.new.held.items ≡ current_files self.new.held.items }
+    {
+        if keep {
+            self.keep();
+            return;
+        }
+        self.forget();
+    }
+
+    // Files that held from the beginning what a read of these gives.
+    pub fn copy(&self) -> Result<Cache, AllocError>
+        ensures current { IfOk result (λ cache. current_files cache.held.items ≡ current_files self.now.held.items) }
+        ensures durable { IfOk result (λ cache. durable_files cache.held.items ≡ current_files self.now.held.items) }
+        ensures begin { IfOk result (λ cache. begin_files cache.held.items ≡ current_files self.now.held.items) }
+    {
+        let mut held = Vec::new(self.alloc);
+        for file in &self.held {
+            held.push(file.copy(self.alloc)?)?;
+        }
+        Ok(Cache {
+            alloc: self.alloc,
+            held,
+        })
     }
 }

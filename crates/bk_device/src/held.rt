@@ -1,7 +1,7 @@
 // One file of a device in memory: what it held when the device began, when it was last synced, and what it holds now.
-ghost use Rattle.std.specs.Prelude.{◌≡◌, ◌≤◌, ◌<◌, ◌+◌, None, Some, length, take, option_map, string_bytes, vec_len, MatchOption, OnOk, OnErr};
+ghost use Rattle.std.specs.Prelude.{◌≡◌, ◌≤◌, ◌<◌, ◌+◌, None, Some, length, take, option_map, string_bytes, vec_len, MatchOption, IsSomeAnd, IfOk, OnOk, OnErr};
 ghost use Rattle.bk_device.specs.Calls.{contents, written};
-ghost use Rattle.bk_device.specs.Held.{begin_of, durable_of, current_of};
+ghost use Rattle.bk_device.specs.Held.{begin_of, durable_of, current_of, flipped};
 
 use std::alloc::{AllocError, Global};
 use std::mem;
@@ -115,6 +115,79 @@ impl Held {
             current => self.durable = current,
         }
     }
+
+    // The byte at this offset is another.
+    pub fn damage(&mut self, at: usize)
+        requires { IsSomeAnd (current_of self.old) (λ content. at < length content) }
+        ensures current { current_of self.new ≡ option_map (flipped at) (current_of self.old) }
+        ensures name { self.new.name ≡ self.old.name }
+    {
+        match &mut self.current {
+            Version::Bytes(content) => flip(content, at),
+            Version::Absent => {}
+            Version::Same => match &mut self.durable {
+                Version::Bytes(content) => flip(content, at),
+                Version::Absent => {}
+                Version::Same => {
+                    if let Some(content) = &mut self.begin {
+                        flip(content, at);
+                    }
+                }
+            },
+        }
+    }
+
+    // What a read gives is what was there from the beginning.
+    pub fn keep(&mut self)
+        ensures current { current_of self.new ≡ current_of self.old }
+        ensures durable { durable_of self.new ≡ current_of self.old }
+        ensures begin { begin_of self.new ≡ current_of self.old }
+        ensures name { self.new.name ≡ self.old.name }
+    {
+        self.sync();
+        match mem::replace(&mut self.durable, Version::Same) {
+            Version::Bytes(content) => self.begin = Some(content),
+            Version::Absent => self.begin = None,
+            Version::Same => {}
+        }
+    }
+
+    // What was last synced is what was there from the beginning.
+    pub fn forget(&mut self)
+        ensures current { current_of self.new ≡ durable_of self.old }
+        ensures durable { durable_of self.new ≡ durable_of self.old }
+        ensures begin { begin_of self.new ≡ durable_of self.old }
+        ensures name { self.new.name ≡ self.old.name }
+    {
+        self.current = Version::Same;
+        self.keep();
+    }
+
+    // A file that held from the beginning what a read of this one gives.
+    pub fn copy(&self, alloc: Global) -> Result<Held, AllocError>
+        ensures current { IfOk result (λ held. current_of held ≡ current_of self.now) }
+        ensures durable { IfOk result (λ held. durable_of held ≡ current_of self.now) }
+        ensures begin { IfOk result (λ held. begin_of held ≡ current_of self.now) }
+        ensures name { IfOk result (λ held. string_bytes held.name ≡ string_bytes self.now.name) }
+    {
+        let name = String::from_str(alloc, self.name.as_str())?;
+        match self.content() {
+            Some(content) => Ok(Held {
+                name,
+                begin: Some(Vec::from_slice(alloc, content)?),
+                durable: Version::Same,
+                current: Version::Same,
+            }),
+            None => Ok(Held::new(name)),
+        }
+    }
+}
+
+fn flip(content: &mut Vec<u8>, at: usize)
+    requires { at < vec_len content.old }
+    ensures { content.new.items ≡ flipped at content.old.items }
+{
+    content[at] = u8::MAX - content[at];
 }
 
 fn write_into(content: &mut Vec<u8>, at: usize, bytes: &[u8]) -> Result<(), AllocError>

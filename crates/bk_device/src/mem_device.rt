@@ -1,10 +1,11 @@
 // A device in memory, which keeps all its moments.
-ghost use Rattle.std.specs.Prelude.{◌≡◌, ◌≤◌, ◌<◌, ◌+◌, ◌^◌, ◌++◌, ◌∷◌, ◌↔◌, ◌⊎◌, [], None, Some, length, take, map, option_map, IsTrue, IsErr, IfOk, OnOk, OnErr, IsSomeAnd, Contains, true, is_ok};
+ghost use Rattle.std.specs.Prelude.{◌≡◌, ◌≤◌, ◌<◌, ◌+◌, ◌^◌, ◌++◌, ◌∷◌, ◌↔◌, ◌⊎◌, [], None, Some, length, take, map, option_map, IsTrue, IsErr, IfOk, OnOk, OnErr, IsSomeAnd, Contains, true, is_ok, if◌then◌else◌};
 ghost use Rattle.bk_device.specs.Calls.{contents, written, read_at, filled, LeavesWrite, LeavesCut, LeavesRemoval, LeavesSame, CallsOn, ChangesNothing, TellsBytes};
 ghost use Rattle.bk_device.specs.Counts.{HasRisen, one_more};
-ghost use Rattle.bk_device.specs.Disk.{Disk, IsDurable};
+ghost use Rattle.bk_device.specs.Disk.{Disk, MayLeave, IsDurable, IsSettled, replaced};
+ghost use Rattle.bk_device.specs.Held.{flipped};
 ghost use Rattle.bk_device.specs.Memory.{begin_list, step_of, IsReplayed};
-ghost use Rattle.bk_device.specs.Replay.{Memory, disk_of, IsNext, IsStill, KeepsCounts, counted_call, counted_write, counted_telling, IsToFail};
+ghost use Rattle.bk_device.specs.Replay.{Memory, disk_of, IsNext, IsStill, KeepsCounts, unused, durable_files_of, counted_call, counted_write, counted_telling, IsToFail};
 ghost use Rattle.bk_device.specs.Replay.Step.{Wrote, Synced, CutTo, Removed, Told};
 ghost use Rattle.bk_device.specs.Replayed.{memory_lawful};
 
@@ -63,7 +64,7 @@ impl Model for MemDevice {
 impl MemDevice {
     /// A device with no file. Nothing is pending, and nothing was told.
     pub fn new(alloc: Global) -> MemDevice
-        ensures { result ≡ record { begin = []; told_before = []; steps = []; failing = []; calls = 0; stop = None; writes = 0; disk_faults = 0; tell_faults = 0 } }
+        ensures { result ≡ unused }
     {
         MemDevice {
             files: Cache::new(alloc),
@@ -93,6 +94,74 @@ impl MemDevice {
         ensures { result.now ≡ (disk_of self.now).told }
     {
         &self.told
+    }
+
+    /// The write of this number, counted from 1, and all calls from then on will fail.
+    pub fn stop_at(&mut self, write: u64)
+        ensures { self.new ≡ record self.old { stop = Some write } }
+    {
+        self.stop = Some(write);
+    }
+
+    /// The device after a crash: what was written, created, cut or removed since a file's last sync is kept, or it is
+    /// gone. What was told stays told, nothing is to fail, and calls are counted from 1 again.
+    pub fn restart(self, keep: bool) -> MemDevice
+        ensures files { (disk_of result).files ≡ (if keep then (disk_of self).files else durable_files_of self) }
+        ensures left { MayLeave (disk_of self) (disk_of result).files }
+        ensures settled { IsSettled (disk_of result) }
+        ensures told { (disk_of result).told ≡ (disk_of self).told }
+        ensures counts { KeepsCounts unused result }
+    {
+        let mut device = self;
+        device.files.restart(keep);
+        device.done.clear();
+        device.told_before = device.told.as_slice().len();
+        device.failing.clear();
+        device.calls = 0;
+        device.stop = None;
+        device.writes = 0;
+        device.disk_faults = 0;
+        device.tell_faults = 0;
+        device
+    }
+
+    /// Another byte stands at this offset of a file, where there must be one. Nothing is pending afterwards.
+    pub fn damage(&mut self, name: &str, at: u64)
+        requires { IsSomeAnd ((disk_of self.old).files name.now) (λ content. at < length content) }
+        ensures files { (disk_of self.new).files ≡ replaced (disk_of self.old).files name.now (option_map (flipped at) ((disk_of self.old).files name.now)) }
+        ensures settled { IsSettled (disk_of self.new) }
+        ensures told { (disk_of self.new).told ≡ (disk_of self.old).told }
+        ensures counts { KeepsCounts self.old self.new }
+    {
+        self.files.damage(name, at as usize);
+        self.files.keep();
+        self.done.clear();
+        self.told_before = self.told.as_slice().len();
+    }
+
+    /// A file is gone, where it was there. Nothing is pending afterwards.
+    pub fn lose(&mut self, name: &str)
+        ensures files { (disk_of self.new).files ≡ replaced (disk_of self.old).files name.now None }
+        ensures settled { IsSettled (disk_of self.new) }
+        ensures told { (disk_of self.new).told ≡ (disk_of self.old).told }
+        ensures counts { KeepsCounts self.old self.new }
+    {
+        self.files.remove(name);
+        self.files.keep();
+        self.done.clear();
+        self.told_before = self.told.as_slice().len();
+    }
+
+    /// A device with the files as a read gives them now, which has told nothing yet.
+    pub fn copy(&self) -> Result<MemDevice, AllocError>
+        ensures files { IfOk result (λ device. (disk_of device).files ≡ (disk_of self.now).files) }
+        ensures settled { IfOk result (λ device. IsSettled (disk_of device)) }
+        ensures told { IfOk result (λ device. (disk_of device).told ≡ []) }
+        ensures counts { IfOk result (λ device. KeepsCounts unused device) }
+    {
+        let mut device = MemDevice::new(self.files.alloc);
+        device.files = self.files.copy()?;
+        Ok(device)
     }
 
     fn file_len(&self, name: &str) -> Option<u64>

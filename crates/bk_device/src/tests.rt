@@ -138,3 +138,48 @@ fn ten_thousand_writes_and_reads(rt: HostRuntime) -> Result<(), Fail> {
     assert_eq!(rt; device.len("log")?, Some(80_000));
     Ok(())
 }
+
+#[test]
+fn a_crash_keeps_what_was_synced(rt: HostRuntime) -> Result<(), Fail> {
+    let mut device = MemDevice::new(rt.alloc());
+    let mut buf = [0u8; 4];
+    device.write("a", 0, b"old")?;
+    device.sync("a")?;
+    device.remove("a")?;
+    device.write("a", 0, b"new!")?;
+    device.write("b", 0, b"b")?;
+    device.tell(b"told")?;
+    device.stop_at(4);
+    assert!(rt; device.write("c", 0, b"c").is_err());
+    assert!(rt; device.sync("a").is_err());
+    let mut kept = device.copy()?;
+    assert_eq!(rt; kept.told(), b"".as_slice());
+    kept.write("c", 0, b"c")?;
+    let mut kept = kept.restart(true);
+    assert_eq!(rt; kept.read("a", 0, &mut buf)?, 4);
+    assert_eq!(rt; buf.as_slice(), b"new!".as_slice());
+    assert_eq!(rt; kept.len("b")?, Some(1));
+    assert_eq!(rt; kept.len("c")?, Some(1));
+    let mut device = device.restart(false);
+    assert_eq!(rt; device.told(), b"told".as_slice());
+    assert_eq!(rt; device.read("a", 0, &mut buf)?, 3);
+    assert_eq!(rt; buf.as_slice(), b"old!".as_slice());
+    assert_eq!(rt; device.len("b")?, None);
+    Ok(())
+}
+
+#[test]
+fn files_are_damaged_and_lost(rt: HostRuntime) -> Result<(), Fail> {
+    let mut device = MemDevice::new(rt.alloc());
+    let mut buf = [0u8; 4];
+    device.write("a", 0, b"\x00\x01\x02\xff")?;
+    device.write("b", 0, b"b")?;
+    device.damage("a", 3);
+    device.damage("a", 1);
+    device.lose("b");
+    let mut device = device.restart(false);
+    assert_eq!(rt; device.read("a", 0, &mut buf)?, 4);
+    assert_eq!(rt; buf.as_slice(), b"\x00\xfe\x02\x00".as_slice());
+    assert_eq!(rt; device.len("b")?, None);
+    Ok(())
+}
