@@ -85,6 +85,3 @@ last_turn src found first at feeds n so_far len all read =
     let piece : take n bytes ≡ bytes = ap (λ k. take k bytes) size ∙ take-length bytes in
     let whole : AreStatements (take at src) (bytes ∷ []) first = (first, [], rw (← piece) read, refl, sym (append-nil first)) in
     so_far.goes_on first (rw one whole)
-
-pub none_so_far : (src : List ℕ) → StatementsSoFar src [] 0 0
-none_so_far src = record { within = omega arith; counted = refl; goes_on = λ later statements. statements }

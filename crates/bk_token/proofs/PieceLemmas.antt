@@ -1,18 +1,17 @@
 -- What the code reads at the front of the bytes is a piece.
-use Rattle.std.proofs.Common.{◌≡◌, ℕ, ◌+◌, ◌<◌, ◌≤◌, ◌^◌, Bool, true, cond, List, [], ◌∷◌, ◌++◌, length, take, drop, refl, ap, sym, ◌∙◌, inr, Option, Some, None, arith}
+use Rattle.std.proofs.Common.{◌≡◌, ℕ, ◌+◌, ◌≤◌, Bool, true, cond, List, [], ◌∷◌, ◌++◌, length, take, drop, ap, sym, ◌∙◌, inr, Option, Some, None, arith}
 use Rattle.std.specs.Char.{is_ascii_digit}
 use Rattle.std.specs.List.{prefix_len}
 use Rattle.std.proofs.lemmas.List.{take-append-drop, length-take-le}
 use Rattle.std.proofs.lemmas.List.Sums.{prefix_len-le-length}
 use Rattle.std.proofs.Math.Seq.{take-append-add, drop-append-add}
-use Rattle.std.proofs.lemmas.Bool.{lt-ltb, le-ltb}
 use Rattle.bk_token.specs.Bytes.{begins, is_within_line, is_word_byte, IsRun}
-use Rattle.bk_token.specs.Pieces.{is_go, decimal, number_kind, IsUnclosed, IsQuotation, IsPieceBy, opening, open_comment_len}
+use Rattle.bk_token.specs.Pieces.{is_go, number_kind, IsUnclosed, opening, open_comment_len}
 use Rattle.bk_token.specs.Reading.{Cuts, CutsBy, CutsQuotation, comment_from}
 use Rattle.bk_token.specs.declared.opening.Opening.{Opening}
 use Rattle.bk_token.specs.declared.opening.Opening.TheVariants.{DashComment, SlashComment, Letter, Digit}
 use Rattle.bk_token.specs.declared.token.Kind.{Kind}
-use Rattle.bk_token.specs.declared.token.Kind.TheVariants.{Word, Number, Go, Bad}
+use Rattle.bk_token.specs.declared.token.Kind.TheVariants.{Word, Go, Bad}
 use Rattle.bk_token.proofs.RunLemmas.{prefix_run, prefix_len-some}
 use Rattle.bk_token.proofs.CommentLemmas.{comment_from-open, comment_from-le}
 
@@ -40,13 +39,6 @@ cuts_number before bytes n found some e is = record {
   within = omega (arith, e, prefix_len-le-length is_ascii_digit bytes);
   piece = (is, run_of is_ascii_digit bytes n e);
 }
-
--- a number whose value is below 2 ^ 64, and one whose value isn't
-pub number_kind-fits : (digits : List ℕ) (v : ℕ) → (decimal digits < 2 ^ 64) × (decimal digits ≡ v) → Number v ≡ number_kind digits
-number_kind-fits digits v fits = rw (lt-ltb _ _ fits.0) (ap Number (sym fits.1))
-
-pub number_kind-great : (digits : List ℕ) → (decimal digits < 2 ^ 64 → ⊥) → Bad ≡ number_kind digits
-number_kind-great digits great = let least : 2 ^ 64 ≤ decimal digits = omega arith in rw (le-ltb _ _ least) refl
 
 -- two bytes at the front
 split_two : (x y : ℕ) (bytes : List ℕ) → take 2 bytes ≡ x ∷ y ∷ [] → bytes ≡ x ∷ y ∷ drop 2 bytes
@@ -91,14 +83,4 @@ cuts before bytes n found o e by = record {
   nonempty = by.nonempty;
   within = by.within;
   piece = rw (take-append-drop n bytes) (rw (sym e) by.piece);
-}
-
--- a piece in quotes, by its front
-pub cuts_quoted : (before bytes front : List ℕ) (n close : ℕ) (found : Option Kind) (kind : Kind) (o : Opening) →
-    (IsQuotationBy : (text rest : List ℕ) → IsQuotation kind front close text rest found → IsPieceBy o before text rest found) →
-    CutsQuotation kind front close bytes n found → CutsBy o before bytes n found
-cuts_quoted before bytes front n close found kind o by cut = record {
-  nonempty = cut.nonempty;
-  within = cut.within;
-  piece = by _ _ cut.piece;
 }
