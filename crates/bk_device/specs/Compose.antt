@@ -1,7 +1,7 @@
 -- How what calls and layers did to a device composes.
 use Rattle.std.proofs.Common.{◌≡◌, ◌≢◌, ◌⊎◌, ℕ, List, [], ◌∷◌, ◌++◌, Option, refl, inl, inr, subst, ap, sym, ◌∙◌, arith}
-use Rattle.bk_device.specs.Calls.{CallsOn, ChangesNothing, TellsFront, TellsBytes}
-use Rattle.bk_device.specs.Disk.{Files, Disk, MayLeave, IsDurable, IsLawful, replaced}
+use Rattle.bk_device.specs.Calls.{LeavesSame, CallsOn, ChangesNothing, TellsFront, TellsBytes}
+use Rattle.bk_device.specs.Disk.{Files, Disk, MayLeave, IsDurable, IsSettled, IsLawful, replaced}
 use Rattle.bk_device.specs.Effects.{MayLeaveOwn, MayLeaveOthers, IsName, Effect, KeepsFiles, LeavesSince, Among}
 use Rattle.bk_device.specs.Names.{same_or_other, replaced-same, replaced-other}
 
@@ -156,6 +156,48 @@ effect_of_step {own} {name} {leaves} {P} {Q} {a} {b} among stable step call =
       };
     }
 
+-- what may be left after a sync might have been left before it
+left_before_sync : (own : List ℕ → Type 0) (name : List ℕ) (a b : Disk) (image : Files) → own name → CallsOn name LeavesSame a b → MayLeaveOwn own b image → MayLeaveOwn own a image
+left_before_sync own name a b image among call mine other at =
+    elim (same_or_other name other) [
+      | inl same ↦
+          let one = call.left (image name) (mine name among) in
+          let Left : Option (List ℕ) → Type 0 = λ content. a.may name content in
+          let Under : List ℕ → Type 0 = λ n. a.may n (image n) in
+          subst Under (sym same) (subst Left (sym one.2) one.1)
+      | inr differ ↦ call.others_left other (image other) differ (mine other at)
+    ]
+
+-- a call after which a crash leaves what it might have left before, as a sync, whose name is one of more names
+pub effect_of_sync : {own : List ℕ → Type 0} {name : List ℕ} {P : Files → Type 0} {a b : Disk} → own name → ((image : Files) → MayLeaveOwn own a image → P image) → CallsOn name LeavesSame a b → Effect own P a b
+effect_of_sync {own} {name} {P} {a} {b} among before call = record {
+  others = λ other off. call.others other (λ same. off (subst own (sym same) among));
+  others_left = λ other off content. call.others_left other content (λ same. off (subst own (sym same) among));
+  told = call.told;
+  now = λ image mine. before image (left_before_sync own name a b image among call mine);
+  time = record {
+    later = call.time.later;
+    nothing_else = λ since image heard early gone.
+        elim (call.time.nothing_else since image heard early gone) [
+          | inl earlier ↦ inl earlier
+          | inr here ↦ inr (before image (left_before_sync own name a b image among call (λ other _. here.0 other)), (λ other off. call.others_left other (image other) (λ same. off (subst own (sym same) among)) (here.0 other)), here.1)
+        ];
+    nothing_forgotten = call.time.nothing_forgotten;
+  };
+}
+
+-- an effect, then a sync
+pub effect_then_sync : {own : List ℕ → Type 0} {name : List ℕ} {P : Files → Type 0} {a b c : Disk} → Effect own P a b → own name → CallsOn name LeavesSame b c → Effect own P a c
+effect_then_sync effect among call = effect_then effect (effect_of_sync among effect.now call)
+
+-- an effect, then a call that changes nothing
+pub effect_then_nothing : {own : List ℕ → Type 0} {P : Files → Type 0} {a b c : Disk} → Effect own P a b → ChangesNothing b c → Effect own P a c
+effect_then_nothing effect call = effect_then effect (effect_of_nothing effect.now call)
+
+-- an effect, then a step that keeps what may be left
+pub effect_then_step : {own : List ℕ → Type 0} {name : List ℕ} {leaves : Option (List ℕ) → Option (List ℕ) → Type 0} {P : Files → Type 0} {a b c : Disk} → Effect own P a b → own name → ((before after : Files) → P before → leaves (before name) (after name) → ((other : List ℕ) → other ≢ name → after other ≡ before other) → P after) → CallsOn name leaves b c → Effect own P a c
+effect_then_step effect among step call = effect_then effect (effect_of_step among effect.now step call)
+
 -- what stays under other names
 
 pub keeps_then : {names : List ℕ → Type 0} {a b c : Disk} → KeepsFiles names a b → KeepsFiles names b c → KeepsFiles names a c
@@ -190,6 +232,10 @@ keeps_by_telling call = record {
 
 pub durable_kept : {names : List ℕ → Type 0} {a b : Disk} (name : List ℕ) → names name → KeepsFiles names a b → IsDurable a name → IsDurable b name
 durable_kept name at keeps durable content may = durable content (keeps.nothing_more name at content may) ∙ sym (keeps.same name at)
+
+-- where nothing is pending, a crash now leaves the files as they read
+pub settled_image : (a : Disk) (image : Files) → IsSettled a → MayLeave a image → (name : List ℕ) → image name ≡ a.files name
+settled_image a image settled left name = settled name (image name) (left name)
 
 -- the crashes since some moment
 
@@ -245,6 +291,10 @@ left_nothing {entry} {Q} {a} {b} lawful since call = record {
 pub decided : {own : List ℕ → Type 0} {P Q : Files → Type 0} {a b c d : Disk} → Effect own P a b → Effect own (λ image. P image ⊎ Q image) b c → Effect own Q c d → Effect own (λ image. P image ⊎ Q image) a d
 decided prepared deciding finished =
     effect_then (effect_weaken (λ image here. inl here) prepared) (effect_then deciding (effect_weaken (λ image here. inr here) finished))
+
+-- files that have P, and then files that have Q
+pub before_and_after : {own : List ℕ → Type 0} {P Q : Files → Type 0} {a b c : Disk} → Effect own P a b → Effect own Q b c → Effect own (λ image. P image ⊎ Q image) a c
+before_and_after first second = effect_then (effect_weaken (λ image here. inl here) first) (effect_weaken (λ image here. inr here) second)
 
 -- one of several
 

@@ -154,3 +154,15 @@ counted_telling ok memory = record memory { calls = one_more memory.calls; tell_
 -- the call that was counted last is to fail
 abbrev pub IsToFail : Memory → Type 0
 IsToFail memory = Contains memory.failing memory.calls ⊎ IsSomeAnd memory.stop (λ stop. stop ≤ memory.writes)
+
+-- what a crash during a call, or after it at its moment, leaves: a call that tells may have told a front
+unfoldable pub LeftBy : Disk → Step → ℕ → Files → List ℕ → Type 0
+LeftBy disk step since image heard =
+    ((since ≤ disk.moment) × MayLeave disk image × ((bytes : List ℕ) × (step ≡ Told bytes) × TellsFront bytes disk.told heard))
+    ⊎ ((since ≤ disk.moment + 1) × MayLeave (after disk step) image × (heard ≡ (after disk step).told))
+
+-- A crash at some moment from that one on left these files, with these bytes told by then: when the device began, or by one of its calls.
+abbrev pub WasLeft : Memory → ℕ → Files → List ℕ → Type 0
+WasLeft memory since image heard =
+    ((since ≤ 0) × ((name : List ℕ) → image name ≡ files_of memory.begin name) × (heard ≡ memory.told_before))
+    ⊎ ((front : List Step) × (step : Step) × (back : List Step) × (memory.steps ≡ front ++ step ∷ back) × LeftBy (replay (begun (files_of memory.begin) memory.told_before) front) step since image heard)

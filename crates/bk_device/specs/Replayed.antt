@@ -1,10 +1,10 @@
 -- A device in memory keeps what every device keeps, and each call on it does what it is to do.
-use Rattle.std.proofs.Common.{◌≡◌, ◌≢◌, ℕ, List, [], ◌∷◌, ◌++◌, length, take, Option, None, Some, refl, inl, inr, subst, ap, sym, ◌∙◌, arith}
-use Rattle.std.specs.Prelude.{option_map, Bool, true, false, if◌then◌else◌}
+use Rattle.std.proofs.Common.{◌≡◌, ◌≢◌, ℕ, List, [], ◌∷◌, ◌++◌, length, take, Option, None, Some, refl, inl, inr, subst, ap, sym, ◌∙◌, arith, ◌⊎◌, ◌+◌, ◌≤◌}
+use Rattle.std.specs.Prelude.{◌↔◌, option_map, Bool, true, false, if◌then◌else◌}
 use Rattle.std.proofs.lemmas.List.{take_all, append-nil}
 use Rattle.bk_device.specs.Calls.{contents, written, LeavesWrite, LeavesCut, LeavesRemoval, LeavesSame, Elapses, CallsOn, ChangesNothing, TellsFront, TellsBytes}
 use Rattle.bk_device.specs.Disk.{Files, Disk, MayLeave, IsDurable, IsSettled, IsLawful, replaced}
-use Rattle.bk_device.specs.Replay.{Step, begun, left_by, later, later_told, after, replay, Memory, disk_of, IsNext, IsStill, files_of, durable_after, replay_durable, durable_files_of}
+use Rattle.bk_device.specs.Replay.{Step, begun, left_by, later, later_told, after, replay, Memory, disk_of, IsNext, IsStill, files_of, durable_after, replay_durable, durable_files_of, LeftBy, WasLeft}
 use Rattle.bk_device.specs.Replay.Step.{Wrote, Synced, CutTo, Removed, Told}
 use Rattle.bk_device.specs.Names.{same_or_other, replaced-same, replaced-other}
 use Rattle.bk_device.specs.Torn.{torn-written}
@@ -311,3 +311,82 @@ fresh_settled memory none = let From : Disk → Type 0 = λ disk. IsSettled disk
 pub restart_left : (memory : Memory) (keep : Bool) → MayLeave (disk_of memory) (if keep then (disk_of memory).files else durable_files_of memory)
 restart_left memory true = (memory_lawful memory).reads
 restart_left memory false = durable_left memory
+
+-- what crashes leave is told by the calls that were done
+
+left_in_step : (disk : Disk) (step : Step) (since : ℕ) (image : Files) (heard : List ℕ) → (after disk step).left since image heard → disk.left since image heard ⊎ LeftBy disk step since image heard
+unfolding after LeftBy
+left_in_step disk (Wrote name at bytes) since image heard left = elim left [ inl before ↦ inl before.1 | inr here ↦ inr (inr here) ]
+left_in_step disk (Synced name) since image heard left = elim left [ inl before ↦ inl before.1 | inr here ↦ inr (inr here) ]
+left_in_step disk (CutTo name len) since image heard left = elim left [ inl before ↦ inl before.1 | inr here ↦ inr (inr here) ]
+left_in_step disk (Removed name) since image heard left = elim left [ inl before ↦ inl before.1 | inr here ↦ inr (inr here) ]
+left_in_step disk (Told bytes) since image heard left =
+    elim left [
+      | inl before ↦ inl before.1
+      | inr rest ↦ elim rest [ inl meanwhile ↦ inr (inl (meanwhile.0, meanwhile.1, (bytes, refl, meanwhile.2))) | inr here ↦ inr (inr here) ]
+    ]
+
+left_in_replay : (disk : Disk) (steps : List Step) (since : ℕ) (image : Files) (heard : List ℕ) → (replay disk steps).left since image heard → disk.left since image heard ⊎ ((front : List Step) × (step : Step) × (back : List Step) × (steps ≡ front ++ step ∷ back) × LeftBy (replay disk front) step since image heard)
+left_in_replay disk [] since image heard left = inl left
+left_in_replay disk (first ∷ steps) since image heard left =
+    elim (left_in_replay (after disk first) steps since image heard left) [
+      | inl begun ↦ elim (left_in_step disk first since image heard begun) [ inl before ↦ inl before | inr here ↦ inr ([], first, steps, refl, here) ]
+      | inr there ↦ inr (first ∷ there.0, there.1, there.2, ap (λ (rest : List Step). first ∷ rest) there.3, there.4)
+    ]
+
+moment_grows : (disk : Disk) (step : Step) → (after disk step).moment ≡ disk.moment + 1
+unfolding after
+moment_grows disk (Wrote name at bytes) = refl
+moment_grows disk (Synced name) = refl
+moment_grows disk (CutTo name len) = refl
+moment_grows disk (Removed name) = refl
+moment_grows disk (Told bytes) = refl
+
+step_keeps : (disk : Disk) (step : Step) (since : ℕ) (image : Files) (heard : List ℕ) → since ≤ disk.moment → disk.left since image heard → (after disk step).left since image heard
+unfolding after
+step_keeps disk (Wrote name at bytes) since image heard early left = inl (early, left)
+step_keeps disk (Synced name) since image heard early left = inl (early, left)
+step_keeps disk (CutTo name len) since image heard early left = inl (early, left)
+step_keeps disk (Removed name) since image heard early left = inl (early, left)
+step_keeps disk (Told bytes) since image heard early left = inl (early, left)
+
+replay_keeps : (disk : Disk) (steps : List Step) (since : ℕ) (image : Files) (heard : List ℕ) → since ≤ disk.moment → disk.left since image heard → (replay disk steps).left since image heard
+replay_keeps disk [] since image heard early left = left
+replay_keeps disk (step ∷ steps) since image heard early left =
+    replay_keeps (after disk step) steps since image heard (omega (arith, moment_grows disk step)) (step_keeps disk step since image heard early left)
+
+step_leaves : (disk : Disk) (step : Step) (since : ℕ) (image : Files) (heard : List ℕ) → LeftBy disk step since image heard → (since ≤ disk.moment + 1) × (after disk step).left since image heard
+unfolding after LeftBy
+step_leaves disk (Wrote name at bytes) since image heard left = elim left [ inl meanwhile ↦ absurd (cc meanwhile.2.1) | inr here ↦ (here.0, inr here) ]
+step_leaves disk (Synced name) since image heard left = elim left [ inl meanwhile ↦ absurd (cc meanwhile.2.1) | inr here ↦ (here.0, inr here) ]
+step_leaves disk (CutTo name len) since image heard left = elim left [ inl meanwhile ↦ absurd (cc meanwhile.2.1) | inr here ↦ (here.0, inr here) ]
+step_leaves disk (Removed name) since image heard left = elim left [ inl meanwhile ↦ absurd (cc meanwhile.2.1) | inr here ↦ (here.0, inr here) ]
+step_leaves disk (Told bytes) since image heard left =
+    elim left [
+      | inl meanwhile ↦
+          let same : bytes ≡ meanwhile.2.0 = (cc meanwhile.2.1) in
+          let Front : List ℕ → Type 0 = λ b. TellsFront b disk.told heard in
+          (omega (arith, meanwhile.0), inr (inl (meanwhile.0, meanwhile.1, subst Front (sym same) meanwhile.2.2)))
+      | inr here ↦ (here.0, inr (inr here))
+    ]
+
+replay-append : (disk : Disk) (front back : List Step) → replay disk (front ++ back) ≡ replay (replay disk front) back
+replay-append disk [] back = refl
+replay-append disk (step ∷ front) back = replay-append (after disk step) front back
+
+replay_leaves : (disk : Disk) (front : List Step) (step : Step) (back : List Step) (since : ℕ) (image : Files) (heard : List ℕ) → LeftBy (replay disk front) step since image heard → (replay disk (front ++ step ∷ back)).left since image heard
+replay_leaves disk front step back since image heard left =
+    let there = step_leaves (replay disk front) step since image heard left in
+    let From : Disk → Type 0 = λ d. d.left since image heard in
+    subst From (sym (replay-append disk front (step ∷ back))) (replay_keeps (after (replay disk front) step) back since image heard (omega (arith, there.0, moment_grows (replay disk front) step)) there.1)
+
+pub was_left : (memory : Memory) (since : ℕ) (image : Files) (heard : List ℕ) → (disk_of memory).left since image heard ↔ WasLeft memory since image heard
+was_left memory since image heard = (
+  λ left. left_in_replay (begun (files_of memory.begin) memory.told_before) memory.steps since image heard left,
+  λ was. elim was [
+    | inl first ↦ replay_keeps (begun (files_of memory.begin) memory.told_before) memory.steps since image heard first.0 first
+    | inr there ↦
+        let From : List Step → Type 0 = λ steps. (replay (begun (files_of memory.begin) memory.told_before) steps).left since image heard in
+        subst From (sym there.3) (replay_leaves (begun (files_of memory.begin) memory.told_before) there.0 there.1 there.2 since image heard there.4)
+  ],
+)

@@ -18,7 +18,7 @@ pub use clock::Clock;
 pub use device::Device;
 pub use file_device::FileDevice;
 pub use fixed_clock::FixedClock;
-pub use mem_device::MemDevice;
+pub use mem_device::{MemDevice, crash_law};
 pub use mem_source::MemSource;
 pub use source::Source;
 pub use stdin_source::StdinSource;

@@ -1,11 +1,11 @@
 // A device in memory, which keeps all its moments.
-ghost use Rattle.std.specs.Prelude.{◌≡◌, ◌≤◌, ◌<◌, ◌+◌, ◌^◌, ◌++◌, ◌∷◌, ◌↔◌, ◌⊎◌, [], None, Some, length, take, map, option_map, IsTrue, IsErr, IfOk, OnOk, OnErr, IsSomeAnd, Contains, true, is_ok, if◌then◌else◌};
+ghost use Rattle.std.specs.Prelude.{◌≡◌, ◌≤◌, ◌<◌, ◌+◌, ◌^◌, ◌++◌, ◌∷◌, ◌↔◌, ◌⊎◌, [], None, Some, length, take, map, option_map, IsTrue, IsErr, IfOk, OnOk, OnErr, IsSomeAnd, Contains, List, ℕ, true, is_ok, if◌then◌else◌};
 ghost use Rattle.bk_device.specs.Calls.{contents, written, read_at, filled, LeavesWrite, LeavesCut, LeavesRemoval, LeavesSame, CallsOn, ChangesNothing, TellsBytes};
 ghost use Rattle.bk_device.specs.Counts.{HasRisen, one_more};
-ghost use Rattle.bk_device.specs.Disk.{Disk, MayLeave, IsDurable, IsSettled, replaced};
+ghost use Rattle.bk_device.specs.Disk.{Disk, Files, MayLeave, IsDurable, IsSettled, replaced};
 ghost use Rattle.bk_device.specs.Held.{flipped};
 ghost use Rattle.bk_device.specs.Memory.{begin_list, step_of, IsReplayed};
-ghost use Rattle.bk_device.specs.Replay.{Memory, disk_of, IsNext, IsStill, KeepsCounts, unused, durable_files_of, counted_call, counted_write, counted_telling, IsToFail};
+ghost use Rattle.bk_device.specs.Replay.{Memory, disk_of, IsNext, IsStill, KeepsCounts, unused, durable_files_of, counted_call, counted_write, counted_telling, IsToFail, WasLeft};
 ghost use Rattle.bk_device.specs.Replay.Step.{Wrote, Synced, CutTo, Removed, Told};
 ghost use Rattle.bk_device.specs.Replayed.{memory_lawful};
 
@@ -18,12 +18,16 @@ use std::marker::Model;
 // A write that ends here or past it is refused.
 const END: u64 = 1 << 62;
 
-/// A device in memory.
+/// Files and an output in memory. It keeps each call that was done since it began, so it tells what a crash at each
+/// moment may leave. A call fails where `fail_at` or `stop_at` asked for it, for want of memory, and a write also where
+/// it would end at 2^62 or past it; it then does nothing.
 #[derive(Drop)]
 pub struct MemDevice {
     files: Cache,
+    // The calls since it began.
     done: Vec<Call>,
     told: Vec<u8>,
+    // How many bytes had been told when it began.
     told_before: usize,
     failing: Vec<u64>,
     calls: u64,
@@ -457,6 +461,12 @@ impl Device for MemDevice {
         }
     }
 }
+
+/// A law, with no work to do. What crashes may have left of a device in memory is exactly its files and told bytes as it
+/// began, and what each of its calls leaves while it runs and after it.
+pub fn crash_law()
+    ensures { (memory : Memory) (since : ℕ) (image : Files) (heard : List ℕ) → (disk_of memory).left since image heard ↔ WasLeft memory since image heard }
+{}
 
 // Copies what stands from an offset on to the front of the buffer, and says how much.
 fn copy_at(content: &[u8], at: u64, buf: &mut [u8]) -> usize
