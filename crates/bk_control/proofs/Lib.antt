@@ -1,0 +1,4 @@
+pub mod Filled
+pub mod Puts
+pub mod SlotLaws
+pub mod Steps

@@ -1,0 +1,4 @@
+pub mod Control
+pub mod Reads
+pub mod Slots
+pub mod Stands

@@ -1,0 +1,163 @@
+// A control file: one content, which each crash leaves as it was or as it became.
+ghost use Rattle.std.specs.Prelude.{◌≡◌, ◌≤◌, ◌<◌, ◌-◌, ◌⊎◌, ◌^◌, ◌+◌, Some, None, length, vec_len, vec_capacity, true, false, is_err, string_bytes, IfOk, OnOk, OnErr, IsErrOf};
+ghost use Rattle.bk_control.specs.Control.{Kept, IsControl};
+ghost use Rattle.bk_control.specs.Slots.{control_of};
+ghost use Rattle.bk_device.specs.Counts.{HasRisen};
+ghost use Rattle.bk_device.specs.Disk.{IsDurable};
+ghost use Rattle.bk_device.specs.Effects.{Effect, IsName};
+
+use crate::durable::write_durably;
+use crate::side::Side;
+use crate::slot::rewrite;
+use bk_device::{Device, Failed};
+use std::marker::Model;
+
+/// A control file of one content, of at most 65,536 bytes.
+///
+/// Once a call has answered `Failed` the value is failed, and is no longer used.
+#[derive(Drop)]
+pub struct Control {
+    name: String,
+    // with room for 65,536 bytes
+    content: Vec<u8>,
+    side: Side,
+    sequence: u64,
+    is_other_open: bool,
+    failed: bool,
+}
+
+impl Model for Control {
+    ghost Value = { Kept };
+
+    ghost view = { λ c. record {
+      name = string_bytes c.name;
+      content = c.content.items;
+      failed = c.failed;
+      side = c.side;
+      sequence = c.sequence;
+      is_other_open = c.is_other_open;
+    } };
+
+    ghost invariant = { λ c. (65536 ≤ vec_capacity c.content) × (vec_len c.content ≤ 65536) };
+}
+
+impl Control {
+    /// The content.
+    pub fn get(&self) -> &[u8]
+        requires { self.now.failed ≡ false }
+        ensures content { result.now ≡ self.now.content }
+        ensures short { length result.now ≤ 65536 }
+    {
+        &self.content
+    }
+
+    /// Makes these bytes, at most 65,536, the content: a crash leaves the old content or the new one.
+    pub fn put<D: Device>(&mut self, dev: &mut D, bytes: &[u8]) -> Result<(), Failed>
+        requires fit { self.old.failed ≡ false }
+        requires short { length bytes.now ≤ 65536 }
+        requires stands { D.tells → IsControl (D.disk dev.old) self.old }
+        ensures content { OnOk result (self.new.content ≡ bytes.now) }
+        ensures name { self.new.name ≡ self.old.name }
+        ensures failed { self.new.failed ≡ is_err result }
+        ensures stands { D.tells → OnOk result (IsControl (D.disk dev.new) self.new) }
+        ensures crash { D.tells → Effect (IsName self.old.name) (λ image. (control_of (image self.old.name) ≡ Some self.old.content) ⊎ (control_of (image self.old.name) ≡ Some bytes.now)) (D.disk dev.old) (D.disk dev.new) }
+        ensures cause { OnErr result (HasRisen (D.disk_faults dev.old) (D.disk_faults dev.new)) }
+        ensures never_falls { D.disk_faults dev.old ≤ D.disk_faults dev.new }
+        ensures tell_faults { D.tell_faults dev.new ≡ D.tell_faults dev.old }
+    {
+        let outcome = self.store(dev, bytes);
+        self.failed = outcome.is_err();
+        outcome
+    }
+
+    fn store<D: Device>(&mut self, dev: &mut D, bytes: &[u8]) -> Result<(), Failed>
+        requires short { length bytes.now ≤ 65536 }
+        requires stands { D.tells → IsControl (D.disk dev.old) self.old }
+        ensures content { OnOk result (self.new.content ≡ bytes.now) }
+        ensures name { self.new.name ≡ self.old.name }
+        ensures stands { D.tells → OnOk result (IsControl (D.disk dev.new) self.new) }
+        ensures crash { D.tells → Effect (IsName self.old.name) (λ image. (control_of (image self.old.name) ≡ Some self.old.content) ⊎ (control_of (image self.old.name) ≡ Some bytes.now)) (D.disk dev.old) (D.disk dev.new) }
+        ensures cause { OnErr result (HasRisen (D.disk_faults dev.old) (D.disk_faults dev.new)) }
+        ensures never_falls { D.disk_faults dev.old ≤ D.disk_faults dev.new }
+        ensures tell_faults { D.tell_faults dev.new ≡ D.tell_faults dev.old }
+    {
+        self.leave_room(dev)?;
+        self.advance(dev, bytes)?;
+        Ok(())
+    }
+
+    // Sees to it that a sequence is left.
+    fn leave_room<D: Device>(&mut self, dev: &mut D) -> Result<(), Failed>
+        requires stands { D.tells → IsControl (D.disk dev.old) self.old }
+        ensures content { self.new.content ≡ self.old.content }
+        ensures name { self.new.name ≡ self.old.name }
+        ensures room { OnOk result (self.new.sequence < 2 ^ 64 - 1) }
+        ensures stands { D.tells → OnOk result (IsControl (D.disk dev.new) self.new) }
+        ensures crash { D.tells → Effect (IsName self.old.name) (λ image. control_of (image self.old.name) ≡ Some self.old.content) (D.disk dev.old) (D.disk dev.new) }
+        ensures cause { OnErr result (HasRisen (D.disk_faults dev.old) (D.disk_faults dev.new)) }
+        ensures never_falls { D.disk_faults dev.old ≤ D.disk_faults dev.new }
+        ensures tell_faults { D.tell_faults dev.new ≡ D.tell_faults dev.old }
+    {
+        if self.sequence == u64::MAX {
+            self.renumber(dev)?;
+        }
+        Ok(())
+    }
+
+    // Puts the content into the other slot, under the next sequence.
+    fn advance<D: Device>(&mut self, dev: &mut D, bytes: &[u8]) -> Result<(), Failed>
+        requires short { length bytes.now ≤ 65536 }
+        requires room { self.old.sequence < 2 ^ 64 - 1 }
+        requires stands { D.tells → IsControl (D.disk dev.old) self.old }
+        ensures content { OnOk result (self.new.content ≡ bytes.now) }
+        ensures name { self.new.name ≡ self.old.name }
+        ensures stands { D.tells → OnOk result (IsControl (D.disk dev.new) self.new) }
+        ensures crash { D.tells → Effect (IsName self.old.name) (λ image. (control_of (image self.old.name) ≡ Some self.old.content) ⊎ (control_of (image self.old.name) ≡ Some bytes.now)) (D.disk dev.old) (D.disk dev.new) }
+        ensures cause { OnErr result (HasRisen (D.disk_faults dev.old) (D.disk_faults dev.new)) }
+        ensures never_falls { D.disk_faults dev.old ≤ D.disk_faults dev.new }
+        ensures tell_faults { D.tell_faults dev.new ≡ D.tell_faults dev.old }
+    {
+        let side = self.side.other();
+        let sequence = self.sequence + 1;
+        rewrite(dev, &self.name, side, self.is_other_open, sequence, bytes)?;
+        self.side = side;
+        self.sequence = sequence;
+        self.is_other_open = true;
+        refill(&mut self.content, bytes);
+        Ok(())
+    }
+
+    // Puts the same content into the other slot under the least sequence, and closes this one.
+    fn renumber<D: Device>(&mut self, dev: &mut D) -> Result<(), Failed>
+        requires stands { D.tells → IsControl (D.disk dev.old) self.old }
+        ensures content { self.new.content ≡ self.old.content }
+        ensures name { self.new.name ≡ self.old.name }
+        ensures room { OnOk result (self.new.sequence ≡ 0) }
+        ensures stands { D.tells → OnOk result (IsControl (D.disk dev.new) self.new) }
+        ensures crash { D.tells → Effect (IsName self.old.name) (λ image. control_of (image self.old.name) ≡ Some self.old.content) (D.disk dev.old) (D.disk dev.new) }
+        ensures cause { OnErr result (HasRisen (D.disk_faults dev.old) (D.disk_faults dev.new)) }
+        ensures never_falls { D.disk_faults dev.old ≤ D.disk_faults dev.new }
+        ensures tell_faults { D.tell_faults dev.new ≡ D.tell_faults dev.old }
+    {
+        let side = self.side.other();
+        rewrite(dev, &self.name, side, self.is_other_open, 0, &self.content)?;
+        write_durably(dev, &self.name, self.side.place() + 8, &[0])?;
+        self.side = side;
+        self.sequence = 0;
+        self.is_other_open = false;
+        Ok(())
+    }
+}
+
+// Puts these bytes into a buffer with room for them.
+fn refill(buffer: &mut Vec<u8>, bytes: &[u8])
+    requires { length bytes.now ≤ vec_capacity buffer.old }
+    ensures items { buffer.new.items ≡ bytes.now }
+    ensures room { vec_capacity buffer.old ≤ vec_capacity buffer.new }
+{
+    buffer.clear();
+    match buffer.extend_from_slice(bytes) {
+        Ok(()) => {}
+        Err(_) => unreachable!(),
+    }
+}

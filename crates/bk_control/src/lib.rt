@@ -1,0 +1,10 @@
+//! A file of one content, which each crash leaves as it was or as it became.
+#![tactic(auto)]
+
+mod control;
+mod durable;
+mod side;
+mod slot;
+
+pub use control::Control;
+pub use side::Side;
