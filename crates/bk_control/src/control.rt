@@ -7,9 +7,12 @@ ghost use Rattle.bk_device.specs.Disk.{IsDurable};
 ghost use Rattle.bk_device.specs.Effects.{Effect, IsName};
 
 use crate::durable::write_durably;
+use crate::error::ControlError;
+use crate::fresh::{fresh_file, lay};
 use crate::side::Side;
 use crate::slot::rewrite;
 use bk_device::{Device, Failed};
+use std::alloc::Global;
 use std::marker::Model;
 
 /// A control file of one content, of at most 65,536 bytes.
@@ -42,6 +45,39 @@ impl Model for Control {
 }
 
 impl Control {
+    /// Makes a control file of these bytes, at most 65,536, in place of what was under the name. Until it is made,
+    /// a crash leaves what it might have left before, or no control.
+    ///
+    /// `NoMemory` leaves the device as it was; `Foreign` isn't answered.
+    pub fn make<D: Device>(alloc: Global, dev: &mut D, name: &str, bytes: &[u8]) -> Result<Control, ControlError>
+        requires { length bytes.now ≤ 65536 }
+        ensures content { IfOk result (λ c. c.content ≡ bytes.now) }
+        ensures name { IfOk result (λ c. c.name ≡ name.now) }
+        ensures failed { IfOk result (λ c. c.failed ≡ false) }
+        ensures stands { D.tells → IfOk result (λ c. IsControl (D.disk dev.new) c) }
+        ensures crash { D.tells → Effect (IsName name.now) (λ image. (D.disk dev.old).may name.now (image name.now) ⊎ (control_of (image name.now) ≡ None) ⊎ (control_of (image name.now) ≡ Some bytes.now)) (D.disk dev.old) (D.disk dev.new) }
+        ensures foreign { IsErrOf result ControlError.Foreign → ⊥ }
+        ensures cause { IsErrOf result ControlError.Fault → HasRisen (D.disk_faults dev.old) (D.disk_faults dev.new) }
+        ensures no_memory { IsErrOf result ControlError.NoMemory → dev.new ≡ dev.old }
+        ensures never_falls { D.disk_faults dev.old ≤ D.disk_faults dev.new }
+        ensures tell_faults { D.tell_faults dev.new ≡ D.tell_faults dev.old }
+    {
+        let name_kept = String::from_str(alloc, name)?;
+        let mut content = Vec::with_capacity(alloc, 65_536)?;
+        refill(&mut content, bytes);
+        let file = fresh_file(alloc, bytes)?;
+        let (front, last) = file.as_slice().split_at(131_199);
+        lay(dev, name, front, last)?;
+        Ok(Control {
+            name: name_kept,
+            content,
+            side: Side::First,
+            sequence: 0,
+            is_other_open: false,
+            failed: false,
+        })
+    }
+
     /// The content.
     pub fn get(&self) -> &[u8]
         requires { self.now.failed ≡ false }

@@ -3,8 +3,12 @@
 
 mod control;
 mod durable;
+mod error;
+mod found;
+mod fresh;
 mod side;
 mod slot;
 
 pub use control::Control;
+pub use error::ControlError;
 pub use side::Side;

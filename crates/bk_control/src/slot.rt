@@ -29,7 +29,7 @@ pub fn write_number(bytes: &mut [u8], n: u64)
 }
 
 // What stands between a slot's gate byte and its content.
-fn head(sequence: u64, len: u64) -> [u8; 23]
+pub fn head(sequence: u64, len: u64) -> [u8; 23]
     ensures { result ≡ replicate 7 0 ++ number_bytes sequence ++ number_bytes len }
 {
     let mut head = [0u8; 23];
