@@ -1,4 +1,5 @@
 pub mod Filled
+pub mod Finding
 pub mod Making
 pub mod Puts
 pub mod SlotLaws

@@ -1,15 +1,15 @@
 -- Making a control file.
-use Rattle.std.proofs.Common.{◌≡◌, ◌≤◌, ◌<◌, ◌⊎◌, ℕ, ◌+◌, ◌-◌, max, List, [], ◌∷◌, ◌++◌, length, take, drop, get_or, replicate, Option, Some, None, Bool, false, refl, inl, inr, sym, ◌∙◌, ap, subst, arith, length-append, lit≤, lit<}
-use Rattle.std.specs.Prelude.{slice_index, option_map, ◌==◌, nat_le}
+use Rattle.std.proofs.Common.{◌≡◌, ◌≤◌, ◌<◌, ◌⊎◌, ℕ, ◌+◌, ◌-◌, max, List, [], ◌∷◌, ◌++◌, length, take, drop, get_or, replicate, Option, Some, None, false, refl, inl, inr, sym, ◌∙◌, ap, subst, arith, length-append, lit≤, lit<}
+use Rattle.std.specs.Prelude.{slice_index, option_map, nat_le}
 use Rattle.std.proofs.lemmas.Grind.{common_steps}
-use Rattle.std.proofs.lemmas.List.{take_all, take_at, drop_at, drop_all, append-nil, append_assoc, take-take, get_or-take, get_or-append_right, get_or-replicate, take-append-le, drop-append-le, length-replicate, length-take, length-drop, take-append-drop}
-use Rattle.bk_device.specs.Calls.{contents, read_at, written, IsTorn, LeavesWrite}
+use Rattle.std.proofs.lemmas.List.{take_all, take_at, drop_at, take-take, get_or-take, get_or-append_right, get_or-replicate, take-append-le, drop-append-le, length-replicate, length-take, length-drop, take-append-drop}
+use Rattle.bk_device.specs.Calls.{contents, written, IsTorn, LeavesWrite}
 use Rattle.bk_device.specs.Compose.{effect_then, effect_weaken, effect_none}
 use Rattle.bk_device.specs.Disk.{Files, Disk, IsDurable}
 use Rattle.bk_device.specs.Effects.{Effect, IsName}
 use Rattle.bk_device.specs.Torn.{take-torn, written-end}
-use Rattle.bk_control.specs.declared.side.Side.TheVariants.{First, Second}
-use Rattle.bk_control.specs.Control.{Kept, IsControl}
+use Rattle.bk_control.specs.declared.side.Side.TheVariants.{First}
+use Rattle.bk_control.specs.Control.{IsControl}
 use Rattle.bk_control.specs.Fresh.{fresh, fresh_head, IsLaid}
 use Rattle.bk_control.specs.Reads.{torn-contents}
 use Rattle.bk_control.specs.Slots.{Slot, slot_at, slot_in, counting, control_of, number_bytes, magic}

@@ -1,14 +1,13 @@
 -- The steps of a put, told of the control.
-use Rattle.std.proofs.Common.{◌≡◌, ◌≤◌, ◌<◌, ◌^◌, ◌⊎◌, ℕ, ◌+◌, List, [], ◌∷◌, length, Option, Some, Bool, true, false, refl, inl, inr, sym, ◌∙◌, ap, subst, arith}
-use Rattle.std.specs.Prelude.{option_map}
+use Rattle.std.proofs.Common.{◌≡◌, ◌<◌, ◌⊎◌, ℕ, ◌+◌, List, [], ◌∷◌, Some, true, false, refl, inl, inr, sym, ◌∙◌, ap, subst}
 use Rattle.bk_device.specs.Calls.{contents, written, LeavesWrite}
 use Rattle.bk_device.specs.Compose.{effect_then, effect_weaken, effect_none}
-use Rattle.bk_device.specs.Disk.{Files, Disk, IsDurable}
+use Rattle.bk_device.specs.Disk.{Disk, IsDurable}
 use Rattle.bk_device.specs.Effects.{Effect, IsName}
 use Rattle.bk_control.specs.declared.side.Side.{Side}
 use Rattle.bk_control.specs.Control.{Kept, IsControl, control_value}
 use Rattle.bk_control.specs.Reads.{torn-contents}
-use Rattle.bk_control.specs.Slots.{Slot, counting, control_of, other, place}
+use Rattle.bk_control.specs.Slots.{Slot, control_of, other, place}
 use Rattle.bk_control.specs.Stands.{Stands, Rewrites}
 use Rattle.bk_control.proofs.SlotLaws.{dropping, dropping_done, advancing_done, other_other}
 

@@ -1,19 +1,18 @@
 -- What changes of a slot's bytes make of the slot that counts.
-use Rattle.std.proofs.Common.{◌≡◌, ◌≢◌, ◌⊎◌, ◌<◌, ◌≤◌, ◌^◌, ℕ, ◌+◌, ◌-◌, min, max, Bool, true, false, ◌&&◌, List, [], ◌∷◌, ◌++◌, length, take, drop, get_or, Option, Some, None, refl, inl, inr, sym, ◌∙◌, ap, subst, arith, eq-eqb, add-zero, lit≤, lit<, length-take, length-drop}
+use Rattle.std.proofs.Common.{◌≡◌, ◌≢◌, ◌⊎◌, ◌<◌, ◌≤◌, ◌^◌, ℕ, ◌+◌, Bool, true, false, ◌&&◌, List, [], ◌∷◌, length, take, drop, get_or, Option, Some, None, refl, inl, inr, sym, ◌∙◌, ap, subst, arith, add-zero, lit≤, lit<, length-take, length-drop}
 use Rattle.std.specs.Prelude.{◌==◌, nat_le, nat_lt, slice_index, option_map}
 use Rattle.std.specs.Str.{bytes_eq}
 use Rattle.std.proofs.lemmas.List.{ext_get_or, append-nil, get_or-take, get_or-drop}
 use Rattle.std.proofs.lemmas.Bool.{eqb-true, eqb-false}
-use Rattle.std.proofs.lemmas.Slice.Eq.{bytes_eq-Decides}
 use Rattle.std.proofs.lemmas.Grind.{common_steps}
 use Rattle.byteorder.specs.Numbers.{little_number-reads_back}
-use Rattle.bk_device.specs.Calls.{contents, read_at, written, IsTorn, LeavesWrite}
+use Rattle.bk_device.specs.Calls.{read_at, written, IsTorn}
 use Rattle.bk_device.specs.Names.{true_or_false}
 use Rattle.bk_device.specs.Torn.{length-torn, read_at-torn, torn-written, read_at-written}
 use Rattle.bk_control.specs.declared.side.Side.{Side}
 use Rattle.bk_control.specs.declared.side.Side.TheVariants.{First, Second}
-use Rattle.bk_control.specs.Reads.{read_at-within, index-within, torn-contents}
-use Rattle.bk_control.specs.Slots.{Slot, number, number_bytes, magic, slot_in, slot_at, newer, counting, control_of, other, place}
+use Rattle.bk_control.specs.Reads.{read_at-within, index-within}
+use Rattle.bk_control.specs.Slots.{Slot, number, number_bytes, magic, slot_in, slot_at, newer, counting, other, place}
 use Rattle.bk_control.specs.Stands.{Stands, IsFilled, ChangesSlot, Rewrites, MayFollow}
 
 -- tests
@@ -21,10 +20,10 @@ use Rattle.bk_control.specs.Stands.{Stands, IsFilled, ChangesSlot, Rewrites, May
 equal_or_not : (m n : ℕ) → (m ≡ n) ⊎ (m ≢ n)
 equal_or_not m n = grind (arith, common_steps)
 
-test_false : (m n : ℕ) → m ≢ n → (m == n) ≡ false
+pub test_false : (m n : ℕ) → m ≢ n → (m == n) ≡ false
 test_false m n differ = grind (arith, common_steps)
 
-and_false : (a c : Bool) → ((a && false) && c) ≡ false
+pub and_false : (a c : Bool) → ((a && false) && c) ≡ false
 and_false true c = refl
 and_false false c = refl
 
@@ -72,7 +71,7 @@ newer-none : (first : Option Slot) → newer first None ≡ first
 newer-none None = refl
 newer-none (Some first) = refl
 
-whole_test : (file : List ℕ) → 131200 ≤ length file → nat_le 131200 (length file) ≡ true
+pub whole_test : (file : List ℕ) → 131200 ≤ length file → nat_le 131200 (length file) ≡ true
 whole_test file whole = grind (arith, common_steps)
 
 pub counts_alone : (side : Side) (file : List ℕ) → 131200 ≤ length file → slot_at file (place (other side)) ≡ None → counting file ≡ slot_at file (place side)

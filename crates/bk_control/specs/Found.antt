@@ -1,5 +1,5 @@
 -- What the heads of the slots say of a file.
-use Rattle.std.specs.Prelude.{◌≡◌, ◌+◌, ◌==◌, ℕ, List, Option, Some, slice_index, option_map}
+use Rattle.std.specs.Prelude.{◌≡◌, ◌+◌, ◌==◌, ℕ, List, slice_index, option_map}
 use Rattle.bk_device.specs.Calls.{read_at}
 use Rattle.bk_control.specs.declared.found.Entry.{Entry}
 use Rattle.bk_control.specs.declared.found.Head.{Head}

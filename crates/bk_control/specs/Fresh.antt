@@ -1,5 +1,5 @@
 -- A control file that is made.
-use Rattle.std.specs.Prelude.{◌≡◌, ◌<◌, ◌⊎◌, ◌-◌, ◌+◌, ℕ, List, [], ◌∷◌, ◌++◌, length, take, replicate}
+use Rattle.std.specs.Prelude.{◌≡◌, ◌<◌, ◌⊎◌, ◌-◌, ℕ, List, [], ◌∷◌, ◌++◌, length, take, replicate}
 use Rattle.bk_control.specs.Slots.{magic, number_bytes}
 
 -- what stands between an open gate byte and the content

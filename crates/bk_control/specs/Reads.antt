@@ -1,5 +1,5 @@
 -- Parts of a read.
-use Rattle.std.proofs.Common.{◌≡◌, ◌≢◌, ◌⊎◌, ◌<◌, ◌≤◌, ℕ, ◌+◌, ◌-◌, min, max, List, [], ◌∷◌, ◌++◌, length, take, drop, get_or, Option, Some, None, refl, inl, inr, sym, ◌∙◌, ap, subst, arith}
+use Rattle.std.proofs.Common.{◌≡◌, ◌<◌, ◌≤◌, ℕ, ◌+◌, ◌-◌, List, take, drop, get_or, Option, inl, inr, sym, ◌∙◌, ap, subst, arith}
 use Rattle.std.proofs.lemmas.List.{get_or-take, get_or-drop, take-take, drop-take, drop-drop}
 use Rattle.bk_device.specs.Calls.{contents, read_at, IsTorn, LeavesWrite}
 use Rattle.bk_device.specs.Torn.{torn-refl}

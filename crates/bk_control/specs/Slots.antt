@@ -1,5 +1,5 @@
 -- The bytes of a control file: two slots, of which one counts.
-use Rattle.std.specs.Prelude.{◌≡◌, ◌≢◌, ◌≤◌, ◌<◌, ◌⊎◌, ◌+◌, ◌&&◌, ◌==◌, ℕ, Bool, false, nat_le, nat_lt, if◌then◌else◌, List, [], ◌∷◌, ◌++◌, length, take, replicate, slice_index, Option, None, Some, option_map}
+use Rattle.std.specs.Prelude.{◌&&◌, ◌==◌, ℕ, nat_le, nat_lt, if◌then◌else◌, List, [], ◌∷◌, length, take, slice_index, Option, None, Some, option_map}
 use Rattle.std.specs.Str.{bytes_eq}
 use Rattle.byteorder.specs.Endian.{little_number, little_bytes}
 use Rattle.bk_device.specs.Calls.{contents, read_at}

@@ -1,5 +1,5 @@
 -- What stands in a control file, and what a step of a write does to it.
-use Rattle.std.specs.Prelude.{◌≡◌, ◌≤◌, ◌<◌, ◌⊎◌, ◌+◌, ◌==◌, ℕ, Bool, List, length, slice_index, Option, Some}
+use Rattle.std.specs.Prelude.{◌≡◌, ◌≤◌, ◌<◌, ◌⊎◌, ◌+◌, ◌==◌, ℕ, Bool, List, length, slice_index, Some}
 use Rattle.bk_device.specs.Calls.{read_at}
 use Rattle.bk_control.specs.declared.side.Side.{Side}
 use Rattle.bk_control.specs.Slots.{Slot, slot_at, counting, other, place, magic, number_bytes}

@@ -2,12 +2,14 @@
 ghost use Rattle.std.specs.Prelude.{◌≡◌, ◌≤◌, ◌<◌, ◌-◌, ◌⊎◌, ◌^◌, ◌+◌, Some, None, length, vec_len, vec_capacity, true, false, is_err, string_bytes, IfOk, OnOk, OnErr, IsErrOf};
 ghost use Rattle.bk_control.specs.Control.{Kept, IsControl};
 ghost use Rattle.bk_control.specs.Slots.{control_of};
+ghost use Rattle.bk_device.specs.Calls.{ChangesNothing};
 ghost use Rattle.bk_device.specs.Counts.{HasRisen};
 ghost use Rattle.bk_device.specs.Disk.{IsDurable};
 ghost use Rattle.bk_device.specs.Effects.{Effect, IsName};
 
 use crate::durable::write_durably;
 use crate::error::ControlError;
+use crate::found::{find, read_content};
 use crate::fresh::{fresh_file, lay};
 use crate::side::Side;
 use crate::slot::rewrite;
@@ -45,11 +47,48 @@ impl Model for Control {
 }
 
 impl Control {
+    /// Opens the control file of this name, and leaves it as it is.
+    ///
+    /// `Foreign` is answered exactly where the file holds no control: where it hasn't both slots of 65,600 bytes, or
+    /// neither has the magic, an open gate and a length of at most 65,536.
+    pub fn load<D: Device>(alloc: Global, dev: &mut D, name: &str) -> Result<Control, ControlError>
+        ensures content { D.tells → IfOk result (λ c. control_of ((D.disk dev.old).files name.now) ≡ Some c.content) }
+        ensures name { IfOk result (λ c. c.name ≡ name.now) }
+        ensures failed { IfOk result (λ c. c.failed ≡ false) }
+        ensures stands { D.tells → IsDurable (D.disk dev.old) name.now → IfOk result (λ c. IsControl (D.disk dev.new) c) }
+        ensures effect { D.tells → ChangesNothing (D.disk dev.old) (D.disk dev.new) }
+        ensures foreign { D.tells → IsErrOf result ControlError.Foreign → control_of ((D.disk dev.old).files name.now) ≡ None }
+        ensures cause { IsErrOf result ControlError.Fault → HasRisen (D.disk_faults dev.old) (D.disk_faults dev.new) }
+        ensures no_memory { IsErrOf result ControlError.NoMemory → dev.new ≡ dev.old }
+        ensures never_falls { D.disk_faults dev.old ≤ D.disk_faults dev.new }
+        ensures tell_faults { D.tell_faults dev.new ≡ D.tell_faults dev.old }
+    {
+        let name_kept = String::from_str(alloc, name)?;
+        let mut content = Vec::with_capacity(alloc, 65_536)?;
+        let Some(found) = find(dev, name)? else {
+            return Err(ControlError::Foreign);
+        };
+        read_content(dev, name, found, &mut content)?;
+        Ok(Control {
+            name: name_kept,
+            content,
+            side: found.side,
+            sequence: found.sequence,
+            is_other_open: found.is_other_open,
+            failed: false,
+        })
+    }
+
     /// Makes a control file of these bytes, at most 65,536, in place of what was under the name. Until it is made,
     /// a crash leaves what it might have left before, or no control.
     ///
     /// `NoMemory` leaves the device as it was; `Foreign` isn't answered.
-    pub fn make<D: Device>(alloc: Global, dev: &mut D, name: &str, bytes: &[u8]) -> Result<Control, ControlError>
+    pub fn make<D: Device>(
+        alloc: Global,
+        dev: &mut D,
+        name: &str,
+        bytes: &[u8],
+    ) -> Result<Control, ControlError>
         requires { length bytes.now ≤ 65536 }
         ensures content { IfOk result (λ c. c.content ≡ bytes.now) }
         ensures name { IfOk result (λ c. c.name ≡ name.now) }

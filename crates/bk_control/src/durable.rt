@@ -8,7 +8,12 @@ ghost use Rattle.bk_device.specs.Effects.{Effect, IsName};
 use bk_device::{Device, Failed};
 
 // Writes these bytes from offset `at` on, and syncs them.
-pub fn write_durably<D: Device>(dev: &mut D, name: &str, at: u64, bytes: &[u8]) -> Result<(), Failed>
+pub fn write_durably<D: Device>(
+    dev: &mut D,
+    name: &str,
+    at: u64,
+    bytes: &[u8],
+) -> Result<(), Failed>
     requires inside { D.tells → at ≤ length (contents ((D.disk dev.old).files name.now)) }
     requires settled { D.tells → IsDurable (D.disk dev.old) name.now }
     ensures written { D.tells → OnOk result ((D.disk dev.new).files name.now ≡ Some (written (contents ((D.disk dev.old).files name.now)) at bytes.now)) }

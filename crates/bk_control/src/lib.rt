@@ -12,3 +12,6 @@ mod slot;
 pub use control::Control;
 pub use error::ControlError;
 pub use side::Side;
+
+#[cfg(test)]
+mod tests;

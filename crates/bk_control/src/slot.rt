@@ -39,7 +39,13 @@ pub fn head(sequence: u64, len: u64) -> [u8; 23]
 }
 
 // Writes all of a slot but its gate byte, durably.
-fn fill<D: Device>(dev: &mut D, name: &str, start: u64, sequence: u64, bytes: &[u8]) -> Result<(), Failed>
+fn fill<D: Device>(
+    dev: &mut D,
+    name: &str,
+    start: u64,
+    sequence: u64,
+    bytes: &[u8],
+) -> Result<(), Failed>
     requires short { length bytes.now ≤ 65536 }
     requires start { start ≤ 65600 }
     requires whole { D.tells → 131200 ≤ length (contents ((D.disk dev.old).files name.now)) }
@@ -77,7 +83,14 @@ fn close<D: Device>(dev: &mut D, name: &str, side: Side, is_open: bool) -> Resul
 }
 
 // Puts a content into the slot that doesn't count: a crash leaves the content that counts, or this one.
-pub fn rewrite<D: Device>(dev: &mut D, name: &str, side: Side, is_open: bool, sequence: u64, bytes: &[u8]) -> Result<(), Failed>
+pub fn rewrite<D: Device>(
+    dev: &mut D,
+    name: &str,
+    side: Side,
+    is_open: bool,
+    sequence: u64,
+    bytes: &[u8],
+) -> Result<(), Failed>
     requires short { length bytes.now ≤ 65536 }
     requires settled { D.tells → IsDurable (D.disk dev.old) name.now }
     requires stands { D.tells → (old : Slot) × Stands (other side) is_open old (contents ((D.disk dev.old).files name.now)) × MayFollow old (record { sequence = sequence; bytes = bytes.now }) }

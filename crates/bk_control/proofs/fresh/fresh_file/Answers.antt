@@ -1,5 +1,5 @@
 use Rattle.std.proofs.Common.{◌≡◌, ◌∙◌, ap, arith, ◌+◌, length, vec_len}
-use Rattle.bk_control.specs.Fresh.{fresh, fresh_head}
+use Rattle.bk_control.specs.Fresh.{fresh_head}
 use Rattle.bk_control.proofs.Making.{fresh_joined, length-fresh_head}
 use Rattle.bk_control.proofs.fresh.fresh_file.Goals as goal
 

@@ -1,6 +1,6 @@
-use Rattle.std.proofs.Common.{◌≡◌, ap, subst, sym, ◌∙◌, Bool, true, false, List, ℕ}
+use Rattle.std.proofs.Common.{ap, subst, sym, Bool, false, List, ℕ}
 use Rattle.bk_device.specs.Calls.{contents}
-use Rattle.bk_control.specs.Slots.{Slot, other}
+use Rattle.bk_control.specs.Slots.{other}
 use Rattle.bk_control.specs.Stands.{Stands}
 use Rattle.bk_control.proofs.Steps.{close_step, close_end}
 use Rattle.bk_control.proofs.slot.close.Goals as goal

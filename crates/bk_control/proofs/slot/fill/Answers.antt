@@ -1,11 +1,10 @@
 -- Each write stays within the slot, off its gate byte.
 use Rattle.std.proofs.Common.{◌≡◌, ◌≤◌, ◌+◌, ap, subst, sym, ◌∙◌, inl, inr, arith, length, List, ℕ}
 use Rattle.bk_device.specs.Calls.{contents, written}
-use Rattle.bk_device.specs.Effects.{Effect, IsName}
-use Rattle.bk_control.specs.Slots.{Slot, magic}
+use Rattle.bk_control.specs.Slots.{magic}
 use Rattle.bk_control.specs.Stands.{IsFilled}
 use Rattle.bk_control.proofs.Filled.{fills, head_bytes, length-head_bytes}
-use Rattle.bk_control.proofs.Steps.{Filling, fill_starts, fill_step, fill_sync}
+use Rattle.bk_control.proofs.Steps.{fill_starts, fill_step, fill_sync}
 use Rattle.bk_control.proofs.slot.fill.Goals as goal
 
 pub returns-in_err-sync-clause-crash : goal.returns-in_err-sync-clause-crash

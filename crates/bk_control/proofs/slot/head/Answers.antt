@@ -1,4 +1,4 @@
-use Rattle.std.proofs.Common.{◌≡◌, ◌∙◌, ap, replicate, length, List, ℕ, ◌++◌, refl, sym}
+use Rattle.std.proofs.Common.{◌≡◌, ◌∙◌, ap, replicate, length, List, ℕ, ◌++◌, refl}
 use Rattle.bk_control.specs.Slots.{number_bytes}
 use Rattle.bk_control.proofs.Filled.{head_joined, length-number_bytes}
 use Rattle.bk_control.proofs.slot.head.Goals as goal

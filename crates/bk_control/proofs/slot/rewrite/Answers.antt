@@ -1,10 +1,10 @@
 -- Closing, filling and opening, each a step from the old content to the new.
-use Rattle.std.proofs.Common.{◌≡◌, ◌≤◌, ◌<◌, ◌+◌, ◌^◌, ap, subst, sym, ◌∙◌, inl, inr, arith, length, List, ℕ, Some}
+use Rattle.std.proofs.Common.{◌≡◌, ◌≤◌, ◌<◌, ◌^◌, ap, subst, sym, arith, List, ℕ, Some}
 use Rattle.std.specs.Prelude.{option_map}
-use Rattle.bk_device.specs.Calls.{contents, written}
+use Rattle.bk_device.specs.Calls.{contents}
 use Rattle.bk_device.specs.Compose.{effect_then}
-use Rattle.bk_control.specs.Slots.{Slot, other, control_of}
-use Rattle.bk_control.specs.Stands.{Stands, Rewrites}
+use Rattle.bk_control.specs.Slots.{Slot, control_of}
+use Rattle.bk_control.specs.Stands.{Rewrites}
 use Rattle.bk_control.proofs.Steps.{close_part, fill_part, fill_end, open_part, open_end, place_bound, same_start, rebased}
 use Rattle.bk_control.proofs.slot.rewrite.Goals as goal
 

@@ -1,6 +1,6 @@
-use Rattle.std.proofs.Common.{◌≡◌, ◌<◌, ◌+◌, ap, subst, sym, ◌∙◌, inl, arith}
+use Rattle.std.proofs.Common.{ap, subst, sym, ◌∙◌, inl, arith}
 use Rattle.bk_control.specs.Control.{Kept, IsControl}
-use Rattle.bk_control.proofs.Puts.{stands_before, put_crash, put_done, slot_of}
+use Rattle.bk_control.proofs.Puts.{stands_before, put_crash, put_done}
 use Rattle.bk_control.proofs.control.Control.advance.Goals as goal
 
 pub rewrite-requires-clause-stands : goal.rewrite-requires-clause-stands

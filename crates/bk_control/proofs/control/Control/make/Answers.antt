@@ -1,7 +1,5 @@
 -- The file is written in two parts, of which the last byte decides.
-use Rattle.std.proofs.Common.{◌≡◌, ◌≤◌, ◌∙◌, ◌++◌, ap, arith, length, take, inl, inr, sym, subst, List, ℕ}
-use Rattle.bk_device.specs.Disk.{IsDurable}
-use Rattle.bk_control.specs.Fresh.{fresh}
+use Rattle.std.proofs.Common.{◌∙◌, ap, arith, length}
 use Rattle.bk_control.proofs.Making.{length-fresh, laid_parts, make_crash, made_control}
 use Rattle.bk_control.proofs.control.Control.make.Goals as goal
 

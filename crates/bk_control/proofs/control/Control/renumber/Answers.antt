@@ -1,9 +1,9 @@
-use Rattle.std.proofs.Common.{◌≡◌, ◌<◌, ◌≤◌, ◌+◌, ap, subst, sym, ◌∙◌, inr, arith, Some, List, ℕ}
+use Rattle.std.proofs.Common.{◌≡◌, ap, subst, sym, ◌∙◌, inr, Some}
 use Rattle.bk_device.specs.Effects.{Effect, IsName}
 use Rattle.bk_control.specs.Slots.{control_of}
 use Rattle.bk_device.specs.Compose.{effect_then}
 use Rattle.bk_control.specs.Control.{Kept, IsControl}
-use Rattle.bk_control.proofs.Puts.{stands_before, same_crash, drop_crash, drop_done, slot_of}
+use Rattle.bk_control.proofs.Puts.{stands_before, same_crash, drop_crash, drop_done}
 use Rattle.bk_control.proofs.control.Control.renumber.Goals as goal
 
 pub rewrite-requires-clause-stands : goal.rewrite-requires-clause-stands
