@@ -1,0 +1,6 @@
+pub mod Filled
+pub mod Finding
+pub mod Making
+pub mod Puts
+pub mod SlotLaws
+pub mod Steps
