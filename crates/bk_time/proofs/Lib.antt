@@ -1,0 +1,3 @@
+mod DayLemmas
+mod FigureLemmas
+mod TextLemmas
