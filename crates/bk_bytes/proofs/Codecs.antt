@@ -1,0 +1,182 @@
+-- The laws of each codec: what is read is spelled so and fits, and what fits and is spelled is read.
+use Rattle.std.proofs.Common.{◌≡◌, ℕ, zero, suc, ◌+◌, ◌-◌, ◌^◌, ◌<◌, ◌≤◌, Bool, true, false, cond, eqb, ltb, List, [], ◌∷◌, ◌++◌, length, get_or, take, drop, Option, Some, None, refl, sym, ap, subst, ◌∙◌, append_assoc, arith, inl, inr}
+use Rattle.std.specs.List.{flat_map, AllByRecursion}
+use Rattle.std.proofs.lemmas.Bool.{cases_lt, ltb-false, le-ltb, eqb-true}
+use Rattle.std.proofs.lemmas.List.{take_at, drop_at, take-append-drop, length-append, length-take, get_or-drop, get_or-take, get_or_past, append-nil, nil_from_length}
+use Rattle.std.proofs.lemmas.List.Concat.{flat_map-cons}
+use Rattle.bk_bytes.specs.Field.{AreBytes, number_of, bytes_of}
+use Rattle.bk_bytes.specs.Codec.{◌>>=◌, Codec, IsCodec, run_at, number_at, text_at, times_at, list_at, framed_at, number, run, text, followed, tested, seen_as, times, counted, framed}
+use Rattle.bk_bytes.proofs.Fields.{length-bytes_of, number_of-bytes_of, bytes_of-number_of, number_of-lt, number_of-append}
+
+-- ---- bytes
+
+pub AreBytes-drop : (n : ℕ) (bytes : List ℕ) → AreBytes bytes → AreBytes (drop n bytes)
+AreBytes-drop n bytes h i = rw get_or-drop (h (n + i))
+
+pub AreBytes-take : (n : ℕ) (bytes : List ℕ) → AreBytes bytes → AreBytes (take n bytes)
+AreBytes-take n bytes h i =
+    elim (cases_lt i n) [
+      | inl lt ↦ rw (get_or-take n bytes i 0 lt) (h i)
+      | inr le ↦ rw (get_or_past (take n bytes) i 0 (omega (arith, length-take n bytes))) (omega arith)
+    ]
+
+-- what stands after a front of bytes are bytes
+pub AreBytes-after : (bytes front rest : List ℕ) → AreBytes bytes → bytes ≡ front ++ rest → AreBytes rest
+AreBytes-after bytes front rest h is =
+    let cut : drop (length front) bytes ≡ rest = ap (drop (length front)) is ∙ drop_at front rest (length front) refl in
+    subst (λ (r : List ℕ). AreBytes r) cut (AreBytes-drop (length front) bytes h)
+
+-- a front of bytes are bytes
+pub AreBytes-front : (bytes front rest : List ℕ) → AreBytes bytes → bytes ≡ front ++ rest → AreBytes front
+AreBytes-front bytes front rest h is =
+    let cut : take (length front) bytes ≡ front = ap (take (length front)) is ∙ take_at front rest (length front) refl in
+    subst (λ (r : List ℕ). AreBytes r) cut (AreBytes-take (length front) bytes h)
+
+-- ---- options
+
+-- the value of a step that read something
+pub bind_some : {A B : Type 0} (r : Option A) (f : A → Option B) (y : B) → (r >>= f) ≡ Some y → (x : A) × (r ≡ Some x) × (f x ≡ Some y)
+bind_some None f y e = absurd cc
+bind_some (Some x) f y e = (x, refl, e)
+
+-- a test that let something through
+pub guard_false : {A : Type 0} (b : Bool) (x y : A) → cond b None (Some x) ≡ Some y → (b ≡ false) × (x ≡ y)
+guard_false true x y e = absurd cc
+guard_false false x y e = (refl, cc)
+
+pub guard_true : {A : Type 0} (b : Bool) (x y : A) → cond b (Some x) None ≡ Some y → (b ≡ true) × (x ≡ y)
+guard_true false x y e = absurd cc
+guard_true true x y e = (refl, cc)
+
+abbrev some : {A : Type 0} → A → Option A
+some x = Some x
+
+pub some_is : {A : Type 0} (x y : A) → some x ≡ some y → x ≡ y
+some_is x y e = cc
+
+-- two readings one after the other
+pub bind_assoc : {A B C : Type 0} (r : Option A) (f : A → Option B) (g : B → Option C) → ((r >>= f) >>= g) ≡ (r >>= λ x. f x >>= g)
+bind_assoc None f g = refl
+bind_assoc (Some x) f g = refl
+
+-- ---- numbers, runs, texts
+
+pub number-IsCodec : (n : ℕ) → IsCodec ℕ (number n)
+number-IsCodec n = record {
+  takes = λ bytes x rest fits e.
+    let g = guard_false (ltb (length bytes) n) (number_of n bytes, drop n bytes) (x, rest) e in
+    let long : n ≤ length bytes = ltb-false _ _ g.0 in
+    let front : List ℕ = take n bytes in
+    let len : length front ≡ n = omega (arith, length-take n bytes) in
+    let whole : front ++ drop n bytes ≡ bytes = take-append-drop n bytes in
+    let same : number_of n bytes ≡ number_of n front = ap (number_of n) (sym whole) ∙ number_of-append n front (drop n bytes) (omega arith) in
+    let x-is : number_of n bytes ≡ x = ap (λ (p : ℕ × List ℕ). p.0) g.1 in
+    let rest-is : drop n bytes ≡ rest = ap (λ (p : ℕ × List ℕ). p.1) g.1 in
+    let spelled : bytes_of n (number_of n front) ≡ front = ap (λ (k : ℕ). bytes_of k (number_of k front)) (sym len) ∙ bytes_of-number_of front (AreBytes-take n bytes fits) in
+    let spelled_x : bytes_of n x ≡ front = ap (bytes_of n) (sym x-is ∙ same) ∙ spelled in
+    (sym (rw (spelled_x, ← rest-is) whole), rw (← x-is) (number_of-lt n bytes fits));
+  gives = λ x rest fits.
+    let len = length-bytes_of n x in
+    let long : ltb (length (bytes_of n x ++ rest)) n ≡ false = le-ltb _ _ (omega (arith, length-append (bytes_of n x) rest)) in
+    rw (long, drop_at (bytes_of n x) rest n len, number_of-bytes_of n x rest fits) refl;
+}
+
+pub run-IsCodec : (n : ℕ) → IsCodec (List ℕ) (run n)
+run-IsCodec n = record {
+  takes = λ bytes x rest fits e.
+    let g = guard_false (ltb (length bytes) n) (take n bytes, drop n bytes) (x, rest) e in
+    let long : n ≤ length bytes = ltb-false _ _ g.0 in
+    let x-is : take n bytes ≡ x = ap (λ (p : List ℕ × List ℕ). p.0) g.1 in
+    let rest-is : drop n bytes ≡ rest = ap (λ (p : List ℕ × List ℕ). p.1) g.1 in
+    (sym (rw (← x-is, ← rest-is) (take-append-drop n bytes)), rw (← x-is) (omega (arith, length-take n bytes)));
+  gives = λ x rest fits.
+    let long : ltb (length (x ++ rest)) n ≡ false = le-ltb _ _ (omega (arith, length-append x rest)) in
+    rw (long, take_at x rest n fits, drop_at x rest n fits) refl;
+}
+
+-- ---- one value and then another
+
+pub followed-IsCodec : {A B : Type 0} (c : Codec A) (d : A → Codec B) → IsCodec A c → ((x : A) → IsCodec B (d x)) → IsCodec (A × B) (followed c d)
+followed-IsCodec {A} {B} c d c_law d_law = record {
+  takes = λ bytes both rest fits e.
+    let first = bind_some (c.reading bytes) (λ x. (d x.0).reading x.1 >>= λ y. Some ((x.0, y.0), y.1)) (both, rest) e in
+    let second = bind_some ((d first.0.0).reading first.0.1) (λ y. Some ((first.0.0, y.0), y.1)) (both, rest) first.2 in
+    let a = c_law.takes bytes first.0.0 first.0.1 fits first.1 in
+    let others : AreBytes first.0.1 = AreBytes-after bytes (c.spelling first.0.0) first.0.1 fits a.0 in
+    let b = (d_law first.0.0).takes first.0.1 second.0.0 second.0.1 others second.1 in
+    let whole : bytes ≡ (c.spelling first.0.0 ++ (d first.0.0).spelling second.0.0) ++ second.0.1 =
+      a.0 ∙ ap (λ (r : List ℕ). c.spelling first.0.0 ++ r) b.0 ∙ sym (append_assoc (c.spelling first.0.0) ((d first.0.0).spelling second.0.0) second.0.1) in
+    subst (λ (p : (A × B) × List ℕ). (bytes ≡ (c.spelling p.0.0 ++ (d p.0.0).spelling p.0.1) ++ p.1) × (c.Fits p.0.0 × (d p.0.0).Fits p.0.1))
+      (some_is ((first.0.0, second.0.0), second.0.1) (both, rest) second.2)
+      (whole, (a.1, b.1));
+  gives = λ both rest fits.
+    let regrouped : (c.spelling both.0 ++ (d both.0).spelling both.1) ++ rest ≡ c.spelling both.0 ++ ((d both.0).spelling both.1 ++ rest) = append_assoc (c.spelling both.0) ((d both.0).spelling both.1) rest in
+    rw (regrouped, c_law.gives both.0 ((d both.0).spelling both.1 ++ rest) fits.0, (d_law both.0).gives both.1 rest fits.1) refl;
+}
+
+-- ---- a test
+
+pub tested-IsCodec : {A : Type 0} (c : Codec A) (test : A → Bool) → IsCodec A c → IsCodec A (tested c test)
+tested-IsCodec {A} c test law = record {
+  takes = λ bytes x rest fits e.
+    let first = bind_some (c.reading bytes) (λ y. cond (test y.0) (Some y) None) (x, rest) e in
+    let g = guard_true (test first.0.0) first.0 (x, rest) first.2 in
+    let a = law.takes bytes first.0.0 first.0.1 fits first.1 in
+    subst (λ (p : A × List ℕ). (bytes ≡ c.spelling p.0 ++ p.1) × (c.Fits p.0 × (test p.0 ≡ true))) g.1 (a.0, (a.1, g.0));
+  gives = λ x rest fits. rw (law.gives x rest fits.0, fits.1) refl;
+}
+
+-- ---- another type
+
+pub seen_as-IsCodec : {A B : Type 0} (c : Codec A) (there : A → B) (back : B → A) → IsCodec A c
+    → ((x : A) → c.Fits x → back (there x) ≡ x) → ((y : B) → there (back y) ≡ y)
+    → IsCodec B (seen_as c there back)
+seen_as-IsCodec {A} {B} c there back law again same = record {
+  takes = λ bytes y rest fits e.
+    let first = bind_some (c.reading bytes) (λ x. Some (there x.0, x.1)) (y, rest) e in
+    let a = law.takes bytes first.0.0 first.0.1 fits first.1 in
+    let at_x : back (there first.0.0) ≡ first.0.0 = again first.0.0 a.1 in
+    let whole : bytes ≡ c.spelling (back (there first.0.0)) ++ first.0.1 = rw at_x a.0 in
+    let fit : c.Fits (back (there first.0.0)) = rw at_x a.1 in
+    subst (λ (p : B × List ℕ). (bytes ≡ c.spelling (back p.0) ++ p.1) × c.Fits (back p.0)) (some_is (there first.0.0, first.0.1) (y, rest) first.2) (whole, fit);
+  gives = λ y rest fits. rw (law.gives (back y) rest fits, same y) refl;
+}
+
+-- ---- lists
+
+times_takes : {A : Type 0} (c : Codec A) → IsCodec A c → (n : ℕ) (bytes : List ℕ) (xs : List A) (rest : List ℕ) → AreBytes bytes → times_at c.reading n bytes ≡ Some (xs, rest)
+    → (bytes ≡ flat_map c.spelling xs ++ rest) × ((length xs ≡ n) × AllByRecursion c.Fits xs)
+unfolding times_at
+times_takes {A} c law zero bytes xs rest fits e =
+    subst (λ (p : List A × List ℕ). (bytes ≡ flat_map c.spelling p.0 ++ p.1) × ((length p.0 ≡ 0) × AllByRecursion c.Fits p.0)) (some_is ([], bytes) (xs, rest) e) (refl, (refl, tt))
+times_takes {A} c law (suc n) bytes xs rest fits e =
+    let first = bind_some (c.reading bytes) (λ x. times_at c.reading n x.1 >>= λ ys. Some (x.0 ∷ ys.0, ys.1)) (xs, rest) e in
+    let others = bind_some (times_at c.reading n first.0.1) (λ ys. Some (first.0.0 ∷ ys.0, ys.1)) (xs, rest) first.2 in
+    let a = law.takes bytes first.0.0 first.0.1 fits first.1 in
+    let after : AreBytes first.0.1 = AreBytes-after bytes (c.spelling first.0.0) first.0.1 fits a.0 in
+    let b = times_takes c law n first.0.1 others.0.0 others.0.1 after others.1 in
+    let whole : bytes ≡ (c.spelling first.0.0 ++ flat_map c.spelling others.0.0) ++ others.0.1 =
+      a.0 ∙ ap (λ (r : List ℕ). c.spelling first.0.0 ++ r) b.0 ∙ sym (append_assoc (c.spelling first.0.0) (flat_map c.spelling others.0.0) others.0.1) in
+    subst (λ (p : List A × List ℕ). (bytes ≡ flat_map c.spelling p.0 ++ p.1) × ((length p.0 ≡ suc n) × AllByRecursion c.Fits p.0))
+      (some_is (first.0.0 ∷ others.0.0, others.0.1) (xs, rest) others.2)
+      (whole, (ap suc b.1.0, (a.1, b.1.1)))
+
+times_gives : {A : Type 0} (c : Codec A) → IsCodec A c → (n : ℕ) (xs : List A) (rest : List ℕ) → (length xs ≡ n) × AllByRecursion c.Fits xs
+    → times_at c.reading n (flat_map c.spelling xs ++ rest) ≡ Some (xs, rest)
+unfolding times_at
+times_gives c law zero [] rest fits = refl
+times_gives c law zero (x ∷ xs) rest fits = absurd (omega (arith, fits.0))
+times_gives c law (suc n) [] rest fits = absurd (omega (arith, fits.0))
+times_gives c law (suc n) (x ∷ xs) rest fits =
+    let len : length xs ≡ n = omega (arith, fits.0) in
+    let regrouped : (c.spelling x ++ flat_map c.spelling xs) ++ rest ≡ c.spelling x ++ (flat_map c.spelling xs ++ rest) = append_assoc (c.spelling x) (flat_map c.spelling xs) rest in
+    rw (regrouped, law.gives x (flat_map c.spelling xs ++ rest) fits.1.0, times_gives c law n xs rest (len, fits.1.1)) refl
+
+pub times-IsCodec : {A : Type 0} (c : Codec A) (n : ℕ) → IsCodec A c → IsCodec (List A) (times c n)
+times-IsCodec c n law = record { takes = times_takes c law n; gives = times_gives c law n }
+
+-- ---- a text: a length, and so many bytes
+
+-- a reading and what is made of its value
+pub reading_as : {A B : Type 0} (r : Option (A × List ℕ)) (f : A → B) → Option (B × List ℕ)
+reading_as r f = r >>= λ x. Some (f x.0, x.1)
