@@ -32,6 +32,10 @@ AreBytes-front bytes front rest h is =
     let cut : take (length front) bytes ≡ front = ap (take (length front)) is ∙ take_at front rest (length front) refl in
     subst (λ (r : List ℕ). AreBytes r) cut (AreBytes-take (length front) bytes h)
 
+-- two fronts, one after the other
+joined : (bytes a more b rest : List ℕ) → bytes ≡ a ++ more → more ≡ b ++ rest → bytes ≡ (a ++ b) ++ rest
+joined bytes a more b rest first second = first ∙ ap (λ (r : List ℕ). a ++ r) second ∙ sym (append_assoc a b rest)
+
 -- ---- options
 
 -- the value of a step that read something
@@ -105,7 +109,7 @@ followed-IsCodec {A} {B} c d c_law d_law = record {
     let others : AreBytes first.0.1 = AreBytes-after bytes (c.spelling first.0.0) first.0.1 fits a.0 in
     let b = (d_law first.0.0).takes first.0.1 second.0.0 second.0.1 others second.1 in
     let whole : bytes ≡ (c.spelling first.0.0 ++ (d first.0.0).spelling second.0.0) ++ second.0.1 =
-      a.0 ∙ ap (λ (r : List ℕ). c.spelling first.0.0 ++ r) b.0 ∙ sym (append_assoc (c.spelling first.0.0) ((d first.0.0).spelling second.0.0) second.0.1) in
+      joined bytes (c.spelling first.0.0) first.0.1 ((d first.0.0).spelling second.0.0) second.0.1 a.0 b.0 in
     subst (λ (p : (A × B) × List ℕ). (bytes ≡ (c.spelling p.0.0 ++ (d p.0.0).spelling p.0.1) ++ p.1) × (c.Fits p.0.0 × (d p.0.0).Fits p.0.1))
       (some_is ((first.0.0, second.0.0), second.0.1) (both, rest) second.2)
       (whole, (a.1, b.1));
@@ -156,7 +160,7 @@ times_takes {A} c law (suc n) bytes xs rest fits e =
     let after : AreBytes first.0.1 = AreBytes-after bytes (c.spelling first.0.0) first.0.1 fits a.0 in
     let b = times_takes c law n first.0.1 others.0.0 others.0.1 after others.1 in
     let whole : bytes ≡ (c.spelling first.0.0 ++ flat_map c.spelling others.0.0) ++ others.0.1 =
-      a.0 ∙ ap (λ (r : List ℕ). c.spelling first.0.0 ++ r) b.0 ∙ sym (append_assoc (c.spelling first.0.0) (flat_map c.spelling others.0.0) others.0.1) in
+      joined bytes (c.spelling first.0.0) first.0.1 (flat_map c.spelling others.0.0) others.0.1 a.0 b.0 in
     subst (λ (p : List A × List ℕ). (bytes ≡ flat_map c.spelling p.0 ++ p.1) × ((length p.0 ≡ suc n) × AllByRecursion c.Fits p.0))
       (some_is (first.0.0 ∷ others.0.0, others.0.1) (xs, rest) others.2)
       (whole, (ap suc b.1.0, (a.1, b.1.1)))
@@ -177,6 +181,94 @@ times-IsCodec c n law = record { takes = times_takes c law n; gives = times_give
 
 -- ---- a text: a length, and so many bytes
 
--- a reading and what is made of its value
-pub reading_as : {A B : Type 0} (r : Option (A × List ℕ)) (f : A → B) → Option (B × List ℕ)
-reading_as r f = r >>= λ x. Some (f x.0, x.1)
+pub text-IsCodec : (n : ℕ) → IsCodec (List ℕ) (text n)
+unfolding text_at
+text-IsCodec n = record {
+  takes = λ bytes t rest fits e.
+    let size = bind_some (number_at n bytes) (λ k. run_at k.0 k.1) (t, rest) e in
+    let a = (number-IsCodec n).takes bytes size.0.0 size.0.1 fits size.1 in
+    let after : AreBytes size.0.1 = AreBytes-after bytes (bytes_of n size.0.0) size.0.1 fits a.0 in
+    let b = (run-IsCodec size.0.0).takes size.0.1 t rest after size.2 in
+    let whole : bytes ≡ (bytes_of n size.0.0 ++ t) ++ rest = joined bytes (bytes_of n size.0.0) size.0.1 t rest a.0 b.0 in
+    (rw b.1 whole, rw b.1 a.1);
+  gives = λ t rest fits.
+    let regrouped : (bytes_of n (length t) ++ t) ++ rest ≡ bytes_of n (length t) ++ (t ++ rest) = append_assoc (bytes_of n (length t)) t rest in
+    rw (regrouped, (number-IsCodec n).gives (length t) (t ++ rest) fits) ((run-IsCodec (length t)).gives t rest refl);
+}
+
+-- ---- a count, and so many values
+
+pub counted-IsCodec : {A : Type 0} (n : ℕ) (c : Codec A) → IsCodec A c → IsCodec (List A) (counted n c)
+unfolding list_at
+counted-IsCodec {A} n c law = record {
+  takes = λ bytes xs rest fits e.
+    let count = bind_some (number_at n bytes) (λ k. times_at c.reading k.0 k.1) (xs, rest) e in
+    let a = (number-IsCodec n).takes bytes count.0.0 count.0.1 fits count.1 in
+    let after : AreBytes count.0.1 = AreBytes-after bytes (bytes_of n count.0.0) count.0.1 fits a.0 in
+    let b = times_takes c law count.0.0 count.0.1 xs rest after count.2 in
+    let whole : bytes ≡ (bytes_of n count.0.0 ++ flat_map c.spelling xs) ++ rest = joined bytes (bytes_of n count.0.0) count.0.1 (flat_map c.spelling xs) rest a.0 b.0 in
+    (rw b.1.0 whole, (rw b.1.0 a.1, b.1.1));
+  gives = λ xs rest fits.
+    let regrouped : (bytes_of n (length xs) ++ flat_map c.spelling xs) ++ rest ≡ bytes_of n (length xs) ++ (flat_map c.spelling xs ++ rest) = append_assoc (bytes_of n (length xs)) (flat_map c.spelling xs) rest in
+    rw (regrouped, (number-IsCodec n).gives (length xs) (flat_map c.spelling xs ++ rest) fits.0) (times_gives c law (length xs) xs rest (refl, fits.1));
+}
+
+-- ---- a value that fills a length
+
+-- a test that let a step through
+guard_step : {A : Type 0} (b : Bool) (r : Option A) (y : A) → cond b None r ≡ Some y → (b ≡ false) × (r ≡ Some y)
+guard_step true r y e = absurd cc
+guard_step false r y e = (refl, e)
+
+pub framed-IsCodec : {A : Type 0} (n : ℕ) (c : Codec A) → IsCodec A c → IsCodec A (framed n c)
+unfolding framed_at
+framed-IsCodec {A} n c law = record {
+  takes = λ bytes x rest fits e.
+    let size = bind_some (number_at n bytes) (λ k. cond (ltb k.0 n) None (run_at (k.0 - n) k.1) >>= λ i. c.reading i.0 >>= λ y. cond (eqb (length y.1) 0) (Some (y.0, i.1)) None) (x, rest) e in
+    let k : ℕ = size.0.0 in
+    let behind : List ℕ = size.0.1 in
+    let a = (number-IsCodec n).takes bytes k behind fits size.1 in
+    let inside = bind_some (cond (ltb k n) None (run_at (k - n) behind)) (λ i. c.reading i.0 >>= λ y. cond (eqb (length y.1) 0) (Some (y.0, i.1)) None) (x, rest) size.2 in
+    let g = guard_step (ltb k n) (run_at (k - n) behind) inside.0 inside.1 in
+    let long : n ≤ k = ltb-false _ _ g.0 in
+    let after : AreBytes behind = AreBytes-after bytes (bytes_of n k) behind fits a.0 in
+    let b = (run-IsCodec (k - n)).takes behind inside.0.0 inside.0.1 after g.1 in
+    let within : AreBytes inside.0.0 = AreBytes-front behind inside.0.0 inside.0.1 after b.0 in
+    let value = bind_some (c.reading inside.0.0) (λ y. cond (eqb (length y.1) 0) (Some (y.0, inside.0.1)) None) (x, rest) inside.2 in
+    let d = law.takes inside.0.0 value.0.0 value.0.1 within value.1 in
+    let done = guard_true (eqb (length value.0.1) 0) (value.0.0, inside.0.1) (x, rest) value.2 in
+    let empty : value.0.1 ≡ [] = nil_from_length value.0.1 (eqb-true (length value.0.1) 0 done.0) in
+    let body : inside.0.0 ≡ c.spelling value.0.0 = d.0 ∙ ap (λ (r : List ℕ). c.spelling value.0.0 ++ r) empty ∙ append-nil (c.spelling value.0.0) in
+    let size_is : k ≡ n + length (c.spelling value.0.0) = omega (arith, b.1, ap length body) in
+    let whole : bytes ≡ (bytes_of n k ++ c.spelling value.0.0) ++ inside.0.1 =
+      joined bytes (bytes_of n k) behind (c.spelling value.0.0) inside.0.1 a.0 (b.0 ∙ ap (λ (r : List ℕ). r ++ inside.0.1) body) in
+    let sized : bytes ≡ (bytes_of n (n + length (c.spelling value.0.0)) ++ c.spelling value.0.0) ++ inside.0.1 = rw (← size_is) whole in
+    let small : n + length (c.spelling value.0.0) < 256 ^ n = rw (← size_is) a.1 in
+    subst (λ (p : A × List ℕ). (bytes ≡ (bytes_of n (n + length (c.spelling p.0)) ++ c.spelling p.0) ++ p.1) × ((n + length (c.spelling p.0) < 256 ^ n) × c.Fits p.0)) done.1 (sized, (small, d.1));
+  gives = λ x rest fits.
+    let body : List ℕ = c.spelling x in
+    let k : ℕ = n + length body in
+    let regrouped : (bytes_of n k ++ body) ++ rest ≡ bytes_of n k ++ (body ++ rest) = append_assoc (bytes_of n k) body rest in
+    let long : ltb k n ≡ false = le-ltb k n (omega arith) in
+    let inner : k - n ≡ length body = omega arith in
+    let read : c.reading body ≡ Some (x, []) = rw (← append-nil body) (law.gives x [] fits.1) in
+    rw (regrouped, (number-IsCodec n).gives k (body ++ rest) fits.0, long, inner, (run-IsCodec (length body)).gives body rest refl, read) refl;
+}
+
+-- ---- what follows for every codec
+
+-- one spelling, and none is a proper front of another
+pub one_spelling : {A : Type 0} (c : Codec A) → IsCodec A c → (x y : A) (a b : List ℕ) → c.Fits x → c.Fits y
+    → c.spelling x ++ a ≡ c.spelling y ++ b → (x ≡ y) × (a ≡ b)
+one_spelling {A} c law x y a b fits_x fits_y same =
+    let both : some (x, a) ≡ some (y, b) = sym (law.gives x a fits_x) ∙ ap c.reading same ∙ law.gives y b fits_y in
+    let pairs : (x, a) ≡ (y, b) = some_is (x, a) (y, b) both in
+    (ap (λ (p : A × List ℕ). p.0) pairs, ap (λ (p : A × List ℕ). p.1) pairs)
+
+-- what is not read is no spelling
+pub nothing_spelled : {A : Type 0} (c : Codec A) → IsCodec A c → (bytes : List ℕ) → c.reading bytes ≡ None
+    → (x : A) (rest : List ℕ) → c.Fits x → bytes ≡ c.spelling x ++ rest → ⊥
+nothing_spelled c law bytes none x rest fits is =
+    let read = law.gives x rest fits in
+    let met : c.reading (c.spelling x ++ rest) ≡ None = ap c.reading (sym is) ∙ none in
+    cc

@@ -47,12 +47,18 @@ pub fn append_u128(out: &mut Vec<u8>, v: u128) -> Result<(), AllocError>
     out.extend_from_slice(&v.to_le_bytes())
 }
 
-/// Appends a text: its length in 2 bytes, and its bytes. Where there is no memory, `out` may end
-/// in the length alone.
+/// Appends a text: its length in 2 bytes, and its bytes. Where there is no memory, `out` stays as
+/// it was.
 pub fn append_text(out: &mut Vec<u8>, text: &[u8]) -> Result<(), AllocError>
     requires { length text.now < 2 ^ 16 }
-    ensures { OnOk result (out.new.items ≡ out.old.items ++ (bytes_of 2 (length text.now) ++ text.now)) }
+    ensures ok { OnOk result (out.new.items ≡ out.old.items ++ (bytes_of 2 (length text.now) ++ text.now)) }
+    ensures err { OnErr result (out.new.items ≡ out.old.items) }
 {
+    let len = out.len();
     append_u16(out, text.len() as u16)?;
-    out.extend_from_slice(text)
+    if let Err(error) = out.extend_from_slice(text) {
+        out.truncate(len);
+        return Err(error);
+    }
+    Ok(())
 }
