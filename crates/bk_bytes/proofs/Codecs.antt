@@ -1,9 +1,8 @@
 -- The laws of each codec: what is read is spelled so and fits, and what fits and is spelled is read.
-use Rattle.std.proofs.Common.{◌≡◌, ℕ, zero, suc, ◌+◌, ◌-◌, ◌^◌, ◌<◌, ◌≤◌, Bool, true, false, cond, eqb, ltb, List, [], ◌∷◌, ◌++◌, length, get_or, take, drop, Option, Some, None, refl, sym, ap, subst, ◌∙◌, append_assoc, arith, inl, inr}
+use Rattle.std.proofs.Common.{◌≡◌, ℕ, zero, suc, ◌+◌, ◌-◌, ◌^◌, ◌<◌, ◌≤◌, Bool, true, false, cond, eqb, ltb, List, [], ◌∷◌, ◌++◌, length, take, drop, Option, Some, None, refl, sym, ap, subst, ◌∙◌, append_assoc, arith, inl, inr}
 use Rattle.std.specs.List.{flat_map, AllByRecursion}
 use Rattle.std.proofs.lemmas.Bool.{cases_lt, ltb-false, le-ltb, eqb-true}
 use Rattle.std.proofs.lemmas.List.{take_at, drop_at, take-append-drop, length-append, length-take, get_or-drop, get_or-take, get_or_past, append-nil, nil_from_length}
-use Rattle.std.proofs.lemmas.List.Concat.{flat_map-cons}
 use Rattle.bk_bytes.specs.Field.{AreBytes, number_of, bytes_of}
 use Rattle.bk_bytes.specs.Codec.{◌>>=◌, Codec, IsCodec, run_at, number_at, text_at, times_at, list_at, framed_at, number, run, text, followed, tested, seen_as, times, counted, framed}
 use Rattle.bk_bytes.proofs.Fields.{length-bytes_of, number_of-bytes_of, bytes_of-number_of, number_of-lt, number_of-append}
@@ -68,34 +67,34 @@ bind_assoc (Some x) f g = refl
 pub number-IsCodec : (n : ℕ) → IsCodec ℕ (number n)
 number-IsCodec n = record {
   takes = λ bytes x rest fits e.
-    let g = guard_false (ltb (length bytes) n) (number_of n bytes, drop n bytes) (x, rest) e in
-    let long : n ≤ length bytes = ltb-false _ _ g.0 in
-    let front : List ℕ = take n bytes in
-    let len : length front ≡ n = omega (arith, length-take n bytes) in
-    let whole : front ++ drop n bytes ≡ bytes = take-append-drop n bytes in
-    let same : number_of n bytes ≡ number_of n front = ap (number_of n) (sym whole) ∙ number_of-append n front (drop n bytes) (omega arith) in
-    let x-is : number_of n bytes ≡ x = ap (λ (p : ℕ × List ℕ). p.0) g.1 in
-    let rest-is : drop n bytes ≡ rest = ap (λ (p : ℕ × List ℕ). p.1) g.1 in
-    let spelled : bytes_of n (number_of n front) ≡ front = ap (λ (k : ℕ). bytes_of k (number_of k front)) (sym len) ∙ bytes_of-number_of front (AreBytes-take n bytes fits) in
-    let spelled_x : bytes_of n x ≡ front = ap (bytes_of n) (sym x-is ∙ same) ∙ spelled in
-    (sym (rw (spelled_x, ← rest-is) whole), rw (← x-is) (number_of-lt n bytes fits));
+      let g = guard_false (ltb (length bytes) n) (number_of n bytes, drop n bytes) (x, rest) e in
+      let long : n ≤ length bytes = ltb-false _ _ g.0 in
+      let front : List ℕ = take n bytes in
+      let len : length front ≡ n = omega (arith, length-take n bytes) in
+      let whole : front ++ drop n bytes ≡ bytes = take-append-drop n bytes in
+      let same : number_of n bytes ≡ number_of n front = ap (number_of n) (sym whole) ∙ number_of-append n front (drop n bytes) (omega arith) in
+      let x-is : number_of n bytes ≡ x = ap (λ (p : ℕ × List ℕ). p.0) g.1 in
+      let rest-is : drop n bytes ≡ rest = ap (λ (p : ℕ × List ℕ). p.1) g.1 in
+      let spelled : bytes_of n (number_of n front) ≡ front = ap (λ (k : ℕ). bytes_of k (number_of k front)) (sym len) ∙ bytes_of-number_of front (AreBytes-take n bytes fits) in
+      let spelled_x : bytes_of n x ≡ front = ap (bytes_of n) (sym x-is ∙ same) ∙ spelled in
+      (sym (rw (spelled_x, ← rest-is) whole), rw (← x-is) (number_of-lt n bytes fits));
   gives = λ x rest fits.
-    let len = length-bytes_of n x in
-    let long : ltb (length (bytes_of n x ++ rest)) n ≡ false = le-ltb _ _ (omega (arith, length-append (bytes_of n x) rest)) in
-    rw (long, drop_at (bytes_of n x) rest n len, number_of-bytes_of n x rest fits) refl;
+      let len = length-bytes_of n x in
+      let long : ltb (length (bytes_of n x ++ rest)) n ≡ false = le-ltb _ _ (omega (arith, length-append (bytes_of n x) rest)) in
+      rw (long, drop_at (bytes_of n x) rest n len, number_of-bytes_of n x rest fits) refl;
 }
 
 pub run-IsCodec : (n : ℕ) → IsCodec (List ℕ) (run n)
 run-IsCodec n = record {
   takes = λ bytes x rest fits e.
-    let g = guard_false (ltb (length bytes) n) (take n bytes, drop n bytes) (x, rest) e in
-    let long : n ≤ length bytes = ltb-false _ _ g.0 in
-    let x-is : take n bytes ≡ x = ap (λ (p : List ℕ × List ℕ). p.0) g.1 in
-    let rest-is : drop n bytes ≡ rest = ap (λ (p : List ℕ × List ℕ). p.1) g.1 in
-    (sym (rw (← x-is, ← rest-is) (take-append-drop n bytes)), rw (← x-is) (omega (arith, length-take n bytes)));
+      let g = guard_false (ltb (length bytes) n) (take n bytes, drop n bytes) (x, rest) e in
+      let long : n ≤ length bytes = ltb-false _ _ g.0 in
+      let x-is : take n bytes ≡ x = ap (λ (p : List ℕ × List ℕ). p.0) g.1 in
+      let rest-is : drop n bytes ≡ rest = ap (λ (p : List ℕ × List ℕ). p.1) g.1 in
+      (sym (rw (← x-is, ← rest-is) (take-append-drop n bytes)), rw (← x-is) (omega (arith, length-take n bytes)));
   gives = λ x rest fits.
-    let long : ltb (length (x ++ rest)) n ≡ false = le-ltb _ _ (omega (arith, length-append x rest)) in
-    rw (long, take_at x rest n fits, drop_at x rest n fits) refl;
+      let long : ltb (length (x ++ rest)) n ≡ false = le-ltb _ _ (omega (arith, length-append x rest)) in
+      rw (long, take_at x rest n fits, drop_at x rest n fits) refl;
 }
 
 -- ---- one value and then another
@@ -103,19 +102,19 @@ run-IsCodec n = record {
 pub followed-IsCodec : {A B : Type 0} (c : Codec A) (d : A → Codec B) → IsCodec A c → ((x : A) → IsCodec B (d x)) → IsCodec (A × B) (followed c d)
 followed-IsCodec {A} {B} c d c_law d_law = record {
   takes = λ bytes both rest fits e.
-    let first = bind_some (c.reading bytes) (λ x. (d x.0).reading x.1 >>= λ y. Some ((x.0, y.0), y.1)) (both, rest) e in
-    let second = bind_some ((d first.0.0).reading first.0.1) (λ y. Some ((first.0.0, y.0), y.1)) (both, rest) first.2 in
-    let a = c_law.takes bytes first.0.0 first.0.1 fits first.1 in
-    let others : AreBytes first.0.1 = AreBytes-after bytes (c.spelling first.0.0) first.0.1 fits a.0 in
-    let b = (d_law first.0.0).takes first.0.1 second.0.0 second.0.1 others second.1 in
-    let whole : bytes ≡ (c.spelling first.0.0 ++ (d first.0.0).spelling second.0.0) ++ second.0.1 =
+      let first = bind_some (c.reading bytes) (λ x. (d x.0).reading x.1 >>= λ y. Some ((x.0, y.0), y.1)) (both, rest) e in
+      let second = bind_some ((d first.0.0).reading first.0.1) (λ y. Some ((first.0.0, y.0), y.1)) (both, rest) first.2 in
+      let a = c_law.takes bytes first.0.0 first.0.1 fits first.1 in
+      let others : AreBytes first.0.1 = AreBytes-after bytes (c.spelling first.0.0) first.0.1 fits a.0 in
+      let b = (d_law first.0.0).takes first.0.1 second.0.0 second.0.1 others second.1 in
+      let whole : bytes ≡ (c.spelling first.0.0 ++ (d first.0.0).spelling second.0.0) ++ second.0.1 =
       joined bytes (c.spelling first.0.0) first.0.1 ((d first.0.0).spelling second.0.0) second.0.1 a.0 b.0 in
-    subst (λ (p : (A × B) × List ℕ). (bytes ≡ (c.spelling p.0.0 ++ (d p.0.0).spelling p.0.1) ++ p.1) × (c.Fits p.0.0 × (d p.0.0).Fits p.0.1))
+      subst (λ (p : (A × B) × List ℕ). (bytes ≡ (c.spelling p.0.0 ++ (d p.0.0).spelling p.0.1) ++ p.1) × (c.Fits p.0.0 × (d p.0.0).Fits p.0.1))
       (some_is ((first.0.0, second.0.0), second.0.1) (both, rest) second.2)
       (whole, (a.1, b.1));
   gives = λ both rest fits.
-    let regrouped : (c.spelling both.0 ++ (d both.0).spelling both.1) ++ rest ≡ c.spelling both.0 ++ ((d both.0).spelling both.1 ++ rest) = append_assoc (c.spelling both.0) ((d both.0).spelling both.1) rest in
-    rw (regrouped, c_law.gives both.0 ((d both.0).spelling both.1 ++ rest) fits.0, (d_law both.0).gives both.1 rest fits.1) refl;
+      let regrouped : (c.spelling both.0 ++ (d both.0).spelling both.1) ++ rest ≡ c.spelling both.0 ++ ((d both.0).spelling both.1 ++ rest) = append_assoc (c.spelling both.0) ((d both.0).spelling both.1) rest in
+      rw (regrouped, c_law.gives both.0 ((d both.0).spelling both.1 ++ rest) fits.0, (d_law both.0).gives both.1 rest fits.1) refl;
 }
 
 -- ---- a test
@@ -123,10 +122,10 @@ followed-IsCodec {A} {B} c d c_law d_law = record {
 pub tested-IsCodec : {A : Type 0} (c : Codec A) (test : A → Bool) → IsCodec A c → IsCodec A (tested c test)
 tested-IsCodec {A} c test law = record {
   takes = λ bytes x rest fits e.
-    let first = bind_some (c.reading bytes) (λ y. cond (test y.0) (Some y) None) (x, rest) e in
-    let g = guard_true (test first.0.0) first.0 (x, rest) first.2 in
-    let a = law.takes bytes first.0.0 first.0.1 fits first.1 in
-    subst (λ (p : A × List ℕ). (bytes ≡ c.spelling p.0 ++ p.1) × (c.Fits p.0 × (test p.0 ≡ true))) g.1 (a.0, (a.1, g.0));
+      let first = bind_some (c.reading bytes) (λ y. cond (test y.0) (Some y) None) (x, rest) e in
+      let g = guard_true (test first.0.0) first.0 (x, rest) first.2 in
+      let a = law.takes bytes first.0.0 first.0.1 fits first.1 in
+      subst (λ (p : A × List ℕ). (bytes ≡ c.spelling p.0 ++ p.1) × (c.Fits p.0 × (test p.0 ≡ true))) g.1 (a.0, (a.1, g.0));
   gives = λ x rest fits. rw (law.gives x rest fits.0, fits.1) refl;
 }
 
@@ -137,12 +136,12 @@ pub seen_as-IsCodec : {A B : Type 0} (c : Codec A) (there : A → B) (back : B �
     → IsCodec B (seen_as c there back)
 seen_as-IsCodec {A} {B} c there back law again same = record {
   takes = λ bytes y rest fits e.
-    let first = bind_some (c.reading bytes) (λ x. Some (there x.0, x.1)) (y, rest) e in
-    let a = law.takes bytes first.0.0 first.0.1 fits first.1 in
-    let at_x : back (there first.0.0) ≡ first.0.0 = again first.0.0 a.1 in
-    let whole : bytes ≡ c.spelling (back (there first.0.0)) ++ first.0.1 = rw at_x a.0 in
-    let fit : c.Fits (back (there first.0.0)) = rw at_x a.1 in
-    subst (λ (p : B × List ℕ). (bytes ≡ c.spelling (back p.0) ++ p.1) × c.Fits (back p.0)) (some_is (there first.0.0, first.0.1) (y, rest) first.2) (whole, fit);
+      let first = bind_some (c.reading bytes) (λ x. Some (there x.0, x.1)) (y, rest) e in
+      let a = law.takes bytes first.0.0 first.0.1 fits first.1 in
+      let at_x : back (there first.0.0) ≡ first.0.0 = again first.0.0 a.1 in
+      let whole : bytes ≡ c.spelling (back (there first.0.0)) ++ first.0.1 = rw at_x a.0 in
+      let fit : c.Fits (back (there first.0.0)) = rw at_x a.1 in
+      subst (λ (p : B × List ℕ). (bytes ≡ c.spelling (back p.0) ++ p.1) × c.Fits (back p.0)) (some_is (there first.0.0, first.0.1) (y, rest) first.2) (whole, fit);
   gives = λ y rest fits. rw (law.gives (back y) rest fits, same y) refl;
 }
 
@@ -160,10 +159,10 @@ times_takes {A} c law (suc n) bytes xs rest fits e =
     let after : AreBytes first.0.1 = AreBytes-after bytes (c.spelling first.0.0) first.0.1 fits a.0 in
     let b = times_takes c law n first.0.1 others.0.0 others.0.1 after others.1 in
     let whole : bytes ≡ (c.spelling first.0.0 ++ flat_map c.spelling others.0.0) ++ others.0.1 =
-      joined bytes (c.spelling first.0.0) first.0.1 (flat_map c.spelling others.0.0) others.0.1 a.0 b.0 in
+    joined bytes (c.spelling first.0.0) first.0.1 (flat_map c.spelling others.0.0) others.0.1 a.0 b.0 in
     subst (λ (p : List A × List ℕ). (bytes ≡ flat_map c.spelling p.0 ++ p.1) × ((length p.0 ≡ suc n) × AllByRecursion c.Fits p.0))
-      (some_is (first.0.0 ∷ others.0.0, others.0.1) (xs, rest) others.2)
-      (whole, (ap suc b.1.0, (a.1, b.1.1)))
+    (some_is (first.0.0 ∷ others.0.0, others.0.1) (xs, rest) others.2)
+    (whole, (ap suc b.1.0, (a.1, b.1.1)))
 
 times_gives : {A : Type 0} (c : Codec A) → IsCodec A c → (n : ℕ) (xs : List A) (rest : List ℕ) → (length xs ≡ n) × AllByRecursion c.Fits xs
     → times_at c.reading n (flat_map c.spelling xs ++ rest) ≡ Some (xs, rest)
@@ -185,15 +184,15 @@ pub text-IsCodec : (n : ℕ) → IsCodec (List ℕ) (text n)
 unfolding text_at
 text-IsCodec n = record {
   takes = λ bytes t rest fits e.
-    let size = bind_some (number_at n bytes) (λ k. run_at k.0 k.1) (t, rest) e in
-    let a = (number-IsCodec n).takes bytes size.0.0 size.0.1 fits size.1 in
-    let after : AreBytes size.0.1 = AreBytes-after bytes (bytes_of n size.0.0) size.0.1 fits a.0 in
-    let b = (run-IsCodec size.0.0).takes size.0.1 t rest after size.2 in
-    let whole : bytes ≡ (bytes_of n size.0.0 ++ t) ++ rest = joined bytes (bytes_of n size.0.0) size.0.1 t rest a.0 b.0 in
-    (rw b.1 whole, rw b.1 a.1);
+      let size = bind_some (number_at n bytes) (λ k. run_at k.0 k.1) (t, rest) e in
+      let a = (number-IsCodec n).takes bytes size.0.0 size.0.1 fits size.1 in
+      let after : AreBytes size.0.1 = AreBytes-after bytes (bytes_of n size.0.0) size.0.1 fits a.0 in
+      let b = (run-IsCodec size.0.0).takes size.0.1 t rest after size.2 in
+      let whole : bytes ≡ (bytes_of n size.0.0 ++ t) ++ rest = joined bytes (bytes_of n size.0.0) size.0.1 t rest a.0 b.0 in
+      (rw b.1 whole, rw b.1 a.1);
   gives = λ t rest fits.
-    let regrouped : (bytes_of n (length t) ++ t) ++ rest ≡ bytes_of n (length t) ++ (t ++ rest) = append_assoc (bytes_of n (length t)) t rest in
-    rw (regrouped, (number-IsCodec n).gives (length t) (t ++ rest) fits) ((run-IsCodec (length t)).gives t rest refl);
+      let regrouped : (bytes_of n (length t) ++ t) ++ rest ≡ bytes_of n (length t) ++ (t ++ rest) = append_assoc (bytes_of n (length t)) t rest in
+      rw (regrouped, (number-IsCodec n).gives (length t) (t ++ rest) fits) ((run-IsCodec (length t)).gives t rest refl);
 }
 
 -- ---- a count, and so many values
@@ -202,15 +201,15 @@ pub counted-IsCodec : {A : Type 0} (n : ℕ) (c : Codec A) → IsCodec A c → I
 unfolding list_at
 counted-IsCodec {A} n c law = record {
   takes = λ bytes xs rest fits e.
-    let count = bind_some (number_at n bytes) (λ k. times_at c.reading k.0 k.1) (xs, rest) e in
-    let a = (number-IsCodec n).takes bytes count.0.0 count.0.1 fits count.1 in
-    let after : AreBytes count.0.1 = AreBytes-after bytes (bytes_of n count.0.0) count.0.1 fits a.0 in
-    let b = times_takes c law count.0.0 count.0.1 xs rest after count.2 in
-    let whole : bytes ≡ (bytes_of n count.0.0 ++ flat_map c.spelling xs) ++ rest = joined bytes (bytes_of n count.0.0) count.0.1 (flat_map c.spelling xs) rest a.0 b.0 in
-    (rw b.1.0 whole, (rw b.1.0 a.1, b.1.1));
+      let count = bind_some (number_at n bytes) (λ k. times_at c.reading k.0 k.1) (xs, rest) e in
+      let a = (number-IsCodec n).takes bytes count.0.0 count.0.1 fits count.1 in
+      let after : AreBytes count.0.1 = AreBytes-after bytes (bytes_of n count.0.0) count.0.1 fits a.0 in
+      let b = times_takes c law count.0.0 count.0.1 xs rest after count.2 in
+      let whole : bytes ≡ (bytes_of n count.0.0 ++ flat_map c.spelling xs) ++ rest = joined bytes (bytes_of n count.0.0) count.0.1 (flat_map c.spelling xs) rest a.0 b.0 in
+      (rw b.1.0 whole, (rw b.1.0 a.1, b.1.1));
   gives = λ xs rest fits.
-    let regrouped : (bytes_of n (length xs) ++ flat_map c.spelling xs) ++ rest ≡ bytes_of n (length xs) ++ (flat_map c.spelling xs ++ rest) = append_assoc (bytes_of n (length xs)) (flat_map c.spelling xs) rest in
-    rw (regrouped, (number-IsCodec n).gives (length xs) (flat_map c.spelling xs ++ rest) fits.0) (times_gives c law (length xs) xs rest (refl, fits.1));
+      let regrouped : (bytes_of n (length xs) ++ flat_map c.spelling xs) ++ rest ≡ bytes_of n (length xs) ++ (flat_map c.spelling xs ++ rest) = append_assoc (bytes_of n (length xs)) (flat_map c.spelling xs) rest in
+      rw (regrouped, (number-IsCodec n).gives (length xs) (flat_map c.spelling xs ++ rest) fits.0) (times_gives c law (length xs) xs rest (refl, fits.1));
 }
 
 -- ---- a value that fills a length
@@ -224,35 +223,35 @@ pub framed-IsCodec : {A : Type 0} (n : ℕ) (c : Codec A) → IsCodec A c → Is
 unfolding framed_at
 framed-IsCodec {A} n c law = record {
   takes = λ bytes x rest fits e.
-    let size = bind_some (number_at n bytes) (λ k. cond (ltb k.0 n) None (run_at (k.0 - n) k.1) >>= λ i. c.reading i.0 >>= λ y. cond (eqb (length y.1) 0) (Some (y.0, i.1)) None) (x, rest) e in
-    let k : ℕ = size.0.0 in
-    let behind : List ℕ = size.0.1 in
-    let a = (number-IsCodec n).takes bytes k behind fits size.1 in
-    let inside = bind_some (cond (ltb k n) None (run_at (k - n) behind)) (λ i. c.reading i.0 >>= λ y. cond (eqb (length y.1) 0) (Some (y.0, i.1)) None) (x, rest) size.2 in
-    let g = guard_step (ltb k n) (run_at (k - n) behind) inside.0 inside.1 in
-    let long : n ≤ k = ltb-false _ _ g.0 in
-    let after : AreBytes behind = AreBytes-after bytes (bytes_of n k) behind fits a.0 in
-    let b = (run-IsCodec (k - n)).takes behind inside.0.0 inside.0.1 after g.1 in
-    let within : AreBytes inside.0.0 = AreBytes-front behind inside.0.0 inside.0.1 after b.0 in
-    let value = bind_some (c.reading inside.0.0) (λ y. cond (eqb (length y.1) 0) (Some (y.0, inside.0.1)) None) (x, rest) inside.2 in
-    let d = law.takes inside.0.0 value.0.0 value.0.1 within value.1 in
-    let done = guard_true (eqb (length value.0.1) 0) (value.0.0, inside.0.1) (x, rest) value.2 in
-    let empty : value.0.1 ≡ [] = nil_from_length value.0.1 (eqb-true (length value.0.1) 0 done.0) in
-    let body : inside.0.0 ≡ c.spelling value.0.0 = d.0 ∙ ap (λ (r : List ℕ). c.spelling value.0.0 ++ r) empty ∙ append-nil (c.spelling value.0.0) in
-    let size_is : k ≡ n + length (c.spelling value.0.0) = omega (arith, b.1, ap length body) in
-    let whole : bytes ≡ (bytes_of n k ++ c.spelling value.0.0) ++ inside.0.1 =
+      let size = bind_some (number_at n bytes) (λ k. cond (ltb k.0 n) None (run_at (k.0 - n) k.1) >>= λ i. c.reading i.0 >>= λ y. cond (eqb (length y.1) 0) (Some (y.0, i.1)) None) (x, rest) e in
+      let k : ℕ = size.0.0 in
+      let behind : List ℕ = size.0.1 in
+      let a = (number-IsCodec n).takes bytes k behind fits size.1 in
+      let inside = bind_some (cond (ltb k n) None (run_at (k - n) behind)) (λ i. c.reading i.0 >>= λ y. cond (eqb (length y.1) 0) (Some (y.0, i.1)) None) (x, rest) size.2 in
+      let g = guard_step (ltb k n) (run_at (k - n) behind) inside.0 inside.1 in
+      let long : n ≤ k = ltb-false _ _ g.0 in
+      let after : AreBytes behind = AreBytes-after bytes (bytes_of n k) behind fits a.0 in
+      let b = (run-IsCodec (k - n)).takes behind inside.0.0 inside.0.1 after g.1 in
+      let within : AreBytes inside.0.0 = AreBytes-front behind inside.0.0 inside.0.1 after b.0 in
+      let value = bind_some (c.reading inside.0.0) (λ y. cond (eqb (length y.1) 0) (Some (y.0, inside.0.1)) None) (x, rest) inside.2 in
+      let d = law.takes inside.0.0 value.0.0 value.0.1 within value.1 in
+      let done = guard_true (eqb (length value.0.1) 0) (value.0.0, inside.0.1) (x, rest) value.2 in
+      let empty : value.0.1 ≡ [] = nil_from_length value.0.1 (eqb-true (length value.0.1) 0 done.0) in
+      let body : inside.0.0 ≡ c.spelling value.0.0 = d.0 ∙ ap (λ (r : List ℕ). c.spelling value.0.0 ++ r) empty ∙ append-nil (c.spelling value.0.0) in
+      let size_is : k ≡ n + length (c.spelling value.0.0) = omega (arith, b.1, ap length body) in
+      let whole : bytes ≡ (bytes_of n k ++ c.spelling value.0.0) ++ inside.0.1 =
       joined bytes (bytes_of n k) behind (c.spelling value.0.0) inside.0.1 a.0 (b.0 ∙ ap (λ (r : List ℕ). r ++ inside.0.1) body) in
-    let sized : bytes ≡ (bytes_of n (n + length (c.spelling value.0.0)) ++ c.spelling value.0.0) ++ inside.0.1 = rw (← size_is) whole in
-    let small : n + length (c.spelling value.0.0) < 256 ^ n = rw (← size_is) a.1 in
-    subst (λ (p : A × List ℕ). (bytes ≡ (bytes_of n (n + length (c.spelling p.0)) ++ c.spelling p.0) ++ p.1) × ((n + length (c.spelling p.0) < 256 ^ n) × c.Fits p.0)) done.1 (sized, (small, d.1));
+      let sized : bytes ≡ (bytes_of n (n + length (c.spelling value.0.0)) ++ c.spelling value.0.0) ++ inside.0.1 = rw (← size_is) whole in
+      let small : n + length (c.spelling value.0.0) < 256 ^ n = rw (← size_is) a.1 in
+      subst (λ (p : A × List ℕ). (bytes ≡ (bytes_of n (n + length (c.spelling p.0)) ++ c.spelling p.0) ++ p.1) × ((n + length (c.spelling p.0) < 256 ^ n) × c.Fits p.0)) done.1 (sized, (small, d.1));
   gives = λ x rest fits.
-    let body : List ℕ = c.spelling x in
-    let k : ℕ = n + length body in
-    let regrouped : (bytes_of n k ++ body) ++ rest ≡ bytes_of n k ++ (body ++ rest) = append_assoc (bytes_of n k) body rest in
-    let long : ltb k n ≡ false = le-ltb k n (omega arith) in
-    let inner : k - n ≡ length body = omega arith in
-    let read : c.reading body ≡ Some (x, []) = rw (← append-nil body) (law.gives x [] fits.1) in
-    rw (regrouped, (number-IsCodec n).gives k (body ++ rest) fits.0, long, inner, (run-IsCodec (length body)).gives body rest refl, read) refl;
+      let body : List ℕ = c.spelling x in
+      let k : ℕ = n + length body in
+      let regrouped : (bytes_of n k ++ body) ++ rest ≡ bytes_of n k ++ (body ++ rest) = append_assoc (bytes_of n k) body rest in
+      let long : ltb k n ≡ false = le-ltb k n (omega arith) in
+      let inner : k - n ≡ length body = omega arith in
+      let read : c.reading body ≡ Some (x, []) = rw (← append-nil body) (law.gives x [] fits.1) in
+      rw (regrouped, (number-IsCodec n).gives k (body ++ rest) fits.0, long, inner, (run-IsCodec (length body)).gives body rest refl, read) refl;
 }
 
 -- ---- what follows for every codec

@@ -1,6 +1,6 @@
 -- The bytes of a field's number are the field.
-use Rattle.std.proofs.Common.{◌≡◌, ℕ, zero, suc, ◌+◌, ◌*◌, ◌/◌, ◌%◌, ◌^◌, ◌<◌, ◌≤◌, List, [], ◌∷◌, ◌++◌, length, take, drop, slice_index, refl, sym, ap, ◌∙◌, arith}
-use Rattle.std.proofs.Math.Nat.{div-div-eq-div-mul, div-one, pow-suc, pow-succ'}
+use Rattle.std.proofs.Common.{◌≡◌, ℕ, zero, suc, ◌+◌, ◌*◌, ◌/◌, ◌%◌, ◌^◌, ◌<◌, ◌≤◌, List, [], ◌∷◌, ◌++◌, length, refl, sym, ap, ◌∙◌, arith}
+use Rattle.std.proofs.Math.Nat.{div-div-eq-div-mul, div-one, pow-succ'}
 use Rattle.std.specs.Int.{byte_at, bytes_low_first}
 use Rattle.byteorder.specs.Endian.{little_from}
 use Rattle.byteorder.specs.Numbers.{little_number-reads_back, little_from-lt, little_from-cons, little_from-append, length-bytes_low_first}
@@ -36,9 +36,9 @@ byte_at-suc : (i a x : ℕ) → a < 256 → byte_at (suc i) (a + 256 * x) ≡ by
 byte_at-suc i a x h =
     let cut : (a + 256 * x) / 256 ≡ x = omega arith in
     let moved : (a + 256 * x) / 256 ^ suc i ≡ x / 256 ^ i =
-      ap (λ (p : ℕ). (a + 256 * x) / p) (pow-succ' 256 i)
-      ∙ sym (div-div-eq-div-mul (a + 256 * x) 256 (256 ^ i))
-      ∙ ap (λ (y : ℕ). y / 256 ^ i) cut in
+    ap (λ (p : ℕ). (a + 256 * x) / p) (pow-succ' 256 i)
+    ∙ sym (div-div-eq-div-mul (a + 256 * x) 256 (256 ^ i))
+    ∙ ap (λ (y : ℕ). y / 256 ^ i) cut in
     ap (λ (y : ℕ). y % 256) moved ∙ sym (byte_at-pow i x)
 
 -- the bytes from the next place on are those of the number without its lowest byte

@@ -9,5 +9,4 @@ pub fn codec_law()
     ensures number { (n : ℕ) → IsCodec ℕ (number n) }
     ensures run { (n : ℕ) → IsCodec (List ℕ) (run n) }
     ensures text { (n : ℕ) → IsCodec (List ℕ) (text n) }
-{
-}
+{}

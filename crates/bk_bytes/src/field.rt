@@ -87,5 +87,4 @@ pub fn field_law()
     ensures number { (n x : ℕ) (rest : List ℕ) → x < 256 ^ n → number_of n (bytes_of n x ++ rest) ≡ x }
     ensures field { (bytes : List ℕ) → AreBytes bytes → bytes_of (length bytes) (number_of (length bytes) bytes) ≡ bytes }
     ensures range { (n : ℕ) (bytes : List ℕ) → AreBytes bytes → number_of n bytes < 256 ^ n }
-{
-}
+{}

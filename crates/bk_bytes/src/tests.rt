@@ -11,7 +11,10 @@ fn the_lowest_byte_comes_first(rt: HostRuntime) {
     assert_eq!(rt; get_u16(&BYTES, 1), Some(0x0201));
     assert_eq!(rt; get_u32(&BYTES, 1), Some(0x0403_0201));
     assert_eq!(rt; get_u64(&BYTES, 1), Some(0x0807_0605_0403_0201));
-    assert_eq!(rt; get_u128(&BYTES, 1), Some(0x100F_0E0D_0C0B_0A09_0807_0605_0403_0201));
+    assert_eq!(rt;
+        get_u128(&BYTES, 1),
+        Some(0x100F_0E0D_0C0B_0A09_0807_0605_0403_0201)
+    );
     assert_eq!(rt; get_u16(&BYTES, 17), None);
     assert_eq!(rt; get_u128(&BYTES, 3), None);
 }
