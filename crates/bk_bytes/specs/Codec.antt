@@ -1,6 +1,7 @@
 -- How values are spelled in bytes and read back, put together from small parts.
-use Rattle.std.specs.Prelude.{◌≡◌, ℕ, zero, suc, ◌+◌, ◌-◌, ◌^◌, ◌<◌, Bool, true, List, [], ◌∷◌, ◌++◌, length, take, drop, Option, Some, None, nat_lt, ◌==◌, if◌then◌else◌}
-use Rattle.std.specs.List.{flat_map, AllByRecursion}
+use Rattle.std.specs.Prelude.{◌≤◌, ◌≡◌, ℕ, zero, suc, ◌+◌, ◌-◌, ◌^◌, ◌<◌, Bool, true, List, [], ◌∷◌, ◌++◌, length, take, drop, Option, Some, None, nat_lt, nat_le, ◌==◌, ◌&&◌, if◌then◌else◌, replicate}
+use Rattle.std.specs.List.{flat_map, list_all, AllByRecursion}
+use Rattle.std.specs.Str.{IsUtf8, is_utf8}
 use Rattle.bk_bytes.specs.Field.{AreBytes, number_of, bytes_of}
 
 -- go on with the value, where there is one
@@ -91,6 +92,66 @@ seen_as c there back = record {
   reading = λ bytes. do
     x ← c.reading bytes
     Some (there x.0, x.1);
+}
+
+-- the same bytes as values of another type: the way there, where there is one, the way back, and the values with a spelling
+abbrev pub converted : {A B : Type 0} → Codec A → (A → Option B) → (B → A) → (B → Type 0) → Codec B
+converted c there back Fits = record {
+  spelling = λ y. c.spelling (back y);
+  Fits = Fits;
+  reading = λ bytes. do
+    x ← c.reading bytes
+    y ← there x.0
+    Some (y, x.1);
+}
+
+-- the way there and the way back belong together
+pub record Converts (A B : Type 0) (c : Codec A) (there : A → Option B) (back : B → A) (Fits : B → Type 0) : Type 0 where
+  pub takes : (x : A) (y : B) → c.Fits x → there x ≡ Some y → (back y ≡ x) × Fits y
+  pub gives : (y : B) → Fits y → (there (back y) ≡ Some y) × c.Fits (back y)
+
+-- a kind in n bytes, and then the form of that kind
+abbrev pub tagged : {A : Type 0} → ℕ → (A → ℕ) → (ℕ → Codec A) → Codec A
+tagged n kind form = record {
+  spelling = λ x. bytes_of n (kind x) ++ (form (kind x)).spelling x;
+  Fits = λ x. (kind x < 256 ^ n) × (form (kind x)).Fits x;
+  reading = λ bytes. do
+    k ← number_at n bytes
+    (form k.0).reading k.1;
+}
+
+-- no value has a spelling
+abbrev pub nothing : {A : Type 0} → Codec A
+nothing = record { spelling = λ x. []; Fits = λ x. ⊥; reading = λ bytes. None }
+
+-- n zero bytes
+unfoldable pub zeros_at : ℕ → List ℕ → Option (Unit {0} × List ℕ)
+zeros_at n bytes = do
+  front ← run_at n bytes
+  if list_all (λ b. b == 0) front.0 then Some (tt, front.1) else None
+
+-- n zero bytes
+abbrev pub zeros : ℕ → Codec (Unit {0})
+zeros n = record { spelling = λ _. replicate n 0; Fits = λ _. Unit {0}; reading = zeros_at n }
+
+-- a text in UTF-8 of that many bytes, behind its length
+unfoldable pub string_at : ℕ → ℕ → List ℕ → Option (List ℕ × List ℕ)
+string_at least most bytes = do
+  text ← text_at 2 bytes
+  if nat_le least (length text.0) && nat_le (length text.0) most && is_utf8 text.0 then Some text else None
+
+-- a text in UTF-8 of that many bytes
+pub record IsString (least most : ℕ) (text : List ℕ) : Type 0 where
+  pub least_bytes : least ≤ length text
+  pub most_bytes : length text ≤ most
+  pub utf8 : IsUtf8 text
+
+-- a text in UTF-8 of that many bytes, behind its length
+abbrev pub string : ℕ → ℕ → Codec (List ℕ)
+string least most = record {
+  spelling = λ bytes. bytes_of 2 (length bytes) ++ bytes;
+  Fits = IsString least most;
+  reading = string_at least most;
 }
 
 -- n values, read one after the other

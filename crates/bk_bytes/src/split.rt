@@ -1,8 +1,9 @@
 //! The first field of a slice, and the bytes after it.
 #![tactic(auto, unfolding(crate::specs::Field::number_of))]
 
-ghost use Rattle.std.specs.Prelude.{◌≡◌, ℕ, ◌+◌, ◌^◌, ◌<◌, ◌≤◌, List, ◌++◌, length};
-ghost use Rattle.bk_bytes.specs.Codec.{Gives, number_at, run_at, text_at};
+ghost use Rattle.std.specs.List.{list_all};
+ghost use Rattle.std.specs.Prelude.{◌==◌, ◌≡◌, ℕ, ◌+◌, ◌^◌, ◌<◌, ◌≤◌, List, ◌++◌, length};
+ghost use Rattle.bk_bytes.specs.Codec.{Gives, number_at, run_at, text_at, zeros_at, string_at};
 
 use byteorder::{ByteOrder, LittleEndian};
 
@@ -68,4 +69,38 @@ pub fn split_text(bytes: &[u8]) -> Option<(&[u8], &[u8])>
 {
     let (len, rest) = split_u16(bytes)?;
     split_run(rest, usize::from(len))
+}
+
+/// What follows `n` zero bytes, or `None` where the bytes don't begin with so many.
+#[tactic(auto, unfolding(crate::specs::Codec::zeros_at))]
+pub fn split_zeros(bytes: &[u8], n: usize) -> Option<&[u8]>
+    ensures { Gives (λ x. (tt, x.now)) result (zeros_at n bytes.now) }
+{
+    let (front, rest) = split_run(bytes, n)?;
+    if !are_zero(front) {
+        return None;
+    }
+    Some(rest)
+}
+
+fn are_zero(bytes: &[u8]) -> bool
+    ensures { result ≡ list_all (λ b. b == 0) bytes.now }
+{
+    bytes.iter().all(|b| *b == 0)
+}
+
+/// A text in UTF-8 of `least` to `most` bytes behind its length in 2 bytes, and the rest, or `None`
+/// where the bytes don't begin with one.
+#[tactic(auto, unfolding(crate::specs::Codec::string_at))]
+pub fn split_str(bytes: &[u8], least: usize, most: usize) -> Option<(&str, &[u8])>
+    ensures { Gives (λ x. (x.0.now, x.1.now)) result (string_at least most bytes.now) }
+{
+    let (text, rest) = split_text(bytes)?;
+    if text.len() < least || most < text.len() {
+        return None;
+    }
+    match std::str::from_utf8(text) {
+        Ok(text) => Some((text, rest)),
+        Err(_) => None,
+    }
 }
