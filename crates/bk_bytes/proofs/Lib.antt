@@ -2,3 +2,4 @@ pub mod Fields
 pub mod Putting
 pub mod Texts
 pub mod Codecs
+pub mod Cells
