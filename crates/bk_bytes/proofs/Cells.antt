@@ -1,5 +1,6 @@
 -- A cell has one spelling of 128 bytes.
 use Rattle.std.proofs.Common.{◌≡◌, ℕ, zero, suc, ◌+◌, ◌-◌, ◌^◌, ◌<◌, ◌≤◌, Bool, true, false, cond, leb, List, [], ◌∷◌, ◌++◌, length, replicate, Option, Some, None, refl, sym, ap, subst, ◌∙◌, append_assoc, arith, lit<}
+use Rattle.std.specs.Prelude.{is_some}
 use Rattle.std.proofs.lemmas.Bool.{leb-true, le-leb}
 use Rattle.std.proofs.lemmas.List.{length-append, length-replicate, append-nil, nil_from_length}
 use Rattle.bk_bytes.specs.Field.{AreBytes, bytes_of}
@@ -102,3 +103,26 @@ cell_unread image none found =
     let same : cell_form.spelling found.0 ++ [] ≡ image = append-nil (cell_form.spelling found.0) ∙ cell_form-spelling found.0 ∙ sym found.1.1 in
     let met : cell_form.reading (cell_form.spelling found.0 ++ []) ≡ None = ap cell_form.reading same ∙ none in
     cc
+
+-- the test that a cell passes
+pub is_some-cell : (image : List ℕ) → IsCell image → is_some (cell_form.reading image) ≡ true
+is_some-cell image found =
+    let given = cell_form-IsCodec.gives found.0 [] (cell_form-Fits found.0 found.1.0) in
+    let same : cell_form.spelling found.0 ++ [] ≡ image = append-nil (cell_form.spelling found.0) ∙ cell_form-spelling found.0 ∙ sym found.1.1 in
+    ap (λ (bytes : List ℕ). is_some (cell_form.reading bytes)) (sym same) ∙ ap (λ (o : Option (Option Row × List ℕ)). is_some o) given
+
+-- what passes the test is a cell
+pub is_cell-from_some : (image : List ℕ) → AreBytes image → length image ≡ 128 → is_some (cell_form.reading image) ≡ true → IsCell image
+is_cell-from_some image fits len test = from_reading (cell_form.reading image) refl
+  where
+    from_reading : (read : Option (Option Row × List ℕ)) → cell_form.reading image ≡ read → IsCell image
+    from_reading None e = let broken : is_some (cell_form.reading image) ≡ false = ap (λ (o : Option (Option Row × List ℕ)). is_some o) e in absurd cc
+    from_reading (Some x) e = let a = cell_read image x.0 x.1 fits len e in (x.0, (a.0, a.1))
+
+-- what is no cell fails the test
+pub is_some-no_cell : (image : List ℕ) → AreBytes image → length image ≡ 128 → ¬ IsCell image → is_some (cell_form.reading image) ≡ false
+is_some-no_cell image fits len other = from_test (is_some (cell_form.reading image)) refl
+  where
+    from_test : (b : Bool) → is_some (cell_form.reading image) ≡ b → is_some (cell_form.reading image) ≡ false
+    from_test true e = absurd (other (is_cell-from_some image fits len e))
+    from_test false e = e

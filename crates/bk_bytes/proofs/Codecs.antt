@@ -52,7 +52,7 @@ pub guard_true : {A : Type 0} (b : Bool) (x y : A) → cond b (Some x) None ≡ 
 guard_true false x y e = absurd cc
 guard_true true x y e = (refl, cc)
 
-abbrev some : {A : Type 0} → A → Option A
+abbrev pub some : {A : Type 0} → A → Option A
 some x = Some x
 
 pub some_is : {A : Type 0} (x y : A) → some x ≡ some y → x ≡ y

@@ -1,9 +1,9 @@
 -- The bytes of a field's number are the field.
-use Rattle.std.proofs.Common.{◌≡◌, ℕ, zero, suc, ◌+◌, ◌*◌, ◌/◌, ◌%◌, ◌^◌, ◌<◌, ◌≤◌, List, [], ◌∷◌, ◌++◌, length, refl, sym, ap, ◌∙◌, arith}
+use Rattle.std.proofs.Common.{◌≡◌, ℕ, zero, suc, ◌+◌, ◌*◌, ◌/◌, ◌%◌, ◌^◌, ◌<◌, ◌≤◌, List, [], ◌∷◌, ◌++◌, length, take, refl, sym, ap, ◌∙◌, arith}
 use Rattle.std.proofs.Math.Nat.{div-div-eq-div-mul, div-one, pow-succ'}
 use Rattle.std.specs.Int.{byte_at, bytes_low_first}
 use Rattle.byteorder.specs.Endian.{little_from}
-use Rattle.byteorder.specs.Numbers.{little_number-reads_back, little_from-lt, little_from-cons, little_from-append, length-bytes_low_first}
+use Rattle.byteorder.specs.Numbers.{little_number-reads_back, little_from-lt, little_from-cons, little_from-append, little_from-take, length-bytes_low_first}
 use Rattle.bk_bytes.specs.Field.{AreBytes, number_of, bytes_of}
 
 -- there are n bytes
@@ -25,6 +25,11 @@ number_of-lt n bytes h = little_from-lt 0 n bytes h
 pub number_of-append : (n : ℕ) (front rest : List ℕ) → n ≤ length front → number_of n (front ++ rest) ≡ number_of n front
 unfolding number_of
 number_of-append n front rest h = little_from-append n front rest h
+
+-- the number reads no byte past its end
+pub number_of-take : (n m : ℕ) (bytes : List ℕ) → n ≤ m → number_of n (take m bytes) ≡ number_of n bytes
+unfolding number_of
+number_of-take n m bytes h = little_from-take 0 n m bytes (omega arith)
 
 -- a byte of a number, by its place
 byte_at-pow : (k x : ℕ) → byte_at k x ≡ x / 256 ^ k % 256

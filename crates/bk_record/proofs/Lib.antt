@@ -1,0 +1,3 @@
+pub mod ExtentRuns
+pub mod ImageRuns
+pub mod Laws
