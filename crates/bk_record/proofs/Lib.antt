@@ -1,3 +1,4 @@
 pub mod ExtentRuns
 pub mod ImageRuns
 pub mod Laws
+pub mod WalkSteps

@@ -115,3 +115,12 @@ pub record IsRecord (r : Rec) : Type 0 where
   pub begin : r.begin < 2 ^ 64
   pub body : IsBody r.body
   pub len : 4 + length (inside r) < 2 ^ 32
+
+-- the bytes begin with the spelling of this record, and these follow
+pub record BeginsWith (bytes : List ℕ) (r : Rec) (rest : List ℕ) : Type 0 where
+  pub spelled : bytes ≡ spelling r ++ rest
+  pub is_record : IsRecord r
+
+-- no record is spelled at the front of the bytes
+abbrev pub IsUnspelled : List ℕ → Type 0
+IsUnspelled bytes = (r : Rec) (rest : List ℕ) → ¬ BeginsWith bytes r rest

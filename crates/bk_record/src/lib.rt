@@ -1,7 +1,11 @@
 //! Log records as bytes.
 #![tactic(auto)]
 
-mod view;
+mod walk;
+mod check;
 mod reading;
+mod view;
 
+pub use check::{check_log, log_law};
+pub use walk::{BadRecord, LogCursor, cursor};
 pub use view::{BodyRef, Extents, MarkRef, RecRef};

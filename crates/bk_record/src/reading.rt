@@ -1,6 +1,7 @@
 //! Reading a record from the front of bytes.
 
-ghost use Rattle.std.specs.Prelude.{◌≡◌, ◌<◌, ◌≤◌, length};
+ghost use Rattle.std.specs.Prelude.{◌≡◌, ◌<◌, ◌≤◌, length, MatchOption};
+ghost use Rattle.bk_record.specs.Spelling.{IsUnspelled, BeginsWith};
 ghost use Rattle.bk_bytes.specs.Codec.{Gives, number_at, counted};
 ghost use Rattle.bk_record.specs.Reading.{place_form, image_form, extent_form, mark_form, database_at, table_at, write_at, commit_at, compensation_at, checkpoint_at, stamp_at, model_at, bulk_at, recovery_at, body_at, inside_form, record_form};
 ghost use Rattle.bk_record.specs.View.{body_of, mark_of, record_of, extents_shown};
@@ -10,9 +11,16 @@ use bk_bytes::{Cell, split_run, split_str, split_u8, split_u16, split_u32, split
 use bk_fields::{split_guid, split_model};
 use bk_ids::Place;
 
-/// The record at the front of `bytes` and the bytes after it, or `None` where no record is spelled there.
+// The record at the front of `bytes` and the bytes after it, or `None` where no record is spelled there.
+pub(crate) fn split_record(bytes: &[u8]) -> Option<(RecRef<'_>, &[u8])>
+    ensures { MatchOption result (IsUnspelled bytes.now) (λ x. BeginsWith bytes.now (record_of x.0) x.1.now) }
+{
+    split_framed(bytes)
+}
+
+// The same, as it is read.
 #[tactic(auto, unfolding(crate::specs::Reading::record_form, bk_bytes::specs::Codec::framed_at))]
-pub fn split_record(bytes: &[u8]) -> Option<(RecRef<'_>, &[u8])>
+fn split_framed(bytes: &[u8]) -> Option<(RecRef<'_>, &[u8])>
     ensures { Gives (λ x. (record_of x.0, x.1.now)) result (record_form.reading bytes.now) }
 {
     let (size, rest) = split_u32(bytes)?;
