@@ -2,3 +2,4 @@ pub mod ExtentRuns
 pub mod ImageRuns
 pub mod Laws
 pub mod WalkSteps
+pub mod Lengths
