@@ -8,10 +8,10 @@ use Rattle.bk_bytes.specs.Codec.{◌>>=◌, number_at, run_at, times_at, list_at
 use Rattle.bk_bytes.proofs.Fields.{number_of-take}
 use Rattle.bk_bytes.proofs.Codecs.{guard_false, some}
 use Rattle.bk_record.specs.Reading.{extent_form}
-use Rattle.bk_record.specs.View.{extents_in, extents_of}
+use Rattle.bk_record.specs.Extents.{extents_in, extents_of}
 
 -- the extent at the front of bytes
-abbrev first_of : List ℕ → ExtentId
+abbrev pub first_of : List ℕ → ExtentId
 first_of bytes = record { file = number_of 2 bytes; extent = number_of 4 (drop 2 bytes) }
 
 extent_read : (bytes : List ℕ) → 6 ≤ length bytes → extent_form.reading bytes ≡ Some (first_of bytes, drop 6 bytes)
@@ -85,3 +85,17 @@ list_at-no_extents bytes count rest number run = elim (cases_lt (length rest) (6
   | inl less ↦ rw (number, extents_unread count rest less) refl
   | inr more ↦ let wide : ltb (length rest) (6 * count) ≡ false = le-ltb _ _ more in let met : some (take (6 * count) rest, drop (6 * count) rest) ≡ None = rw wide at run in absurd cc
 ]
+
+-- extents of fewer than 6 bytes are none
+pub extents_of-none : (bytes : List ℕ) → length bytes < 6 → extents_of bytes ≡ []
+extents_of-none bytes short = let n : length bytes / 6 ≡ 0 = omega arith in ap (λ (k : ℕ). extents_in k bytes) n
+
+-- the first extent, and those behind it
+pub extents_of-more : (bytes : List ℕ) → 6 ≤ length bytes → extents_of bytes ≡ first_of bytes ∷ extents_of (drop 6 bytes)
+extents_of-more bytes long =
+    let n : length bytes / 6 ≡ suc (length (drop 6 bytes) / 6) = omega (arith, length-drop 6 bytes) in
+    ap (λ (k : ℕ). extents_in k bytes) n
+
+pub length-extents_in : (n : ℕ) (bytes : List ℕ) → length (extents_in n bytes) ≡ n
+length-extents_in zero bytes = refl
+length-extents_in (suc n) bytes = ap suc (length-extents_in n (drop 6 bytes))

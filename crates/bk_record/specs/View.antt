@@ -1,29 +1,14 @@
 -- What a record over borrowed bytes says, without where they lie in memory.
-use Rattle.std.specs.Prelude.{ℕ, zero, suc, ◌/◌, ◌+◌, List, [], ◌∷◌, length, drop, Option, Some, None, option_map}
-use Rattle.bk_ids.specs.declared.record.ExtentId.{ExtentId}
+use Rattle.std.specs.Prelude.{Option, Some, None, option_map}
 use Rattle.bk_ids.specs.declared.record.Mark.{Mark}
 use Rattle.bk_ids.specs.declared.record.Rec.{Rec}
 use Rattle.bk_ids.specs.declared.record.Body.{Body}
 use Rattle.bk_ids.specs.declared.record.Body.TheVariants as owned
 use Rattle.bk_record.specs.declared.view.MarkRef.{MarkRef}
 use Rattle.bk_record.specs.declared.view.RecRef.{RecRef}
-use Rattle.bk_record.specs.declared.view.Extents.{Extents}
+use Rattle.bk_record.specs.Extents.{extents_shown}
 use Rattle.bk_record.specs.declared.view.BodyRef.{BodyRef}
 use Rattle.bk_record.specs.declared.view.BodyRef.TheVariants.{Database, Table, Begin, Write, Commit, RollbackEnd, Compensation, Checkpoint, Stamp, Model, Bulk, Recovery}
-use Rattle.bk_bytes.specs.Field.{number_of}
-
--- n extents that stand in bytes one after the other
-abbrev pub extents_in : ℕ → List ℕ → List ExtentId
-extents_in zero bytes = []
-extents_in (suc n) bytes = record { file = number_of 2 bytes; extent = number_of 4 (drop 2 bytes) } ∷ extents_in n (drop 6 bytes)
-
--- the extents of 6 bytes each
-abbrev pub extents_of : List ℕ → List ExtentId
-extents_of bytes = extents_in (length bytes / 6) bytes
-
--- the extents that a value shows
-abbrev pub extents_shown : Extents → List ExtentId
-extents_shown extents = extents_of extents.bytes.now
 
 abbrev pub mark_of : Option MarkRef → Option Mark
 mark_of None = None

@@ -4,9 +4,11 @@ ghost use Rattle.std.specs.Prelude.{◌≡◌, ◌<◌, ◌≤◌, length, Match
 ghost use Rattle.bk_record.specs.Spelling.{IsUnspelled, BeginsWith};
 ghost use Rattle.bk_bytes.specs.Codec.{Gives, number_at, counted};
 ghost use Rattle.bk_record.specs.Reading.{place_form, image_form, extent_form, mark_form, database_at, table_at, write_at, commit_at, compensation_at, checkpoint_at, stamp_at, model_at, bulk_at, recovery_at, body_at, inside_form, record_form};
-ghost use Rattle.bk_record.specs.View.{body_of, mark_of, record_of, extents_shown};
+ghost use Rattle.bk_record.specs.View.{body_of, mark_of, record_of};
+ghost use Rattle.bk_record.specs.Extents.{extents_shown};
 
-use crate::view::{BodyRef, Extents, MarkRef, RecRef};
+use crate::extents::Extents;
+use crate::view::{BodyRef, MarkRef, RecRef};
 use bk_bytes::{Cell, split_run, split_str, split_u8, split_u16, split_u32, split_u64, split_zeros};
 use bk_fields::{split_guid, split_model};
 use bk_ids::Place;

@@ -1,7 +1,6 @@
 //! Log records whose cells and texts are slices of the bytes that they were read from.
 
-ghost use Rattle.std.specs.Prelude.{◌≡◌};
-
+use crate::extents::Extents;
 use bk_ids::{Guid, Lsn, Place, RecoveryModel};
 
 /// A log record over borrowed bytes. Its fields are those of `bk_ids::Rec`.
@@ -70,21 +69,4 @@ pub enum BodyRef<'a> {
     Recovery {
         branch: Guid,
     },
-}
-
-/// Extents over borrowed bytes, 6 bytes each.
-#[derive(Clone, Copy, Debug, PartialEq, Eq)]
-pub struct Extents<'a> {
-    bytes: &'a [u8],
-}
-
-impl<'a> Extents<'a> {
-    ghost use Rattle.bk_record.specs.View.{extents_of, extents_shown};
-
-    // The extents of these bytes.
-    pub(crate) fn over(bytes: &'a [u8]) -> Self
-        ensures { extents_shown result ≡ extents_of bytes.now }
-    {
-        Extents { bytes }
-    }
 }
