@@ -127,3 +127,11 @@ log_of_records records all = record { rest = []; spelled = sym (append-nil (flat
 pub reads_shorter : (old new : Left) (r : Rec) → Reads old r new → length new.bytes < length old.bytes
 unfolding spelling
 reads_shorter old new r h = omega (arith, ap length h.begins.spelled, length-append (spelling r) new.bytes, length-append (bytes_of 4 (4 + length (inside r))) (inside r), length-bytes_of 4 (4 + length (inside r)))
+
+-- an error leaves fewer bytes, too
+pub breaks_shorter : (old new : Left) (e : BadRecord) → BreaksOff old e new → length new.bytes < length old.bytes
+breaks_shorter old new e h = rw h.nothing_left (some_left old.bytes h.bad.some)
+  where
+    some_left : (bytes : List ℕ) → (bytes ≡ [] → ⊥) → 0 < length bytes
+    some_left [] other = absurd (other refl)
+    some_left (b ∷ bytes) other = omega arith

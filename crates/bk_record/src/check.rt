@@ -12,9 +12,8 @@ use crate::walk::{BadRecord, cursor};
 pub fn check_log(bytes: &[u8]) -> Result<(), BadRecord>
     ensures { MatchResult result (λ _. (records : List Rec) × IsLog bytes.now records None) (λ e. (records : List Rec) × IsLog bytes.now records (Some e.at)) }
 {
-    let mut walk = cursor(bytes);
-    while let Some(next) = walk.next() {
-        let _record = next?;
+    for record in cursor(bytes) {
+        let _record = record?;
     }
     Ok(())
 }

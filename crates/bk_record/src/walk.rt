@@ -1,6 +1,7 @@
 //! Walking over the records of a log.
 
 ghost use Rattle.std.specs.Prelude.{◌≡◌, ◌≤◌, length, drop};
+ghost use Rattle.std.specs.Iterator.{at_most};
 ghost use Rattle.bk_record.specs.Log.{Left, IsNext};
 
 use crate::reading::split_record;
@@ -37,11 +38,16 @@ pub fn cursor(bytes: &[u8]) -> LogCursor<'_>
     LogCursor { bytes, at: 0 }
 }
 
-impl<'a> LogCursor<'a> {
+impl<'a> Iterator for LogCursor<'a> {
+    type Item = Result<RecRef<'a>, BadRecord>;
+
+    ghost next_gives = { IsNext };
+
+    ghost remaining = { λ left. at_most (length left.bytes) };
+
     /// The next record, or `None` exactly at the end. Where bytes are left and no record is spelled, it
     /// is an error, and the walk is at its end from then on.
-    pub fn next(&mut self) -> Option<Result<RecRef<'a>, BadRecord>>
-        ensures { IsNext self.old result self.new }
+    fn next(&mut self) -> Option<Result<RecRef<'a>, BadRecord>>
     {
         let rest = &self.bytes[self.at..];
         if rest.is_empty() {
