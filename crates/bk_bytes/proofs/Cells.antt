@@ -1,12 +1,12 @@
 -- A cell has one spelling of 128 bytes.
-use Rattle.std.proofs.Common.{◌≡◌, ℕ, zero, suc, ◌+◌, ◌-◌, ◌^◌, ◌<◌, ◌≤◌, Bool, true, false, cond, leb, List, [], ◌∷◌, ◌++◌, length, replicate, Option, Some, None, refl, sym, ap, subst, ◌∙◌, append_assoc, arith, lit<}
+use Rattle.std.proofs.Common.{◌≡◌, ℕ, zero, suc, ◌+◌, ◌-◌, ◌≤◌, Bool, true, false, cond, leb, List, [], ◌∷◌, ◌++◌, length, drop, replicate, Option, Some, None, refl, sym, ap, subst, ◌∙◌, append_assoc, arith, lit<}
 use Rattle.std.specs.Prelude.{is_some}
 use Rattle.std.proofs.lemmas.Bool.{leb-true, le-leb}
-use Rattle.std.proofs.lemmas.List.{length-append, length-replicate, append-nil, nil_from_length}
-use Rattle.bk_bytes.specs.Field.{AreBytes, bytes_of}
-use Rattle.bk_bytes.specs.Codec.{Codec, IsCodec, Converts, number, run, zeros, followed, converted, tagged, nothing}
-use Rattle.bk_bytes.specs.Cell.{Row, FitsCell, IsCellValue, IsCell, IsFree, IsUsed, cell_bytes, cell_kind, fields_of_row, free_form, used_form, form_of_state, cell_form}
-use Rattle.bk_bytes.proofs.Fields.{length-bytes_of}
+use Rattle.std.proofs.lemmas.List.{length-append, length-replicate, append-nil, nil_from_length, drop-replicate}
+use borrow.Rule.Slice.PartMut.{put_mid}
+use Rattle.bk_bytes.specs.Field.{AreBytes, bytes_of, with_field}
+use Rattle.bk_bytes.specs.Codec.{IsCodec, number, run, zeros, followed}
+use Rattle.bk_bytes.specs.Cell.{Row, IsCellValue, IsCell, IsFree, IsUsed, cell_bytes, cell_kind, fields_of_row, free_form, used_form, form_of_state, cell_form}
 use Rattle.bk_bytes.proofs.Codecs.{number-IsCodec, run-IsCodec, zeros-IsCodec, followed-IsCodec, converted-IsCodec, tagged-IsCodec, nothing-IsCodec, guard_true, some_is}
 
 free_form-IsCodec : IsCodec (Option Row) free_form
@@ -15,6 +15,7 @@ free_form-IsCodec = converted-IsCodec (zeros 127) (λ x. Some None) (λ cell. tt
   where
     free_takes : (x : Unit {0}) (y : Option Row) → Unit {0} → Some None ≡ Some y → (tt ≡ x) × IsFree y
     free_takes x y fits e = let same : None ≡ y = some_is None y e in (refl, subst IsFree same tt)
+
     free_gives : (y : Option Row) → IsFree y → (Some None ≡ Some y) × Unit {0}
     free_gives None h = (refl, tt)
     free_gives (Some row) h = absurd h
@@ -23,28 +24,28 @@ used_form-IsCodec : IsCodec (Option Row) used_form
 unfolding used_form
 used_form-IsCodec =
     converted-IsCodec
-      (followed (zeros 1) (λ _. followed (number 2) (λ size. followed (number 4) (λ _. followed (number 8) (λ _. followed (run size) (λ _. zeros (112 - size)))))))
-      (λ x. cond (leb x.1.0 112) (Some (Some (record { table = x.1.1.0; key = x.1.1.1.0; value = x.1.1.1.1.0 }))) None)
-      fields_of_row
-      IsUsed
-      (followed-IsCodec _ _ (zeros-IsCodec 1) (λ _. followed-IsCodec _ _ (number-IsCodec 2) (λ size. followed-IsCodec _ _ (number-IsCodec 4) (λ _. followed-IsCodec _ _ (number-IsCodec 8) (λ _. followed-IsCodec _ _ (run-IsCodec size) (λ _. zeros-IsCodec (112 - size)))))))
-      (record {
-        takes = λ x y fits e.
+    (followed (zeros 1) (λ _. followed (number 2) (λ size. followed (number 4) (λ _. followed (number 8) (λ _. followed (run size) (λ _. zeros (112 - size)))))))
+    (λ x. cond (leb x.1.0 112) (Some (Some (record { table = x.1.1.0; key = x.1.1.1.0; value = x.1.1.1.1.0 }))) None)
+    fields_of_row
+    IsUsed
+    (followed-IsCodec _ _ (zeros-IsCodec 1) (λ _. followed-IsCodec _ _ (number-IsCodec 2) (λ size. followed-IsCodec _ _ (number-IsCodec 4) (λ _. followed-IsCodec _ _ (number-IsCodec 8) (λ _. followed-IsCodec _ _ (run-IsCodec size) (λ _. zeros-IsCodec (112 - size)))))))
+    (record {
+      takes = λ x y fits e.
           let g = guard_true (leb x.1.0 112) (Some (record { table = x.1.1.0; key = x.1.1.1.0; value = x.1.1.1.1.0 })) y e in
           let len : length x.1.1.1.1.0 ≡ x.1.0 = fits.1.1.1.1.0 in
           let small : x.1.0 ≤ 112 = leb-true _ _ g.0 in
           let row : Row = record { table = x.1.1.0; key = x.1.1.1.0; value = x.1.1.1.1.0 } in
           let back : fields_of_row (Some row) ≡ x = ap (λ (k : ℕ). (tt, (k, (x.1.1.0, (x.1.1.1.0, (x.1.1.1.1.0, tt)))))) len in
           subst (λ (z : Option Row). (fields_of_row z ≡ x) × IsUsed z) g.1 (back, record { table = fits.1.1.0; key = fits.1.1.1.0; value = omega arith });
-        gives = used_gives;
-      })
+      gives = used_gives;
+    })
   where
     used_gives : (y : Option Row) → IsUsed y → (cond (leb (fields_of_row y).1.0 112) (Some (Some (record { table = (fields_of_row y).1.1.0; key = (fields_of_row y).1.1.1.0; value = (fields_of_row y).1.1.1.1.0 }))) None ≡ Some y)
-      × (followed (zeros 1) (λ _. followed (number 2) (λ size. followed (number 4) (λ _. followed (number 8) (λ _. followed (run size) (λ _. zeros (112 - size))))))).Fits (fields_of_row y)
+        × (followed (zeros 1) (λ _. followed (number 2) (λ size. followed (number 4) (λ _. followed (number 8) (λ _. followed (run size) (λ _. zeros (112 - size))))))).Fits (fields_of_row y)
     used_gives None h = absurd h
     used_gives (Some row) h =
-      let small : leb (length row.value) 112 ≡ true = le-leb _ _ h.value in
-      (rw small refl, (tt, (omega (arith, h.value), (h.table, (h.key, (refl, tt))))))
+        let small : leb (length row.value) 112 ≡ true = le-leb _ _ h.value in
+        (rw small refl, (tt, (omega (arith, h.value), (h.table, (h.key, (refl, tt))))))
 
 form_of_state-IsCodec : (k : ℕ) → IsCodec (Option Row) (form_of_state k)
 form_of_state-IsCodec zero = free_form-IsCodec
@@ -126,3 +127,17 @@ is_some-no_cell image fits len other = from_test (is_some (cell_form.reading ima
     from_test : (b : Bool) → is_some (cell_form.reading image) ≡ b → is_some (cell_form.reading image) ≡ false
     from_test true e = absurd (other (is_cell-from_some image fits len e))
     from_test false e = e
+
+-- a cell's image, written field by field over zeros
+pub image_written : (table key : ℕ) (value two four eight copied : List ℕ)
+    → two ≡ with_field (1 ∷ replicate 127 0) 2 (bytes_of 2 (length value))
+    → four ≡ with_field two 4 (bytes_of 4 table)
+    → eight ≡ with_field four 8 (bytes_of 8 key)
+    → copied ≡ value
+    → put_mid 16 (16 + length value - 16) eight copied ≡ cell_bytes (Some (record { table = table; key = key; value = value }))
+unfolding bytes_of
+image_written table key value two four eight copied e2 e4 e8 same =
+    let size : 16 + length value - 16 ≡ length value = omega arith in
+    let zeros_left : List ℕ = replicate 112 0 in
+    let tail : drop (length value) zeros_left ≡ replicate (112 - length value) 0 = drop-replicate (length value) 112 0 in
+    rw (size, same, e8, e4, e2, tail) refl

@@ -36,6 +36,10 @@ AreBytes-front bytes front rest h is =
 joined : (bytes a more b rest : List ℕ) → bytes ≡ a ++ more → more ≡ b ++ rest → bytes ≡ (a ++ b) ++ rest
 joined bytes a more b rest first second = first ∙ ap (λ (r : List ℕ). a ++ r) second ∙ sym (append_assoc a b rest)
 
+-- a front with nothing behind it
+nothing_behind : (bytes a rest : List ℕ) → bytes ≡ a ++ rest → rest ≡ [] → bytes ≡ a
+nothing_behind bytes a rest is none = is ∙ ap (λ (r : List ℕ). a ++ r) none ∙ append-nil a
+
 -- ---- options
 
 -- the value of a step that read something
@@ -238,7 +242,7 @@ framed-IsCodec {A} n c law = record {
       let d = law.takes inside.0.0 value.0.0 value.0.1 within value.1 in
       let done = guard_true (eqb (length value.0.1) 0) (value.0.0, inside.0.1) (x, rest) value.2 in
       let empty : value.0.1 ≡ [] = nil_from_length value.0.1 (eqb-true (length value.0.1) 0 done.0) in
-      let body : inside.0.0 ≡ c.spelling value.0.0 = d.0 ∙ ap (λ (r : List ℕ). c.spelling value.0.0 ++ r) empty ∙ append-nil (c.spelling value.0.0) in
+      let body : inside.0.0 ≡ c.spelling value.0.0 = nothing_behind inside.0.0 (c.spelling value.0.0) value.0.1 d.0 empty in
       let size_is : k ≡ n + length (c.spelling value.0.0) = omega (arith, b.1, ap length body) in
       let whole : bytes ≡ (bytes_of n k ++ c.spelling value.0.0) ++ inside.0.1 =
       joined bytes (bytes_of n k) behind (c.spelling value.0.0) inside.0.1 a.0 (b.0 ∙ ap (λ (r : List ℕ). r ++ inside.0.1) body) in
@@ -261,15 +265,15 @@ pub converted-IsCodec : {A B : Type 0} (c : Codec A) (there : A → Option B) (b
     → IsCodec A c → Converts A B c there back Fits → IsCodec B (converted c there back Fits)
 converted-IsCodec {A} {B} c there back Fits law way = record {
   takes = λ bytes y rest fits e.
-    let first = bind_some (c.reading bytes) (λ x. there x.0 >>= λ z. Some (z, x.1)) (y, rest) e in
-    let second = bind_some (there first.0.0) (λ z. Some (z, first.0.1)) (y, rest) first.2 in
-    let a = law.takes bytes first.0.0 first.0.1 fits first.1 in
-    let w = way.takes first.0.0 second.0 a.1 second.1 in
-    let whole : bytes ≡ c.spelling (back second.0) ++ first.0.1 = rw w.0 a.0 in
-    subst (λ (p : B × List ℕ). (bytes ≡ c.spelling (back p.0) ++ p.1) × Fits p.0) (some_is (second.0, first.0.1) (y, rest) second.2) (whole, w.1);
+      let first = bind_some (c.reading bytes) (λ x. there x.0 >>= λ z. Some (z, x.1)) (y, rest) e in
+      let second = bind_some (there first.0.0) (λ z. Some (z, first.0.1)) (y, rest) first.2 in
+      let a = law.takes bytes first.0.0 first.0.1 fits first.1 in
+      let w = way.takes first.0.0 second.0 a.1 second.1 in
+      let whole : bytes ≡ c.spelling (back second.0) ++ first.0.1 = rw w.0 a.0 in
+      subst (λ (p : B × List ℕ). (bytes ≡ c.spelling (back p.0) ++ p.1) × Fits p.0) (some_is (second.0, first.0.1) (y, rest) second.2) (whole, w.1);
   gives = λ y rest fits.
-    let w = way.gives y fits in
-    rw (law.gives (back y) rest w.1, w.0) refl;
+      let w = way.gives y fits in
+      rw (law.gives (back y) rest w.1, w.0) refl;
 }
 
 pub nothing-IsCodec : {A : Type 0} → IsCodec A nothing
@@ -281,28 +285,28 @@ pub zeros-IsCodec : (n : ℕ) → IsCodec (Unit {0}) (zeros n)
 unfolding zeros_at
 zeros-IsCodec n = record {
   takes = λ bytes x rest fits e.
-    let front = bind_some (run_at n bytes) (λ f. cond (list_all (λ b. eqb b 0) f.0) (Some (tt, f.1)) None) (x, rest) e in
-    let a = (run-IsCodec n).takes bytes front.0.0 front.0.1 fits front.1 in
-    let g = guard_true (list_all (λ b. eqb b 0) front.0.0) (tt, front.0.1) (x, rest) front.2 in
-    let zero_front : front.0.0 ≡ replicate n 0 = list_all-zero front.0.0 g.0 ∙ ap (λ (k : ℕ). replicate k 0) a.1 in
-    let rest_is : front.0.1 ≡ rest = ap (λ (p : Unit {0} × List ℕ). p.1) g.1 in
-    (a.0 ∙ ap (λ (r : List ℕ). front.0.0 ++ r) rest_is ∙ ap (λ (f : List ℕ). f ++ rest) zero_front, tt);
+      let front = bind_some (run_at n bytes) (λ f. cond (list_all (λ b. eqb b 0) f.0) (Some (tt, f.1)) None) (x, rest) e in
+      let a = (run-IsCodec n).takes bytes front.0.0 front.0.1 fits front.1 in
+      let g = guard_true (list_all (λ b. eqb b 0) front.0.0) (tt, front.0.1) (x, rest) front.2 in
+      let zero_front : front.0.0 ≡ replicate n 0 = list_all-zero front.0.0 g.0 ∙ ap (λ (k : ℕ). replicate k 0) a.1 in
+      let rest_is : front.0.1 ≡ rest = ap (λ (p : Unit {0} × List ℕ). p.1) g.1 in
+      (a.0 ∙ ap (λ (r : List ℕ). front.0.0 ++ r) rest_is ∙ ap (λ (f : List ℕ). f ++ rest) zero_front, tt);
   gives = λ x rest fits.
-    rw ((run-IsCodec n).gives (replicate n 0) rest (length-replicate n 0), list_all-zeros n) refl;
+      rw ((run-IsCodec n).gives (replicate n 0) rest (length-replicate n 0), list_all-zeros n) refl;
 }
 
 pub string-IsCodec : (least most : ℕ) → most < 2 ^ 16 → IsCodec (List ℕ) (string least most)
 unfolding string_at
 string-IsCodec least most small = record {
   takes = λ bytes t rest fits e.
-    let text_first = bind_some (text_at 2 bytes) (λ x. cond (is_string least most x.0) (Some x) None) (t, rest) e in
-    let g = guard_true (is_string least most text_first.0.0) text_first.0 (t, rest) text_first.2 in
-    let a = (text-IsCodec 2).takes bytes text_first.0.0 text_first.0.1 fits text_first.1 in
-    let h = is_string-true least most text_first.0.0 g.0 in
-    subst (λ (p : List ℕ × List ℕ). (bytes ≡ (bytes_of 2 (length p.0) ++ p.0) ++ p.1) × IsString least most p.0) g.1 (a.0, h);
+      let text_first = bind_some (text_at 2 bytes) (λ x. cond (is_string least most x.0) (Some x) None) (t, rest) e in
+      let g = guard_true (is_string least most text_first.0.0) text_first.0 (t, rest) text_first.2 in
+      let a = (text-IsCodec 2).takes bytes text_first.0.0 text_first.0.1 fits text_first.1 in
+      let h = is_string-true least most text_first.0.0 g.0 in
+      subst (λ (p : List ℕ × List ℕ). (bytes ≡ (bytes_of 2 (length p.0) ++ p.0) ++ p.1) × IsString least most p.0) g.1 (a.0, h);
   gives = λ t rest fits.
-    let len : length t < 2 ^ 16 = omega (arith, fits.most_bytes) in
-    rw ((text-IsCodec 2).gives t rest len, is_string-from least most t fits) refl;
+      let len : length t < 2 ^ 16 = omega (arith, fits.most_bytes) in
+      rw ((text-IsCodec 2).gives t rest len, is_string-from least most t fits) refl;
 }
 
 -- ---- a kind, and then the form of that kind
@@ -311,15 +315,15 @@ pub tagged-IsCodec : {A : Type 0} (n : ℕ) (kind : A → ℕ) (form : ℕ → C
     → ((k : ℕ) (x : A) → (form k).Fits x → kind x ≡ k) → IsCodec A (tagged n kind form)
 tagged-IsCodec {A} n kind form law same = record {
   takes = λ bytes x rest fits e.
-    let first = bind_some (number_at n bytes) (λ k. (form k.0).reading k.1) (x, rest) e in
-    let a = (number-IsCodec n).takes bytes first.0.0 first.0.1 fits first.1 in
-    let after : AreBytes first.0.1 = AreBytes-after bytes (bytes_of n first.0.0) first.0.1 fits a.0 in
-    let b = (law first.0.0).takes first.0.1 x rest after first.2 in
-    let whole : bytes ≡ (bytes_of n first.0.0 ++ (form first.0.0).spelling x) ++ rest = joined bytes (bytes_of n first.0.0) first.0.1 ((form first.0.0).spelling x) rest a.0 b.0 in
-    subst (λ (k : ℕ). (bytes ≡ (bytes_of n k ++ (form k).spelling x) ++ rest) × ((k < 256 ^ n) × (form k).Fits x)) (sym (same first.0.0 x b.1)) (whole, (a.1, b.1));
+      let first = bind_some (number_at n bytes) (λ k. (form k.0).reading k.1) (x, rest) e in
+      let a = (number-IsCodec n).takes bytes first.0.0 first.0.1 fits first.1 in
+      let after : AreBytes first.0.1 = AreBytes-after bytes (bytes_of n first.0.0) first.0.1 fits a.0 in
+      let b = (law first.0.0).takes first.0.1 x rest after first.2 in
+      let whole : bytes ≡ (bytes_of n first.0.0 ++ (form first.0.0).spelling x) ++ rest = joined bytes (bytes_of n first.0.0) first.0.1 ((form first.0.0).spelling x) rest a.0 b.0 in
+      subst (λ (k : ℕ). (bytes ≡ (bytes_of n k ++ (form k).spelling x) ++ rest) × ((k < 256 ^ n) × (form k).Fits x)) (sym (same first.0.0 x b.1)) (whole, (a.1, b.1));
   gives = λ x rest fits.
-    let regrouped : (bytes_of n (kind x) ++ (form (kind x)).spelling x) ++ rest ≡ bytes_of n (kind x) ++ ((form (kind x)).spelling x ++ rest) = append_assoc (bytes_of n (kind x)) ((form (kind x)).spelling x) rest in
-    rw (regrouped, (number-IsCodec n).gives (kind x) ((form (kind x)).spelling x ++ rest) fits.0) ((law (kind x)).gives x rest fits.1);
+      let regrouped : (bytes_of n (kind x) ++ (form (kind x)).spelling x) ++ rest ≡ bytes_of n (kind x) ++ ((form (kind x)).spelling x ++ rest) = append_assoc (bytes_of n (kind x)) ((form (kind x)).spelling x) rest in
+      rw (regrouped, (number-IsCodec n).gives (kind x) ((form (kind x)).spelling x ++ rest) fits.0) ((law (kind x)).gives x rest fits.1);
 }
 
 -- ---- what follows for every codec

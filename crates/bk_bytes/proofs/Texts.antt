@@ -1,11 +1,11 @@
 -- When a text of UTF-8 is read, and when a list of bytes is all zero.
-use Rattle.std.proofs.Common.{◌≡◌, ℕ, ◌≤◌, Bool, true, false, cond, eqb, leb, List, [], ◌∷◌, length, replicate, zero, suc, Option, Some, None, refl, sym, ap, ◌∙◌, arith}
+use Rattle.std.proofs.Common.{◌≡◌, ℕ, Bool, true, false, eqb, leb, List, [], ◌∷◌, length, replicate, zero, suc, Some, None, refl}
 use Rattle.std.specs.Prelude.{◌&&◌}
 use Rattle.std.specs.List.{list_all}
 use Rattle.std.specs.Str.{IsUtf8, is_utf8}
 use Rattle.std.proofs.lemmas.Bool.{leb-true, le-leb, and_parts, and_from, and_right, eqb-true}
 use Rattle.std.proofs.lemmas.Str.{IsUtf8-from_is_utf8, is_utf8-from_IsUtf8}
-use Rattle.bk_bytes.specs.Codec.{◌>>=◌, text_at, string_at, IsString}
+use Rattle.bk_bytes.specs.Codec.{text_at, string_at, IsString}
 
 -- the test that a text of UTF-8 passes
 abbrev pub is_string : ℕ → ℕ → List ℕ → Bool

@@ -1,5 +1,5 @@
 -- The 128 bytes of a cell: a page and a log record spell it alike.
-use Rattle.std.specs.Prelude.{◌≡◌, ℕ, zero, suc, ◌-◌, ◌^◌, ◌<◌, ◌≤◌, Bool, true, List, [], ◌∷◌, ◌++◌, length, replicate, Option, Some, None, nat_le, if◌then◌else◌}
+use Rattle.std.specs.Prelude.{◌≡◌, ℕ, zero, suc, ◌-◌, ◌^◌, ◌<◌, ◌≤◌, List, [], ◌++◌, length, replicate, Option, Some, None, nat_le, if◌then◌else◌}
 use Rattle.bk_bytes.specs.Field.{bytes_of}
 use Rattle.bk_bytes.specs.Codec.{Codec, number, run, zeros, followed, converted, tagged, nothing}
 
@@ -57,10 +57,10 @@ fields_of_row (Some row) = (tt, (length row.value, (row.table, (row.key, (row.va
 -- the rest of a used cell
 unfoldable pub used_form : Codec (Option Row)
 used_form = converted
-  (followed (zeros 1) (λ _. followed (number 2) (λ size. followed (number 4) (λ _. followed (number 8) (λ _. followed (run size) (λ _. zeros (112 - size)))))))
-  (λ x. if nat_le x.1.0 112 then Some (Some (record { table = x.1.1.0; key = x.1.1.1.0; value = x.1.1.1.1.0 })) else None)
-  fields_of_row
-  IsUsed
+    (followed (zeros 1) (λ _. followed (number 2) (λ size. followed (number 4) (λ _. followed (number 8) (λ _. followed (run size) (λ _. zeros (112 - size)))))))
+    (λ x. if nat_le x.1.0 112 then Some (Some (record { table = x.1.1.0; key = x.1.1.1.0; value = x.1.1.1.1.0 })) else None)
+    fields_of_row
+    IsUsed
 
 -- the rest of a cell, by its state
 abbrev pub form_of_state : ℕ → Codec (Option Row)

@@ -3,8 +3,9 @@
 ghost use Rattle.std.specs.Prelude.{◌≡◌, ◌≤◌, MatchOption, Some, None, Option, length};
 ghost use Rattle.bk_bytes.specs.Codec.{Gives, number_at};
 ghost use Rattle.bk_bytes.specs.Cell.{IsCell, IsCellValue, cell_bytes, cell_form, used_form, free_form};
-ghost use Rattle.bk_bytes.specs.CellView.{row_of};
+ghost use Rattle.bk_bytes.specs.CellView.{row_of, HasShortValue};
 
+use crate::field::{put_u16, put_u32, put_u64};
 use crate::split::{split_run, split_u8, split_u16, split_u32, split_u64, split_zeros};
 
 /// What the 128 bytes of a cell say.
@@ -28,6 +29,31 @@ impl<'a> Cell<'a> {
         let (cell, _) = read_front(image)?;
         Some(cell)
     }
+
+    /// The 128 bytes of the cell.
+    pub fn image(&self) -> [u8; 128]
+        requires { HasShortValue self.now }
+        ensures bytes { result ≡ cell_bytes (row_of self.now) }
+        ensures fits { IsCellValue (row_of self.now) }
+    {
+        match *self {
+            Cell::Free => [0; 128],
+            Cell::Used { table, key, value } => used_image(table, key, value),
+        }
+    }
+}
+
+fn used_image(table: u32, key: u64, value: &[u8]) -> [u8; 128]
+    requires { length value.now ≤ 112 }
+    ensures { result ≡ cell_bytes (Some (record { table = table; key = key; value = value.now })) }
+{
+    let mut image = [0; 128];
+    image[0] = 1;
+    put_u16(&mut image, 2, value.len() as u16);
+    put_u32(&mut image, 4, table);
+    put_u64(&mut image, 8, key);
+    image[16..16 + value.len()].copy_from_slice(value);
+    image
 }
 
 #[tactic(auto, unfolding(crate::specs::Cell::cell_form))]

@@ -16,7 +16,8 @@ pub use field::{
     field_law, get_u16, get_u32, get_u64, get_u128, put_u16, put_u32, put_u64, put_u128,
 };
 pub use split::{
-    split_run, split_str, split_text, split_u8, split_u16, split_u32, split_u64, split_u128, split_zeros,
+    split_run, split_str, split_text, split_u8, split_u16, split_u32, split_u64, split_u128,
+    split_zeros,
 };
 
 #[cfg(test)]

@@ -65,3 +65,41 @@ fn fields_are_appended_and_split_off(rt: HostRuntime) -> Result<(), Fail> {
     assert!(rt; split_text(&[3, 0, b'a', b'b']).is_none());
     Ok(())
 }
+
+#[test]
+fn a_cell_is_read_and_written(rt: HostRuntime) -> Result<(), Fail> {
+    let mut image = [0; 128];
+    assert_eq!(rt; Cell::read(&image), Some(Cell::Free));
+    assert_eq!(rt; Cell::Free.image(), image);
+    image[127] = 1;
+    assert_eq!(rt; Cell::read(&image), None, "a free cell with a byte");
+    image[127] = 0;
+    image[0] = 1;
+    image[2] = 3;
+    image[4] = 9;
+    image[5] = 1;
+    image[8] = 7;
+    image[16] = b'a';
+    image[17] = b'b';
+    image[18] = b'c';
+    let cell = Cell::read(&image).ok_or("cell")?;
+    match cell {
+        Cell::Used { table, key, value } => {
+            assert_eq!(rt; (table, key), (265, 7));
+            assert_eq!(rt; value, b"abc".as_slice());
+            assert!(rt; value.len() <= 112);
+            assert_eq!(rt; Cell::Used { table, key, value }.image(), image);
+        }
+        Cell::Free => return Err(Fail::from("free")),
+    }
+    image[1] = 1;
+    assert_eq!(rt; Cell::read(&image), None, "a byte that is to be zero");
+    image[1] = 0;
+    image[2] = 2;
+    assert_eq!(rt; Cell::read(&image), None, "padding that isn't zero");
+    image[2] = 113;
+    assert_eq!(rt; Cell::read(&image), None, "a value of 113 bytes");
+    image[0] = 2;
+    assert_eq!(rt; Cell::read(&image), None, "a state of 2");
+    Ok(())
+}

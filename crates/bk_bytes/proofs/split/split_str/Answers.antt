@@ -1,4 +1,3 @@
-use Rattle.std.proofs.Common.{◌≡◌, List, length, arith}
 use Rattle.bk_bytes.proofs.Texts.{string_at-some, string_at-none}
 use Rattle.bk_bytes.proofs.split.split_str.Goals as goal
 
