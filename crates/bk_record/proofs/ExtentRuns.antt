@@ -56,9 +56,9 @@ extents_in-take (suc n) bytes =
     let two : 6 * suc n ≡ 2 + (4 + 6 * n) = omega arith in
     let file : number_of 2 (take (6 * suc n) bytes) ≡ number_of 2 bytes = number_of-take 2 (6 * suc n) bytes (omega arith) in
     let extent : number_of 4 (drop 2 (take (6 * suc n) bytes)) ≡ number_of 4 (drop 2 bytes) =
-      ap (λ (k : ℕ). number_of 4 (drop 2 (take k bytes))) two ∙ ap (number_of 4) (drop-take 2 (4 + 6 * n) bytes) ∙ number_of-take 4 (4 + 6 * n) (drop 2 bytes) (omega arith) in
+    ap (λ (k : ℕ). number_of 4 (drop 2 (take k bytes))) two ∙ ap (number_of 4) (drop-take 2 (4 + 6 * n) bytes) ∙ number_of-take 4 (4 + 6 * n) (drop 2 bytes) (omega arith) in
     let others : extents_in n (drop 6 (take (6 * suc n) bytes)) ≡ extents_in n (drop 6 bytes) =
-      ap (λ (k : ℕ). extents_in n (drop 6 (take k bytes))) six ∙ ap (extents_in n) (drop-take 6 (6 * n) bytes) ∙ extents_in-take n (drop 6 bytes) in
+    ap (λ (k : ℕ). extents_in n (drop 6 (take k bytes))) six ∙ ap (extents_in n) (drop-take 6 (6 * n) bytes) ∙ extents_in-take n (drop 6 bytes) in
     rw (file, extent, others) refl
 
 -- so many extents are read as the run of their bytes

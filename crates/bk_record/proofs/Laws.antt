@@ -31,19 +31,19 @@ pub place_form-IsCodec : IsCodec Place place_form
 unfolding place_form
 place_form-IsCodec = converted-IsCodec _ _ _ IsPlace (followed-IsCodec _ _ (number-IsCodec 2) (λ _. followed-IsCodec _ _ (number-IsCodec 4) (λ _. number-IsCodec 2))) (record {
   takes = λ x place fits e.
-    let g = guard_true (ltb x.1.1 63) (record { file = x.0; page = x.1.0; slot = x.1.1 }) place e in
-    let slot : x.1.1 < 63 = ltb-true _ _ g.0 in
-    subst (λ (p : Place). ((p.file, (p.page, p.slot)) ≡ x) × IsPlace p) g.1 (refl, record { file = fits.0; page = fits.1.0; slot = slot });
+      let g = guard_true (ltb x.1.1 63) (record { file = x.0; page = x.1.0; slot = x.1.1 }) place e in
+      let slot : x.1.1 < 63 = ltb-true _ _ g.0 in
+      subst (λ (p : Place). ((p.file, (p.page, p.slot)) ≡ x) × IsPlace p) g.1 (refl, record { file = fits.0; page = fits.1.0; slot = slot });
   gives = λ place fits.
-    let slot : ltb place.slot 63 ≡ true = lt-ltb _ _ fits.slot in
-    (rw slot refl, (fits.file, (fits.page, omega (arith, fits.slot))));
+      let slot : ltb place.slot 63 ≡ true = lt-ltb _ _ fits.slot in
+      (rw slot refl, (fits.file, (fits.page, omega (arith, fits.slot))));
 })
 
 pub extent_form-IsCodec : IsCodec ExtentId extent_form
 unfolding extent_form
 extent_form-IsCodec = converted-IsCodec _ _ _ IsExtent (followed-IsCodec _ _ (number-IsCodec 2) (λ _. number-IsCodec 4)) (record {
   takes = λ x extent fits e.
-    subst (λ (p : ExtentId). ((p.file, p.extent) ≡ x) × IsExtent p) (some_is (record { file = x.0; extent = x.1 }) extent e) (refl, record { file = fits.0; extent = fits.1 });
+      subst (λ (p : ExtentId). ((p.file, p.extent) ≡ x) × IsExtent p) (some_is (record { file = x.0; extent = x.1 }) extent e) (refl, record { file = fits.0; extent = fits.1 });
   gives = λ extent fits. (refl, (fits.file, fits.extent));
 })
 
@@ -51,16 +51,16 @@ pub image_form-IsCodec : IsCodec CellImage image_form
 unfolding image_form
 image_form-IsCodec = record {
   takes = λ bytes image rest fits e.
-    let front = bind_some (run_at 128 bytes) (λ x. cond (is_some (cell_form.reading x.0)) (Some (cell_of x.0)) None >>= λ y. Some (y, x.1)) (image, rest) e in
-    let second = bind_some (cond (is_some (cell_form.reading front.0.0)) (Some (cell_of front.0.0)) None) (λ y. Some (y, front.0.1)) (image, rest) front.2 in
-    let g = guard_true (is_some (cell_form.reading front.0.0)) (cell_of front.0.0) second.0 second.1 in
-    let a = (run-IsCodec 128).takes bytes front.0.0 front.0.1 fits front.1 in
-    let found : IsCell front.0.0 = is_cell-from_some front.0.0 (AreBytes-front bytes front.0.0 front.0.1 fits a.0) a.1 g.0 in
-    let read : (bytes ≡ second.0.bytes ++ front.0.1) × IsCell second.0.bytes = subst (λ (i : CellImage). (bytes ≡ i.bytes ++ front.0.1) × IsCell i.bytes) g.1 (a.0, found) in
-    subst (λ (p : CellImage × List ℕ). (bytes ≡ p.0.bytes ++ p.1) × IsCell p.0.bytes) (some_is (second.0, front.0.1) (image, rest) second.2) read;
+      let front = bind_some (run_at 128 bytes) (λ x. cond (is_some (cell_form.reading x.0)) (Some (cell_of x.0)) None >>= λ y. Some (y, x.1)) (image, rest) e in
+      let second = bind_some (cond (is_some (cell_form.reading front.0.0)) (Some (cell_of front.0.0)) None) (λ y. Some (y, front.0.1)) (image, rest) front.2 in
+      let g = guard_true (is_some (cell_form.reading front.0.0)) (cell_of front.0.0) second.0 second.1 in
+      let a = (run-IsCodec 128).takes bytes front.0.0 front.0.1 fits front.1 in
+      let found : IsCell front.0.0 = is_cell-from_some front.0.0 (AreBytes-front bytes front.0.0 front.0.1 fits a.0) a.1 g.0 in
+      let read : (bytes ≡ second.0.bytes ++ front.0.1) × IsCell second.0.bytes = subst (λ (i : CellImage). (bytes ≡ i.bytes ++ front.0.1) × IsCell i.bytes) g.1 (a.0, found) in
+      subst (λ (p : CellImage × List ℕ). (bytes ≡ p.0.bytes ++ p.1) × IsCell p.0.bytes) (some_is (second.0, front.0.1) (image, rest) second.2) read;
   gives = λ image rest found.
-    let len : length image.bytes ≡ 128 = ap length found.1.1 ∙ length-cell_bytes found.0 found.1.0 in
-    rw ((run-IsCodec 128).gives image.bytes rest len, is_some-cell image.bytes found) refl;
+      let len : length image.bytes ≡ 128 = ap length found.1.1 ∙ length-cell_bytes found.0 found.1.0 in
+      rw ((run-IsCodec 128).gives image.bytes rest len, is_some-cell image.bytes found) refl;
 }
   where
     cell_of : List ℕ → CellImage
@@ -83,10 +83,10 @@ mark_takes [] [] mark fits e =
 mark_takes [] (b ∷ bytes) mark fits e = absurd cc
 mark_takes (b ∷ name) [] mark fits e =
     subst (λ (m : Option Mark). (mark_texts m ≡ (b ∷ name, [])) × IsMark m) (some_is (Some (record { name = b ∷ name; description = None })) mark e)
-      (refl, (some_bytes 64 b name fits.0, tt))
+    (refl, (some_bytes 64 b name fits.0, tt))
 mark_takes (b ∷ name) (d ∷ description) mark fits e =
     subst (λ (m : Option Mark). (mark_texts m ≡ (b ∷ name, d ∷ description)) × IsMark m) (some_is (Some (record { name = b ∷ name; description = Some (d ∷ description) })) mark e)
-      (refl, (some_bytes 64 b name fits.0, some_bytes 65535 d description fits.1))
+    (refl, (some_bytes 64 b name fits.0, some_bytes 65535 d description fits.1))
 
 mark_again : (name : List ℕ) (description : Option (List ℕ)) → IsString 1 64 name → IsDescription description
     → mark_in name (description_of description) ≡ Some (Some (record { name = name; description = description }))
@@ -233,9 +233,9 @@ inside_form-IsCodec : IsCodec Rec inside_form
 unfolding inside_form
 inside_form-IsCodec = converted-IsCodec _ _ _ _ (followed-IsCodec _ (λ head. body_form head.0) (followed-IsCodec _ _ (number-IsCodec 1) (λ _. followed-IsCodec _ _ (zeros-IsCodec 3) (λ _. followed-IsCodec _ _ (number-IsCodec 8) (λ _. number-IsCodec 8)))) (λ head. body_form-IsCodec head.0)) (record {
   takes = λ x r fits e.
-    let made : Rec = record { lsn = x.0.1.1.0; begin = x.0.1.1.1; body = x.1 } in
-    let head : ((kind_of x.1, (tt, (x.0.1.1.0, x.0.1.1.1))), x.1) ≡ x = ap (λ (k : ℕ). ((k, (tt, (x.0.1.1.0, x.0.1.1.1))), x.1)) fits.1.0 in
-    subst (λ (q : Rec). (((kind_of q.body, (tt, (q.lsn, q.begin))), q.body) ≡ x) × ((q.lsn < 2 ^ 64) × ((q.begin < 2 ^ 64) × IsBody q.body))) (some_is made r e)
+      let made : Rec = record { lsn = x.0.1.1.0; begin = x.0.1.1.1; body = x.1 } in
+      let head : ((kind_of x.1, (tt, (x.0.1.1.0, x.0.1.1.1))), x.1) ≡ x = ap (λ (k : ℕ). ((k, (tt, (x.0.1.1.0, x.0.1.1.1))), x.1)) fits.1.0 in
+      subst (λ (q : Rec). (((kind_of q.body, (tt, (q.lsn, q.begin))), q.body) ≡ x) × ((q.lsn < 2 ^ 64) × ((q.begin < 2 ^ 64) × IsBody q.body))) (some_is made r e)
       (head, (fits.0.1.1.0, (fits.0.1.1.1, fits.1.1)));
   gives = λ r fits. (refl, ((kind_fits r.body, (tt, (fits.0, fits.1.0))), (refl, fits.1.1)));
 })

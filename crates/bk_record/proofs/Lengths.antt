@@ -54,18 +54,29 @@ body_short (Checkpoint time) h k = omega (arith, length-bytes_of)
 body_short (Stamp time set) h k = omega (arith, length-append (bytes_of 8 time) (guid_bytes set), length-bytes_of)
 body_short (Model time model) h k = omega (arith, length-append (bytes_of 8 time) (model_bytes model), length-bytes_of)
 body_short (Bulk table first count value extents) h k =
-    omega (arith,
+    omega (
+      arith,
       length-append (bytes_of 4 table) (bytes_of 8 first ++ (bytes_of 4 count ++ (text_bytes value ++ (bytes_of 4 (length extents) ++ flat_map extent_bytes extents)))),
       length-append (bytes_of 8 first) (bytes_of 4 count ++ (text_bytes value ++ (bytes_of 4 (length extents) ++ flat_map extent_bytes extents))),
       length-append (bytes_of 4 count) (text_bytes value ++ (bytes_of 4 (length extents) ++ flat_map extent_bytes extents)),
       length-append (text_bytes value) (bytes_of 4 (length extents) ++ flat_map extent_bytes extents),
       length-append (bytes_of 4 (length extents)) (flat_map extent_bytes extents),
-      length-text value, length-extents extents, length-bytes_of, k.1)
+      length-text value,
+      length-extents extents,
+      length-bytes_of,
+      k.1,
+    )
 body_short (Recovery branch) h k = omega (arith, length-bytes_of)
 
 pub inside_short : (r : Rec) → IsBody r.body → KeepsLimits r.body → 4 + length (inside r) < 2 ^ 32
 inside_short r h k =
-    omega (arith,
+    omega (
+      arith,
       length-append (bytes_of 1 (kind_of r.body) ++ (replicate 3 0 ++ (bytes_of 8 r.lsn ++ bytes_of 8 r.begin))) (body_bytes r.body),
       length-append (bytes_of 1 (kind_of r.body)) (replicate 3 0 ++ (bytes_of 8 r.lsn ++ bytes_of 8 r.begin)),
-      length-append (bytes_of 8 r.lsn) (bytes_of 8 r.begin), length-bytes_of 1 (kind_of r.body), length-bytes_of 8 r.lsn, length-bytes_of 8 r.begin, body_short r.body h k)
+      length-append (bytes_of 8 r.lsn) (bytes_of 8 r.begin),
+      length-bytes_of 1 (kind_of r.body),
+      length-bytes_of 8 r.lsn,
+      length-bytes_of 8 r.begin,
+      body_short r.body h k,
+    )

@@ -25,7 +25,7 @@ step_reads bytes at r after within h =
     let size : length bytes - at ≡ length (spelling r) + length after = sym (length-drop at bytes) ∙ ap length h.spelled ∙ length-append (spelling r) after in
     let place : length bytes - length after ≡ at + length (spelling r) = omega arith in
     let rest : drop (length bytes - length after) bytes ≡ after =
-      ap (λ (k : ℕ). drop k bytes) place ∙ sym (drop-drop (length (spelling r)) at bytes) ∙ ap (drop (length (spelling r))) h.spelled ∙ drop_at (spelling r) after (length (spelling r)) refl in
+    ap (λ (k : ℕ). drop k bytes) place ∙ sym (drop-drop (length (spelling r)) at bytes) ∙ ap (drop (length (spelling r))) h.spelled ∙ drop_at (spelling r) after (length (spelling r)) refl in
     record { begins = record { spelled = rw rest h.spelled; is_record = h.is_record }; at = place }
 
 pub step_breaks : (bytes : List ℕ) (at : ℕ) → false ≡ eqb (length (drop at bytes)) 0 → IsUnspelled (drop at bytes)
@@ -52,7 +52,7 @@ pub walked_more : (whole : List ℕ) (records : List Rec) (old new : Left) (r : 
 walked_more whole records old new r h step =
     let one : flat_map spelling (records ++ r ∷ []) ≡ flat_map spelling records ++ spelling r = flat_map-append spelling records (r ∷ []) ∙ ap (λ (s : List ℕ). flat_map spelling records ++ s) (append-nil (spelling r)) in
     let whole_is : whole ≡ (flat_map spelling records ++ spelling r) ++ new.bytes =
-      h.spelled ∙ ap (λ (s : List ℕ). flat_map spelling records ++ s) step.begins.spelled ∙ sym (append_assoc (flat_map spelling records) (spelling r) new.bytes) in
+    h.spelled ∙ ap (λ (s : List ℕ). flat_map spelling records ++ s) step.begins.spelled ∙ sym (append_assoc (flat_map spelling records) (spelling r) new.bytes) in
     record {
       spelled = rw one whole_is;
       are_records = all_more records h.are_records step.begins.is_record;
@@ -108,12 +108,12 @@ same_from from bytes (r ∷ records) [] rest behind bad other p all ends q alls 
     absurd (ended (from + 0) behind other r (flat_map spelling records ++ rest) stops (log_cons behind r records bad rest all.0 all.1 (sym q ∙ p)))
 same_from from bytes (r ∷ records) (s ∷ others) rest behind bad other p all ends q alls stops =
     let first = one_record r s (flat_map spelling records ++ rest) (flat_map spelling others ++ behind) all.0 alls.0
-      (sym (append_assoc (spelling r) (flat_map spelling records) rest) ∙ sym p ∙ q ∙ append_assoc (spelling s) (flat_map spelling others) behind) in
+    (sym (append_assoc (spelling r) (flat_map spelling records) rest) ∙ sym p ∙ q ∙ append_assoc (spelling s) (flat_map spelling others) behind) in
     let place : from + length (spelling r ++ flat_map spelling records) ≡ (from + length (spelling r)) + length (flat_map spelling records) = omega (arith, length-append (spelling r) (flat_map spelling records)) in
     let place' : from + length (spelling s ++ flat_map spelling others) ≡ (from + length (spelling r)) + length (flat_map spelling others) = omega (arith, length-append (spelling s) (flat_map spelling others), ap (λ (x : Rec). length (spelling x)) first.0) in
     let others_same = same_from (from + length (spelling r)) (flat_map spelling records ++ rest) records others rest behind bad other
-      refl all.1 (subst (λ (k : ℕ). Ends k rest bad) place ends)
-      first.1 alls.1 (subst (λ (k : ℕ). Ends k behind other) place' stops) in
+    refl all.1 (subst (λ (k : ℕ). Ends k rest bad) place ends)
+    first.1 alls.1 (subst (λ (k : ℕ). Ends k behind other) place' stops) in
     (rw (first.0, others_same.0) refl, others_same.1)
 
 pub one_log : (bytes : List ℕ) (records others : List Rec) (bad other : Option ℕ) → IsLog bytes records bad → IsLog bytes others other → (records ≡ others) × (bad ≡ other)

@@ -18,22 +18,22 @@ use Rattle.bk_record.specs.Spelling.{IsPlace, IsExtent, IsMark, IsBody, body_byt
 -- the slot is below 63
 unfoldable pub place_form : Codec Place
 place_form = converted (followed (number 2) (λ _. followed (number 4) (λ _. number 2)))
-  (λ x. if nat_lt x.1.1 63 then Some (record { file = x.0; page = x.1.0; slot = x.1.1 }) else None)
-  (λ place. (place.file, (place.page, place.slot)))
-  IsPlace
+    (λ x. if nat_lt x.1.1 63 then Some (record { file = x.0; page = x.1.0; slot = x.1.1 }) else None)
+    (λ place. (place.file, (place.page, place.slot)))
+    IsPlace
 
 unfoldable pub extent_form : Codec ExtentId
 extent_form = converted (followed (number 2) (λ _. number 4))
-  (λ x. Some (record { file = x.0; extent = x.1 }))
-  (λ extent. (extent.file, extent.extent))
-  IsExtent
+    (λ x. Some (record { file = x.0; extent = x.1 }))
+    (λ extent. (extent.file, extent.extent))
+    IsExtent
 
 -- 128 bytes that are a cell's
 unfoldable pub image_form : Codec CellImage
 image_form = converted (run 128)
-  (λ bytes. if is_some (cell_form.reading bytes) then Some (record { bytes = bytes }) else None)
-  (λ image. image.bytes)
-  (λ image. IsCell image.bytes)
+    (λ bytes. if is_some (cell_form.reading bytes) then Some (record { bytes = bytes }) else None)
+    (λ image. image.bytes)
+    (λ image. IsCell image.bytes)
 
 -- no name is no mark, and then there is no description
 abbrev pub description_in : List ℕ → Option (List ℕ)
@@ -136,10 +136,10 @@ body_form kind = record { spelling = body_bytes; Fits = λ body. (kind_of body �
 -- a record behind its length
 unfoldable pub inside_form : Codec Rec
 inside_form = converted
-  (followed (followed (number 1) (λ _. followed (zeros 3) (λ _. followed (number 8) (λ _. number 8)))) (λ head. body_form head.0))
-  (λ x. Some (record { lsn = x.0.1.1.0; begin = x.0.1.1.1; body = x.1 }))
-  (λ r. ((kind_of r.body, (tt, (r.lsn, r.begin))), r.body))
-  (λ r. (r.lsn < 2 ^ 64) × ((r.begin < 2 ^ 64) × IsBody r.body))
+    (followed (followed (number 1) (λ _. followed (zeros 3) (λ _. followed (number 8) (λ _. number 8)))) (λ head. body_form head.0))
+    (λ x. Some (record { lsn = x.0.1.1.0; begin = x.0.1.1.1; body = x.1 }))
+    (λ r. ((kind_of r.body, (tt, (r.lsn, r.begin))), r.body))
+    (λ r. (r.lsn < 2 ^ 64) × ((r.begin < 2 ^ 64) × IsBody r.body))
 
 unfoldable pub record_form : Codec Rec
 record_form = framed 4 inside_form

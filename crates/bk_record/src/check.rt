@@ -24,5 +24,4 @@ pub fn log_law()
     ensures one_spelling { (r s : Rec) (a b : List ℕ) → IsRecord r → IsRecord s → spelling r ++ a ≡ spelling s ++ b → (r ≡ s) × (a ≡ b) }
     ensures read_back { (records : List Rec) → AllByRecursion IsRecord records → IsLog (flat_map spelling records) records None }
     ensures one_list { (bytes : List ℕ) (records others : List Rec) (bad other : Option ℕ) → IsLog bytes records bad → IsLog bytes others other → (records ≡ others) × (bad ≡ other) }
-{
-}
+{}

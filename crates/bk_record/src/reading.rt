@@ -9,7 +9,9 @@ ghost use Rattle.bk_record.specs.Extents.{extents_shown};
 
 use crate::extents::Extents;
 use crate::view::{BodyRef, MarkRef, RecRef};
-use bk_bytes::{Cell, split_run, split_str, split_u8, split_u16, split_u32, split_u64, split_zeros};
+use bk_bytes::{
+    Cell, split_run, split_str, split_u8, split_u16, split_u32, split_u64, split_zeros,
+};
 use bk_fields::{split_guid, split_model};
 use bk_ids::Place;
 

@@ -47,8 +47,7 @@ impl<'a> Iterator for LogCursor<'a> {
 
     /// The next record, or `None` exactly at the end. Where bytes are left and no record is spelled, it
     /// is an error, and the walk is at its end from then on.
-    fn next(&mut self) -> Option<Result<RecRef<'a>, BadRecord>>
-    {
+    fn next(&mut self) -> Option<Result<RecRef<'a>, BadRecord>> {
         let rest = &self.bytes[self.at..];
         if rest.is_empty() {
             return None;

@@ -79,7 +79,12 @@ fn append_mark(out: &mut Vec<u8>, mark: &Option<Mark>) -> Result<(), AllocError>
     Ok(())
 }
 
-fn append_database(out: &mut Vec<u8>, time: u64, family: Guid, branch: Guid) -> Result<(), AllocError>
+fn append_database(
+    out: &mut Vec<u8>,
+    time: u64,
+    family: Guid,
+    branch: Guid,
+) -> Result<(), AllocError>
     ensures ok { OnOk result (out.new.items ≡ out.old.items ++ body_bytes (Body.Database time family branch)) }
     ensures fits { OnOk result (IsBody (Body.Database time family branch)) }
 {
@@ -89,7 +94,13 @@ fn append_database(out: &mut Vec<u8>, time: u64, family: Guid, branch: Guid) -> 
     Ok(())
 }
 
-fn append_table(out: &mut Vec<u8>, time: u64, number: u32, name: &Name, group: u8) -> Result<(), AllocError>
+fn append_table(
+    out: &mut Vec<u8>,
+    time: u64,
+    number: u32,
+    name: &Name,
+    group: u8,
+) -> Result<(), AllocError>
     ensures ok { OnOk result (out.new.items ≡ out.old.items ++ body_bytes (Body.Table time number name.now group)) }
     ensures fits { OnOk result (IsBody (Body.Table time number name.now group)) }
 {
@@ -100,7 +111,12 @@ fn append_table(out: &mut Vec<u8>, time: u64, number: u32, name: &Name, group: u
     Ok(())
 }
 
-fn append_write(out: &mut Vec<u8>, place: Place, before: &CellImage, after: &CellImage) -> Result<(), AllocError>
+fn append_write(
+    out: &mut Vec<u8>,
+    place: Place,
+    before: &CellImage,
+    after: &CellImage,
+) -> Result<(), AllocError>
     requires slot { place.slot < 63 }
     requires before { IsCell before.now.bytes }
     requires after { IsCell after.now.bytes }
@@ -123,7 +139,12 @@ fn append_commit(out: &mut Vec<u8>, time: u64, mark: &Option<Mark>) -> Result<()
     Ok(())
 }
 
-fn append_compensation(out: &mut Vec<u8>, place: Place, cell: &CellImage, undone: Lsn) -> Result<(), AllocError>
+fn append_compensation(
+    out: &mut Vec<u8>,
+    place: Place,
+    cell: &CellImage,
+    undone: Lsn,
+) -> Result<(), AllocError>
     requires slot { place.slot < 63 }
     requires cell { IsCell cell.now.bytes }
     ensures ok { OnOk result (out.new.items ≡ out.old.items ++ body_bytes (Body.Compensation place cell.now undone)) }
