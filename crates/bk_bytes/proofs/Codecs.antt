@@ -343,3 +343,11 @@ nothing_spelled c law bytes none x rest fits is =
     let read = law.gives x rest fits in
     let met : c.reading (c.spelling x ++ rest) ≡ None = ap c.reading (sym is) ∙ none in
     cc
+
+-- a text of UTF-8 that is read is one
+pub string_at-IsString : (least most : ℕ) (bytes t rest : List ℕ) → string_at least most bytes ≡ Some (t, rest) → IsString least most t
+unfolding string_at
+string_at-IsString least most bytes t rest e =
+    let first = bind_some (text_at 2 bytes) (λ x. cond (is_string least most x.0) (Some x) None) (t, rest) e in
+    let g = guard_true (is_string least most first.0.0) first.0 (t, rest) first.2 in
+    subst (λ (p : List ℕ × List ℕ). IsString least most p.0) g.1 (is_string-true least most first.0.0 g.0)

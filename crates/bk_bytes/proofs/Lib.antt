@@ -3,3 +3,4 @@ pub mod Putting
 pub mod Texts
 pub mod Codecs
 pub mod Cells
+pub mod Loops

@@ -1,3 +1,4 @@
 pub mod Spelling
 pub mod Conditions
 pub mod Reading
+pub mod Decoding

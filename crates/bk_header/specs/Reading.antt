@@ -1,6 +1,6 @@
 -- How the header of a backup set is read from the front of bytes.
 use Rattle.std.specs.Prelude.{◌≡◌, ℕ, zero, suc, ◌+◌, ◌/◌, ◌%◌, ◌^◌, ◌<◌, ◌≤◌, Bool, true, false, List, [], ◌∷◌, ◌++◌, length, Option, Some, None, nat_lt, nat_le, ◌==◌, ◌&&◌, is_some, if◌then◌else◌}
-use Rattle.std.specs.List.{list_all}
+use Rattle.std.specs.List.{list_all, AllByRecursion}
 use Rattle.bk_ids.specs.declared.guid.Guid.{Guid}
 use Rattle.bk_ids.specs.declared.path.Branch.{Branch}
 use Rattle.bk_ids.specs.declared.record.RecoveryModel.{RecoveryModel}
@@ -122,3 +122,114 @@ file_form = converted
   (λ x. Some (record { spec = record { number = x.0; group = x.1.0; extents = x.1.1.0; name = x.1.1.1.1.0; path = x.1.1.1.1.1 }; in_set = x.1.1.1.0 }))
   (λ file. (file.spec.number, (file.spec.group, (file.spec.extents, (file.in_set, (file.spec.name, file.spec.path))))))
   IsFile
+
+pub record AreLists (lists : Lists) : Type 0 where
+  pub database : IsString 1 64 lists.database
+  pub name : IsString 0 65535 lists.name
+  pub path : (length lists.path < 256 ^ 2) × AllByRecursion IsBranch lists.path
+  pub groups : (length lists.groups < 256 ^ 1) × AllByRecursion (IsString 1 64) lists.groups
+  pub files : (length lists.files < 256 ^ 2) × AllByRecursion IsFile lists.files
+  pub log_name : IsString 1 64 lists.log_name
+  pub log_path : IsString 1 100 lists.log_path
+
+unfoldable pub lists_form : Codec Lists
+lists_form = converted
+  (followed (string 1 64) (λ _. followed (string 0 65535) (λ _. followed (counted 2 branch_form) (λ _. followed (counted 1 (string 1 64)) (λ _. followed (counted 2 file_form) (λ _. followed (string 1 64) (λ _. string 1 100)))))))
+  (λ x. Some (record { database = x.0; name = x.1.0; path = x.1.1.0; groups = x.1.1.1.0; files = x.1.1.1.1.0; log_name = x.1.1.1.1.1.0; log_path = x.1.1.1.1.1.1 }))
+  (λ lists. (lists.database, (lists.name, (lists.path, (lists.groups, (lists.files, (lists.log_name, lists.log_path)))))))
+  AreLists
+
+-- ---- what a header's parts make, where they keep the conditions
+
+-- the base, where its flag is set; zeros, where it isn't
+abbrev pub base_in : Bool → Base → Option (Option Base)
+base_in true base = Some (Some base)
+base_in false base = if base.set.high == 0 && base.set.low == 0 && base.lsn == 0 then Some None else None
+
+-- the expiry, where its flag is set; zero, where it isn't
+abbrev pub expiry_in : Bool → ℕ → Option (Option ℕ)
+expiry_in true time = if nat_le time 253402300799999 then Some (Some time) else None
+expiry_in false time = if time == 0 then Some None else None
+
+abbrev pub is_data_range : ℕ → ℕ → ℕ → Bool
+is_data_range first checkpoint last = nat_le first checkpoint && nat_lt checkpoint last
+
+abbrev pub is_range : SetKind → ℕ → ℕ → ℕ → Bool
+is_range Log first checkpoint last = nat_lt first last
+is_range Full first checkpoint last = is_data_range first checkpoint last
+is_range File first checkpoint last = is_data_range first checkpoint last
+is_range Differential first checkpoint last = is_data_range first checkpoint last
+
+abbrev pub has_its_base : SetKind → Option Base → Bool
+has_its_base Differential base = is_some base
+has_its_base Full base = true
+has_its_base Log base = true
+has_its_base File base = true
+
+abbrev pub starts_rise : ℕ → List Branch → Bool
+starts_rise least [] = true
+starts_rise least (branch ∷ path) = nat_le least branch.start && starts_rise branch.start path
+
+-- at most 64 branches, of which the first starts at 1, starts don't fall, and all are below last
+abbrev pub is_path : ℕ → List Branch → Bool
+is_path last [] = false
+is_path last (branch ∷ path) =
+    branch.start == 1 && starts_rise 1 path && list_all (λ b. nat_lt b.start last) (branch ∷ path) && nat_le (length (branch ∷ path)) 64
+
+abbrev pub are_numbered : ℕ → List HeaderFile → Bool
+are_numbered number [] = true
+are_numbered number (file ∷ files) = file.spec.number == number && are_numbered (number + 1) files
+
+abbrev pub are_files : ℕ → List HeaderFile → Bool
+are_files groups files =
+    nat_lt 0 (length files) && nat_le (length files) 16 && are_numbered 1 files && list_all (λ file. nat_lt file.spec.group groups) files
+    && nat_le (total_extents files) 4096
+
+-- a bit of the flags
+abbrev pub bit : ℕ → ℕ → Bool
+bit flags worth = flags / worth % 2 == 1
+
+-- the conditions on the fields of one length
+abbrev pub keeps_order : Fixed → Option Base → Bool
+keeps_order fixed base =
+    is_range fixed.what.kind fixed.range.first fixed.range.checkpoint fixed.range.last && has_its_base fixed.what.kind base
+    && nat_le fixed.times.start 253402300799999 && nat_le fixed.times.finish 253402300799999
+
+-- the conditions on the lists
+abbrev pub keeps_limits : ℕ → Lists → Bool
+keeps_limits last lists =
+    is_path last lists.path && nat_lt 0 (length lists.groups) && nat_le (length lists.groups) 8 && are_files (length lists.groups) lists.files
+
+unfoldable pub header_of : Fixed → Option Base → Option ℕ → Lists → Header
+header_of fixed base expiry lists = record {
+  version = 1;
+  kind = fixed.what.kind;
+  model = fixed.what.model;
+  copy_only = bit fixed.what.flags 1;
+  bulk = bit fixed.what.flags 2;
+  begins_chain = bit fixed.what.flags 4;
+  checksums = bit fixed.what.flags 8;
+  set = fixed.set;
+  family = fixed.family;
+  first = fixed.range.first;
+  checkpoint = fixed.range.checkpoint;
+  last = fixed.range.last;
+  database_backup = fixed.range.database_backup;
+  base = base;
+  start = fixed.times.start;
+  finish = fixed.times.finish;
+  expiry = expiry;
+  database = lists.database;
+  name = lists.name;
+  path = lists.path;
+  groups = lists.groups;
+  files = lists.files;
+  log_name = lists.log_name;
+  log_path = lists.log_path;
+}
+
+unfoldable pub header_from : Fixed → Lists → Option Header
+header_from fixed lists = do
+  base ← base_in (bit fixed.what.flags 16) fixed.base
+  expiry ← expiry_in (bit fixed.what.flags 32) fixed.times.expiry
+  if keeps_order fixed base && keeps_limits fixed.range.last lists then Some (header_of fixed base expiry lists) else None
