@@ -2,3 +2,4 @@ pub mod Spelling
 pub mod Conditions
 pub mod Reading
 pub mod Decoding
+pub mod Found

@@ -17,8 +17,8 @@ use Rattle.bk_header.specs.declared.fixed.Range.{Range}
 use Rattle.bk_header.specs.declared.fixed.Times.{Times}
 use Rattle.bk_header.specs.declared.fixed.Fixed.{Fixed}
 use Rattle.bk_header.specs.declared.lists.Lists.{Lists}
-use Rattle.bk_header.specs.Spelling.{kind_number, in_set_number}
-use Rattle.bk_header.specs.Conditions.{total_extents}
+use Rattle.bk_header.specs.Spelling.{kind_number, in_set_number, flags_of, base_or_zero, time_or_zero}
+use Rattle.bk_header.specs.Conditions.{total_extents, IsHeader}
 
 -- ---- fields of one length
 
@@ -233,3 +233,20 @@ header_from fixed lists = do
   base ← base_in (bit fixed.what.flags 16) fixed.base
   expiry ← expiry_in (bit fixed.what.flags 32) fixed.times.expiry
   if keeps_order fixed base && keeps_limits fixed.range.last lists then Some (header_of fixed base expiry lists) else None
+
+-- the parts of a header
+abbrev pub fixed_of : Header → Fixed
+fixed_of h = record {
+  what = record { kind = h.kind; model = h.model; flags = flags_of h };
+  set = h.set;
+  family = h.family;
+  range = record { first = h.first; checkpoint = h.checkpoint; last = h.last; database_backup = h.database_backup };
+  base = base_or_zero h.base;
+  times = record { start = h.start; finish = h.finish; expiry = time_or_zero h.expiry };
+}
+
+abbrev pub lists_of : Header → Lists
+lists_of h = record { database = h.database; name = h.name; path = h.path; groups = h.groups; files = h.files; log_name = h.log_name; log_path = h.log_path }
+
+unfoldable pub header_form : Codec Header
+header_form = converted (followed fixed_form (λ _. lists_form)) (λ x. header_from x.0 x.1) (λ h. (fixed_of h, lists_of h)) IsHeader
