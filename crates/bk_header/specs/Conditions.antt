@@ -1,6 +1,6 @@
 -- Which headers have a spelling.
 use Rattle.std.specs.Prelude.{◌≡◌, ℕ, suc, ◌+◌, ◌^◌, ◌<◌, ◌≤◌, List, [], ◌∷◌, length, Option, Some, None, IsSome}
-use Rattle.std.specs.List.{sum_by, AllByRecursion}
+use Rattle.std.specs.List.{sum_by, All, AllByRecursion}
 use Rattle.bk_ids.specs.declared.path.Branch.{Branch}
 use Rattle.bk_ids.specs.Path.{StartsRiseFrom}
 use Rattle.bk_world.specs.declared.database.Base.{Base}
@@ -88,5 +88,68 @@ pub record IsHeader (h : Header) : Type 0 where
   pub groups_few : length h.groups ≤ 8
   pub groups : AllByRecursion (IsString 1 64) h.groups
   pub files : AreHeaderFiles (length h.groups) h.files
+  pub log_name : IsString 1 64 h.log_name
+  pub log_path : IsString 1 100 h.log_path
+
+-- what a header keeps beside its types
+
+-- the first branch starts at 1, starts don't fall, and all are below last
+abbrev pub KeepsPath : ℕ → List Branch → Type 0
+KeepsPath last [] = ⊥
+KeepsPath last (branch ∷ path) =
+    (branch.start ≡ 1) × (StartsRiseFrom 1 path × AllByRecursion (λ b. b.start < last) (branch ∷ path))
+
+-- a path of 1 to 100 bytes
+abbrev pub HasPath : HeaderFile → Type 0
+HasPath file = (1 ≤ length file.spec.path) × (length file.spec.path ≤ 100)
+
+-- 1 to 16 data files, numbered from 1, whose groups are there, with at most 4,096 extents in all
+pub record KeepFiles (groups : ℕ) (files : List HeaderFile) : Type 0 where
+  pub some : 0 < length files
+  pub few : length files ≤ 16
+  pub numbered : AreNumbered 1 files
+  pub groups_there : AllByRecursion (λ file. file.spec.group < groups) files
+  pub paths : All HasPath files
+  pub small : total_extents files ≤ 4096
+
+pub record KeepsConditions (h : Header) : Type 0 where
+  pub version : h.version ≡ 1
+  pub range : IsRange h.kind h.first h.checkpoint h.last
+  pub base_there : HasItsBase h.kind h.base
+  pub start : IsTime h.start
+  pub finish : IsTime h.finish
+  pub expiry : IsExpiry h.expiry
+  pub name_short : length h.name < 2 ^ 16
+  pub path : KeepsPath h.last h.path
+  pub path_short : length h.path ≤ 64
+  pub groups_some : 0 < length h.groups
+  pub groups_few : length h.groups ≤ 8
+  pub files : KeepFiles (length h.groups) h.files
+  pub log_path_some : 1 ≤ length h.log_path
+  pub log_path_short : length h.log_path ≤ 100
+
+-- what the types of a header's fields of one length say
+pub record HasRanges (h : Header) : Type 0 where
+  pub set : IsGuid h.set
+  pub family : IsGuid h.family
+  pub first : h.first < 2 ^ 64
+  pub checkpoint : h.checkpoint < 2 ^ 64
+  pub last : h.last < 2 ^ 64
+  pub database_backup : h.database_backup < 2 ^ 64
+  pub base : IsBase h.base
+
+-- what the types of a file's fields say
+pub record HasFileRanges (file : HeaderFile) : Type 0 where
+  pub extents : file.spec.extents < 2 ^ 32
+  pub name : IsString 1 64 file.spec.name
+  pub path : IsString 1 100 file.spec.path
+
+-- what the types of a header's lists and texts say
+pub record HasListRanges (h : Header) : Type 0 where
+  pub database : IsString 1 64 h.database
+  pub name : IsString 0 65535 h.name
+  pub guids : AllByRecursion (λ b. IsGuid b.guid) h.path
+  pub groups : AllByRecursion (IsString 1 64) h.groups
+  pub files : AllByRecursion HasFileRanges h.files
   pub log_name : IsString 1 64 h.log_name
   pub log_path : IsString 1 100 h.log_path
