@@ -80,7 +80,7 @@ six_bits a b c d e f =
     let la = bool_number-le a in let lb = bool_number-le b in let lc = bool_number-le c in
     let ld = bool_number-le d in let le = bool_number-le e in let lf = bool_number-le f in
     let is : n ≡ 1 * bool_number a + 2 * bool_number b + 4 * bool_number c + 8 * bool_number d + 16 * bool_number e + 32 * bool_number f =
-      omega (arith, flag-number a 1, flag-number b 2, flag-number c 4, flag-number d 8, flag-number e 16, flag-number f 32) in
+    omega (arith, flag-number a 1, flag-number b 2, flag-number c 4, flag-number d 8, flag-number e 16, flag-number f 32) in
     let na : n / 1 % 2 ≡ bool_number a = omega arith in
     let nb : n / 2 % 2 ≡ bool_number b = omega arith in
     let nc : n / 4 % 2 ≡ bool_number c = omega arith in
@@ -290,12 +290,32 @@ header_takes fixed lists h fits lists_fit e =
     let x = expiry_takes (bit fixed.what.flags 32) fixed.times.expiry expiry.0 expiry.1 in
     let flags : flags_of (header_of fixed base.0 expiry.0 lists) ≡ fixed.what.flags = rw (b.1.0, x.1.0) (flags_again fixed.what.flags fits.what) in
     let parts : ◌≡◌ {A = Fixed × Lists} (fixed_of (header_of fixed base.0 expiry.0 lists), lists_of (header_of fixed base.0 expiry.0 lists)) (fixed, lists) =
-      λ i. (record fixed { what = record fixed.what { flags = flags i }; base = b.0 i; times = record fixed.times { expiry = x.0 i } }, lists) in
+    λ i. (record fixed { what = record fixed.what { flags = flags i }; base = b.0 i; times = record fixed.times { expiry = x.0 i } }, lists) in
     let is : IsHeader (header_of fixed base.0 expiry.0 lists) = record {
-      version = refl; set = fits.set; family = fits.family; first = fits.range.first; checkpoint = fits.range.checkpoint; last = fits.range.last;
-      range = order.0; database_backup = fits.range.database_backup; base = b.1.1; base_there = order.1.0; start = order.1.1.0; finish = order.1.1.1; expiry = x.1.1;
-      database = lists_fit.database; name = lists_fit.name; path = limits.path; path_short = limits.path_short; groups_some = limits.groups_some;
-      groups_few = limits.groups_few; groups = lists_fit.groups.1; files = limits.files; log_name = lists_fit.log_name; log_path = lists_fit.log_path } in
+      version = refl;
+      set = fits.set;
+      family = fits.family;
+      first = fits.range.first;
+      checkpoint = fits.range.checkpoint;
+      last = fits.range.last;
+      range = order.0;
+      database_backup = fits.range.database_backup;
+      base = b.1.1;
+      base_there = order.1.0;
+      start = order.1.1.0;
+      finish = order.1.1.1;
+      expiry = x.1.1;
+      database = lists_fit.database;
+      name = lists_fit.name;
+      path = limits.path;
+      path_short = limits.path_short;
+      groups_some = limits.groups_some;
+      groups_few = limits.groups_few;
+      groups = lists_fit.groups.1;
+      files = limits.files;
+      log_name = lists_fit.log_name;
+      log_path = lists_fit.log_path;
+    } in
     subst (λ (k : Header). (◌≡◌ {A = Fixed × Lists} (fixed_of k, lists_of k) (fixed, lists)) × IsHeader k) g.1 (parts, is)
 
 header_bits : (h : Header) → HasBits (flags_of h) h.copy_only h.bulk h.begins_chain h.checksums (is_some h.base) (is_some h.expiry)
@@ -308,18 +328,20 @@ header_gives h is =
     let base : base_in (bit (flags_of h) 16) (base_or_zero h.base) ≡ Some h.base = rw bits.base (base_gives h.base) in
     let expiry : expiry_in (bit (flags_of h) 32) (time_or_zero h.expiry) ≡ Some h.expiry = rw bits.expiry (expiry_gives h.expiry is.expiry) in
     let order : keeps_order (fixed_of h) h.base ≡ true =
-      and_from _ _ (and_from _ _ (and_from _ _ (range_from h.kind h.first h.checkpoint h.last is.range) (has_base_from h.kind h.base is.base_there)) (le-leb _ _ is.start)) (le-leb _ _ is.finish) in
+    and_from _ _ (and_from _ _ (and_from _ _ (range_from h.kind h.first h.checkpoint h.last is.range) (has_base_from h.kind h.base is.base_there)) (le-leb _ _ is.start)) (le-leb _ _ is.finish) in
     let limits : keeps_limits h.last (lists_of h) ≡ true = limits_from h.last (lists_of h) (record { path = is.path; path_short = is.path_short; groups_some = is.groups_some; groups_few = is.groups_few; files = is.files }) in
     let test : (keeps_order (fixed_of h) h.base && keeps_limits h.last (lists_of h)) ≡ true = and_from _ _ order limits in
     let same : header_of (fixed_of h) h.base h.expiry (lists_of h) ≡ h =
-      λ i. record h { version = sym is.version i; copy_only = bits.copy_only i; bulk = bits.bulk i; begins_chain = bits.begins i; checksums = bits.checksums i } in
+    λ i. record h { version = sym is.version i; copy_only = bits.copy_only i; bulk = bits.bulk i; begins_chain = bits.begins i; checksums = bits.checksums i } in
     rw (base, expiry, test) (ap (λ (k : Header). Some k) same)
 
 header_fixed : (h : Header) → IsHeader h → IsFixed (fixed_of h)
 header_fixed h is =
     let bits = header_bits h in
     record {
-      what = bits.small; set = is.set; family = is.family;
+      what = bits.small;
+      set = is.set;
+      family = is.family;
       range = record { first = is.first; checkpoint = is.checkpoint; last = is.last; database_backup = is.database_backup };
       base = base_fits h.base is.base;
       times = record { start = omega (arith, is.start); finish = omega (arith, is.finish); expiry = expiry_small h.expiry is.expiry };

@@ -41,9 +41,9 @@ kind_form = converted (number 1) kind_at kind_number (λ _. Unit {0})
 -- the flags have 6 bits
 unfoldable pub what_form : Codec What
 what_form = converted (followed version_form (λ _. followed kind_form (λ _. followed model_form (λ _. number 1))))
-  (λ x. if nat_lt x.1.1.1 64 then Some (record { kind = x.1.0; model = x.1.1.0; flags = x.1.1.1 }) else None)
-  (λ what. (tt, (what.kind, (what.model, what.flags))))
-  (λ what. what.flags < 64)
+    (λ x. if nat_lt x.1.1.1 64 then Some (record { kind = x.1.0; model = x.1.1.0; flags = x.1.1.1 }) else None)
+    (λ what. (tt, (what.kind, (what.model, what.flags))))
+    (λ what. what.flags < 64)
 
 pub record IsInRange (range : Range) : Type 0 where
   pub first : range.first < 2 ^ 64
@@ -53,15 +53,15 @@ pub record IsInRange (range : Range) : Type 0 where
 
 unfoldable pub range_form : Codec Range
 range_form = converted (followed (number 8) (λ _. followed (number 8) (λ _. followed (number 8) (λ _. number 8))))
-  (λ x. Some (record { first = x.0; checkpoint = x.1.0; last = x.1.1.0; database_backup = x.1.1.1 }))
-  (λ range. (range.first, (range.checkpoint, (range.last, range.database_backup))))
-  IsInRange
+    (λ x. Some (record { first = x.0; checkpoint = x.1.0; last = x.1.1.0; database_backup = x.1.1.1 }))
+    (λ range. (range.first, (range.checkpoint, (range.last, range.database_backup))))
+    IsInRange
 
 unfoldable pub base_form : Codec Base
 base_form = converted (followed guid_form (λ _. number 8))
-  (λ x. Some (record { set = x.0; lsn = x.1 }))
-  (λ base. (base.set, base.lsn))
-  (λ base. IsGuid base.set × (base.lsn < 2 ^ 64))
+    (λ x. Some (record { set = x.0; lsn = x.1 }))
+    (λ base. (base.set, base.lsn))
+    (λ base. IsGuid base.set × (base.lsn < 2 ^ 64))
 
 pub record AreTimes (times : Times) : Type 0 where
   pub start : times.start < 2 ^ 64
@@ -70,9 +70,9 @@ pub record AreTimes (times : Times) : Type 0 where
 
 unfoldable pub times_form : Codec Times
 times_form = converted (followed (number 8) (λ _. followed (number 8) (λ _. number 8)))
-  (λ x. Some (record { start = x.0; finish = x.1.0; expiry = x.1.1 }))
-  (λ times. (times.start, (times.finish, times.expiry)))
-  AreTimes
+    (λ x. Some (record { start = x.0; finish = x.1.0; expiry = x.1.1 }))
+    (λ times. (times.start, (times.finish, times.expiry)))
+    AreTimes
 
 pub record IsFixed (fixed : Fixed) : Type 0 where
   pub what : fixed.what.flags < 64
@@ -84,9 +84,9 @@ pub record IsFixed (fixed : Fixed) : Type 0 where
 
 unfoldable pub fixed_form : Codec Fixed
 fixed_form = converted (followed what_form (λ _. followed (followed guid_form (λ _. guid_form)) (λ _. followed range_form (λ _. followed base_form (λ _. times_form)))))
-  (λ x. Some (record { what = x.0; set = x.1.0.0; family = x.1.0.1; range = x.1.1.0; base = x.1.1.1.0; times = x.1.1.1.1 }))
-  (λ fixed. (fixed.what, ((fixed.set, fixed.family), (fixed.range, (fixed.base, fixed.times)))))
-  IsFixed
+    (λ x. Some (record { what = x.0; set = x.1.0.0; family = x.1.0.1; range = x.1.1.0; base = x.1.1.1.0; times = x.1.1.1.1 }))
+    (λ fixed. (fixed.what, ((fixed.set, fixed.family), (fixed.range, (fixed.base, fixed.times)))))
+    IsFixed
 
 -- ---- lists
 
@@ -96,9 +96,9 @@ pub record IsBranch (branch : Branch) : Type 0 where
 
 unfoldable pub branch_form : Codec Branch
 branch_form = converted (followed guid_form (λ _. number 8))
-  (λ x. Some (record { guid = x.0; start = x.1 }))
-  (λ branch. (branch.guid, branch.start))
-  IsBranch
+    (λ x. Some (record { guid = x.0; start = x.1 }))
+    (λ branch. (branch.guid, branch.start))
+    IsBranch
 
 -- whether a file is in the set
 abbrev pub in_set_at : ℕ → Option Bool
@@ -118,10 +118,10 @@ pub record IsFile (file : HeaderFile) : Type 0 where
 
 unfoldable pub file_form : Codec HeaderFile
 file_form = converted
-  (followed (number 2) (λ _. followed (number 1) (λ _. followed (number 4) (λ _. followed in_set_form (λ _. followed (string 1 64) (λ _. string 1 100))))))
-  (λ x. Some (record { spec = record { number = x.0; group = x.1.0; extents = x.1.1.0; name = x.1.1.1.1.0; path = x.1.1.1.1.1 }; in_set = x.1.1.1.0 }))
-  (λ file. (file.spec.number, (file.spec.group, (file.spec.extents, (file.in_set, (file.spec.name, file.spec.path))))))
-  IsFile
+    (followed (number 2) (λ _. followed (number 1) (λ _. followed (number 4) (λ _. followed in_set_form (λ _. followed (string 1 64) (λ _. string 1 100))))))
+    (λ x. Some (record { spec = record { number = x.0; group = x.1.0; extents = x.1.1.0; name = x.1.1.1.1.0; path = x.1.1.1.1.1 }; in_set = x.1.1.1.0 }))
+    (λ file. (file.spec.number, (file.spec.group, (file.spec.extents, (file.in_set, (file.spec.name, file.spec.path))))))
+    IsFile
 
 pub record AreLists (lists : Lists) : Type 0 where
   pub database : IsString 1 64 lists.database
@@ -134,10 +134,10 @@ pub record AreLists (lists : Lists) : Type 0 where
 
 unfoldable pub lists_form : Codec Lists
 lists_form = converted
-  (followed (string 1 64) (λ _. followed (string 0 65535) (λ _. followed (counted 2 branch_form) (λ _. followed (counted 1 (string 1 64)) (λ _. followed (counted 2 file_form) (λ _. followed (string 1 64) (λ _. string 1 100)))))))
-  (λ x. Some (record { database = x.0; name = x.1.0; path = x.1.1.0; groups = x.1.1.1.0; files = x.1.1.1.1.0; log_name = x.1.1.1.1.1.0; log_path = x.1.1.1.1.1.1 }))
-  (λ lists. (lists.database, (lists.name, (lists.path, (lists.groups, (lists.files, (lists.log_name, lists.log_path)))))))
-  AreLists
+    (followed (string 1 64) (λ _. followed (string 0 65535) (λ _. followed (counted 2 branch_form) (λ _. followed (counted 1 (string 1 64)) (λ _. followed (counted 2 file_form) (λ _. followed (string 1 64) (λ _. string 1 100)))))))
+    (λ x. Some (record { database = x.0; name = x.1.0; path = x.1.1.0; groups = x.1.1.1.0; files = x.1.1.1.1.0; log_name = x.1.1.1.1.1.0; log_path = x.1.1.1.1.1.1 }))
+    (λ lists. (lists.database, (lists.name, (lists.path, (lists.groups, (lists.files, (lists.log_name, lists.log_path)))))))
+    AreLists
 
 -- ---- what a header's parts make, where they keep the conditions
 

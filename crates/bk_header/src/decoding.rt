@@ -44,5 +44,4 @@ pub fn decode(alloc: Global, b: &[u8]) -> Result<Option<(Header, usize)>, AllocE
 /// A header has one spelling, and none is a proper front of another's.
 pub fn header_law()
     ensures { (h other : Header) (a b : List ℕ) → IsHeader h → IsHeader other → spelling h ++ a ≡ spelling other ++ b → (h ≡ other) × (a ≡ b) }
-{
-}
+{}

@@ -24,7 +24,12 @@ fn append_name(out: &mut Vec<u8>, name: &Name) -> Result<(), AllocError>
     Ok(())
 }
 
-fn append_string(out: &mut Vec<u8>, text: &Text, least: usize, most: usize) -> Result<(), AllocError>
+fn append_string(
+    out: &mut Vec<u8>,
+    text: &Text,
+    least: usize,
+    most: usize,
+) -> Result<(), AllocError>
     requires least_bytes { least ≤ length text.now }
     requires most_bytes { length text.now ≤ most }
     requires small { most < 2 ^ 16 }
@@ -135,6 +140,15 @@ fn append_fixed(out: &mut Vec<u8>, h: &Header) -> Result<(), AllocError>
     Ok(())
 }
 
+fn append_branch(out: &mut Vec<u8>, branch: Branch) -> Result<(), AllocError>
+    ensures ok { OnOk result (out.new.items ≡ out.old.items ++ branch_bytes branch) }
+    ensures fits { OnOk result (IsGuid branch.guid) }
+{
+    append_guid(out, branch.guid)?;
+    append_u64(out, branch.start)?;
+    Ok(())
+}
+
 fn append_path(out: &mut Vec<u8>, path: &[Branch]) -> Result<(), AllocError>
     requires { length path.now ≤ 64 }
     ensures ok { OnOk result (out.new.items ≡ out.old.items ++ (bytes_of 2 (length path.now) ++ flat_map branch_bytes path.now)) }
@@ -142,8 +156,7 @@ fn append_path(out: &mut Vec<u8>, path: &[Branch]) -> Result<(), AllocError>
 {
     append_u16(out, path.len() as u16)?;
     for branch in path {
-        append_guid(out, branch.guid)?;
-        append_u64(out, branch.start)?;
+        append_branch(out, *branch)?;
     }
     Ok(())
 }

@@ -1,4 +1,6 @@
-//! The header of a backup set as bytes.
+//! The header of a backup set as bytes, in version 1 of its layout.
+//!
+//! A header has one spelling, and no spelling is a proper front of another's.
 #![tactic(auto)]
 
 mod decoding;
@@ -8,5 +10,8 @@ mod lists;
 mod making;
 mod unread;
 
-pub use encoding::encode;
 pub use decoding::{decode, header_law};
+pub use encoding::encode;
+
+#[cfg(test)]
+mod tests;

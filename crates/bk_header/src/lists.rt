@@ -37,7 +37,12 @@ fn read_name(alloc: Global, bytes: &[u8]) -> Result<(Name, &[u8]), Unread>
     }
 }
 
-fn read_text(alloc: Global, bytes: &[u8], least: usize, most: usize) -> Result<(Text, &[u8]), Unread>
+fn read_text(
+    alloc: Global,
+    bytes: &[u8],
+    least: usize,
+    most: usize,
+) -> Result<(Text, &[u8]), Unread>
     ensures { Reads (λ x. (x.0, x.1.now)) result ((string least most).reading bytes.now) }
 {
     let Some((text, rest)) = split_str(bytes, least, most) else {

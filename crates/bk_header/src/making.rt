@@ -39,7 +39,11 @@ fn expiry_of(there: bool, time: u64) -> Option<Option<u64>>
     ensures { result ≡ expiry_in there time }
 {
     if there {
-        return if time <= LAST_TIME { Some(Some(time)) } else { None };
+        return if time <= LAST_TIME {
+            Some(Some(time))
+        } else {
+            None
+        };
     }
     if time == 0 { Some(None) } else { None }
 }
@@ -109,7 +113,9 @@ fn count_from_one(files: &[HeaderFile]) -> bool
 fn have_groups(files: &[HeaderFile], groups: usize) -> bool
     ensures { result ≡ list_all (λ file. nat_lt file.spec.group groups) files.now }
 {
-    files.iter().all(|file| usize::from(file.spec.group) < groups)
+    files
+        .iter()
+        .all(|file| usize::from(file.spec.group) < groups)
 }
 
 fn extents(files: &[HeaderFile]) -> u64
