@@ -21,12 +21,12 @@ pub guid_form-IsCodec : IsCodec Guid guid_form
 unfolding guid_form halves
 guid_form-IsCodec = converted-IsCodec (number 16) (λ n. Some (halves n)) guid_number IsGuid (number-IsCodec 16) (record {
   takes = λ n guid fits e.
-    let is : halves n ≡ guid = some_is (halves n) guid e in
-    subst (λ (g : Guid). (guid_number g ≡ n) × IsGuid g) is (omega arith, record { high = omega arith; low = omega arith });
+      let is : halves n ≡ guid = some_is (halves n) guid e in
+      subst (λ (g : Guid). (guid_number g ≡ n) × IsGuid g) is (omega arith, record { high = omega arith; low = omega arith });
   gives = λ guid fits.
-    let high : guid_number guid / 2 ^ 64 ≡ guid.high = omega (arith, fits.high, fits.low) in
-    let low : guid_number guid % 2 ^ 64 ≡ guid.low = omega (arith, fits.high, fits.low) in
-    (ap (λ (g : Guid). Some g) (rebuilt (guid_number guid) guid high low), omega (arith, fits.high, fits.low));
+      let high : guid_number guid / 2 ^ 64 ≡ guid.high = omega (arith, fits.high, fits.low) in
+      let low : guid_number guid % 2 ^ 64 ≡ guid.low = omega (arith, fits.high, fits.low) in
+      (ap (λ (g : Guid). Some g) (rebuilt (guid_number guid) guid high low), omega (arith, fits.high, fits.low));
 })
 
 pub model_form-IsCodec : IsCodec RecoveryModel model_form
@@ -38,6 +38,7 @@ model_form-IsCodec = converted-IsCodec (number 1) model_at model_number (λ _. U
     model_takes (suc zero) model e = ap model_number (sym (some_is Full model e))
     model_takes (suc (suc zero)) model e = ap model_number (sym (some_is BulkLogged model e))
     model_takes (suc (suc (suc n))) model e = absurd cc
+
     model_gives : (model : RecoveryModel) → Unit {0} → (model_at (model_number model) ≡ Some model) × (model_number model < 256 ^ 1)
     model_gives Simple h = (refl, lit< tt)
     model_gives Full h = (refl, lit< tt)

@@ -36,5 +36,4 @@ pub fn append_guid(out: &mut Vec<u8>, guid: Guid) -> Result<(), AllocError>
 /// What is read as a GUID is spelled so, and what is spelled so is read, whatever follows.
 pub fn guid_law()
     ensures { IsCodec Guid guid_form }
-{
-}
+{}

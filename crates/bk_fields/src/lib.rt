@@ -6,3 +6,6 @@ mod model;
 
 pub use guid::{append_guid, guid_law, split_guid};
 pub use model::{append_model, model_law, split_model};
+
+#[cfg(test)]
+mod tests;

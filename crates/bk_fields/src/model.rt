@@ -39,5 +39,4 @@ pub fn append_model(out: &mut Vec<u8>, model: RecoveryModel) -> Result<(), Alloc
 /// What is read as a recovery model is spelled so, and what is spelled so is read, whatever follows.
 pub fn model_law()
     ensures { IsCodec RecoveryModel model_form }
-{
-}
+{}

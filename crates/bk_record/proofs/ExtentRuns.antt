@@ -1,10 +1,10 @@
 -- Extents over bytes are the extents that a count of them reads.
-use Rattle.std.proofs.Common.{◌≡◌, ℕ, zero, suc, ◌+◌, ◌-◌, ◌*◌, ◌/◌, ◌<◌, ◌≤◌, Bool, true, false, cond, ltb, List, [], ◌∷◌, length, take, drop, Option, Some, None, refl, sym, ap, ◌∙◌, arith, inl, inr}
+use Rattle.std.proofs.Common.{◌≡◌, ℕ, zero, suc, ◌+◌, ◌*◌, ◌/◌, ◌<◌, ◌≤◌, true, false, ltb, List, [], ◌∷◌, length, take, drop, Some, None, refl, ap, ◌∙◌, arith, inl, inr}
 use Rattle.std.proofs.lemmas.Bool.{cases_lt, ltb-false, le-ltb, lt-ltb}
 use Rattle.std.proofs.lemmas.List.{length-drop, length-take, drop-drop, drop-take}
 use Rattle.bk_ids.specs.declared.record.ExtentId.{ExtentId}
 use Rattle.bk_bytes.specs.Field.{number_of}
-use Rattle.bk_bytes.specs.Codec.{◌>>=◌, number_at, run_at, times_at, list_at}
+use Rattle.bk_bytes.specs.Codec.{number_at, run_at, times_at, list_at}
 use Rattle.bk_bytes.proofs.Fields.{number_of-take}
 use Rattle.bk_bytes.proofs.Codecs.{guard_false, some}
 use Rattle.bk_record.specs.Reading.{extent_form}

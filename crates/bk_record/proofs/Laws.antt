@@ -1,5 +1,5 @@
 -- A record that is read is spelled so, and a record that is spelled is read.
-use Rattle.std.proofs.Common.{◌≡◌, ℕ, zero, suc, ◌+◌, ◌-◌, ◌^◌, ◌<◌, ◌≤◌, Bool, true, false, cond, ltb, List, [], ◌∷◌, ◌++◌, length, replicate, take, drop, Option, Some, None, refl, sym, ap, subst, ◌∙◌, append_assoc, arith, lit<}
+use Rattle.std.proofs.Common.{◌≡◌, ℕ, zero, suc, ◌^◌, ◌<◌, true, cond, ltb, List, [], ◌∷◌, ◌++◌, length, Option, Some, None, refl, sym, ap, subst, ◌∙◌, arith, lit<}
 use Rattle.std.specs.Prelude.{is_some, MatchOption}
 use Rattle.std.specs.Borrow.{Bor}
 use Rattle.std.proofs.lemmas.Bool.{lt-ltb, ltb-true}
@@ -13,7 +13,7 @@ use Rattle.bk_ids.specs.declared.record.Rec.{Rec}
 use Rattle.bk_ids.specs.declared.record.Body.{Body}
 use Rattle.bk_ids.specs.declared.record.Body.TheVariants.{Database, Table, Begin, Write, Commit, RollbackEnd, Compensation, Checkpoint, Stamp, Model, Bulk, Recovery}
 use Rattle.bk_bytes.specs.Field.{AreBytes, bytes_of}
-use Rattle.bk_bytes.specs.Codec.{◌>>=◌, Gives, Codec, IsCodec, Converts, IsString, run_at, number, run, zeros, string, followed, converted, counted, framed}
+use Rattle.bk_bytes.specs.Codec.{◌>>=◌, Gives, Codec, IsCodec, IsString, run_at, number}
 use Rattle.bk_bytes.specs.Cell.{IsCell, cell_form}
 use Rattle.bk_bytes.proofs.Codecs.{AreBytes-front, number-IsCodec, run-IsCodec, zeros-IsCodec, string-IsCodec, followed-IsCodec, converted-IsCodec, counted-IsCodec, framed-IsCodec, guard_true, some, some_is, bind_some}
 use Rattle.bk_bytes.proofs.Cells.{is_some-cell, is_cell-from_some, length-cell_bytes}
@@ -22,8 +22,8 @@ use Rattle.bk_fields.specs.Models.{model_form}
 use Rattle.bk_fields.proofs.Laws.{guid_form-IsCodec, model_form-IsCodec}
 use Rattle.bk_record.specs.declared.view.RecRef.{RecRef}
 use Rattle.bk_record.specs.View.{record_of}
-use Rattle.bk_record.specs.Spelling.{IsPlace, IsExtent, IsMark, IsDescription, IsBody, IsRecord, body_bytes, kind_of, description_of, inside, spelling, text_bytes, extent_bytes, mark_bytes, BeginsWith, IsUnspelled}
-use Rattle.bk_record.specs.Reading.{place_form, extent_form, image_form, description_in, mark_in, mark_texts, mark_form, database_fields, table_fields, write_fields, commit_fields, compensation_fields, stamp_fields, model_fields, bulk_fields, made_of, database_at, table_at, write_at, commit_at, compensation_at, checkpoint_at, stamp_at, model_at, bulk_at, recovery_at, body_at, body_form, inside_form, record_form}
+use Rattle.bk_record.specs.Spelling.{IsPlace, IsExtent, IsMark, IsDescription, IsBody, IsRecord, body_bytes, kind_of, description_of, spelling, mark_bytes, BeginsWith, IsUnspelled}
+use Rattle.bk_record.specs.Reading.{place_form, extent_form, image_form, mark_in, mark_texts, mark_form, database_fields, table_fields, write_fields, commit_fields, compensation_fields, stamp_fields, model_fields, bulk_fields, made_of, database_at, table_at, write_at, commit_at, compensation_at, checkpoint_at, stamp_at, model_at, bulk_at, recovery_at, body_at, body_form, inside_form, record_form}
 
 -- ---- places, extents, images, marks
 

@@ -1,6 +1,6 @@
 -- The steps of a walk over a log.
-use Rattle.std.proofs.Common.{◌≡◌, ℕ, zero, suc, ◌+◌, ◌-◌, ◌<◌, ◌≤◌, Bool, true, false, eqb, List, [], ◌∷◌, ◌++◌, length, take, drop, Option, Some, None, refl, sym, ap, subst, ◌∙◌, append_assoc, arith, length-append, zero-add}
-use Rattle.std.proofs.lemmas.List.{length-drop, length-take, drop-drop, drop_at, drop_all, take_rest, append-nil}
+use Rattle.std.proofs.Common.{◌≡◌, ℕ, ◌+◌, ◌-◌, ◌<◌, ◌≤◌, true, false, eqb, List, [], ◌∷◌, ◌++◌, length, take, drop, Option, Some, None, refl, sym, ap, subst, ◌∙◌, append_assoc, arith, length-append, zero-add}
+use Rattle.std.proofs.lemmas.List.{length-drop, length-take, drop-drop, drop_at, drop_all, append-nil}
 use Rattle.std.specs.List.{flat_map, AllByRecursion}
 use Rattle.std.proofs.lemmas.List.Concat.{flat_map-append}
 use Rattle.bk_ids.specs.declared.record.Rec.{Rec}
@@ -9,7 +9,7 @@ use Rattle.bk_bytes.proofs.Fields.{length-bytes_of}
 use Rattle.bk_record.proofs.Laws.{one_record}
 use Rattle.bk_record.specs.declared.walk.BadRecord.{BadRecord}
 use Rattle.bk_record.specs.Spelling.{spelling, inside, IsRecord, BeginsWith, IsUnspelled}
-use Rattle.bk_record.specs.Log.{Left, Reads, BreaksOff, IsBad, Ends, IsLog}
+use Rattle.bk_record.specs.Log.{Left, Reads, BreaksOff, Ends, IsLog}
 
 -- what a walk over bytes has left at a place
 abbrev pub left_at : List ℕ → ℕ → Left

@@ -1,5 +1,5 @@
 -- Log records one after the other, and where reading them breaks off.
-use Rattle.std.specs.Prelude.{◌≡◌, ◌≢◌, ℕ, ◌+◌, List, [], ◌∷◌, ◌++◌, length, Option, Some, None, Result, Ok, Err}
+use Rattle.std.specs.Prelude.{◌≡◌, ◌≢◌, ℕ, ◌+◌, List, [], ◌++◌, length, Option, Some, None, Result, Ok, Err}
 use Rattle.std.specs.List.{flat_map, AllByRecursion}
 use Rattle.bk_ids.specs.declared.record.Rec.{Rec}
 use Rattle.bk_record.specs.declared.walk.BadRecord.{BadRecord}

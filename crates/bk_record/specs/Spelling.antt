@@ -1,11 +1,8 @@
 -- How a log record is spelled, and which records have a spelling.
-use Rattle.std.specs.Prelude.{◌≡◌, ℕ, ◌+◌, ◌*◌, ◌^◌, ◌<◌, ◌≤◌, List, [], ◌∷◌, ◌++◌, length, replicate, Option, Some, None, IfSome}
+use Rattle.std.specs.Prelude.{◌≡◌, ℕ, ◌+◌, ◌*◌, ◌^◌, ◌<◌, ◌≤◌, List, [], ◌++◌, length, replicate, Option, Some, None, IfSome}
 use Rattle.std.specs.List.{flat_map, AllByRecursion}
-use Rattle.bk_ids.specs.declared.guid.Guid.{Guid}
 use Rattle.bk_ids.specs.declared.record.Place.{Place}
 use Rattle.bk_ids.specs.declared.record.ExtentId.{ExtentId}
-use Rattle.bk_ids.specs.declared.record.CellImage.{CellImage}
-use Rattle.bk_ids.specs.declared.record.RecoveryModel.{RecoveryModel}
 use Rattle.bk_ids.specs.declared.record.Mark.{Mark}
 use Rattle.bk_ids.specs.declared.record.Rec.{Rec}
 use Rattle.bk_ids.specs.declared.record.Body.{Body}

@@ -1,5 +1,4 @@
-use Rattle.std.proofs.Common.{◌<◌, ◌^◌, arith}
-use Rattle.bk_record.specs.Spelling.{IsRecord}
+use Rattle.std.proofs.Common.{arith}
 use Rattle.bk_record.proofs.Lengths.{inside_short}
 use Rattle.bk_record.proofs.writing.append_inside.Goals as goal
 

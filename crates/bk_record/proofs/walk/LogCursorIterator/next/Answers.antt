@@ -1,7 +1,4 @@
-use Rattle.std.proofs.Common.{rules, ◌≡◌, ◌≤◌, length, drop, ℕ, ◌+◌, ◌-◌, List, [], ◌∷◌, ◌++◌, Bor}
 use Rattle.std.proofs.lemmas.List.{take_rest}
-use Rattle.bk_record.specs.Log.{Left, IsNext, Reads, BreaksOff}
-use Rattle.bk_record.specs.Spelling.{BeginsWith, IsUnspelled}
 use Rattle.bk_record.specs.View.{record_of}
 use Rattle.bk_record.proofs.WalkSteps.{after_shorter, step_reads, step_breaks, reads_shorter, breaks_shorter}
 use Rattle.bk_record.proofs.walk.LogCursorIterator.next.Goals as goal
