@@ -1,0 +1,6 @@
+pub mod Fields
+pub mod Putting
+pub mod Texts
+pub mod Codecs
+pub mod Cells
+pub mod Loops

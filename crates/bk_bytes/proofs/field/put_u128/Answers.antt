@@ -1,0 +1,5 @@
+use Rattle.bk_bytes.proofs.Putting.{put_mid-field}
+use Rattle.bk_bytes.proofs.field.put_u128.Goals as goal
+
+pub returns : goal.returns
+returns c = put_mid-field 16 c.args.v c.args.at c.args.b.now c.write_u128.new.buf c.requires c.write_u128.ensures

@@ -1,0 +1,4 @@
+pub mod Field
+pub mod Codec
+pub mod Cell
+pub mod CellView

@@ -1,0 +1,5 @@
+use Rattle.bk_fields.proofs.Laws.{model_form-IsCodec}
+use Rattle.bk_fields.proofs.model.model_law.Goals as goal
+
+pub returns : goal.returns
+returns c = model_form-IsCodec

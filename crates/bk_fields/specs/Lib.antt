@@ -1,0 +1,2 @@
+pub mod Guids
+pub mod Models

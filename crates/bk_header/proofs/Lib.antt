@@ -1,0 +1,4 @@
+pub mod Readings
+pub mod Forms
+pub mod Laws
+pub mod Kept

@@ -1,0 +1,5 @@
+use Rattle.bk_header.proofs.Laws.{one_header}
+use Rattle.bk_header.proofs.decoding.header_law.Goals as goal
+
+pub returns : goal.returns
+returns c = one_header

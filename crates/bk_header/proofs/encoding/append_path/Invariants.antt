@@ -1,0 +1,14 @@
+use Rattle.std.proofs.Common.{◌≡◌, ◌++◌, length, take}
+use Rattle.std.specs.List.{flat_map, AllByRecursion}
+use Rattle.bk_bytes.specs.Field.{bytes_of}
+use Rattle.bk_bytes.specs.Codec.{IsString}
+use Rattle.bk_fields.specs.Guids.{IsGuid}
+use Rattle.bk_header.specs.Spelling.{branch_bytes, text_bytes, file_bytes}
+use Rattle.bk_header.specs.Conditions.{HasFileRanges}
+use Rattle.bk_header.proofs.encoding.append_path.Given as goal
+
+abbrev pub invariant-loop-branch : goal.invariant-loop-branch
+invariant-loop-branch l = record {
+  written : l.out.items ≡ l.fn.out.items ++ (bytes_of 2 (length l.path) ++ flat_map branch_bytes (take l.branch-index l.path));
+  fits : AllByRecursion (λ b. IsGuid b.guid) (take l.branch-index l.path);
+}

@@ -1,0 +1,5 @@
+pub mod Spelling
+pub mod Conditions
+pub mod Reading
+pub mod Decoding
+pub mod Found

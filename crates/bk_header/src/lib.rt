@@ -1,0 +1,17 @@
+//! The header of a backup set as bytes, in version 1 of its layout.
+//!
+//! A header has one spelling, and no spelling is a proper front of another's.
+#![tactic(auto)]
+
+mod decoding;
+mod encoding;
+mod fixed;
+mod lists;
+mod making;
+mod unread;
+
+pub use decoding::{decode, header_law};
+pub use encoding::encode;
+
+#[cfg(test)]
+mod tests;

@@ -1,0 +1,11 @@
+use Rattle.std.proofs.Common.{arith}
+use Rattle.bk_record.proofs.Lengths.{inside_short}
+use Rattle.bk_record.proofs.writing.append_inside.Goals as goal
+
+pub returns-clause-fits : goal.returns-clause-fits
+returns-clause-fits c = record {
+  lsn = omega arith;
+  begin = omega arith;
+  body = c.in_ok-append_body.ensures.fits;
+  len = inside_short c.args.r.now c.in_ok-append_body.ensures.fits c.requires;
+}

@@ -1,0 +1,5 @@
+pub mod Spelling
+pub mod Reading
+pub mod Extents
+pub mod View
+pub mod Log

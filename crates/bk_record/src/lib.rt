@@ -1,0 +1,22 @@
+//! Log records as bytes.
+//!
+//! A record is its whole length in 4 bytes, its kind, 3 zero bytes, its number, the number of its
+//! transaction's first record, and the fields of its kind. A record has one spelling, and no spelling is
+//! a proper front of another.
+#![tactic(auto)]
+
+mod check;
+mod extents;
+mod reading;
+mod view;
+mod walk;
+mod writing;
+
+pub use check::{check_log, log_law};
+pub use extents::Extents;
+pub use view::{BodyRef, MarkRef, RecRef};
+pub use walk::{BadRecord, LogCursor, cursor};
+pub use writing::encode;
+
+#[cfg(test)]
+mod tests;
