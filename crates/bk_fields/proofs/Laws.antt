@@ -1,9 +1,9 @@
 -- The laws of GUIDs and recovery models as fields.
-use Rattle.std.proofs.Common.{◌≡◌, ℕ, zero, suc, ◌+◌, ◌*◌, ◌/◌, ◌%◌, ◌^◌, ◌<◌, List, Option, Some, None, refl, sym, ap, subst, ◌∙◌, arith, lit<}
+use Rattle.std.proofs.Common.{◌≡◌, ℕ, zero, suc, ◌/◌, ◌%◌, ◌^◌, ◌<◌, Some, refl, sym, ap, subst, arith, lit<}
 use Rattle.bk_ids.specs.declared.guid.Guid.{Guid}
 use Rattle.bk_ids.specs.declared.record.RecoveryModel.{RecoveryModel}
 use Rattle.bk_ids.specs.declared.record.RecoveryModel.TheVariants.{Simple, Full, BulkLogged}
-use Rattle.bk_bytes.specs.Codec.{IsCodec, Converts, number}
+use Rattle.bk_bytes.specs.Codec.{IsCodec, number}
 use Rattle.bk_bytes.proofs.Codecs.{number-IsCodec, converted-IsCodec, some_is}
 use Rattle.bk_fields.specs.Guids.{guid_number, IsGuid, guid_form}
 use Rattle.bk_fields.specs.Models.{model_number, model_at, model_form}

@@ -1,5 +1,5 @@
 -- What is read of each part of a header is spelled so, and what is spelled so is read.
-use Rattle.std.proofs.Common.{◌≡◌, ℕ, zero, suc, ◌+◌, ◌^◌, ◌<◌, ◌≤◌, Bool, true, false, cond, eqb, ltb, List, length, Option, Some, None, refl, sym, ap, subst, ◌∙◌, arith, lit<}
+use Rattle.std.proofs.Common.{◌≡◌, ℕ, zero, suc, ◌^◌, ◌<◌, Bool, true, false, cond, eqb, ltb, Some, None, refl, sym, ap, subst, arith, lit<}
 use Rattle.std.proofs.lemmas.Bool.{lt-ltb, ltb-true, eqb-true}
 use Rattle.bk_ids.specs.declared.path.Branch.{Branch}
 use Rattle.bk_world.specs.declared.database.Base.{Base}
@@ -11,7 +11,7 @@ use Rattle.bk_header.specs.declared.fixed.Range.{Range}
 use Rattle.bk_header.specs.declared.fixed.Times.{Times}
 use Rattle.bk_header.specs.declared.fixed.Fixed.{Fixed}
 use Rattle.bk_header.specs.declared.lists.Lists.{Lists}
-use Rattle.bk_bytes.specs.Codec.{IsCodec, Converts, number}
+use Rattle.bk_bytes.specs.Codec.{IsCodec}
 use Rattle.bk_bytes.proofs.Codecs.{number-IsCodec, string-IsCodec, followed-IsCodec, converted-IsCodec, counted-IsCodec, guard_true, some_is}
 use Rattle.bk_fields.specs.Guids.{IsGuid, guid_form}
 use Rattle.bk_fields.specs.Models.{model_form}

@@ -1,13 +1,13 @@
 -- A header that keeps the conditions, and what its types say, have a spelling.
-use Rattle.std.proofs.Common.{◌≡◌, ℕ, ◌<◌, ◌≤◌, ◌+◌, List, [], ◌∷◌, length, get_or, Result, Ok, Err, refl, arith}
+use Rattle.std.proofs.Common.{ℕ, ◌<◌, List, [], ◌∷◌, length, Result, Ok, Err, arith}
 use Rattle.std.specs.Prelude.{OnOk}
-use Rattle.std.specs.List.{All, AllByRecursion}
+use Rattle.std.specs.List.{AllByRecursion}
 use Rattle.bk_ids.specs.declared.path.Branch.{Branch}
 use Rattle.bk_world.specs.declared.header.HeaderFile.{HeaderFile}
 use Rattle.bk_world.specs.declared.header.Header.{Header}
 use Rattle.std.proofs.lemmas.List.Elements.{All-from_recursion}
 use Rattle.bk_fields.specs.Guids.{IsGuid}
-use Rattle.bk_header.specs.Conditions.{IsHeaderPath, IsHeaderFile, AreHeaderFiles, IsHeader, KeepsPath, KeepFiles, KeepsConditions, HasPath, HasRanges, HasFileRanges, HasListRanges}
+use Rattle.bk_header.specs.Conditions.{IsHeaderPath, IsHeaderFile, IsHeader, KeepsPath, KeepsConditions, HasPath, HasRanges, HasFileRanges, HasListRanges}
 
 -- what holds whatever comes out
 pub always : {T E : Type 0} (r : Result T E) (P : Type 0) → P → OnOk r P

@@ -1,10 +1,9 @@
 -- A header that is read is spelled so and keeps the conditions, and a header that keeps them is read.
-use Rattle.std.proofs.Common.{◌≡◌, ℕ, zero, suc, ◌+◌, ◌-◌, ◌*◌, ◌/◌, ◌%◌, ◌^◌, ◌<◌, ◌≤◌, Bool, true, false, cond, eqb, ltb, leb, List, [], ◌∷◌, ◌++◌, length, drop, Option, Some, None, refl, sym, ap, subst, ◌∙◌, append_assoc, arith, lit<, length-append}
+use Rattle.std.proofs.Common.{◌≡◌, ℕ, zero, suc, ◌+◌, ◌-◌, ◌*◌, ◌/◌, ◌%◌, ◌^◌, ◌<◌, ◌≤◌, Bool, true, false, cond, eqb, ltb, leb, List, [], ◌∷◌, ◌++◌, length, drop, Option, Some, None, refl, sym, ap, subst, ◌∙◌, arith, lit<, length-append}
 use Rattle.std.specs.Prelude.{◌&&◌, is_some}
-use Rattle.std.specs.List.{flat_map, list_all, AllByRecursion}
+use Rattle.std.specs.List.{list_all, AllByRecursion}
 use Rattle.std.proofs.lemmas.Bool.{lt-ltb, ltb-true, le-leb, leb-true, eqb-true, eq-eqb, and_parts, and_from}
 use Rattle.std.proofs.lemmas.List.{drop_at}
-use Rattle.bk_ids.specs.declared.guid.Guid.{Guid}
 use Rattle.bk_ids.specs.declared.path.Branch.{Branch}
 use Rattle.bk_ids.specs.Path.{StartsRiseFrom}
 use Rattle.bk_world.specs.declared.database.Base.{Base}
@@ -14,8 +13,8 @@ use Rattle.bk_world.specs.declared.header.HeaderFile.{HeaderFile}
 use Rattle.bk_world.specs.declared.header.Header.{Header}
 use Rattle.bk_header.specs.declared.fixed.Fixed.{Fixed}
 use Rattle.bk_header.specs.declared.lists.Lists.{Lists}
-use Rattle.bk_bytes.specs.Field.{AreBytes, bytes_of}
-use Rattle.bk_bytes.specs.Codec.{◌>>=◌, IsCodec, Converts, IsString, followed}
+use Rattle.bk_bytes.specs.Field.{AreBytes}
+use Rattle.bk_bytes.specs.Codec.{◌>>=◌, IsCodec}
 use Rattle.bk_bytes.proofs.Codecs.{followed-IsCodec, converted-IsCodec, guard_true, some, some_is, bind_some}
 use Rattle.bk_fields.specs.Guids.{IsGuid, guid_form}
 use Rattle.bk_fields.specs.Models.{model_form}

@@ -1,5 +1,5 @@
 -- What a reader that stops has read.
-use Rattle.std.proofs.Common.{◌≡◌, ℕ, ◌-◌, ◌<◌, List, Option, None}
+use Rattle.std.proofs.Common.{◌≡◌, ℕ, ◌-◌, ◌<◌, List, Option}
 use Rattle.bk_bytes.specs.Codec.{times_at}
 use Rattle.bk_bytes.proofs.Loops.{with_front, stops}
 use Rattle.bk_header.specs.declared.unread.Unread.{Unread}

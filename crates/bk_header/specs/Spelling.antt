@@ -1,10 +1,8 @@
 -- How the header of a backup set is spelled.
 use Rattle.std.specs.Prelude.{ℕ, ◌+◌, Bool, List, ◌++◌, length, Option, Some, None, is_some, if◌then◌else◌}
 use Rattle.std.specs.List.{flat_map}
-use Rattle.bk_ids.specs.declared.guid.Guid.{Guid}
 use Rattle.bk_ids.specs.declared.path.Branch.{Branch}
 use Rattle.bk_world.specs.declared.database.Base.{Base}
-use Rattle.bk_world.specs.declared.database.FileSpec.{FileSpec}
 use Rattle.bk_world.specs.declared.header.SetKind.{SetKind}
 use Rattle.bk_world.specs.declared.header.SetKind.TheVariants.{Full, Log, File, Differential}
 use Rattle.bk_world.specs.declared.header.HeaderFile.{HeaderFile}

@@ -1,4 +1,4 @@
-use Rattle.std.proofs.Common.{◌≡◌, arith}
+use Rattle.std.proofs.Common.{arith}
 use Rattle.bk_bytes.specs.Field.{AreBytes}
 use Rattle.bk_header.proofs.Laws.{header_found, header_shorter, header_unread}
 use Rattle.bk_header.proofs.decoding.decode.Goals as goal

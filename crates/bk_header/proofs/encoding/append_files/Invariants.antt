@@ -1,9 +1,7 @@
 use Rattle.std.proofs.Common.{◌≡◌, ◌++◌, length, take}
 use Rattle.std.specs.List.{flat_map, AllByRecursion}
 use Rattle.bk_bytes.specs.Field.{bytes_of}
-use Rattle.bk_bytes.specs.Codec.{IsString}
-use Rattle.bk_fields.specs.Guids.{IsGuid}
-use Rattle.bk_header.specs.Spelling.{branch_bytes, text_bytes, file_bytes}
+use Rattle.bk_header.specs.Spelling.{file_bytes}
 use Rattle.bk_header.specs.Conditions.{HasFileRanges}
 use Rattle.bk_header.proofs.encoding.append_files.Given as goal
 

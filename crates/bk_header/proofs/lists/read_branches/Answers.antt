@@ -1,4 +1,3 @@
-use Rattle.std.proofs.Common.{◌≡◌, ◌++◌, ◌∷◌, []}
 use Rattle.bk_bytes.specs.Codec.{times_at}
 use Rattle.bk_bytes.proofs.Loops.{goes_on, is_done, stops}
 use Rattle.bk_header.specs.Reading.{branch_form}

@@ -1,4 +1,4 @@
-use Rattle.std.proofs.Common.{◌≡◌, length, arith}
+use Rattle.std.proofs.Common.{arith}
 use Rattle.bk_bytes.proofs.Codecs.{string_at-IsString}
 use Rattle.bk_header.proofs.lists.read_name.Goals as goal
 
