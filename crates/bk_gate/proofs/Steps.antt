@@ -1,0 +1,170 @@
+-- What the steps of sealing a blob did to the device.
+use Rattle.std.proofs.Common.{◌≡◌, ◌≢◌, ◌≤◌, ◌<◌, ◌^◌, ◌⊎◌, ℕ, ◌+◌, List, [], ◌∷◌, ◌++◌, length, map, max, take, get_or, Option, Some, None, Bool, true, false, refl, inl, inr, sym, ◌∙◌, ap, subst, arith}
+use Rattle.std.specs.Prelude.{slice_index}
+use Rattle.std.proofs.lemmas.Grind.{common_steps}
+use Rattle.bk_device.specs.Calls.{contents, read_at, written, IsTorn, LeavesWrite, LeavesSame, CallsOn, ChangesNothing}
+use Rattle.bk_device.specs.Compose.{effect_then, effect_weaken, effect_none, effect_of_call, effect_of_nothing}
+use Rattle.bk_device.specs.Disk.{Files, Disk, IsDurable}
+use Rattle.bk_device.specs.Effects.{Effect, IsName, MayLeaveOwn}
+use Rattle.bk_device.specs.Torn.{torn-refl, torn-written, length-torn, written-length}
+use Rattle.bk_gate.specs.Blobs.{number, number_bytes, sealed, spans_of, part_of}
+use Rattle.bk_gate.specs.Gate.{Stands, Quiet, Loose, IsAt, IsPrepared}
+use Rattle.bk_gate.proofs.Blobs.{front_stands, front_sealed, behind, mending, mended_sealed, no_blob, shorter, longer, same_front_byte, byte_written, equal_or_not, opened_sealed, opened_stands, shut_sealed}
+
+-- a crash leaves the blobs that there are
+abbrev pub Keeps : List ℕ → Disk → Files → Type 0
+Keeps name a image = sealed (image name) ≡ sealed (a.files name)
+
+pub torn-contents : (at n : ℕ) (before after : Option (List ℕ)) → LeavesWrite at n before after → IsTorn at n (contents before) (contents after)
+torn-contents at n before after leaves =
+    elim leaves [
+      | inl same ↦ let Torn : Option (List ℕ) → Type 0 = λ file. IsTorn at n (contents before) (contents file) in subst Torn (sym same) (torn-refl at n (contents before))
+      | inr wrote ↦ let Torn : Option (List ℕ) → Type 0 = λ file. IsTorn at n (contents before) (contents file) in subst Torn (sym wrote.1) wrote.2
+    ]
+
+-- files that agree up to the closed gate byte have the same blobs
+pub quiet_front : (spans : List (ℕ × ℕ)) (end : ℕ) (name : List ℕ) (a : Disk) (file : Option (List ℕ)) → Quiet spans end name a → take (end + 1) (contents file) ≡ take (end + 1) (contents (a.files name)) → sealed file ≡ sealed (a.files name)
+quiet_front spans end name a file quiet same =
+    front_sealed spans end (contents (a.files name)) (contents file) quiet.stands
+    (front_stands spans end (contents (a.files name)) (contents file) quiet.stands quiet.inside quiet.closed same)
+    (shorter end (contents (a.files name)) (contents file) same)
+
+pub quiet_none : (spans : List (ℕ × ℕ)) (end : ℕ) (name : List ℕ) (a : Disk) → Quiet spans end name a → Effect (IsName name) (Keeps name a) a a
+quiet_none spans end name a quiet = effect_none a (λ image mine. quiet_front spans end name a (image name) quiet (quiet.left (image name) (mine name refl)))
+
+-- a disk whose images agree with the old file
+pub quiet_by : (spans : List (ℕ × ℕ)) (end : ℕ) (name : List ℕ) (a b : Disk) → Quiet spans end name a → take (end + 1) (contents (b.files name)) ≡ take (end + 1) (contents (a.files name)) → ((content : Option (List ℕ)) → b.may name content → take (end + 1) (contents content) ≡ take (end + 1) (contents (a.files name))) → Quiet spans end name b
+quiet_by spans end name a b quiet front images = record {
+  stands = front_stands spans end (contents (a.files name)) (contents (b.files name)) quiet.stands quiet.inside quiet.closed front;
+  inside = longer end (contents (a.files name)) (contents (b.files name)) quiet.inside front;
+  closed = λ one. quiet.closed (sym (same_front_byte end (contents (a.files name)) (contents (b.files name)) front) ∙ one);
+  left = λ content may. images content may ∙ sym front;
+}
+
+-- a write behind it
+
+append_front : (end at n : ℕ) (name : List ℕ) (spans : List (ℕ × ℕ)) (a : Disk) (before after : Option (List ℕ)) → Quiet spans end name a → end < at → a.may name before → LeavesWrite at n before after → take (end + 1) (contents after) ≡ take (end + 1) (contents (a.files name))
+append_front end at n name spans a before after quiet past may leaves =
+    let was = quiet.left before may in
+    behind end at n (contents before) (contents after) (longer end (contents (a.files name)) (contents before) quiet.inside was) (omega (arith, past)) (torn-contents at n before after leaves) ∙ was
+
+pub append_crash : (spans : List (ℕ × ℕ)) (end at n : ℕ) (name : List ℕ) (a b : Disk) → Quiet spans end name a → end < at → CallsOn name (LeavesWrite at n) a b → Effect (IsName name) (Keeps name a) a b
+append_crash spans end at n name a b quiet past call =
+    effect_of_call (λ image before may leaves. quiet_front spans end name a (image name) quiet (append_front end at n name spans a before (image name) quiet past may leaves)) call
+
+-- a write that was refused
+pub refused_crash : (spans : List (ℕ × ℕ)) (end : ℕ) (name : List ℕ) (a b : Disk) → Quiet spans end name a → ChangesNothing a b → Effect (IsName name) (Keeps name a) a b
+refused_crash spans end name a b quiet call = effect_of_nothing (λ image mine. quiet_front spans end name a (image name) quiet (quiet.left (image name) (mine name refl))) call
+
+pub append_quiet : (spans : List (ℕ × ℕ)) (end at : ℕ) (name bytes : List ℕ) (a b : Disk) → Quiet spans end name a → end < at → CallsOn name (LeavesWrite at (length bytes)) a b → b.files name ≡ Some (written (contents (a.files name)) at bytes) → Quiet spans end name b
+append_quiet spans end at name bytes a b quiet past call wrote =
+    let file : contents (b.files name) ≡ written (contents (a.files name)) at bytes = ap contents wrote in
+    let front : take (end + 1) (contents (b.files name)) ≡ take (end + 1) (contents (a.files name)) =
+    ap (take (end + 1)) file ∙ behind end at (length bytes) (contents (a.files name)) (written (contents (a.files name)) at bytes) quiet.inside (omega (arith, past)) (torn-written at (contents (a.files name)) bytes) in
+    quiet_by spans end name a b quiet front (λ content may. let one = call.left content may in append_front end at (length bytes) name spans a one.0 content quiet past one.1 one.2)
+
+pub append_sealed : (spans : List (ℕ × ℕ)) (end at : ℕ) (name bytes : List ℕ) (a b : Disk) → Quiet spans end name a → end < at → b.files name ≡ Some (written (contents (a.files name)) at bytes) → sealed (b.files name) ≡ sealed (a.files name)
+append_sealed spans end at name bytes a b quiet past wrote =
+    quiet_front spans end name a (b.files name) quiet
+    (ap (λ (f : Option (List ℕ)). take (end + 1) (contents f)) wrote ∙ behind end at (length bytes) (contents (a.files name)) (written (contents (a.files name)) at bytes) quiet.inside (omega (arith, past)) (torn-written at (contents (a.files name)) bytes))
+
+-- closing a loose gate byte
+
+pub close_crash : (spans : List (ℕ × ℕ)) (end : ℕ) (name : List ℕ) (a b : Disk) → Loose spans end name a → Effect (IsName name) (λ image. LeavesWrite end 1 (a.files name) (image name)) a b → Effect (IsName name) (Keeps name a) a b
+close_crash spans end name a b loose effect =
+    effect_weaken (λ image leaves. mended_sealed spans end (contents (a.files name)) (contents (image name)) loose.stands loose.why (torn-contents end 1 (a.files name) (image name) leaves)) effect
+
+pub close_sealed : (spans : List (ℕ × ℕ)) (end : ℕ) (name : List ℕ) (a b : Disk) → Loose spans end name a → b.files name ≡ Some (written (contents (a.files name)) end (0 ∷ [])) → sealed (b.files name) ≡ sealed (a.files name)
+close_sealed spans end name a b loose wrote =
+    let file = ap contents wrote in
+    ap (λ (f : List ℕ). map (part_of f) (spans_of f)) file ∙ mended_sealed spans end (contents (a.files name)) (written (contents (a.files name)) end (0 ∷ [])) loose.stands loose.why (torn-written end (contents (a.files name)) (0 ∷ []))
+
+pub close_quiet : (spans : List (ℕ × ℕ)) (end : ℕ) (name : List ℕ) (a b : Disk) → Loose spans end name a → b.files name ≡ Some (written (contents (a.files name)) end (0 ∷ [])) → IsDurable b name → Quiet spans end name b
+close_quiet spans end name a b loose wrote durable =
+    let file : contents (b.files name) ≡ written (contents (a.files name)) end (0 ∷ []) = ap contents wrote in
+    let Of : List ℕ → Type 0 = Stands spans end in
+    let byte : slice_index (contents (b.files name)) end ≡ 0 = ap (λ (f : List ℕ). get_or f end 0) file ∙ byte_written end 0 (contents (a.files name)) loose.stands.within in
+    let size : length (contents (b.files name)) ≡ max (length (contents (a.files name))) (end + 1) = ap length file ∙ written-length end (contents (a.files name)) (0 ∷ []) loose.stands.within in
+    record {
+      stands = subst Of (sym file) (mending spans end (contents (a.files name)) (written (contents (a.files name)) end (0 ∷ [])) loose.stands loose.why (torn-written end (contents (a.files name)) (0 ∷ [])));
+      inside = omega (arith, size);
+      closed = λ one. absurd (omega (arith, byte, one));
+      left = λ content may. ap (λ (f : Option (List ℕ)). take (end + 1) (contents f)) (durable content may);
+    }
+
+-- a write behind the end, or one that is refused
+pub append_any : (spans : List (ℕ × ℕ)) (end at n : ℕ) (name : List ℕ) (a b : Disk) → Quiet spans end name a → (at < 2 ^ 62 → end < at) → CallsOn name (LeavesWrite at n) a b → (2 ^ 62 ≤ at + n → ChangesNothing a b) → Effect (IsName name) (Keeps name a) a b
+append_any spans end at n name a b quiet past call refused =
+    elim (order at) [
+      | inl small ↦ append_crash spans end at n name a b quiet (past small) call
+      | inr great ↦ refused_crash spans end name a b quiet (refused (omega (arith, great)))
+    ]
+  where
+    order : (at : ℕ) → (at < 2 ^ 62) ⊎ (2 ^ 62 ≤ at)
+    order at = grind (arith, common_steps)
+
+-- syncing, with the gate byte closed
+
+pub settle_crash : (spans : List (ℕ × ℕ)) (end : ℕ) (name : List ℕ) (a b : Disk) → Quiet spans end name a → CallsOn name LeavesSame a b → Effect (IsName name) (Keeps name a) a b
+settle_crash spans end name a b quiet call =
+    effect_of_call (λ image before may same. ap sealed same ∙ quiet_front spans end name a before quiet (quiet.left before may)) call
+
+pub settle_quiet : (spans : List (ℕ × ℕ)) (end : ℕ) (name : List ℕ) (a b : Disk) → Quiet spans end name a → IsDurable b name → b.files name ≡ a.files name → Quiet spans end name b
+settle_quiet spans end name a b quiet durable same =
+    let front : take (end + 1) (contents (b.files name)) ≡ take (end + 1) (contents (a.files name)) = ap (λ (f : Option (List ℕ)). take (end + 1) (contents f)) same in
+    quiet_by spans end name a b quiet front (λ content may. ap (λ (f : Option (List ℕ)). take (end + 1) (contents f)) (durable content may) ∙ front)
+
+-- steps that keep the blobs
+pub keeps_then : (name : List ℕ) (a b c : Disk) → sealed (b.files name) ≡ sealed (a.files name) → Effect (IsName name) (Keeps name a) a b → Effect (IsName name) (Keeps name b) b c → Effect (IsName name) (Keeps name a) a c
+keeps_then name a b c same first second = effect_then first (effect_weaken (λ image kept. kept ∙ same) second)
+
+-- opening the gate byte
+
+abbrev pub KeepsOrAdds : List ℕ → Disk → List ℕ → Files → Type 0
+KeepsOrAdds name a blob image = (sealed (image name) ≡ sealed (a.files name)) ⊎ (sealed (image name) ≡ sealed (a.files name) ++ blob ∷ [])
+
+pub open_crash : (spans : List (ℕ × ℕ)) (end size : ℕ) (name : List ℕ) (a b : Disk) → Quiet spans end name a → IsPrepared end size (contents (a.files name)) → Effect (IsName name) (λ image. LeavesWrite end 1 (a.files name) (image name)) a b → Effect (IsName name) (KeepsOrAdds name a (read_at (contents (a.files name)) (end + 9) size)) a b
+open_crash spans end size name a b quiet prepared effect =
+    effect_weaken (λ image leaves.
+    let torn = torn-contents end 1 (a.files name) (image name) leaves in
+    elim (equal_or_not (slice_index (contents (image name)) end) 1) [
+      | inl one ↦ inr (opened_sealed spans end size (contents (a.files name)) (contents (image name)) quiet.stands prepared torn one)
+      | inr differ ↦ inl (shut_sealed spans end (contents (a.files name)) (contents (image name)) quiet.stands torn differ)
+    ]) effect
+
+pub open_sealed : (spans : List (ℕ × ℕ)) (end size : ℕ) (name : List ℕ) (a b : Disk) → Quiet spans end name a → IsPrepared end size (contents (a.files name)) → b.files name ≡ Some (written (contents (a.files name)) end (1 ∷ [])) → sealed (b.files name) ≡ sealed (a.files name) ++ read_at (contents (a.files name)) (end + 9) size ∷ []
+open_sealed spans end size name a b quiet prepared wrote =
+    let file = ap contents wrote in
+    ap (λ (f : List ℕ). map (part_of f) (spans_of f)) file
+    ∙ opened_sealed spans end size (contents (a.files name)) (written (contents (a.files name)) end (1 ∷ [])) quiet.stands prepared (torn-written end (contents (a.files name)) (1 ∷ [])) (byte_written end 1 (contents (a.files name)) quiet.stands.within)
+
+pub open_quiet : (spans : List (ℕ × ℕ)) (end size : ℕ) (name : List ℕ) (a b : Disk) → Quiet spans end name a → IsPrepared end size (contents (a.files name)) → b.files name ≡ Some (written (contents (a.files name)) end (1 ∷ [])) → IsDurable b name → Quiet (spans ++ (end + 9, size) ∷ []) (end + 9 + size) name b
+open_quiet spans end size name a b quiet prepared wrote durable =
+    let file : contents (b.files name) ≡ written (contents (a.files name)) end (1 ∷ []) = ap contents wrote in
+    let torn = torn-written end (contents (a.files name)) (1 ∷ []) in
+    let Of : List ℕ → Type 0 = Stands (spans ++ (end + 9, size) ∷ []) (end + 9 + size) in
+    let room : end + 9 + size < length (contents (a.files name)) = prepared.inside in
+    let lengths : length (contents (b.files name)) ≡ length (contents (a.files name)) = ap length file ∙ length-torn end 1 (contents (a.files name)) (written (contents (a.files name)) end (1 ∷ [])) (omega arith) torn in
+    let next : slice_index (contents (b.files name)) (end + 9 + size) ≡ slice_index (contents (a.files name)) (end + 9 + size) = ap (λ (f : List ℕ). get_or f (end + 9 + size) 0) file ∙ torn.outside (end + 9 + size) (omega arith) (inr (omega arith)) in
+    record {
+      stands = subst Of (sym file) (opened_stands spans end size (contents (a.files name)) (written (contents (a.files name)) end (1 ∷ [])) quiet.stands prepared torn (byte_written end 1 (contents (a.files name)) quiet.stands.within));
+      inside = omega (arith, lengths);
+      closed = λ one. prepared.closed (sym next ∙ one);
+      left = λ content may. ap (λ (f : Option (List ℕ)). take (end + 9 + size + 1) (contents f)) (durable content may);
+    }
+
+-- sealing: preparing, and then opening
+
+pub seal_crash : (spans : List (ℕ × ℕ)) (end size : ℕ) (name : List ℕ) (a b d : Disk) → sealed (b.files name) ≡ sealed (a.files name) → read_at (contents (b.files name)) (end + 9) size ≡ read_at (contents (a.files name)) (end + 9) size → Effect (IsName name) (Keeps name a) a b → Quiet spans end name b → IsPrepared end size (contents (b.files name)) → Effect (IsName name) (λ image. LeavesWrite end 1 (b.files name) (image name)) b d → Effect (IsName name) (KeepsOrAdds name a (read_at (contents (a.files name)) (end + 9) size)) a d
+seal_crash spans end size name a b d same blob first quiet prepared second =
+    effect_then (effect_weaken (λ image kept. inl kept) first)
+    (effect_weaken (λ image either. elim either [
+      | inl kept ↦ inl (kept ∙ same)
+      | inr added ↦ inr (added ∙ ap (λ (bs : List (List ℕ)). bs ++ read_at (contents (b.files name)) (end + 9) size ∷ []) same ∙ ap (λ (x : List ℕ). sealed (a.files name) ++ x ∷ []) blob)
+    ]) (open_crash spans end size name b d quiet prepared second))
+
+pub seal_value : (spans : List (ℕ × ℕ)) (end size : ℕ) (name : List ℕ) (a b d : Disk) → sealed (b.files name) ≡ sealed (a.files name) → read_at (contents (b.files name)) (end + 9) size ≡ read_at (contents (a.files name)) (end + 9) size → Quiet spans end name b → IsPrepared end size (contents (b.files name)) → d.files name ≡ Some (written (contents (b.files name)) end (1 ∷ [])) → sealed (d.files name) ≡ sealed (a.files name) ++ read_at (contents (a.files name)) (end + 9) size ∷ []
+seal_value spans end size name a b d same blob quiet prepared wrote =
+    open_sealed spans end size name b d quiet prepared wrote
+    ∙ ap (λ (bs : List (List ℕ)). bs ++ read_at (contents (b.files name)) (end + 9) size ∷ []) same
+    ∙ ap (λ (x : List ℕ). sealed (a.files name) ++ x ∷ []) blob
