@@ -347,3 +347,12 @@ adds file bytes at len inside =
 
 pub adds_length : (file bytes : List ℕ) (at : ℕ) → at ≤ length file → at + length bytes ≤ length (written file at bytes)
 adds_length file bytes at inside = omega (arith, written-length at file bytes inside)
+
+-- a file with no blob
+ends_at_once : (most gate : ℕ) (file : List ℕ) → blob_at file gate ≡ None → spans_from most gate file ≡ []
+ends_at_once zero gate file none = refl
+ends_at_once (suc most) gate file none = rw none refl
+
+pub ended_spans : (file : List ℕ) → blob_at file 16 ≡ None → spans_of file ≡ []
+unfolding spans_of
+ended_spans file none = ends_at_once (length file) 16 file none

@@ -1,2 +1,3 @@
 pub mod Blobs
+pub mod Gates
 pub mod Steps

@@ -1,15 +1,16 @@
 -- What the steps of sealing a blob did to the device.
-use Rattle.std.proofs.Common.{◌≡◌, ◌≢◌, ◌≤◌, ◌<◌, ◌^◌, ◌⊎◌, ℕ, ◌+◌, List, [], ◌∷◌, ◌++◌, length, map, max, take, get_or, Option, Some, None, Bool, true, false, refl, inl, inr, sym, ◌∙◌, ap, subst, arith}
-use Rattle.std.specs.Prelude.{slice_index}
+use Rattle.std.proofs.Common.{◌≡◌, ◌≢◌, ◌≤◌, ◌<◌, ◌^◌, ◌⊎◌, ℕ, ◌+◌, List, [], ◌∷◌, ◌++◌, length, map, max, take, get_or, Option, Some, None, Bool, true, false, refl, inl, inr, sym, ◌∙◌, ap, subst, arith, lit<}
+use Rattle.std.specs.Prelude.{slice_index, option_map, IsSomeAnd}
+use Rattle.std.proofs.lemmas.List.{take-take}
 use Rattle.std.proofs.lemmas.Grind.{common_steps}
-use Rattle.bk_device.specs.Calls.{contents, read_at, written, IsTorn, LeavesWrite, LeavesSame, CallsOn, ChangesNothing}
+use Rattle.bk_device.specs.Calls.{contents, read_at, written, IsTorn, LeavesWrite, LeavesCut, LeavesSame, CallsOn, ChangesNothing}
 use Rattle.bk_device.specs.Compose.{effect_then, effect_weaken, effect_none, effect_of_call, effect_of_nothing}
 use Rattle.bk_device.specs.Disk.{Files, Disk, IsDurable}
 use Rattle.bk_device.specs.Effects.{Effect, IsName, MayLeaveOwn}
 use Rattle.bk_device.specs.Torn.{torn-refl, torn-written, length-torn, written-length}
-use Rattle.bk_gate.specs.Blobs.{number, number_bytes, sealed, spans_of, part_of}
+use Rattle.bk_gate.specs.Blobs.{magic, number, number_bytes, sealed, spans_of, part_of}
 use Rattle.bk_gate.specs.Gate.{Stands, Quiet, Loose, IsAt, IsPrepared}
-use Rattle.bk_gate.proofs.Blobs.{front_stands, front_sealed, behind, mending, mended_sealed, no_blob, shorter, longer, same_front_byte, byte_written, equal_or_not, opened_sealed, opened_stands, shut_sealed}
+use Rattle.bk_gate.proofs.Blobs.{front_stands, front_sealed, behind, mending, mended_sealed, no_blob, shorter, longer, same_front_byte, byte_written, equal_or_not, opened_sealed, opened_stands, shut_sealed, short_blob, ended_spans}
 
 -- a crash leaves the blobs that there are
 abbrev pub Keeps : List ℕ → Disk → Files → Type 0
@@ -168,3 +169,90 @@ seal_value spans end size name a b d same blob quiet prepared wrote =
     open_sealed spans end size name b d quiet prepared wrote
     ∙ ap (λ (bs : List (List ℕ)). bs ++ read_at (contents (b.files name)) (end + 9) size ∷ []) same
     ∙ ap (λ (x : List ℕ). sealed (a.files name) ++ x ∷ []) blob
+
+-- cutting what stands behind the closed gate byte
+
+pub cut_front : (spans : List (ℕ × ℕ)) (end len : ℕ) (name : List ℕ) (a : Disk) (before after : Option (List ℕ)) → Quiet spans end name a → len ≡ end + 1 → a.may name before → LeavesCut len before after → take (end + 1) (contents after) ≡ take (end + 1) (contents (a.files name))
+cut_front spans end len name a before after quiet is may leaves =
+    let was = quiet.left before may in
+    elim leaves [
+      | inl same ↦ ap (λ (f : Option (List ℕ)). take (end + 1) (contents f)) same ∙ was
+      | inr cut ↦ ap (λ (f : Option (List ℕ)). take (end + 1) (contents f)) cut ∙ taken before (end + 1) len (sym is) ∙ was
+    ]
+  where
+    taken : (file : Option (List ℕ)) (m n : ℕ) → m ≡ n → take m (contents (option_map (take n) file)) ≡ take m (contents file)
+    taken None m n is = refl
+    taken (Some f) m n is = ap (λ (k : ℕ). take m (take k f)) (sym is) ∙ take-take m m f (omega arith)
+
+pub cut_crash : (spans : List (ℕ × ℕ)) (end len : ℕ) (name : List ℕ) (a b : Disk) → Quiet spans end name a → len ≡ end + 1 → CallsOn name (LeavesCut len) a b → Effect (IsName name) (Keeps name a) a b
+cut_crash spans end len name a b quiet is call =
+    effect_of_call (λ image before may leaves. quiet_front spans end name a (image name) quiet (cut_front spans end len name a before (image name) quiet is may leaves)) call
+
+cut_file : (file : Option (List ℕ)) (m n : ℕ) → m ≡ n → take m (contents (option_map (take n) file)) ≡ take m (contents file)
+cut_file None m n is = refl
+cut_file (Some f) m n is = ap (λ (k : ℕ). take m (take k f)) (sym is) ∙ take-take m m f (omega arith)
+
+pub cut_sealed : (spans : List (ℕ × ℕ)) (end len : ℕ) (name : List ℕ) (a b : Disk) → Quiet spans end name a → len ≡ end + 1 → b.files name ≡ option_map (take len) (a.files name) → sealed (b.files name) ≡ sealed (a.files name)
+cut_sealed spans end len name a b quiet is cut =
+    quiet_front spans end name a (b.files name) quiet (ap (λ (f : Option (List ℕ)). take (end + 1) (contents f)) cut ∙ cut_file (a.files name) (end + 1) len (sym is))
+
+pub cut_quiet : (spans : List (ℕ × ℕ)) (end len : ℕ) (name : List ℕ) (a b : Disk) → Quiet spans end name a → len ≡ end + 1 → CallsOn name (LeavesCut len) a b → b.files name ≡ option_map (take len) (a.files name) → Quiet spans end name b
+cut_quiet spans end len name a b quiet is call cut =
+    quiet_by spans end name a b quiet (ap (λ (f : Option (List ℕ)). take (end + 1) (contents f)) cut ∙ cut_file (a.files name) (end + 1) len (sym is))
+    (λ content may. let one = call.left content may in cut_front spans end len name a one.0 content quiet is one.1 one.2)
+
+pub cut_there : (file : Option (List ℕ)) (n len : ℕ) → n < length (contents file) → len ≡ n + 1 → IsSomeAnd file (λ f. len ≤ length f)
+cut_there None n len inside is = absurd (omega arith)
+cut_there (Some f) n len inside is = omega arith
+
+-- a step that keeps the blobs, and then a sealing
+pub store_crash : (end size : ℕ) (name : List ℕ) (a b d : Disk) → sealed (b.files name) ≡ sealed (a.files name) → read_at (contents (b.files name)) (end + 9) size ≡ read_at (contents (a.files name)) (end + 9) size → Effect (IsName name) (Keeps name a) a b → Effect (IsName name) (KeepsOrAdds name b (read_at (contents (b.files name)) (end + 9) size)) b d → Effect (IsName name) (KeepsOrAdds name a (read_at (contents (a.files name)) (end + 9) size)) a d
+store_crash end size name a b d same blob first second =
+    effect_then (effect_weaken (λ image kept. inl kept) first)
+    (effect_weaken (λ image either. elim either [
+      | inl kept ↦ inl (kept ∙ same)
+      | inr added ↦ inr (added ∙ ap (λ (bs : List (List ℕ)). bs ++ read_at (contents (b.files name)) (end + 9) size ∷ []) same ∙ ap (λ (x : List ℕ). sealed (a.files name) ++ x ∷ []) blob)
+    ]) second)
+
+-- nothing was done
+pub at_none : (spans : List (ℕ × ℕ)) (end : ℕ) (is_closed : Bool) (name : List ℕ) (a : Disk) → IsAt spans end is_closed name a → Effect (IsName name) (Keeps name a) a a
+at_none spans end true name a quiet = quiet_none spans end name a quiet
+at_none spans end false name a loose = effect_none a (λ image mine. ap sealed (loose.durable (image name) (mine name refl)))
+
+-- making a gate file
+
+pub start_image : (n : ℕ) (file before : Option (List ℕ)) → n ≡ 17 → before ≡ None → LeavesWrite 0 n before file → sealed file ≡ []
+start_image n file before is gone leaves =
+    let torn = torn-contents 0 n before file leaves in
+    let empty : length (contents before) ≡ 0 = ap (λ (f : Option (List ℕ)). length (contents f)) gone in
+    let longest : length (contents file) ≤ max (length (contents before)) (0 + n) = torn.no_longer in
+    ap (map (part_of (contents file))) (ended_spans (contents file) (short_blob (contents file) 16 (omega (arith, longest, empty, is))))
+
+nothing_sealed : sealed None ≡ []
+nothing_sealed = ap (map (part_of [])) (ended_spans [] (short_blob [] 16 (lit< tt)))
+
+pub start_removed : (name : List ℕ) (a b : Disk) → Effect (IsName name) (λ image. a.may name (image name) ⊎ (image name ≡ None)) a b → Effect (IsName name) (λ image. a.may name (image name) ⊎ (sealed (image name) ≡ [])) a b
+start_removed name a b effect =
+    effect_weaken (λ image either. elim either [ inl before ↦ inl before | inr none ↦ inr (ap sealed none ∙ nothing_sealed) ]) effect
+
+pub start_crash : (n : ℕ) (name : List ℕ) (a b c : Disk) → n ≡ 17 → Effect (IsName name) (λ image. a.may name (image name) ⊎ (image name ≡ None)) a b → b.files name ≡ None → Effect (IsName name) (λ image. LeavesWrite 0 n (b.files name) (image name)) b c → Effect (IsName name) (λ image. a.may name (image name) ⊎ (sealed (image name) ≡ [])) a c
+start_crash n name a b c is first gone second =
+    effect_then (start_removed name a b first)
+    (effect_weaken (λ image leaves. inr (start_image n (image name) (b.files name) is gone leaves)) second)
+
+pub start_quiet : (name : List ℕ) (b c : Disk) → b.files name ≡ None → c.files name ≡ Some (written (contents (b.files name)) 0 (magic ++ 0 ∷ [])) → IsDurable c name → Quiet [] 16 name c
+start_quiet name b c gone wrote durable =
+    let file : contents (c.files name) ≡ magic ++ 0 ∷ [] = ap contents wrote ∙ ap (λ (f : Option (List ℕ)). written (contents f) 0 (magic ++ 0 ∷ [])) gone in
+    let size : length (contents (c.files name)) ≡ 17 = ap length file in
+    let byte : slice_index (contents (c.files name)) 16 ≡ 0 = ap (λ (f : List ℕ). get_or f 16 0) file in
+    record {
+      stands = record {
+        lies = refl;
+        ends = short_blob (contents (c.files name)) 16 (omega (arith, size));
+        is_gate = (ap (take 16) file, omega (arith, size));
+        within = omega (arith, size);
+      };
+      inside = omega (arith, size);
+      closed = λ one. absurd (omega (arith, byte, one));
+      left = λ content may. ap (λ (f : Option (List ℕ)). take (16 + 1) (contents f)) (durable content may);
+    }

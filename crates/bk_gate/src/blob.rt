@@ -1,5 +1,5 @@
 // The writes that put a blob behind the end of a gate file.
-ghost use Rattle.std.specs.Prelude.{◌≡◌, ◌≢◌, ◌≤◌, ◌<◌, ◌+◌, ◌^◌, ◌++◌, ◌∷◌, ◌⊎◌, [], List, ℕ, Some, length, drop, true, false, slice_index, OnOk, OnErr};
+ghost use Rattle.std.specs.Prelude.{◌≡◌, ◌≢◌, ◌≤◌, ◌<◌, ◌+◌, ◌^◌, ◌++◌, ◌∷◌, ◌⊎◌, [], List, ℕ, Some, length, drop, true, false, slice_index, IfOk, OnOk, OnErr};
 ghost use Rattle.bk_gate.specs.Blobs.{number, number_bytes, sealed};
 ghost use Rattle.bk_gate.specs.Gate.{Stands, Quiet, IsAt, IsPrepared};
 ghost use Rattle.bk_device.specs.Calls.{contents, written, read_at};
@@ -7,7 +7,7 @@ ghost use Rattle.bk_device.specs.Counts.{HasRisen};
 ghost use Rattle.bk_device.specs.Disk.{IsDurable};
 ghost use Rattle.bk_device.specs.Effects.{Effect, IsName};
 
-use crate::durable::write_durably;
+use crate::durable::{remove_durably, write_durably};
 use bk_device::{Device, Failed};
 use byteorder::{ByteOrder, LittleEndian};
 
@@ -170,5 +170,87 @@ pub fn add_blob<D: Device>(dev: &mut D, name: &str, end: u64, is_closed: bool, l
 {
     keep_ready(dev, name, end, is_closed, len)?;
     append(dev, name, end, end.saturating_add(9).saturating_add(len), bytes)?;
+    Ok(())
+}
+
+// Seals a begun blob of so many bytes, and says where the next gate byte is.
+pub fn store_blob<D: Device>(dev: &mut D, name: &str, end: u64, is_closed: bool, len: u64) -> Result<u64, Failed>
+    requires at { D.tells → (spans : List (ℕ × ℕ)) × IsAt spans end is_closed name.now (D.disk dev.old) }
+    requires room { D.tells → 0 < len → (is_closed ≡ true) × (end + 9 + len ≤ length (contents ((D.disk dev.old).files name.now))) }
+    ensures quiet { D.tells → (spans : List (ℕ × ℕ)) → IsAt spans end is_closed name.now (D.disk dev.old) → OnOk result (Quiet (spans ++ (end + 9, len) ∷ []) (end + 9 + len) name.now (D.disk dev.new)) }
+    ensures sealed { D.tells → OnOk result (sealed ((D.disk dev.new).files name.now) ≡ sealed ((D.disk dev.old).files name.now) ++ read_at (contents ((D.disk dev.old).files name.now)) (end + 9) len ∷ []) }
+    ensures durable { D.tells → OnOk result (IsDurable (D.disk dev.new) name.now) }
+    ensures next { IfOk result (λ next. (next ≡ end + 9 + len) × (next < 2 ^ 62)) }
+    ensures crash { D.tells → Effect (IsName name.now) (λ image. (sealed (image name.now) ≡ sealed ((D.disk dev.old).files name.now)) ⊎ (sealed (image name.now) ≡ sealed ((D.disk dev.old).files name.now) ++ read_at (contents ((D.disk dev.old).files name.now)) (end + 9) len ∷ [])) (D.disk dev.old) (D.disk dev.new) }
+    ensures cause { OnErr result (HasRisen (D.disk_faults dev.old) (D.disk_faults dev.new)) }
+    ensures never_falls { D.disk_faults dev.old ≤ D.disk_faults dev.new }
+    ensures tell_faults { D.tell_faults dev.new ≡ D.tell_faults dev.old }
+{
+    keep_ready(dev, name, end, is_closed, len)?;
+    let next = end.saturating_add(9).saturating_add(len);
+    seal_blob(dev, name, end, next, len)?;
+    Ok(next)
+}
+
+// Cuts what stands behind the closed gate byte at the end.
+fn trim<D: Device>(dev: &mut D, name: &str, end: u64) -> Result<(), Failed>
+    requires { D.tells → (spans : List (ℕ × ℕ)) × Quiet spans end name.now (D.disk dev.old) }
+    ensures quiet { D.tells → (spans : List (ℕ × ℕ)) → Quiet spans end name.now (D.disk dev.old) → OnOk result (Quiet spans end name.now (D.disk dev.new)) }
+    ensures durable { D.tells → OnOk result (IsDurable (D.disk dev.new) name.now) }
+    ensures sealed { D.tells → OnOk result (sealed ((D.disk dev.new).files name.now) ≡ sealed ((D.disk dev.old).files name.now)) }
+    ensures crash { D.tells → Effect (IsName name.now) (λ image. sealed (image name.now) ≡ sealed ((D.disk dev.old).files name.now)) (D.disk dev.old) (D.disk dev.new) }
+    ensures cause { OnErr result (HasRisen (D.disk_faults dev.old) (D.disk_faults dev.new)) }
+    ensures never_falls { D.disk_faults dev.old ≤ D.disk_faults dev.new }
+    ensures tell_faults { D.tell_faults dev.new ≡ D.tell_faults dev.old }
+{
+    cut_behind(dev, name, end)?;
+    settle(dev, name, end)?;
+    Ok(())
+}
+
+fn cut_behind<D: Device>(dev: &mut D, name: &str, end: u64) -> Result<(), Failed>
+    requires { D.tells → (spans : List (ℕ × ℕ)) × Quiet spans end name.now (D.disk dev.old) }
+    ensures quiet { D.tells → (spans : List (ℕ × ℕ)) → Quiet spans end name.now (D.disk dev.old) → OnOk result (Quiet spans end name.now (D.disk dev.new)) }
+    ensures sealed { D.tells → OnOk result (sealed ((D.disk dev.new).files name.now) ≡ sealed ((D.disk dev.old).files name.now)) }
+    ensures crash { D.tells → Effect (IsName name.now) (λ image. sealed (image name.now) ≡ sealed ((D.disk dev.old).files name.now)) (D.disk dev.old) (D.disk dev.new) }
+    ensures cause { OnErr result (HasRisen (D.disk_faults dev.old) (D.disk_faults dev.new)) }
+    ensures never_falls { D.disk_faults dev.old ≤ D.disk_faults dev.new }
+    ensures tell_faults { D.tell_faults dev.new ≡ D.tell_faults dev.old }
+{
+    if end < u64::MAX {
+        dev.cut(name, end + 1)?;
+    }
+    Ok(())
+}
+
+// Cuts what stands behind the gate byte at the end, where it is closed.
+pub fn leave_closed<D: Device>(dev: &mut D, name: &str, end: u64, is_closed: bool) -> Result<(), Failed>
+    requires { D.tells → (spans : List (ℕ × ℕ)) × IsAt spans end is_closed name.now (D.disk dev.old) }
+    ensures at { D.tells → (spans : List (ℕ × ℕ)) → IsAt spans end is_closed name.now (D.disk dev.old) → OnOk result (IsAt spans end is_closed name.now (D.disk dev.new)) }
+    ensures sealed { D.tells → OnOk result (sealed ((D.disk dev.new).files name.now) ≡ sealed ((D.disk dev.old).files name.now)) }
+    ensures crash { D.tells → Effect (IsName name.now) (λ image. sealed (image name.now) ≡ sealed ((D.disk dev.old).files name.now)) (D.disk dev.old) (D.disk dev.new) }
+    ensures cause { OnErr result (HasRisen (D.disk_faults dev.old) (D.disk_faults dev.new)) }
+    ensures never_falls { D.disk_faults dev.old ≤ D.disk_faults dev.new }
+    ensures tell_faults { D.tell_faults dev.new ≡ D.tell_faults dev.old }
+{
+    if is_closed {
+        trim(dev, name, end)?;
+    }
+    Ok(())
+}
+
+const HEADER: [u8; 17] = *b"SQLBAKGATE000001\0";
+
+// Makes a gate file with no blob.
+pub fn start<D: Device>(dev: &mut D, name: &str) -> Result<(), Failed>
+    ensures quiet { D.tells → OnOk result (Quiet [] 16 name.now (D.disk dev.new)) }
+    ensures durable { D.tells → OnOk result (IsDurable (D.disk dev.new) name.now) }
+    ensures crash { D.tells → Effect (IsName name.now) (λ image. (D.disk dev.old).may name.now (image name.now) ⊎ (sealed (image name.now) ≡ [])) (D.disk dev.old) (D.disk dev.new) }
+    ensures cause { OnErr result (HasRisen (D.disk_faults dev.old) (D.disk_faults dev.new)) }
+    ensures never_falls { D.disk_faults dev.old ≤ D.disk_faults dev.new }
+    ensures tell_faults { D.tell_faults dev.new ≡ D.tell_faults dev.old }
+{
+    remove_durably(dev, name)?;
+    write_durably(dev, name, 0, &HEADER)?;
     Ok(())
 }

@@ -3,6 +3,8 @@
 
 mod blob;
 mod durable;
+mod error;
 mod gate;
 
+pub use error::GateError;
 pub use gate::Gate;
