@@ -356,3 +356,16 @@ ends_at_once (suc most) gate file none = rw none refl
 pub ended_spans : (file : List ℕ) → blob_at file 16 ≡ None → spans_of file ≡ []
 unfolding spans_of
 ended_spans file none = ends_at_once (length file) 16 file none
+
+pub long_blob : (file : List ℕ) (gate size : ℕ) → number (read_at file (gate + 1) 8) ≡ size → length file < gate + 9 + size → blob_at file gate ≡ None
+unfolding blob_at
+long_blob file gate size is more =
+    elim (true_or_false (get_or file gate 0 == 1)) [
+      | inl is_open ↦
+          let test : nat_le (gate + 9 + size) (length file) ≡ false = beyond (gate + 9 + size) (length file) more in
+          rw (is_open, is, test) refl
+      | inr is_shut ↦ rw is_shut refl
+    ]
+  where
+    beyond : (m n : ℕ) → n < m → nat_le m n ≡ false
+    beyond m n less = grind (arith, common_steps)

@@ -1,3 +1,4 @@
 pub mod Blobs
 pub mod Gates
+pub mod Reading
 pub mod Steps

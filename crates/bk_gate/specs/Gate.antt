@@ -63,3 +63,8 @@ pub record IsGate (disk : Disk) (gate : Kept) : Type 0 where
 -- the bytes of the begun blob
 abbrev pub begun_of : Disk → Kept → List ℕ
 begun_of disk gate = read_at (contents (disk.files gate.name)) (gate.end + 9) (unwrap_or gate.begun 0)
+
+-- the gate byte at this end is there and closed; or it is missing, or 1
+abbrev pub IsShut : List ℕ → ℕ → Bool → Type 0
+IsShut file end true = (end < length file) × (slice_index file end ≢ 1)
+IsShut file end false = (end ≡ length file) ⊎ (end < length file) × (slice_index file end ≡ 1)

@@ -1,6 +1,7 @@
 // A gate file: sealed blobs, which each crash leaves as they were or with the new one.
 ghost use Rattle.std.specs.Prelude.{◌≡◌, ◌≤◌, ◌<◌, ◌⊎◌, ◌^◌, ◌+◌, ◌-◌, ◌++◌, ◌∷◌, [], List, ℕ, Some, None, length, vec_len, vec_capacity, true, false, is_err, string_bytes, slice_get, unwrap_or, IsSome, IsNone, IfOk, OnOk, OnErr, IsErrOf};
-ghost use Rattle.bk_gate.specs.Blobs.{sealed};
+ghost use Rattle.bk_gate.specs.Blobs.{sealed, spans_of, IsGateFile};
+ghost use Rattle.bk_device.specs.Calls.{contents, ChangesNothing};
 ghost use Rattle.bk_gate.specs.Gate.{Kept, IsGate, begun_of};
 ghost use Rattle.bk_device.specs.Counts.{HasRisen};
 ghost use Rattle.bk_device.specs.Disk.{IsDurable};
@@ -8,6 +9,7 @@ ghost use Rattle.bk_device.specs.Effects.{Effect, IsName};
 
 use crate::blob::{add_blob, leave_closed, start, store_blob};
 use crate::error::GateError;
+use crate::read::{check, read_closed, read_spans};
 use bk_device::{Device, Failed};
 use std::alloc::{AllocError, Global};
 use std::marker::Model;
@@ -44,6 +46,39 @@ impl Model for Gate {
 }
 
 impl Gate {
+    /// Opens the gate file of this name, and leaves it as it is.
+    ///
+    /// `Foreign` is answered exactly where its first sixteen bytes aren't the letters `SQLBAKGATE000001`, or it has
+    /// under 17 bytes. `NoMemory` may come after reads.
+    pub fn load<D: Device>(alloc: Global, dev: &mut D, name: &str) -> Result<Gate, GateError>
+        ensures gate_file { D.tells → OnOk result (IsGateFile (contents ((D.disk dev.old).files name.now))) }
+        ensures spans { D.tells → IfOk result (λ g. g.spans ≡ spans_of (contents ((D.disk dev.old).files name.now))) }
+        ensures name { IfOk result (λ g. g.name ≡ name.now) }
+        ensures none { IfOk result (λ g. g.begun ≡ None) }
+        ensures failed { IfOk result (λ g. g.failed ≡ false) }
+        ensures stands { D.tells → IsDurable (D.disk dev.old) name.now → IfOk result (λ g. IsGate (D.disk dev.new) g) }
+        ensures effect { D.tells → ChangesNothing (D.disk dev.old) (D.disk dev.new) }
+        ensures foreign { D.tells → IsErrOf result GateError.Foreign → IsGateFile (contents ((D.disk dev.old).files name.now)) → ⊥ }
+        ensures cause { IsErrOf result GateError.Fault → HasRisen (D.disk_faults dev.old) (D.disk_faults dev.new) }
+        ensures never_falls { D.disk_faults dev.old ≤ D.disk_faults dev.new }
+        ensures tell_faults { D.tell_faults dev.new ≡ D.tell_faults dev.old }
+    {
+        let name_kept = String::from_str(alloc, name)?;
+        let len = check(dev, name)?;
+        let mut spans = Vec::new(alloc);
+        let end = read_spans(dev, name, len, &mut spans)?;
+        let is_closed = read_closed(dev, name, end, len)?;
+        Ok(Gate {
+            name: name_kept,
+            spans,
+            end,
+            is_closed,
+            begun: None,
+            spare: 0,
+            failed: false,
+        })
+    }
+
     /// Makes a gate file with no blob, in place of what was under the name. Until it is made, a crash leaves what it
     /// might have left before, or no sealed blob. `Foreign` isn't answered.
     pub fn make<D: Device>(alloc: Global, dev: &mut D, name: &str) -> Result<Gate, GateError>

@@ -5,6 +5,7 @@ mod blob;
 mod durable;
 mod error;
 mod gate;
+mod read;
 
 pub use error::GateError;
 pub use gate::Gate;
