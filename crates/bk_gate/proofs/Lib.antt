@@ -1,4 +1,3 @@
-pub mod Blobs
 pub mod Gates
 pub mod Reading
 pub mod Steps

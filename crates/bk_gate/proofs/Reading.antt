@@ -9,7 +9,7 @@ use Rattle.bk_device.specs.Calls.{contents, read_at, filled, ChangesNothing}
 use Rattle.bk_device.specs.Disk.{Disk, IsLawful}
 use Rattle.bk_gate.specs.Blobs.{number, blob_at, magic, spans_of, IsGateFile}
 use Rattle.bk_gate.specs.Gate.{Lies, Stands}
-use Rattle.bk_gate.proofs.Blobs.{no_blob, short_blob, is_blob, equal_or_not, front_part, long_blob, lies_more, stands_spans}
+use Rattle.bk_gate.specs.BlobLaws.{no_blob, short_blob, is_blob, equal_or_not, front_part, long_blob, lies_more, stands_spans}
 
 -- a buffer that was read whole
 pub filled_whole : (buffer file : List ℕ) (at room : ℕ) → room ≡ length buffer → at + room ≤ length file → filled buffer (read_at file at room) ≡ read_at file at room

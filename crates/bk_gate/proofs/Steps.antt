@@ -10,7 +10,8 @@ use Rattle.bk_device.specs.Effects.{Effect, IsName, MayLeaveOwn}
 use Rattle.bk_device.specs.Torn.{torn-refl, torn-written, length-torn, written-length}
 use Rattle.bk_gate.specs.Blobs.{magic, number, number_bytes, sealed, spans_of, part_of}
 use Rattle.bk_gate.specs.Gate.{Stands, Quiet, Loose, IsAt, IsPrepared}
-use Rattle.bk_gate.proofs.Blobs.{front_stands, front_sealed, behind, mending, mended_sealed, no_blob, shorter, longer, same_front_byte, byte_written, equal_or_not, opened_sealed, opened_stands, shut_sealed, short_blob, ended_spans}
+use Rattle.bk_gate.specs.Laws.{quiet_front}
+use Rattle.bk_gate.specs.BlobLaws.{front_stands, front_sealed, behind, mending, mended_sealed, no_blob, shorter, longer, same_front_byte, byte_written, equal_or_not, opened_sealed, opened_stands, shut_sealed, short_blob, ended_spans, erasing, erased}
 
 -- a crash leaves the blobs that there are
 abbrev pub Keeps : List ℕ → Disk → Files → Type 0
@@ -22,13 +23,6 @@ torn-contents at n before after leaves =
       | inl same ↦ let Torn : Option (List ℕ) → Type 0 = λ file. IsTorn at n (contents before) (contents file) in subst Torn (sym same) (torn-refl at n (contents before))
       | inr wrote ↦ let Torn : Option (List ℕ) → Type 0 = λ file. IsTorn at n (contents before) (contents file) in subst Torn (sym wrote.1) wrote.2
     ]
-
--- files that agree up to the closed gate byte have the same blobs
-pub quiet_front : (spans : List (ℕ × ℕ)) (end : ℕ) (name : List ℕ) (a : Disk) (file : Option (List ℕ)) → Quiet spans end name a → take (end + 1) (contents file) ≡ take (end + 1) (contents (a.files name)) → sealed file ≡ sealed (a.files name)
-quiet_front spans end name a file quiet same =
-    front_sealed spans end (contents (a.files name)) (contents file) quiet.stands
-    (front_stands spans end (contents (a.files name)) (contents file) quiet.stands quiet.inside quiet.closed same)
-    (shorter end (contents (a.files name)) (contents file) same)
 
 pub quiet_none : (spans : List (ℕ × ℕ)) (end : ℕ) (name : List ℕ) (a : Disk) → Quiet spans end name a → Effect (IsName name) (Keeps name a) a a
 quiet_none spans end name a quiet = effect_none a (λ image mine. quiet_front spans end name a (image name) quiet (quiet.left (image name) (mine name refl)))
@@ -256,3 +250,50 @@ start_quiet name b c gone wrote durable =
       closed = λ one. absurd (omega (arith, byte, one));
       left = λ content may. ap (λ (f : Option (List ℕ)). take (16 + 1) (contents f)) (durable content may);
     }
+
+-- emptying
+
+abbrev pub KeepsOrEmpties : List ℕ → Disk → Files → Type 0
+KeepsOrEmpties name a image = (sealed (image name) ≡ sealed (a.files name)) ⊎ (sealed (image name) ≡ [])
+
+pub erase_crash : (spans : List (ℕ × ℕ)) (end : ℕ) (name : List ℕ) (a b c : Disk) → 0 < length spans → Quiet spans end name b → b.files name ≡ a.files name → Effect (IsName name) (Keeps name a) a b → Effect (IsName name) (λ image. LeavesWrite 16 1 (b.files name) (image name)) b c → Effect (IsName name) (KeepsOrEmpties name a) a c
+erase_crash spans end name a b c some quiet same first second =
+    effect_then (effect_weaken (λ image kept. inl kept) first)
+    (effect_weaken (λ image leaves. elim (erasing spans end (contents (b.files name)) (contents (image name)) some quiet.stands (torn-contents 16 1 (b.files name) (image name) leaves)) [
+      | inl kept ↦ inl (kept ∙ ap sealed same)
+      | inr gone ↦ inr gone
+    ]) second)
+
+pub erase_quiet : (spans : List (ℕ × ℕ)) (end : ℕ) (name : List ℕ) (b c : Disk) → Quiet spans end name b → c.files name ≡ Some (written (contents (b.files name)) 16 (0 ∷ [])) → IsDurable c name → Quiet [] 16 name c
+erase_quiet spans end name b c quiet wrote durable =
+    let file : contents (c.files name) ≡ written (contents (b.files name)) 16 (0 ∷ []) = ap contents wrote in
+    let Of : List ℕ → Type 0 = Stands [] 16 in
+    let stands = subst Of (sym file) (erased spans end (contents (b.files name)) quiet.stands) in
+    let byte : slice_index (contents (c.files name)) 16 ≡ 0 = ap (λ (f : List ℕ). get_or f 16 0) file ∙ byte_written 16 0 (contents (b.files name)) (omega (arith, quiet.stands.is_gate.1)) in
+    record {
+      stands = stands;
+      inside = omega (arith, stands.is_gate.1);
+      closed = λ one. absurd (omega (arith, byte, one));
+      left = λ content may. ap (λ (f : Option (List ℕ)). take (16 + 1) (contents f)) (durable content may);
+    }
+
+pub no_spans : (name : List ℕ) (c : Disk) → Quiet [] 16 name c → sealed (c.files name) ≡ []
+no_spans name c quiet = ap (map (part_of (contents (c.files name)))) (ended_spans (contents (c.files name)) quiet.stands.ends)
+
+-- a gate file with no blob
+pub none_quiet : (spans : List (ℕ × ℕ)) (end : ℕ) (name : List ℕ) (a : Disk) → spans ≡ [] → Quiet spans end name a → Quiet [] 16 name a
+none_quiet [] end name a none quiet =
+    let here : 16 ≡ end = quiet.stands.lies in
+    let At : ℕ → Type 0 = λ e. Quiet [] e name a in
+    subst At (sym here) quiet
+none_quiet (span ∷ spans) end name a none quiet = absurd (cc)
+
+-- emptying a file, in three steps
+pub empty_erased : (name : List ℕ) (a b c : Disk) → sealed (b.files name) ≡ sealed (a.files name) → Effect (IsName name) (Keeps name a) a b → Effect (IsName name) (KeepsOrEmpties name b) b c → Effect (IsName name) (KeepsOrEmpties name a) a c
+empty_erased name a b c same first second =
+    effect_then (effect_weaken (λ image kept. inl kept) first)
+    (effect_weaken (λ image either. elim either [ inl kept ↦ inl (kept ∙ same) | inr gone ↦ inr gone ]) second)
+
+pub empty_trimmed : (name : List ℕ) (a b c d : Disk) → sealed (b.files name) ≡ sealed (a.files name) → sealed (c.files name) ≡ [] → Effect (IsName name) (Keeps name a) a b → Effect (IsName name) (KeepsOrEmpties name b) b c → Effect (IsName name) (Keeps name c) c d → Effect (IsName name) (KeepsOrEmpties name a) a d
+empty_trimmed name a b c d same gone first second third =
+    effect_then (empty_erased name a b c same first second) (effect_weaken (λ image kept. inr (kept ∙ gone)) third)

@@ -254,3 +254,50 @@ pub fn start<D: Device>(dev: &mut D, name: &str) -> Result<(), Failed>
     write_durably(dev, name, 0, &HEADER)?;
     Ok(())
 }
+
+// Closes the first gate byte of a file with blobs: a crash leaves them all, or none.
+fn erase<D: Device>(dev: &mut D, name: &str, end: u64) -> Result<(), Failed>
+    requires { D.tells → (spans : List (ℕ × ℕ)) × Quiet spans end name.now (D.disk dev.old) × (0 < length spans) }
+    ensures quiet { D.tells → OnOk result (Quiet [] 16 name.now (D.disk dev.new)) }
+    ensures sealed { D.tells → OnOk result (sealed ((D.disk dev.new).files name.now) ≡ []) }
+    ensures crash { D.tells → Effect (IsName name.now) (λ image. (sealed (image name.now) ≡ sealed ((D.disk dev.old).files name.now)) ⊎ (sealed (image name.now) ≡ [])) (D.disk dev.old) (D.disk dev.new) }
+    ensures cause { OnErr result (HasRisen (D.disk_faults dev.old) (D.disk_faults dev.new)) }
+    ensures never_falls { D.disk_faults dev.old ≤ D.disk_faults dev.new }
+    ensures tell_faults { D.tell_faults dev.new ≡ D.tell_faults dev.old }
+{
+    settle(dev, name, end)?;
+    write_durably(dev, name, 16, &[0])?;
+    Ok(())
+}
+
+fn erase_blobs<D: Device>(dev: &mut D, name: &str, end: u64, has_blobs: bool) -> Result<(), Failed>
+    requires { D.tells → (spans : List (ℕ × ℕ)) × Quiet spans end name.now (D.disk dev.old) × (has_blobs ≡ true → 0 < length spans) × (has_blobs ≡ false → spans ≡ []) }
+    ensures quiet { D.tells → OnOk result (Quiet [] 16 name.now (D.disk dev.new)) }
+    ensures sealed { D.tells → OnOk result (sealed ((D.disk dev.new).files name.now) ≡ []) }
+    ensures crash { D.tells → Effect (IsName name.now) (λ image. (sealed (image name.now) ≡ sealed ((D.disk dev.old).files name.now)) ⊎ (sealed (image name.now) ≡ [])) (D.disk dev.old) (D.disk dev.new) }
+    ensures cause { OnErr result (HasRisen (D.disk_faults dev.old) (D.disk_faults dev.new)) }
+    ensures never_falls { D.disk_faults dev.old ≤ D.disk_faults dev.new }
+    ensures tell_faults { D.tell_faults dev.new ≡ D.tell_faults dev.old }
+{
+    if has_blobs {
+        erase(dev, name, end)?;
+    }
+    Ok(())
+}
+
+// Empties a gate file: a crash leaves all blobs, or none.
+pub fn empty<D: Device>(dev: &mut D, name: &str, end: u64, is_closed: bool, has_blobs: bool) -> Result<(), Failed>
+    requires at { D.tells → (spans : List (ℕ × ℕ)) × IsAt spans end is_closed name.now (D.disk dev.old) × (has_blobs ≡ true → 0 < length spans) × (has_blobs ≡ false → spans ≡ []) }
+    ensures quiet { D.tells → OnOk result (Quiet [] 16 name.now (D.disk dev.new)) }
+    ensures durable { D.tells → OnOk result (IsDurable (D.disk dev.new) name.now) }
+    ensures sealed { D.tells → OnOk result (sealed ((D.disk dev.new).files name.now) ≡ []) }
+    ensures crash { D.tells → Effect (IsName name.now) (λ image. (sealed (image name.now) ≡ sealed ((D.disk dev.old).files name.now)) ⊎ (sealed (image name.now) ≡ [])) (D.disk dev.old) (D.disk dev.new) }
+    ensures cause { OnErr result (HasRisen (D.disk_faults dev.old) (D.disk_faults dev.new)) }
+    ensures never_falls { D.disk_faults dev.old ≤ D.disk_faults dev.new }
+    ensures tell_faults { D.tell_faults dev.new ≡ D.tell_faults dev.old }
+{
+    close(dev, name, end, is_closed)?;
+    erase_blobs(dev, name, end, has_blobs)?;
+    trim(dev, name, 16)?;
+    Ok(())
+}

@@ -7,7 +7,7 @@ ghost use Rattle.bk_device.specs.Counts.{HasRisen};
 ghost use Rattle.bk_device.specs.Disk.{IsDurable};
 ghost use Rattle.bk_device.specs.Effects.{Effect, IsName};
 
-use crate::blob::{add_blob, leave_closed, start, store_blob};
+use crate::blob::{add_blob, empty, leave_closed, start, store_blob};
 use crate::error::GateError;
 use crate::read::{check, read_closed, read_spans};
 use bk_device::{Device, Failed};
@@ -250,6 +250,41 @@ impl Gate {
         self.spans.reserve(spare)?;
         self.spare = spare;
         Ok(())
+    }
+
+    /// Removes all blobs, where none is begun: a crash leaves them all, or none. Takes no memory, and raises the spare
+    /// by the number of blobs that there were.
+    pub fn clear<D: Device>(&mut self, dev: &mut D) -> Result<(), Failed>
+        requires fit { self.old.failed ≡ false }
+        requires none { self.old.begun ≡ None }
+        requires stands { D.tells → IsGate (D.disk dev.old) self.old }
+        ensures stands { D.tells → OnOk result (IsGate (D.disk dev.new) self.new) }
+        ensures spans { OnOk result (self.new.spans ≡ []) }
+        ensures none { OnOk result (self.new.begun ≡ None) }
+        ensures spare { OnOk result (self.new.spare ≡ self.old.spare + length self.old.spans) }
+        ensures name { self.new.name ≡ self.old.name }
+        ensures sealed { D.tells → OnOk result (sealed ((D.disk dev.new).files self.old.name) ≡ []) }
+        ensures durable { D.tells → OnOk result (IsDurable (D.disk dev.new) self.old.name) }
+        ensures failed { self.new.failed ≡ is_err result }
+        ensures crash { D.tells → Effect (IsName self.old.name) (λ image. (sealed (image self.old.name) ≡ sealed ((D.disk dev.old).files self.old.name)) ⊎ (sealed (image self.old.name) ≡ [])) (D.disk dev.old) (D.disk dev.new) }
+        ensures cause { OnErr result (HasRisen (D.disk_faults dev.old) (D.disk_faults dev.new)) }
+        ensures never_falls { D.disk_faults dev.old ≤ D.disk_faults dev.new }
+        ensures tell_faults { D.tell_faults dev.new ≡ D.tell_faults dev.old }
+    {
+        let count = self.spans.len();
+        match empty(dev, &self.name, self.end, self.is_closed, count > 0) {
+            Ok(()) => {
+                self.spans.clear();
+                self.spare += count;
+                self.end = 16;
+                self.is_closed = true;
+                Ok(())
+            }
+            Err(e) => {
+                self.failed = true;
+                Err(e)
+            }
+        }
     }
 
     /// Throws the blob away that is begun. Takes no memory.

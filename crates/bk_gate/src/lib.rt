@@ -9,3 +9,6 @@ mod read;
 
 pub use error::GateError;
 pub use gate::Gate;
+
+#[cfg(test)]
+mod tests;

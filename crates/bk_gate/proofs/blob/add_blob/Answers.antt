@@ -1,6 +1,6 @@
 use Rattle.std.proofs.Common.{◌≡◌, ◌+◌, ◌++◌, ◌∙◌, ap, arith, length, List, ℕ}
 use Rattle.bk_device.specs.Calls.{contents, written, read_at}
-use Rattle.bk_gate.proofs.Blobs.{adds}
+use Rattle.bk_gate.specs.BlobLaws.{adds}
 use Rattle.bk_gate.proofs.blob.add_blob.Goals as goal
 
 pub returns-clause-begun : goal.returns-clause-begun

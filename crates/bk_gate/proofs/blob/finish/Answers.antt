@@ -2,7 +2,7 @@ use Rattle.std.proofs.Common.{◌≡◌, ◌<◌, ◌^◌, ◌+◌, ◌∙◌, [
 use Rattle.bk_device.specs.Calls.{contents, written, read_at}
 use Rattle.bk_gate.specs.Blobs.{number_bytes}
 use Rattle.bk_gate.specs.Gate.{IsPrepared}
-use Rattle.bk_gate.proofs.Blobs.{prepares, prepares_blob}
+use Rattle.bk_gate.specs.BlobLaws.{prepares, prepares_blob}
 use Rattle.bk_gate.proofs.blob.finish.Goals as goal
 
 pub returns-clause-prepared : goal.returns-clause-prepared

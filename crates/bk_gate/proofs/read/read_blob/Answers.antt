@@ -1,6 +1,6 @@
 use Rattle.std.proofs.Common.{◌≡◌, ◌≤◌, ◌<◌, ◌+◌, ◌∙◌, ap, sym, refl, arith, length}
 use Rattle.bk_device.specs.Calls.{contents}
-use Rattle.bk_gate.proofs.Blobs.{short_blob}
+use Rattle.bk_gate.specs.BlobLaws.{short_blob}
 use Rattle.bk_gate.proofs.Reading.{read_open, read_shut, read_long}
 use Rattle.bk_gate.proofs.read.read_blob.Goals as goal
 use Rattle.bk_gate.proofs.read.read_blob.Goals.{else-head-eq1-via-then-head-eq1+else-size-len, else-head-eq1-via-else-head-eq1}

@@ -369,3 +369,30 @@ long_blob file gate size is more =
   where
     beyond : (m n : ℕ) → n < m → nat_le m n ≡ false
     beyond m n less = grind (arith, common_steps)
+
+-- closing the first gate byte
+
+first_gate : (spans : List (ℕ × ℕ)) (end : ℕ) (file : List ℕ) → 0 < length spans → Stands spans end file → slice_index file 16 ≡ 1
+first_gate [] end file some stands = absurd (omega arith)
+first_gate (span ∷ spans) end file some stands = (of_blob file 16 span.1 stands.lies.1).0
+
+pub erasing : (spans : List (ℕ × ℕ)) (end : ℕ) (before after : List ℕ) → 0 < length spans → Stands spans end before → IsTorn 16 1 before after → (map (part_of after) (spans_of after) ≡ map (part_of before) (spans_of before)) ⊎ (map (part_of after) (spans_of after) ≡ [])
+erasing spans end before after some stands torn =
+    elim (equal_or_not (slice_index after 16) 1) [
+      | inl one ↦
+          let same : after ≡ before = same_byte 16 before after (omega (arith, stands.is_gate.1)) torn (one ∙ sym (first_gate spans end before some stands)) in
+          inl (ap (λ (f : List ℕ). map (part_of f) (spans_of f)) same)
+      | inr differ ↦ inr (ap (map (part_of after)) (ended_spans after (no_blob after 16 differ)))
+    ]
+
+pub erased : (spans : List (ℕ × ℕ)) (end : ℕ) (before : List ℕ) → Stands spans end before → Stands [] 16 (written before 16 (0 ∷ []))
+erased spans end before stands =
+    let torn = torn-written 16 before (0 ∷ []) in
+    let byte : get_or (written before 16 (0 ∷ [])) 16 0 ≡ 0 = byte_written 16 0 before (omega (arith, stands.is_gate.1)) in
+    let no_shorter : length before ≤ length (written before 16 (0 ∷ [])) = torn.no_shorter in
+    record {
+      lies = refl;
+      ends = no_blob (written before 16 (0 ∷ [])) 16 (λ one. absurd (omega (arith, byte, one)));
+      is_gate = (take-torn 16 16 1 before (written before 16 (0 ∷ [])) (omega arith) (omega (arith, stands.is_gate.1)) torn ∙ stands.is_gate.0, omega (arith, no_shorter, stands.is_gate.1));
+      within = omega (arith, no_shorter, stands.is_gate.1);
+    }
