@@ -1,11 +1,11 @@
 -- The steps of a seal, told of the gate.
-use Rattle.std.proofs.Common.{◌≡◌, ◌≤◌, ◌<◌, ◌⊎◌, ℕ, ◌+◌, List, [], ◌∷◌, ◌++◌, length, Option, Some, None, Bool, true, false, refl, inl, inr, sym, ◌∙◌, ap, subst}
+use Rattle.std.proofs.Common.{◌≡◌, ◌⊎◌, ℕ, ◌+◌, List, [], ◌∷◌, ◌++◌, Some, None, Bool, true, sym, subst}
 use Rattle.std.specs.Prelude.{unwrap_or}
 use Rattle.bk_device.specs.Calls.{contents, read_at}
-use Rattle.bk_device.specs.Disk.{Files, Disk, IsDurable}
+use Rattle.bk_device.specs.Disk.{Disk}
 use Rattle.bk_device.specs.Effects.{Effect, IsName}
 use Rattle.bk_gate.specs.Blobs.{sealed}
-use Rattle.bk_gate.specs.Gate.{Kept, IsGate, IsAt, Quiet, begun_of}
+use Rattle.bk_gate.specs.Gate.{Kept, IsGate, Quiet, begun_of}
 
 pub seal_named : (gate : Kept) (name : List ℕ) (end len : ℕ) (a b : Disk) → name ≡ gate.name → end ≡ gate.end → len ≡ unwrap_or gate.begun 0 → Effect (IsName name) (λ image. (sealed (image name) ≡ sealed (a.files name)) ⊎ (sealed (image name) ≡ sealed (a.files name) ++ read_at (contents (a.files name)) (end + 9) len ∷ [])) a b → Effect (IsName gate.name) (λ image. (sealed (image gate.name) ≡ sealed (a.files gate.name)) ⊎ (sealed (image gate.name) ≡ sealed (a.files gate.name) ++ begun_of a gate ∷ [])) a b
 seal_named gate name end len a b named ended sized effect =

@@ -1,15 +1,15 @@
 -- Reading a gate file.
-use Rattle.std.proofs.Common.{◌≡◌, ◌≢◌, ◌≤◌, ◌<◌, ◌⊎◌, ℕ, ◌+◌, ◌-◌, List, [], ◌∷◌, ◌++◌, length, take, drop, get_or, Option, Some, None, refl, inl, inr, sym, ◌∙◌, ap, subst, arith, lit≤, lit<, length-take, length-drop, add-zero}
-use Rattle.std.specs.Prelude.{slice_index, option_map, unwrap_or, Bool, true, false}
+use Rattle.std.proofs.Common.{◌≡◌, ◌≢◌, ◌≤◌, ◌<◌, ℕ, ◌+◌, List, [], ◌∷◌, ◌++◌, length, take, drop, get_or, Some, None, refl, inl, inr, sym, ◌∙◌, ap, subst, arith, lit≤, lit<, length-take, length-drop, add-zero}
+use Rattle.std.specs.Prelude.{Bool, true, false}
 use Rattle.std.specs.Bool.{MatchBool}
 use Rattle.std.specs.Str.{bytes_eq}
 use Rattle.std.proofs.lemmas.Slice.Eq.{bytes_eq-Decides}
 use Rattle.std.proofs.lemmas.List.{get_or-take, get_or-drop, take-take, drop-take, drop-drop, drop_all, append-nil}
-use Rattle.bk_device.specs.Calls.{contents, read_at, filled, ChangesNothing}
+use Rattle.bk_device.specs.Calls.{read_at, filled, ChangesNothing}
 use Rattle.bk_device.specs.Disk.{Disk, IsLawful}
 use Rattle.bk_gate.specs.Blobs.{number, blob_at, magic, spans_of, IsGateFile}
 use Rattle.bk_gate.specs.Gate.{Lies, Stands}
-use Rattle.bk_gate.specs.BlobLaws.{no_blob, short_blob, is_blob, equal_or_not, front_part, long_blob, lies_more, stands_spans}
+use Rattle.bk_gate.specs.BlobLaws.{no_blob, is_blob, long_blob, lies_more, stands_spans}
 
 -- a buffer that was read whole
 pub filled_whole : (buffer file : List ℕ) (at room : ℕ) → room ≡ length buffer → at + room ≤ length file → filled buffer (read_at file at room) ≡ read_at file at room

@@ -1,17 +1,17 @@
 -- What the steps of sealing a blob did to the device.
-use Rattle.std.proofs.Common.{◌≡◌, ◌≢◌, ◌≤◌, ◌<◌, ◌^◌, ◌⊎◌, ℕ, ◌+◌, List, [], ◌∷◌, ◌++◌, length, map, max, take, get_or, Option, Some, None, Bool, true, false, refl, inl, inr, sym, ◌∙◌, ap, subst, arith, lit<}
+use Rattle.std.proofs.Common.{◌≡◌, ◌≤◌, ◌<◌, ◌^◌, ◌⊎◌, ℕ, ◌+◌, List, [], ◌∷◌, ◌++◌, length, map, max, take, get_or, Option, Some, None, Bool, true, false, refl, inl, inr, sym, ◌∙◌, ap, subst, arith, lit<}
 use Rattle.std.specs.Prelude.{slice_index, option_map, IsSomeAnd}
 use Rattle.std.proofs.lemmas.List.{take-take}
 use Rattle.std.proofs.lemmas.Grind.{common_steps}
 use Rattle.bk_device.specs.Calls.{contents, read_at, written, IsTorn, LeavesWrite, LeavesCut, LeavesSame, CallsOn, ChangesNothing}
 use Rattle.bk_device.specs.Compose.{effect_then, effect_weaken, effect_none, effect_of_call, effect_of_nothing}
 use Rattle.bk_device.specs.Disk.{Files, Disk, IsDurable}
-use Rattle.bk_device.specs.Effects.{Effect, IsName, MayLeaveOwn}
+use Rattle.bk_device.specs.Effects.{Effect, IsName}
 use Rattle.bk_device.specs.Torn.{torn-refl, torn-written, length-torn, written-length}
-use Rattle.bk_gate.specs.Blobs.{magic, number, number_bytes, sealed, spans_of, part_of}
+use Rattle.bk_gate.specs.Blobs.{magic, sealed, spans_of, part_of}
 use Rattle.bk_gate.specs.Gate.{Stands, Quiet, Loose, IsAt, IsPrepared}
 use Rattle.bk_gate.specs.Laws.{quiet_front}
-use Rattle.bk_gate.specs.BlobLaws.{front_stands, front_sealed, behind, mending, mended_sealed, no_blob, shorter, longer, same_front_byte, byte_written, equal_or_not, opened_sealed, opened_stands, shut_sealed, short_blob, ended_spans, erasing, erased}
+use Rattle.bk_gate.specs.BlobLaws.{front_stands, behind, mending, mended_sealed, longer, same_front_byte, byte_written, equal_or_not, opened_sealed, opened_stands, shut_sealed, short_blob, ended_spans, erasing, erased}
 
 -- a crash leaves the blobs that there are
 abbrev pub Keeps : List ℕ → Disk → Files → Type 0

@@ -1,15 +1,14 @@
 -- What the front of a gate file says of its sealed blobs.
-use Rattle.std.proofs.Common.{◌≡◌, ◌≢◌, ◌⊎◌, ◌<◌, ◌≤◌, ◌^◌, ℕ, zero, suc, ◌+◌, ◌-◌, ◌*◌, min, max, Bool, true, false, ◌&&◌, List, [], ◌∷◌, ◌++◌, length, map, take, drop, get_or, Option, Some, None, refl, inl, inr, sym, ◌∙◌, ap, subst, arith, lit≤, lit<, length-take, length-drop, add-zero}
+use Rattle.std.proofs.Common.{◌≡◌, ◌≢◌, ◌⊎◌, ◌<◌, ◌≤◌, ◌^◌, ℕ, zero, suc, ◌+◌, ◌-◌, max, Bool, true, false, ◌&&◌, List, [], ◌∷◌, ◌++◌, length, map, take, drop, get_or, Some, None, refl, inl, inr, sym, ◌∙◌, ap, subst, arith, lit<, length-take, add-zero}
 use Rattle.std.specs.Prelude.{◌==◌, nat_le, slice_index, if◌then◌else◌}
-use Rattle.std.specs.Option.{option_map_or}
-use Rattle.std.proofs.lemmas.Bool.{eqb-true, eqb-false, leb-true}
+use Rattle.std.proofs.lemmas.Bool.{eqb-true, leb-true}
 use Rattle.std.proofs.lemmas.Grind.{common_steps}
-use Rattle.std.proofs.lemmas.List.{get_or-take, get_or-drop, take-take, drop-take, drop-drop, take_all, map-append, ext_get_or, append-nil, take-append-drop}
+use Rattle.std.proofs.lemmas.List.{get_or-take, get_or-drop, take-take, drop-take, drop-drop, map-append, ext_get_or, append-nil, take-append-drop}
 use Rattle.byteorder.specs.Numbers.{length-bytes_low_first, little_number-reads_back}
-use Rattle.bk_device.specs.Calls.{contents, read_at, written, IsTorn}
+use Rattle.bk_device.specs.Calls.{read_at, written, IsTorn}
 use Rattle.bk_device.specs.Names.{true_or_false}
 use Rattle.bk_device.specs.Torn.{take-torn, length-torn, read_at-torn, torn-written, read_at-written, read_at-written_other, written-length}
-use Rattle.bk_gate.specs.Blobs.{number, number_bytes, magic, blob_at, spans_from, spans_of, part_of, sealed, IsGateFile}
+use Rattle.bk_gate.specs.Blobs.{number, number_bytes, blob_at, spans_from, spans_of, part_of}
 use Rattle.bk_gate.specs.Gate.{Lies, Stands, IsPrepared}
 
 -- tests
@@ -152,7 +151,6 @@ front_blobs one two gate (span ∷ spans) end before same lies =
     let first : part_of two span ≡ part_of one span = front_part end span.0 span.1 one two same here in
     let others : map (part_of two) spans ≡ map (part_of one) spans = front_blobs one two (gate + 9 + span.1) spans end blob.2 same lies.2 in
     cc
-
 
 front_length : (n : ℕ) (one two : List ℕ) → take n two ≡ take n one → n ≤ length one → n ≤ length two
 front_length n one two same inside =
@@ -329,7 +327,6 @@ prepares_blob end size f inside =
     let eight = length-number_bytes size in
     read_at-written_other (end + 9) size (end + 1) one (number_bytes size) (omega (arith, length_one)) (inr (omega (arith, eight)))
     ∙ read_at-written_other (end + 9) size (end + 9 + size) f (0 ∷ []) inside (inl (omega arith))
-
 
 -- bytes that are added behind others
 

@@ -1,7 +1,6 @@
 -- The bytes of a gate file: sixteen letters, and then blobs, each behind a gate byte of 1.
 use Rattle.std.specs.Prelude.{◌≡◌, ◌≤◌, ◌+◌, ◌&&◌, ◌==◌, ℕ, zero, suc, nat_le, if◌then◌else◌, List, [], ◌∷◌, length, map, take, slice_index, Option, None, Some}
 use Rattle.std.specs.Option.{option_map_or}
-use Rattle.std.specs.Str.{bytes_eq}
 use Rattle.byteorder.specs.Endian.{little_number, little_bytes}
 use Rattle.bk_device.specs.Calls.{contents, read_at}
 

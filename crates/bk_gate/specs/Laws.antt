@@ -1,12 +1,12 @@
 -- What the layers above may take of a gate file.
-use Rattle.std.proofs.Common.{◌≡◌, ◌≤◌, ◌<◌, ◌⊎◌, ◌+◌, ℕ, Bool, true, false, List, Option, Some, length, take, refl, ap, sym, subst, ◌∙◌}
-use Rattle.std.specs.Prelude.{map, slice_index}
+use Rattle.std.proofs.Common.{◌≡◌, ◌≤◌, ◌<◌, ◌⊎◌, ◌+◌, ℕ, Bool, true, false, List, Option, length, take, refl, ap, sym, subst, ◌∙◌}
+use Rattle.std.specs.Prelude.{slice_index}
 use Rattle.bk_device.specs.Calls.{contents}
 use Rattle.bk_device.specs.Compose.{durable_kept}
-use Rattle.bk_device.specs.Disk.{Disk, IsDurable}
+use Rattle.bk_device.specs.Disk.{Disk}
 use Rattle.bk_device.specs.Effects.{IsName, KeepsFiles}
-use Rattle.bk_gate.specs.Blobs.{sealed, part_of, spans_of}
-use Rattle.bk_gate.specs.Gate.{Kept, Stands, Quiet, Loose, IsAt, IsGate}
+use Rattle.bk_gate.specs.Blobs.{sealed, spans_of}
+use Rattle.bk_gate.specs.Gate.{Kept, Stands, Quiet, IsAt, IsGate}
 use Rattle.bk_gate.specs.BlobLaws.{stands_spans, front_stands, front_sealed, shorter}
 
 -- files that agree up to the closed gate byte have the same blobs

@@ -28,7 +28,13 @@ pub fn close<D: Device>(dev: &mut D, name: &str, end: u64, is_closed: bool) -> R
 }
 
 // Writes bytes behind the closed gate byte at the end. They aren't durable yet.
-pub fn append<D: Device>(dev: &mut D, name: &str, end: u64, at: u64, bytes: &[u8]) -> Result<(), Failed>
+pub fn append<D: Device>(
+    dev: &mut D,
+    name: &str,
+    end: u64,
+    at: u64,
+    bytes: &[u8],
+) -> Result<(), Failed>
     requires behind { at < 2 ^ 62 → end < at }
     requires inside { D.tells → at ≤ length (contents ((D.disk dev.old).files name.now)) }
     requires quiet { D.tells → (spans : List (ℕ × ℕ)) × Quiet spans end name.now (D.disk dev.old) }
@@ -100,7 +106,13 @@ fn finish<D: Device>(dev: &mut D, name: &str, end: u64, next: u64, size: u64) ->
 }
 
 // Seals the blob behind the end: a crash leaves the blobs that there were, or this one too.
-pub fn seal_blob<D: Device>(dev: &mut D, name: &str, end: u64, next: u64, size: u64) -> Result<(), Failed>
+pub fn seal_blob<D: Device>(
+    dev: &mut D,
+    name: &str,
+    end: u64,
+    next: u64,
+    size: u64,
+) -> Result<(), Failed>
     requires next { next < 2 ^ 62 → next ≡ end + 9 + size }
     requires inside { D.tells → end + 9 + size ≤ length (contents ((D.disk dev.old).files name.now)) }
     requires near { D.tells → next ≤ end + 9 + size }
@@ -136,7 +148,13 @@ fn make_ready<D: Device>(dev: &mut D, name: &str, end: u64, is_closed: bool) -> 
 }
 
 // Sees to it that the bytes of a begun blob, of which there are so many, may be followed by more.
-pub fn keep_ready<D: Device>(dev: &mut D, name: &str, end: u64, is_closed: bool, len: u64) -> Result<(), Failed>
+pub fn keep_ready<D: Device>(
+    dev: &mut D,
+    name: &str,
+    end: u64,
+    is_closed: bool,
+    len: u64,
+) -> Result<(), Failed>
     requires at { D.tells → (spans : List (ℕ × ℕ)) × IsAt spans end is_closed name.now (D.disk dev.old) }
     requires room { D.tells → 0 < len → (is_closed ≡ true) × (end + 9 + len ≤ length (contents ((D.disk dev.old).files name.now))) }
     ensures quiet { D.tells → (spans : List (ℕ × ℕ)) → IsAt spans end is_closed name.now (D.disk dev.old) → OnOk result (Quiet spans end name.now (D.disk dev.new)) }
@@ -155,7 +173,14 @@ pub fn keep_ready<D: Device>(dev: &mut D, name: &str, end: u64, is_closed: bool,
 }
 
 // Adds bytes to a blob that was begun.
-pub fn add_blob<D: Device>(dev: &mut D, name: &str, end: u64, is_closed: bool, len: u64, bytes: &[u8]) -> Result<(), Failed>
+pub fn add_blob<D: Device>(
+    dev: &mut D,
+    name: &str,
+    end: u64,
+    is_closed: bool,
+    len: u64,
+    bytes: &[u8],
+) -> Result<(), Failed>
     requires at { D.tells → (spans : List (ℕ × ℕ)) × IsAt spans end is_closed name.now (D.disk dev.old) }
     requires room { D.tells → 0 < len → (is_closed ≡ true) × (end + 9 + len ≤ length (contents ((D.disk dev.old).files name.now))) }
     ensures quiet { D.tells → (spans : List (ℕ × ℕ)) → IsAt spans end is_closed name.now (D.disk dev.old) → OnOk result (Quiet spans end name.now (D.disk dev.new)) }
@@ -169,12 +194,24 @@ pub fn add_blob<D: Device>(dev: &mut D, name: &str, end: u64, is_closed: bool, l
     ensures tell_faults { D.tell_faults dev.new ≡ D.tell_faults dev.old }
 {
     keep_ready(dev, name, end, is_closed, len)?;
-    append(dev, name, end, end.saturating_add(9).saturating_add(len), bytes)?;
+    append(
+        dev,
+        name,
+        end,
+        end.saturating_add(9).saturating_add(len),
+        bytes,
+    )?;
     Ok(())
 }
 
 // Seals a begun blob of so many bytes, and says where the next gate byte is.
-pub fn store_blob<D: Device>(dev: &mut D, name: &str, end: u64, is_closed: bool, len: u64) -> Result<u64, Failed>
+pub fn store_blob<D: Device>(
+    dev: &mut D,
+    name: &str,
+    end: u64,
+    is_closed: bool,
+    len: u64,
+) -> Result<u64, Failed>
     requires at { D.tells → (spans : List (ℕ × ℕ)) × IsAt spans end is_closed name.now (D.disk dev.old) }
     requires room { D.tells → 0 < len → (is_closed ≡ true) × (end + 9 + len ≤ length (contents ((D.disk dev.old).files name.now))) }
     ensures quiet { D.tells → (spans : List (ℕ × ℕ)) → IsAt spans end is_closed name.now (D.disk dev.old) → OnOk result (Quiet (spans ++ (end + 9, len) ∷ []) (end + 9 + len) name.now (D.disk dev.new)) }
@@ -224,7 +261,12 @@ fn cut_behind<D: Device>(dev: &mut D, name: &str, end: u64) -> Result<(), Failed
 }
 
 // Cuts what stands behind the gate byte at the end, where it is closed.
-pub fn leave_closed<D: Device>(dev: &mut D, name: &str, end: u64, is_closed: bool) -> Result<(), Failed>
+pub fn leave_closed<D: Device>(
+    dev: &mut D,
+    name: &str,
+    end: u64,
+    is_closed: bool,
+) -> Result<(), Failed>
     requires { D.tells → (spans : List (ℕ × ℕ)) × IsAt spans end is_closed name.now (D.disk dev.old) }
     ensures at { D.tells → (spans : List (ℕ × ℕ)) → IsAt spans end is_closed name.now (D.disk dev.old) → OnOk result (IsAt spans end is_closed name.now (D.disk dev.new)) }
     ensures sealed { D.tells → OnOk result (sealed ((D.disk dev.new).files name.now) ≡ sealed ((D.disk dev.old).files name.now)) }
@@ -286,7 +328,13 @@ fn erase_blobs<D: Device>(dev: &mut D, name: &str, end: u64, has_blobs: bool) ->
 }
 
 // Empties a gate file: a crash leaves all blobs, or none.
-pub fn empty<D: Device>(dev: &mut D, name: &str, end: u64, is_closed: bool, has_blobs: bool) -> Result<(), Failed>
+pub fn empty<D: Device>(
+    dev: &mut D,
+    name: &str,
+    end: u64,
+    is_closed: bool,
+    has_blobs: bool,
+) -> Result<(), Failed>
     requires at { D.tells → (spans : List (ℕ × ℕ)) × IsAt spans end is_closed name.now (D.disk dev.old) × (has_blobs ≡ true → 0 < length spans) × (has_blobs ≡ false → spans ≡ []) }
     ensures quiet { D.tells → OnOk result (Quiet [] 16 name.now (D.disk dev.new)) }
     ensures durable { D.tells → OnOk result (IsDurable (D.disk dev.new) name.now) }

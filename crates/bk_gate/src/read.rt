@@ -87,7 +87,12 @@ pub fn read_closed<D: Device>(dev: &mut D, name: &str, end: u64, len: u64) -> Re
 }
 
 // Where the sealed blobs lie, and where the next gate byte is.
-pub fn read_spans<D: Device>(dev: &mut D, name: &str, len: u64, spans: &mut Vec<(u64, u64)>) -> Result<u64, GateError>
+pub fn read_spans<D: Device>(
+    dev: &mut D,
+    name: &str,
+    len: u64,
+    spans: &mut Vec<(u64, u64)>,
+) -> Result<u64, GateError>
     requires room { 16 ≤ len }
     requires none { spans.old.items ≡ [] }
     ensures lies { D.tells → len ≡ length (contents ((D.disk dev.old).files name.now)) → IfOk result (λ end. Lies (contents ((D.disk dev.old).files name.now)) 16 spans.new.items end) }

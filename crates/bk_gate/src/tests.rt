@@ -27,9 +27,15 @@ fn blobs_are_sealed_and_loaded(rt: HostRuntime) -> Result<(), Fail> {
 #[test]
 fn a_gate_that_is_not_whole_is_foreign(rt: HostRuntime) -> Result<(), Fail> {
     let mut device = MemDevice::new(rt.alloc());
-    assert_eq!(rt; Gate::load(rt.alloc(), &mut device, "a").err(), Some(GateError::Foreign));
+    assert_eq!(rt;
+        Gate::load(rt.alloc(), &mut device, "a").err(),
+        Some(GateError::Foreign)
+    );
     device.write("a", 0, b"SQLBAKGATE000001")?;
-    assert_eq!(rt; Gate::load(rt.alloc(), &mut device, "a").err(), Some(GateError::Foreign));
+    assert_eq!(rt;
+        Gate::load(rt.alloc(), &mut device, "a").err(),
+        Some(GateError::Foreign)
+    );
     device.write("a", 16, b"\x01\x05\x00\x00\x00\x00\x00\x00\x00four")?;
     let loaded = Gate::load(rt.alloc(), &mut device, "a");
     assert!(rt; loaded.is_ok());

@@ -1,6 +1,5 @@
-use Rattle.std.proofs.Common.{◌<◌, ◌^◌, arith, length}
-use Rattle.bk_device.specs.Calls.{contents}
-use Rattle.bk_gate.proofs.Steps.{append_any, append_crash, append_quiet, append_sealed}
+use Rattle.std.proofs.Common.{arith, length}
+use Rattle.bk_gate.proofs.Steps.{append_any, append_quiet, append_sealed}
 use Rattle.bk_gate.proofs.blob.append.Goals as goal
 
 pub returns-in_err-write-clause-crash : goal.returns-in_err-write-clause-crash

@@ -1,5 +1,5 @@
-use Rattle.std.proofs.Common.{Bool, true, false, List, ℕ, subst}
-use Rattle.bk_gate.specs.Gate.{IsAt, Quiet, Loose}
+use Rattle.std.proofs.Common.{Bool, subst}
+use Rattle.bk_gate.specs.Gate.{IsAt}
 use Rattle.bk_gate.proofs.Steps.{close_crash, close_sealed, close_quiet, quiet_none}
 use Rattle.bk_gate.proofs.blob.close.Goals as goal
 

@@ -1,4 +1,4 @@
-use Rattle.std.proofs.Common.{◌∙◌, []}
+use Rattle.std.proofs.Common.{[]}
 use Rattle.bk_gate.proofs.Steps.{empty_erased, empty_trimmed}
 use Rattle.bk_gate.proofs.blob.empty.Goals as goal
 

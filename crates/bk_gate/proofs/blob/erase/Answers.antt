@@ -1,4 +1,3 @@
-use Rattle.std.proofs.Common.{arith, ◌≤◌, length}
 use Rattle.bk_gate.proofs.Steps.{erase_crash, erase_quiet, no_spans}
 use Rattle.bk_gate.proofs.blob.erase.Goals as goal
 

@@ -1,4 +1,4 @@
-use Rattle.std.proofs.Common.{◌≡◌, ◌<◌, ◌^◌, ◌+◌, ◌∙◌, [], ◌∷◌, ap, subst, sym, arith, length, List, ℕ}
+use Rattle.std.proofs.Common.{◌≡◌, ◌<◌, ◌^◌, ◌+◌, ◌∙◌, [], ◌∷◌, ap, subst, sym, arith, List, ℕ}
 use Rattle.bk_device.specs.Calls.{contents, written, read_at}
 use Rattle.bk_gate.specs.Blobs.{number_bytes}
 use Rattle.bk_gate.specs.Gate.{IsPrepared}

@@ -1,4 +1,4 @@
-use Rattle.std.proofs.Common.{◌<◌, Bool, List, ℕ, subst, arith}
+use Rattle.std.proofs.Common.{◌<◌, Bool, subst, arith}
 use Rattle.bk_gate.specs.Gate.{IsAt}
 use Rattle.bk_gate.proofs.Steps.{quiet_none}
 use Rattle.bk_gate.proofs.blob.keep_ready.Goals as goal

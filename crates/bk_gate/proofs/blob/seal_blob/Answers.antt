@@ -1,7 +1,3 @@
-use Rattle.std.proofs.Common.{◌≡◌, ◌+◌, ◌∙◌, ◌++◌, [], ◌∷◌, ap, subst, sym, inl, inr, List, ℕ}
-use Rattle.bk_device.specs.Calls.{contents, read_at}
-use Rattle.bk_device.specs.Compose.{effect_then, effect_weaken}
-use Rattle.bk_gate.specs.Blobs.{sealed}
 use Rattle.bk_gate.proofs.Steps.{seal_crash, seal_value, open_quiet}
 use Rattle.bk_gate.proofs.blob.seal_blob.Goals as goal
 

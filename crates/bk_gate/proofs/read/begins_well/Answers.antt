@@ -1,6 +1,5 @@
-use Rattle.std.proofs.Common.{◌≡◌, ◌∙◌, ap, sym, refl, take, arith, true, false, List, ℕ}
+use Rattle.std.proofs.Common.{◌∙◌, refl, take}
 use Rattle.bk_device.specs.Calls.{contents}
-use Rattle.bk_gate.specs.Blobs.{magic}
 use Rattle.bk_gate.proofs.Reading.{filled_whole, tested}
 use Rattle.bk_gate.proofs.read.begins_well.Goals as goal
 

@@ -1,4 +1,4 @@
-use Rattle.std.proofs.Common.{◌≡◌, ◌≤◌, ◌<◌, ◌+◌, ◌∙◌, ap, sym, refl, arith, length}
+use Rattle.std.proofs.Common.{refl, arith}
 use Rattle.bk_device.specs.Calls.{contents}
 use Rattle.bk_gate.specs.BlobLaws.{short_blob}
 use Rattle.bk_gate.proofs.Reading.{read_open, read_shut, read_long}

@@ -1,4 +1,4 @@
-use Rattle.std.proofs.Common.{◌≡◌, ◌≤◌, ◌+◌, ◌∙◌, ap, sym, arith, length, List, ℕ, Option}
+use Rattle.std.proofs.Common.{◌≤◌, ◌+◌, ◌∙◌, ap, sym, arith, length}
 use Rattle.bk_device.specs.Calls.{contents}
 use Rattle.bk_gate.proofs.Reading.{nothing_then, read_more}
 use Rattle.bk_gate.proofs.read.read_spans.Goals as goal

@@ -1,6 +1,6 @@
-use Rattle.std.proofs.Common.{◌∙◌, ap, sym, length, List, ℕ}
+use Rattle.std.proofs.Common.{◌∙◌, ap, sym, length}
 use Rattle.bk_device.specs.Calls.{contents}
-use Rattle.bk_gate.proofs.Reading.{read_all, nothing_then}
+use Rattle.bk_gate.proofs.Reading.{read_all}
 use Rattle.bk_gate.proofs.gate.Gate.load.Goals as goal
 
 pub returns-clause-spans : goal.returns-clause-spans

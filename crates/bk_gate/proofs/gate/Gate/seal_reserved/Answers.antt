@@ -1,4 +1,4 @@
-use Rattle.std.proofs.Common.{◌≡◌, ◌∙◌, ap, sym, subst, List, ℕ}
+use Rattle.std.proofs.Common.{◌∙◌, ap, sym, subst, List, ℕ}
 use Rattle.std.specs.Prelude.{unwrap_or}
 use Rattle.bk_gate.specs.Gate.{Kept, IsGate, IsAt}
 use Rattle.bk_gate.proofs.Gates.{seal_named, sealed_gate}
