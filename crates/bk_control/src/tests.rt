@@ -9,18 +9,15 @@ fn a_content_is_made_put_and_loaded(rt: HostRuntime) -> Result<(), Fail> {
     assert!(rt; made.is_ok());
     if let Ok(mut control) = made {
         assert_eq!(rt; control.get(), b"one".as_slice());
-        assert!(rt; control.put(&mut device, b"second").is_ok());
-    }
-    let loaded = Control::load(rt.alloc(), &mut device, "a");
-    assert!(rt; loaded.is_ok());
-    if let Ok(mut control) = loaded {
-        assert_eq!(rt; control.get(), b"second".as_slice());
-        assert!(rt; control.put(&mut device, b"").is_ok());
+        match control.put(&mut device, b"second") {
+            Ok(()) => assert!(rt; control.put(&mut device, b"the third").is_ok()),
+            Err(_) => assert!(rt; false),
+        }
     }
     let loaded = Control::load(rt.alloc(), &mut device, "a");
     assert!(rt; loaded.is_ok());
     if let Ok(control) = loaded {
-        assert_eq!(rt; control.get(), b"".as_slice());
+        assert_eq!(rt; control.get(), b"the third".as_slice());
     }
     assert_eq!(rt; device.len("a")?, Some(131_200));
     Ok(())

@@ -1,0 +1,3 @@
+pub mod Gates
+pub mod Reading
+pub mod Steps

@@ -1,0 +1,17 @@
+use Rattle.std.proofs.Common.{◌≤◌, ◌+◌, ◌∙◌, ap, sym, arith, length}
+use Rattle.bk_device.specs.Calls.{contents}
+use Rattle.bk_gate.proofs.Reading.{nothing_then, read_more}
+use Rattle.bk_gate.proofs.read.read_spans.Goals as goal
+
+pub blobs-preserved : goal.blobs-preserved
+blobs-preserved g c =
+    let inside : c.blobs.gate + 9 + c.in-Some.size ≤ c.args.len = rw c.in-Some.is at c.in_ok-size.ensures.inside in
+    record {
+      inside = omega (arith, inside);
+      nothing = λ t. nothing_then (g.met.D.Device.lawful t c.args.dev.now) (c.blobs.invariant.nothing t) (c.read_blob.ensures.effect t);
+      lies = λ t size.
+          let same = ap contents ((c.blobs.invariant.nothing t).files c.args.name.now) in
+          read_more _ _ c.blobs.gate c.in-Some.size _ _ same (c.blobs.invariant.lies t size) (c.in_ok-size.ensures.blob t (size ∙ sym (ap length same)) ∙ c.in-Some.is) c.in_ok-push_span.ensures;
+      never_falls = omega (arith, c.blobs.invariant.never_falls, c.read_blob.ensures.never_falls);
+      tell_faults = c.read_blob.ensures.tell_faults ∙ c.blobs.invariant.tell_faults;
+    }

@@ -1,0 +1,395 @@
+-- What the front of a gate file says of its sealed blobs.
+use Rattle.std.proofs.Common.{◌≡◌, ◌≢◌, ◌⊎◌, ◌<◌, ◌≤◌, ◌^◌, ℕ, zero, suc, ◌+◌, ◌-◌, max, Bool, true, false, ◌&&◌, List, [], ◌∷◌, ◌++◌, length, map, take, drop, get_or, Some, None, refl, inl, inr, sym, ◌∙◌, ap, subst, arith, lit<, length-take, add-zero}
+use Rattle.std.specs.Prelude.{◌==◌, nat_le, slice_index, if◌then◌else◌}
+use Rattle.std.proofs.lemmas.Bool.{eqb-true, leb-true}
+use Rattle.std.proofs.lemmas.Grind.{common_steps}
+use Rattle.std.proofs.lemmas.List.{get_or-take, get_or-drop, take-take, drop-take, drop-drop, map-append, ext_get_or, append-nil, take-append-drop}
+use Rattle.byteorder.specs.Numbers.{length-bytes_low_first, little_number-reads_back}
+use Rattle.bk_device.specs.Calls.{read_at, written, IsTorn}
+use Rattle.bk_device.specs.Names.{true_or_false}
+use Rattle.bk_device.specs.Torn.{take-torn, length-torn, read_at-torn, torn-written, read_at-written, read_at-written_other, written-length}
+use Rattle.bk_gate.specs.Blobs.{number, number_bytes, blob_at, spans_from, spans_of, part_of}
+use Rattle.bk_gate.specs.Gate.{Lies, Stands, IsPrepared}
+
+-- tests
+
+pub equal_or_not : (m n : ℕ) → (m ≡ n) ⊎ (m ≢ n)
+equal_or_not m n = grind (arith, common_steps)
+
+test_false : (m n : ℕ) → m ≢ n → (m == n) ≡ false
+test_false m n differ = grind (arith, common_steps)
+
+and_true : (a b : Bool) → (a && b) ≡ true → (a ≡ true) × (b ≡ true)
+and_true true b is = (refl, is)
+and_true false b is = absurd (cc)
+
+-- a blob
+
+size_at : List ℕ → ℕ → ℕ
+size_at file gate = number (read_at file (gate + 1) 8)
+
+pub no_blob : (file : List ℕ) (gate : ℕ) → slice_index file gate ≢ 1 → blob_at file gate ≡ None
+unfolding blob_at
+no_blob file gate differ =
+    let test : (get_or file gate 0 == 1) ≡ false = test_false _ 1 differ in
+    rw test refl
+
+pub short_blob : (file : List ℕ) (gate : ℕ) → length file < gate + 9 → blob_at file gate ≡ None
+unfolding blob_at
+short_blob file gate less =
+    elim (true_or_false (get_or file gate 0 == 1)) [
+      | inl is_open ↦
+          let test : nat_le (gate + 9 + number (read_at file (gate + 1) 8)) (length file) ≡ false = beyond (gate + 9 + number (read_at file (gate + 1) 8)) (length file) (omega arith) in
+          rw (is_open, test) refl
+      | inr is_shut ↦ rw is_shut refl
+    ]
+  where
+    beyond : (m n : ℕ) → n < m → nat_le m n ≡ false
+    beyond m n more = grind (arith, common_steps)
+
+pub is_blob : (file : List ℕ) (gate size : ℕ) → slice_index file gate ≡ 1 → number (read_at file (gate + 1) 8) ≡ size → gate + 9 + size ≤ length file → blob_at file gate ≡ Some size
+unfolding blob_at
+is_blob file gate size open_ is inside =
+    let test : nat_le (gate + 9 + size) (length file) ≡ true = within (gate + 9 + size) (length file) inside in
+    rw (open_, is, test) refl
+  where
+    within : (m n : ℕ) → m ≤ n → nat_le m n ≡ true
+    within m n less = grind (arith, common_steps)
+
+-- what a blob is, from the definition
+pub of_blob : (file : List ℕ) (gate size : ℕ) → blob_at file gate ≡ Some size → (slice_index file gate ≡ 1) × (number (read_at file (gate + 1) 8) ≡ size) × (gate + 9 + size ≤ length file)
+unfolding blob_at
+of_blob file gate size is = go (get_or file gate 0 == 1) refl (nat_le (gate + 9 + number (read_at file (gate + 1) 8)) (length file)) refl is
+  where
+    go : (a : Bool) → (get_or file gate 0 == 1) ≡ a → (b : Bool) → nat_le (gate + 9 + number (read_at file (gate + 1) 8)) (length file) ≡ b → (if a && b then Some (number (read_at file (gate + 1) 8)) else None) ≡ Some size → (slice_index file gate ≡ 1) × (number (read_at file (gate + 1) 8) ≡ size) × (gate + 9 + size ≤ length file)
+    go true one true fits is =
+        let size_is : number (read_at file (gate + 1) 8) ≡ size = cc in
+        let inside : gate + 9 + number (read_at file (gate + 1) 8) ≤ length file = leb-true _ _ fits in
+        (eqb-true _ 1 one, size_is, omega (arith, inside, size_is))
+    go true one false fits is = absurd (cc)
+    go false one b fits is = absurd (cc)
+
+-- where blobs lie
+
+pub lies_within : (file : List ℕ) (gate : ℕ) (spans : List (ℕ × ℕ)) (end : ℕ) → gate ≤ length file → Lies file gate spans end → (gate ≤ end) × (end ≤ length file)
+lies_within file gate [] end inside lies = (omega (arith, lies), omega (arith, lies))
+lies_within file gate (span ∷ spans) end inside lies =
+    let blob = of_blob file gate span.1 lies.1 in
+    let rest = lies_within file (gate + 9 + span.1) spans end blob.2 lies.2 in
+    (omega (arith, rest.0), rest.1)
+
+-- the recursion finds them
+pub lies_spans : (file : List ℕ) (most gate : ℕ) (spans : List (ℕ × ℕ)) (end : ℕ) → length file < most + gate → Lies file gate spans end → blob_at file end ≡ None → spans_from most gate file ≡ spans
+lies_spans file zero gate [] end enough lies ends = refl
+lies_spans file (suc most) gate [] end enough lies ends =
+    let here : blob_at file gate ≡ None = ap (blob_at file) lies ∙ ends in
+    rw here refl
+lies_spans file zero gate (span ∷ spans) end enough lies ends =
+    let blob = of_blob file gate span.1 lies.1 in
+    absurd (omega (arith, blob.2, enough))
+lies_spans file (suc most) gate (span ∷ spans) end enough lies ends =
+    let blob = of_blob file gate span.1 lies.1 in
+    let rest : spans_from most (gate + 9 + span.1) file ≡ spans = lies_spans file most (gate + 9 + span.1) spans end (omega (arith, enough)) lies.2 ends in
+    let first : (gate + 9, span.1) ≡ span = ap (λ (p : ℕ). let s : ℕ × ℕ = (p, span.1) in s) (sym lies.0) in
+    rw (lies.1, rest) (ap (λ (s : ℕ × ℕ). s ∷ spans) first)
+
+pub stands_spans : (spans : List (ℕ × ℕ)) (end : ℕ) (file : List ℕ) → Stands spans end file → spans_of file ≡ spans
+unfolding spans_of
+stands_spans spans end file stands = lies_spans file (length file) 16 spans end (omega arith) stands.lies stands.ends
+
+-- one more blob behind them
+pub lies_more : (file : List ℕ) (gate : ℕ) (spans : List (ℕ × ℕ)) (end size : ℕ) → Lies file gate spans end → blob_at file end ≡ Some size → Lies file gate (spans ++ (end + 9, size) ∷ []) (end + 9 + size)
+lies_more file gate [] end size lies blob =
+    let same : gate ≡ end = lies in
+    let here : blob_at file gate ≡ Some size = ap (blob_at file) same ∙ blob in
+    let start : end + 9 ≡ gate + 9 = omega (arith, same) in
+    let after : gate + 9 + size ≡ end + 9 + size = omega (arith, same) in
+    (start, here, after)
+lies_more file gate (span ∷ spans) end size lies blob = (lies.0, lies.1, lies_more file (gate + 9 + span.1) spans end size lies.2 blob)
+
+-- files with the same front
+
+front_byte : (end k : ℕ) (one two : List ℕ) → take end two ≡ take end one → k < end → get_or two k 0 ≡ get_or one k 0
+front_byte end k one two same below =
+    sym (get_or-take end two k 0 below) ∙ ap (λ (f : List ℕ). get_or f k 0) same ∙ get_or-take end one k 0 below
+
+pub front_part : (end at n : ℕ) (one two : List ℕ) → take end two ≡ take end one → at + n ≤ end → read_at two at n ≡ read_at one at n
+front_part end at n one two same inside =
+    let split : end ≡ at + (end - at) = omega arith in
+    sym (cut end at n two inside) ∙ ap (λ (f : List ℕ). take n (drop at f)) same ∙ cut end at n one inside
+  where
+    cut : (end at n : ℕ) (file : List ℕ) → at + n ≤ end → take n (drop at (take end file)) ≡ read_at file at n
+    cut end at n file inside =
+        let split : end ≡ at + (end - at) = omega arith in
+        ap (λ (m : ℕ). take n (drop at (take m file))) split
+        ∙ ap (take n) (drop-take at (end - at) file)
+        ∙ take-take n (end - at) (drop at file) (omega arith)
+
+-- a blob that ends within the front
+front_blob : (end gate size : ℕ) (one two : List ℕ) → take end two ≡ take end one → end ≤ length two → gate + 9 + size ≤ end → blob_at one gate ≡ Some size → blob_at two gate ≡ Some size
+front_blob end gate size one two same inside within blob =
+    let is = of_blob one gate size blob in
+    is_blob two gate size
+    (front_byte end gate one two same (omega arith) ∙ is.0)
+    (ap number (front_part end (gate + 1) 8 one two same (omega arith)) ∙ is.1)
+    (omega arith)
+
+pub front_lies : (one two : List ℕ) (gate : ℕ) (spans : List (ℕ × ℕ)) (end : ℕ) → gate ≤ length one → take end two ≡ take end one → end ≤ length two → Lies one gate spans end → Lies two gate spans end
+front_lies one two gate [] end before same inside lies = lies
+front_lies one two gate (span ∷ spans) end before same inside lies =
+    let blob = of_blob one gate span.1 lies.1 in
+    let rest = lies_within one (gate + 9 + span.1) spans end blob.2 lies.2 in
+    (lies.0, front_blob end gate span.1 one two same inside rest.0 lies.1, front_lies one two (gate + 9 + span.1) spans end blob.2 same inside lies.2)
+
+-- the same blobs
+pub front_blobs : (one two : List ℕ) (gate : ℕ) (spans : List (ℕ × ℕ)) (end : ℕ) → gate ≤ length one → take end two ≡ take end one → Lies one gate spans end → map (part_of two) spans ≡ map (part_of one) spans
+front_blobs one two gate [] end before same lies = refl
+front_blobs one two gate (span ∷ spans) end before same lies =
+    let blob = of_blob one gate span.1 lies.1 in
+    let rest = lies_within one (gate + 9 + span.1) spans end blob.2 lies.2 in
+    let here : span.0 + span.1 ≤ end = omega (arith, lies.0, rest.0) in
+    let first : part_of two span ≡ part_of one span = front_part end span.0 span.1 one two same here in
+    let others : map (part_of two) spans ≡ map (part_of one) spans = front_blobs one two (gate + 9 + span.1) spans end blob.2 same lies.2 in
+    cc
+
+front_length : (n : ℕ) (one two : List ℕ) → take n two ≡ take n one → n ≤ length one → n ≤ length two
+front_length n one two same inside =
+    let lengths : length (take n two) ≡ length (take n one) = ap length same in
+    omega (arith, lengths, length-take n one, length-take n two)
+
+shorter_front : (m n : ℕ) (one two : List ℕ) → m ≤ n → take n two ≡ take n one → take m two ≡ take m one
+shorter_front m n one two less same = sym (take-take m n two less) ∙ ap (take m) same ∙ take-take m n one less
+
+-- The sealed blobs are known from what stands up to a closed gate byte.
+pub front_stands : (spans : List (ℕ × ℕ)) (end : ℕ) (one two : List ℕ) → Stands spans end one → end < length one → slice_index one end ≢ 1 → take (end + 1) two ≡ take (end + 1) one → Stands spans end two
+front_stands spans end one two stands inside closed same =
+    let from : 16 ≤ length one = omega (arith, stands.is_gate.1) in
+    let reach = lies_within one 16 spans end from stands.lies in
+    let whole : end + 1 ≤ length two = front_length (end + 1) one two same (omega arith) in
+    let front : take end two ≡ take end one = shorter_front end (end + 1) one two (omega arith) same in
+    let byte : get_or two end 0 ≡ get_or one end 0 = front_byte (end + 1) end one two same (omega arith) in
+    record {
+      lies = front_lies one two 16 spans end from front (omega arith) stands.lies;
+      ends = no_blob two end (λ open_. closed (sym byte ∙ open_));
+      is_gate = (shorter_front 16 (end + 1) one two (omega (arith, reach.0)) same ∙ stands.is_gate.0, omega (arith, reach.0));
+      within = omega arith;
+    }
+
+pub front_sealed : (spans : List (ℕ × ℕ)) (end : ℕ) (one two : List ℕ) → Stands spans end one → Stands spans end two → take end two ≡ take end one → map (part_of two) (spans_of two) ≡ map (part_of one) (spans_of one)
+front_sealed spans end one two stands stands2 same =
+    let from : 16 ≤ length one = omega (arith, stands.is_gate.1) in
+    ap (map (part_of two)) (stands_spans spans end two stands2)
+    ∙ front_blobs one two 16 spans end from same stands.lies
+    ∙ ap (map (part_of one)) (sym (stands_spans spans end one stands))
+
+-- a write behind the closed gate byte
+pub behind : (end at n : ℕ) (before after : List ℕ) → end < length before → end + 1 ≤ at → IsTorn at n before after → take (end + 1) after ≡ take (end + 1) before
+behind end at n before after inside past torn = take-torn (end + 1) at n before after past (omega arith) torn
+
+-- the byte at the end
+
+byte_front : (end : ℕ) (before after : List ℕ) → end ≤ length before → IsTorn end 1 before after → take end after ≡ take end before
+byte_front end before after inside torn = take-torn end end 1 before after (omega arith) inside torn
+
+-- Opening: the blob behind the gate byte is sealed, or nothing changed.
+pub opened_stands : (spans : List (ℕ × ℕ)) (end size : ℕ) (before after : List ℕ) → Stands spans end before → IsPrepared end size before → IsTorn end 1 before after → slice_index after end ≡ 1 → Stands (spans ++ (end + 9, size) ∷ []) (end + 9 + size) after
+opened_stands spans end size before after stands prepared torn one =
+    let from : 16 ≤ length before = omega (arith, stands.is_gate.1) in
+    let room : end + 9 + size < length before = prepared.inside in
+    let reach = lies_within before 16 spans end from stands.lies in
+    let lengths : length after ≡ length before = length-torn end 1 before after (omega arith) torn in
+    let front : take end after ≡ take end before = byte_front end before after stands.within torn in
+    let size_is : number (read_at after (end + 1) 8) ≡ size = ap number (read_at-torn (end + 1) 8 end 1 before after (omega arith) (inr (omega arith)) torn) ∙ prepared.size_is in
+    let next : slice_index after (end + 9 + size) ≡ slice_index before (end + 9 + size) = torn.outside (end + 9 + size) (omega arith) (inr (omega arith)) in
+    let blob : blob_at after end ≡ Some size = is_blob after end size one size_is (omega (arith, lengths)) in
+    record {
+      lies = lies_more after 16 spans end size (front_lies before after 16 spans end from front (omega (arith, lengths)) stands.lies) blob;
+      ends = no_blob after (end + 9 + size) (λ open_. prepared.closed (sym next ∙ open_));
+      is_gate = (shorter_front 16 end before after reach.0 front ∙ stands.is_gate.0, omega (arith, lengths, reach.0));
+      within = omega (arith, lengths);
+    }
+
+pub opened_sealed : (spans : List (ℕ × ℕ)) (end size : ℕ) (before after : List ℕ) → Stands spans end before → IsPrepared end size before → IsTorn end 1 before after → slice_index after end ≡ 1 → map (part_of after) (spans_of after) ≡ map (part_of before) (spans_of before) ++ read_at before (end + 9) size ∷ []
+opened_sealed spans end size before after stands prepared torn one =
+    let from : 16 ≤ length before = omega (arith, stands.is_gate.1) in
+    let room : end + 9 + size < length before = prepared.inside in
+    let last : read_at after (end + 9) size ≡ read_at before (end + 9) size = read_at-torn (end + 9) size end 1 before after (omega arith) (inr (omega arith)) torn in
+    let here : spans_of after ≡ spans ++ (end + 9, size) ∷ [] = stands_spans (spans ++ (end + 9, size) ∷ []) (end + 9 + size) after (opened_stands spans end size before after stands prepared torn one) in
+    let old : map (part_of after) spans ≡ map (part_of before) (spans_of before) = front_blobs before after 16 spans end from (byte_front end before after stands.within torn) stands.lies ∙ ap (map (part_of before)) (sym (stands_spans spans end before stands)) in
+    ap (map (part_of after)) here ∙ map-append (part_of after) spans ((end + 9, size) ∷ [])
+    ∙ ap (λ (b : List (List ℕ)). b ++ read_at after (end + 9) size ∷ []) old
+    ∙ ap (λ (x : List ℕ). map (part_of before) (spans_of before) ++ x ∷ []) last
+
+-- Closing a gate byte that is missing, or 1 with no whole blob behind it, changes nothing.
+same_byte : (at : ℕ) (before after : List ℕ) → at < length before → IsTorn at 1 before after → get_or after at 0 ≡ get_or before at 0 → after ≡ before
+same_byte at before after inside torn same =
+    let lengths : length after ≡ length before = length-torn at 1 before after (omega arith) torn in
+    ext_get_or 0 after before lengths (λ k below.
+    let where_is : (k ≡ at) ⊎ (k < at) ⊎ (at + 1 ≤ k) = order k at in
+    elim where_is [
+      | inl here ↦ let At : ℕ → Type 0 = λ p. get_or after p 0 ≡ get_or before p 0 in subst At (sym here) same
+      | inr rest ↦ elim rest [
+        | inl front ↦ torn.outside k (omega arith) (inl front)
+        | inr back ↦ torn.outside k (omega arith) (inr back)
+      ]
+    ])
+  where
+    order : (k at : ℕ) → (k ≡ at) ⊎ (k < at) ⊎ (at + 1 ≤ k)
+    order k at = grind (arith, common_steps)
+
+pub mending : (spans : List (ℕ × ℕ)) (end : ℕ) (before after : List ℕ) → Stands spans end before → (end ≡ length before) ⊎ (end < length before) × (slice_index before end ≡ 1) → IsTorn end 1 before after → Stands spans end after
+mending spans end before after stands why torn =
+    let from : 16 ≤ length before = omega (arith, stands.is_gate.1) in
+    let reach = lies_within before 16 spans end from stands.lies in
+    let front : take end after ≡ take end before = byte_front end before after stands.within torn in
+    let no_shorter : length before ≤ length after = torn.no_shorter in
+    let no_longer : length after ≤ max (length before) (end + 1) = torn.no_longer in
+    record {
+      lies = front_lies before after 16 spans end from front (omega (arith, reach.1)) stands.lies;
+      ends = elim why [
+        | inl missing ↦ short_blob after end (omega (arith, missing))
+        | inr open_ ↦ elim (equal_or_not (slice_index after end) 1) [
+          | inl one ↦ ap (λ (f : List ℕ). blob_at f end) (same_byte end before after open_.0 torn (one ∙ sym open_.1)) ∙ stands.ends
+          | inr differ ↦ no_blob after end differ
+        ]
+      ];
+      is_gate = (shorter_front 16 end before after reach.0 front ∙ stands.is_gate.0, omega (arith, stands.is_gate.1));
+      within = omega (arith, reach.1);
+    }
+
+pub mended_sealed : (spans : List (ℕ × ℕ)) (end : ℕ) (before after : List ℕ) → Stands spans end before → (end ≡ length before) ⊎ (end < length before) × (slice_index before end ≡ 1) → IsTorn end 1 before after → map (part_of after) (spans_of after) ≡ map (part_of before) (spans_of before)
+mended_sealed spans end before after stands why torn =
+    front_sealed spans end before after stands (mending spans end before after stands why torn) (byte_front end before after stands.within torn)
+
+-- small steps
+
+pub shorter : (end : ℕ) (one two : List ℕ) → take (end + 1) two ≡ take (end + 1) one → take end two ≡ take end one
+shorter end one two same = shorter_front end (end + 1) one two (omega arith) same
+
+pub longer : (end : ℕ) (one two : List ℕ) → end < length one → take (end + 1) two ≡ take (end + 1) one → end < length two
+longer end one two inside same = let whole : end + 1 ≤ length two = front_length (end + 1) one two same (omega arith) in omega (arith, whole)
+
+pub same_front_byte : (end : ℕ) (one two : List ℕ) → take (end + 1) two ≡ take (end + 1) one → get_or two end 0 ≡ get_or one end 0
+same_front_byte end one two same = front_byte (end + 1) end one two same (omega arith)
+
+pub byte_written : (at byte : ℕ) (file : List ℕ) → at ≤ length file → get_or (written file at (byte ∷ [])) at 0 ≡ byte
+byte_written at byte file inside =
+    let read : read_at (written file at (byte ∷ [])) at 1 ≡ byte ∷ [] = read_at-written at file (byte ∷ []) inside in
+    ap (λ (p : ℕ). get_or (written file at (byte ∷ [])) p 0) (sym (add-zero at))
+    ∙ sym (get_or-drop at (written file at (byte ∷ [])) 0 0)
+    ∙ sym (get_or-take 1 (drop at (written file at (byte ∷ []))) 0 0 (lit< tt))
+    ∙ ap (λ (xs : List ℕ). get_or xs 0 0) read
+
+-- a gate byte that stays closed
+pub shut_sealed : (spans : List (ℕ × ℕ)) (end : ℕ) (before after : List ℕ) → Stands spans end before → IsTorn end 1 before after → slice_index after end ≢ 1 → map (part_of after) (spans_of after) ≡ map (part_of before) (spans_of before)
+shut_sealed spans end before after stands torn differ =
+    let from : 16 ≤ length before = omega (arith, stands.is_gate.1) in
+    let reach = lies_within before 16 spans end from stands.lies in
+    let front : take end after ≡ take end before = byte_front end before after stands.within torn in
+    let no_shorter : length before ≤ length after = torn.no_shorter in
+    front_sealed spans end before after stands
+    (record {
+      lies = front_lies before after 16 spans end from front (omega (arith, reach.1)) stands.lies;
+      ends = no_blob after end differ;
+      is_gate = (shorter_front 16 end before after reach.0 front ∙ stands.is_gate.0, omega (arith, stands.is_gate.1));
+      within = omega (arith, reach.1);
+    }) front
+
+length-number_bytes : (n : ℕ) → length (number_bytes n) ≡ 8
+unfolding number_bytes
+length-number_bytes n = length-bytes_low_first 0 8 n
+
+number-reads_back : (n : ℕ) → n < 2 ^ 64 → number (number_bytes n) ≡ n
+unfolding number number_bytes
+number-reads_back n small = ap number (sym (append-nil (number_bytes n))) ∙ little_number-reads_back 8 n [] small
+
+-- what makes a blob ready to be sealed
+pub prepares : (end size : ℕ) (f : List ℕ) → end + 9 + size ≤ length f → size < 2 ^ 64 → IsPrepared end size (written (written f (end + 9 + size) (0 ∷ [])) (end + 1) (number_bytes size))
+prepares end size f inside small =
+    let one : List ℕ = written f (end + 9 + size) (0 ∷ []) in
+    let length_one : length one ≡ max (length f) (end + 9 + size + 1) = written-length (end + 9 + size) f (0 ∷ []) inside in
+    let eight = length-number_bytes size in
+    let length_two : length (written one (end + 1) (number_bytes size)) ≡ max (length one) (end + 1 + length (number_bytes size)) = written-length (end + 1) one (number_bytes size) (omega (arith, length_one)) in
+    let torn = torn-written (end + 1) one (number_bytes size) in
+    let read : read_at (written one (end + 1) (number_bytes size)) (end + 1) 8 ≡ number_bytes size = ap (read_at (written one (end + 1) (number_bytes size)) (end + 1)) (sym eight) ∙ read_at-written (end + 1) one (number_bytes size) (omega (arith, length_one)) in
+    let next : slice_index (written one (end + 1) (number_bytes size)) (end + 9 + size) ≡ 0 = torn.outside (end + 9 + size) (omega (arith, length_one)) (inr (omega (arith, eight))) ∙ byte_written (end + 9 + size) 0 f inside in
+    record {
+      size_is = ap number read ∙ number-reads_back size small;
+      inside = omega (arith, length_one, length_two);
+      closed = λ open_. absurd (omega (arith, next, open_));
+    }
+
+-- and leaves its content
+pub prepares_blob : (end size : ℕ) (f : List ℕ) → end + 9 + size ≤ length f → read_at (written (written f (end + 9 + size) (0 ∷ [])) (end + 1) (number_bytes size)) (end + 9) size ≡ read_at f (end + 9) size
+prepares_blob end size f inside =
+    let one : List ℕ = written f (end + 9 + size) (0 ∷ []) in
+    let length_one : length one ≡ max (length f) (end + 9 + size + 1) = written-length (end + 9 + size) f (0 ∷ []) inside in
+    let eight = length-number_bytes size in
+    read_at-written_other (end + 9) size (end + 1) one (number_bytes size) (omega (arith, length_one)) (inr (omega (arith, eight)))
+    ∙ read_at-written_other (end + 9) size (end + 9 + size) f (0 ∷ []) inside (inl (omega arith))
+
+-- bytes that are added behind others
+
+read_two : (file : List ℕ) (at m n : ℕ) → read_at file at (m + n) ≡ read_at file at m ++ read_at file (at + m) n
+read_two file at m n =
+    sym (take-append-drop m (take (m + n) (drop at file)))
+    ∙ ap (λ (r : List ℕ). r ++ drop m (take (m + n) (drop at file))) (take-take m (m + n) (drop at file) (omega arith))
+    ∙ ap (λ (r : List ℕ). take m (drop at file) ++ r) (drop-take m n (drop at file) ∙ ap (take n) (drop-drop m at file))
+
+pub adds : (file bytes : List ℕ) (at len : ℕ) → at + len ≤ length file → read_at (written file (at + len) bytes) at (len + length bytes) ≡ read_at file at len ++ bytes
+adds file bytes at len inside =
+    read_two (written file (at + len) bytes) at len (length bytes)
+    ∙ ap (λ (r : List ℕ). r ++ read_at (written file (at + len) bytes) (at + len) (length bytes)) (read_at-written_other at len (at + len) file bytes inside (inl (omega arith)))
+    ∙ ap (λ (r : List ℕ). read_at file at len ++ r) (read_at-written (at + len) file bytes inside)
+
+pub adds_length : (file bytes : List ℕ) (at : ℕ) → at ≤ length file → at + length bytes ≤ length (written file at bytes)
+adds_length file bytes at inside = omega (arith, written-length at file bytes inside)
+
+-- a file with no blob
+ends_at_once : (most gate : ℕ) (file : List ℕ) → blob_at file gate ≡ None → spans_from most gate file ≡ []
+ends_at_once zero gate file none = refl
+ends_at_once (suc most) gate file none = rw none refl
+
+pub ended_spans : (file : List ℕ) → blob_at file 16 ≡ None → spans_of file ≡ []
+unfolding spans_of
+ended_spans file none = ends_at_once (length file) 16 file none
+
+pub long_blob : (file : List ℕ) (gate size : ℕ) → number (read_at file (gate + 1) 8) ≡ size → length file < gate + 9 + size → blob_at file gate ≡ None
+unfolding blob_at
+long_blob file gate size is more =
+    elim (true_or_false (get_or file gate 0 == 1)) [
+      | inl is_open ↦
+          let test : nat_le (gate + 9 + size) (length file) ≡ false = beyond (gate + 9 + size) (length file) more in
+          rw (is_open, is, test) refl
+      | inr is_shut ↦ rw is_shut refl
+    ]
+  where
+    beyond : (m n : ℕ) → n < m → nat_le m n ≡ false
+    beyond m n less = grind (arith, common_steps)
+
+-- closing the first gate byte
+
+first_gate : (spans : List (ℕ × ℕ)) (end : ℕ) (file : List ℕ) → 0 < length spans → Stands spans end file → slice_index file 16 ≡ 1
+first_gate [] end file some stands = absurd (omega arith)
+first_gate (span ∷ spans) end file some stands = (of_blob file 16 span.1 stands.lies.1).0
+
+pub erasing : (spans : List (ℕ × ℕ)) (end : ℕ) (before after : List ℕ) → 0 < length spans → Stands spans end before → IsTorn 16 1 before after → (map (part_of after) (spans_of after) ≡ map (part_of before) (spans_of before)) ⊎ (map (part_of after) (spans_of after) ≡ [])
+erasing spans end before after some stands torn =
+    elim (equal_or_not (slice_index after 16) 1) [
+      | inl one ↦
+          let same : after ≡ before = same_byte 16 before after (omega (arith, stands.is_gate.1)) torn (one ∙ sym (first_gate spans end before some stands)) in
+          inl (ap (λ (f : List ℕ). map (part_of f) (spans_of f)) same)
+      | inr differ ↦ inr (ap (map (part_of after)) (ended_spans after (no_blob after 16 differ)))
+    ]
+
+pub erased : (spans : List (ℕ × ℕ)) (end : ℕ) (before : List ℕ) → Stands spans end before → Stands [] 16 (written before 16 (0 ∷ []))
+erased spans end before stands =
+    let torn = torn-written 16 before (0 ∷ []) in
+    let byte : get_or (written before 16 (0 ∷ [])) 16 0 ≡ 0 = byte_written 16 0 before (omega (arith, stands.is_gate.1)) in
+    let no_shorter : length before ≤ length (written before 16 (0 ∷ [])) = torn.no_shorter in
+    record {
+      lies = refl;
+      ends = no_blob (written before 16 (0 ∷ [])) 16 (λ one. absurd (omega (arith, byte, one)));
+      is_gate = (take-torn 16 16 1 before (written before 16 (0 ∷ [])) (omega arith) (omega (arith, stands.is_gate.1)) torn ∙ stands.is_gate.0, omega (arith, no_shorter, stands.is_gate.1));
+      within = omega (arith, no_shorter, stands.is_gate.1);
+    }

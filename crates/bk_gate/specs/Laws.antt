@@ -1,0 +1,67 @@
+-- What the layers above may take of a gate file.
+use Rattle.std.proofs.Common.{◌≡◌, ◌≤◌, ◌<◌, ◌⊎◌, ◌+◌, ℕ, Bool, true, false, List, Option, length, take, refl, ap, sym, subst, ◌∙◌}
+use Rattle.std.specs.Prelude.{slice_index}
+use Rattle.bk_device.specs.Calls.{contents}
+use Rattle.bk_device.specs.Compose.{durable_kept}
+use Rattle.bk_device.specs.Disk.{Disk}
+use Rattle.bk_device.specs.Effects.{IsName, KeepsFiles}
+use Rattle.bk_gate.specs.Blobs.{sealed, spans_of}
+use Rattle.bk_gate.specs.Gate.{Kept, Stands, Quiet, IsAt, IsGate}
+use Rattle.bk_gate.specs.BlobLaws.{stands_spans, front_stands, front_sealed, shorter}
+
+-- files that agree up to the closed gate byte have the same blobs
+pub quiet_front : (spans : List (ℕ × ℕ)) (end : ℕ) (name : List ℕ) (a : Disk) (file : Option (List ℕ)) → Quiet spans end name a → take (end + 1) (contents file) ≡ take (end + 1) (contents (a.files name)) → sealed file ≡ sealed (a.files name)
+quiet_front spans end name a file quiet same =
+    front_sealed spans end (contents (a.files name)) (contents file) quiet.stands
+    (front_stands spans end (contents (a.files name)) (contents file) quiet.stands quiet.inside quiet.closed same)
+    (shorter end (contents (a.files name)) (contents file) same)
+
+at_kept : (spans : List (ℕ × ℕ)) (end : ℕ) (is_closed : Bool) (name : List ℕ) (a b : Disk) → KeepsFiles (IsName name) a b → IsAt spans end is_closed name a → IsAt spans end is_closed name b
+at_kept spans end true name a b keeps quiet =
+    let same : contents (b.files name) ≡ contents (a.files name) = ap contents (keeps.same name refl) in
+    let OfStands : List ℕ → Type 0 = Stands spans end in
+    let OfInside : List ℕ → Type 0 = λ f. end < length f in
+    record {
+      stands = subst OfStands (sym same) quiet.stands;
+      inside = subst OfInside (sym same) quiet.inside;
+      closed = λ one. quiet.closed (ap (λ (f : List ℕ). slice_index f end) (sym same) ∙ one);
+      left = λ content may. quiet.left content (keeps.nothing_more name refl content may) ∙ ap (take (end + 1)) (sym same);
+    }
+at_kept spans end false name a b keeps loose =
+    let same : contents (b.files name) ≡ contents (a.files name) = ap contents (keeps.same name refl) in
+    let Of : List ℕ → Type 0 = λ f. (end ≡ length f) ⊎ (end < length f) × (slice_index f end ≡ 1) in
+    let OfStands : List ℕ → Type 0 = Stands spans end in
+    record {
+      stands = subst OfStands (sym same) loose.stands;
+      why = subst Of (sym same) loose.why;
+      durable = durable_kept name refl keeps loose.durable;
+    }
+
+-- what is done under other names leaves the gate
+pub gate_kept : {a b : Disk} {gate : Kept} → KeepsFiles (IsName gate.name) a b → IsGate a gate → IsGate b gate
+gate_kept {a = a} {b = b} {gate = gate} keeps is = record {
+  at = at_kept gate.spans gate.end gate.is_closed gate.name a b keeps is.at;
+  room = λ n begun more.
+      let OfRoom : List ℕ → Type 0 = λ f. gate.end + 9 + n ≤ length f in
+      ((is.room n begun more).0, subst OfRoom (sym (ap contents (keeps.same gate.name refl))) (is.room n begun more).1);
+}
+
+-- and its sealed blobs
+pub sealed_kept : {a b : Disk} (name : List ℕ) → KeepsFiles (IsName name) a b → sealed (b.files name) ≡ sealed (a.files name)
+sealed_kept name keeps = ap sealed (keeps.same name refl)
+
+-- each crash leaves the sealed blobs, also while a blob is begun
+pub gate_left : {a : Disk} {gate : Kept} (content : Option (List ℕ)) → IsGate a gate → a.may gate.name content → sealed content ≡ sealed (a.files gate.name)
+gate_left {a = a} {gate = gate} content is may = go gate.is_closed is.at
+  where
+    go : (is_closed : Bool) → IsAt gate.spans gate.end is_closed gate.name a → sealed content ≡ sealed (a.files gate.name)
+    go true quiet = quiet_front gate.spans gate.end gate.name a content quiet (quiet.left content may)
+    go false loose = ap sealed (loose.durable content may)
+
+-- the spans are those of the sealed blobs
+pub gate_spans : {a : Disk} {gate : Kept} → IsGate a gate → spans_of (contents (a.files gate.name)) ≡ gate.spans
+gate_spans {a = a} {gate = gate} is = go gate.is_closed is.at
+  where
+    go : (is_closed : Bool) → IsAt gate.spans gate.end is_closed gate.name a → spans_of (contents (a.files gate.name)) ≡ gate.spans
+    go true quiet = stands_spans gate.spans gate.end (contents (a.files gate.name)) quiet.stands
+    go false loose = stands_spans gate.spans gate.end (contents (a.files gate.name)) loose.stands

@@ -1,0 +1,4 @@
+pub mod BlobLaws
+pub mod Blobs
+pub mod Gate
+pub mod Laws

@@ -1,0 +1,351 @@
+// The writes that put a blob behind the end of a gate file.
+ghost use Rattle.std.specs.Prelude.{◌≡◌, ◌≢◌, ◌≤◌, ◌<◌, ◌+◌, ◌^◌, ◌++◌, ◌∷◌, ◌⊎◌, [], List, ℕ, Some, length, drop, true, false, slice_index, IfOk, OnOk, OnErr};
+ghost use Rattle.bk_gate.specs.Blobs.{number, number_bytes, sealed};
+ghost use Rattle.bk_gate.specs.Gate.{Stands, Quiet, IsAt, IsPrepared};
+ghost use Rattle.bk_device.specs.Calls.{contents, written, read_at};
+ghost use Rattle.bk_device.specs.Counts.{HasRisen};
+ghost use Rattle.bk_device.specs.Disk.{IsDurable};
+ghost use Rattle.bk_device.specs.Effects.{Effect, IsName};
+
+use crate::durable::{remove_durably, write_durably};
+use bk_device::{Device, Failed};
+use byteorder::{ByteOrder, LittleEndian};
+
+// Sees to it that the gate byte at the end is closed.
+pub fn close<D: Device>(dev: &mut D, name: &str, end: u64, is_closed: bool) -> Result<(), Failed>
+    requires { D.tells → (spans : List (ℕ × ℕ)) × IsAt spans end is_closed name.now (D.disk dev.old) }
+    ensures quiet { D.tells → (spans : List (ℕ × ℕ)) → IsAt spans end is_closed name.now (D.disk dev.old) → OnOk result (Quiet spans end name.now (D.disk dev.new)) }
+    ensures sealed { D.tells → OnOk result (sealed ((D.disk dev.new).files name.now) ≡ sealed ((D.disk dev.old).files name.now)) }
+    ensures crash { D.tells → Effect (IsName name.now) (λ image. sealed (image name.now) ≡ sealed ((D.disk dev.old).files name.now)) (D.disk dev.old) (D.disk dev.new) }
+    ensures cause { OnErr result (HasRisen (D.disk_faults dev.old) (D.disk_faults dev.new)) }
+    ensures never_falls { D.disk_faults dev.old ≤ D.disk_faults dev.new }
+    ensures tell_faults { D.tell_faults dev.new ≡ D.tell_faults dev.old }
+{
+    if !is_closed {
+        write_durably(dev, name, end, &[0])?;
+    }
+    Ok(())
+}
+
+// Writes bytes behind the closed gate byte at the end. They aren't durable yet.
+pub fn append<D: Device>(
+    dev: &mut D,
+    name: &str,
+    end: u64,
+    at: u64,
+    bytes: &[u8],
+) -> Result<(), Failed>
+    requires behind { at < 2 ^ 62 → end < at }
+    requires inside { D.tells → at ≤ length (contents ((D.disk dev.old).files name.now)) }
+    requires quiet { D.tells → (spans : List (ℕ × ℕ)) × Quiet spans end name.now (D.disk dev.old) }
+    ensures quiet { D.tells → (spans : List (ℕ × ℕ)) → Quiet spans end name.now (D.disk dev.old) → OnOk result (Quiet spans end name.now (D.disk dev.new)) }
+    ensures written { D.tells → OnOk result ((D.disk dev.new).files name.now ≡ Some (written (contents ((D.disk dev.old).files name.now)) at bytes.now)) }
+    ensures sealed { D.tells → OnOk result (sealed ((D.disk dev.new).files name.now) ≡ sealed ((D.disk dev.old).files name.now)) }
+    ensures small { OnOk result (at + length bytes.now < 2 ^ 62) }
+    ensures crash { D.tells → Effect (IsName name.now) (λ image. sealed (image name.now) ≡ sealed ((D.disk dev.old).files name.now)) (D.disk dev.old) (D.disk dev.new) }
+    ensures cause { OnErr result (HasRisen (D.disk_faults dev.old) (D.disk_faults dev.new)) }
+    ensures never_falls { D.disk_faults dev.old ≤ D.disk_faults dev.new }
+    ensures tell_faults { D.tell_faults dev.new ≡ D.tell_faults dev.old }
+{
+    dev.write(name, at, bytes)?;
+    Ok(())
+}
+
+pub fn read_number(bytes: &[u8]) -> u64
+    requires { length bytes.now ≡ 8 }
+    ensures { result ≡ number bytes.now }
+{
+    LittleEndian::read_u64(bytes)
+}
+
+// The eight bytes of a number, the lowest first.
+pub fn spelled(n: u64) -> [u8; 8]
+    ensures { result ≡ number_bytes n }
+{
+    let mut bytes = [0u8; 8];
+    LittleEndian::write_u64(&mut bytes, n);
+    bytes
+}
+
+// Makes what was written behind the closed gate byte durable.
+fn settle<D: Device>(dev: &mut D, name: &str, end: u64) -> Result<(), Failed>
+    requires { D.tells → (spans : List (ℕ × ℕ)) × Quiet spans end name.now (D.disk dev.old) }
+    ensures quiet { D.tells → (spans : List (ℕ × ℕ)) → Quiet spans end name.now (D.disk dev.old) → OnOk result (Quiet spans end name.now (D.disk dev.new)) }
+    ensures durable { D.tells → OnOk result (IsDurable (D.disk dev.new) name.now) }
+    ensures same { D.tells → OnOk result ((D.disk dev.new).files name.now ≡ (D.disk dev.old).files name.now) }
+    ensures crash { D.tells → Effect (IsName name.now) (λ image. sealed (image name.now) ≡ sealed ((D.disk dev.old).files name.now)) (D.disk dev.old) (D.disk dev.new) }
+    ensures cause { OnErr result (HasRisen (D.disk_faults dev.old) (D.disk_faults dev.new)) }
+    ensures never_falls { D.disk_faults dev.old ≤ D.disk_faults dev.new }
+    ensures tell_faults { D.tell_faults dev.new ≡ D.tell_faults dev.old }
+{
+    dev.sync(name)?;
+    Ok(())
+}
+
+// Writes the length of the blob behind the end, and a closed gate byte behind the blob, durably.
+fn finish<D: Device>(dev: &mut D, name: &str, end: u64, next: u64, size: u64) -> Result<(), Failed>
+    requires next { next < 2 ^ 62 → next ≡ end + 9 + size }
+    requires inside { D.tells → end + 9 + size ≤ length (contents ((D.disk dev.old).files name.now)) }
+    requires near { D.tells → next ≤ end + 9 + size }
+    requires quiet { D.tells → (spans : List (ℕ × ℕ)) × Quiet spans end name.now (D.disk dev.old) }
+    ensures quiet { D.tells → (spans : List (ℕ × ℕ)) → Quiet spans end name.now (D.disk dev.old) → OnOk result (Quiet spans end name.now (D.disk dev.new)) }
+    ensures durable { D.tells → OnOk result (IsDurable (D.disk dev.new) name.now) }
+    ensures prepared { D.tells → OnOk result (IsPrepared end size (contents ((D.disk dev.new).files name.now))) }
+    ensures blob { D.tells → OnOk result (read_at (contents ((D.disk dev.new).files name.now)) (end + 9) size ≡ read_at (contents ((D.disk dev.old).files name.now)) (end + 9) size) }
+    ensures sealed { D.tells → OnOk result (sealed ((D.disk dev.new).files name.now) ≡ sealed ((D.disk dev.old).files name.now)) }
+    ensures crash { D.tells → Effect (IsName name.now) (λ image. sealed (image name.now) ≡ sealed ((D.disk dev.old).files name.now)) (D.disk dev.old) (D.disk dev.new) }
+    ensures small { OnOk result (next < 2 ^ 62) }
+    ensures cause { OnErr result (HasRisen (D.disk_faults dev.old) (D.disk_faults dev.new)) }
+    ensures never_falls { D.disk_faults dev.old ≤ D.disk_faults dev.new }
+    ensures tell_faults { D.tell_faults dev.new ≡ D.tell_faults dev.old }
+{
+    append(dev, name, end, next, &[0])?;
+    append(dev, name, end, end + 1, &spelled(size))?;
+    settle(dev, name, end)?;
+    Ok(())
+}
+
+// Seals the blob behind the end: a crash leaves the blobs that there were, or this one too.
+pub fn seal_blob<D: Device>(
+    dev: &mut D,
+    name: &str,
+    end: u64,
+    next: u64,
+    size: u64,
+) -> Result<(), Failed>
+    requires next { next < 2 ^ 62 → next ≡ end + 9 + size }
+    requires inside { D.tells → end + 9 + size ≤ length (contents ((D.disk dev.old).files name.now)) }
+    requires near { D.tells → next ≤ end + 9 + size }
+    requires quiet { D.tells → (spans : List (ℕ × ℕ)) × Quiet spans end name.now (D.disk dev.old) }
+    ensures quiet { D.tells → (spans : List (ℕ × ℕ)) → Quiet spans end name.now (D.disk dev.old) → OnOk result (Quiet (spans ++ (end + 9, size) ∷ []) (end + 9 + size) name.now (D.disk dev.new)) }
+    ensures durable { D.tells → OnOk result (IsDurable (D.disk dev.new) name.now) }
+    ensures sealed { D.tells → OnOk result (sealed ((D.disk dev.new).files name.now) ≡ sealed ((D.disk dev.old).files name.now) ++ read_at (contents ((D.disk dev.old).files name.now)) (end + 9) size ∷ []) }
+    ensures crash { D.tells → Effect (IsName name.now) (λ image. (sealed (image name.now) ≡ sealed ((D.disk dev.old).files name.now)) ⊎ (sealed (image name.now) ≡ sealed ((D.disk dev.old).files name.now) ++ read_at (contents ((D.disk dev.old).files name.now)) (end + 9) size ∷ [])) (D.disk dev.old) (D.disk dev.new) }
+    ensures small { OnOk result (next < 2 ^ 62) }
+    ensures cause { OnErr result (HasRisen (D.disk_faults dev.old) (D.disk_faults dev.new)) }
+    ensures never_falls { D.disk_faults dev.old ≤ D.disk_faults dev.new }
+    ensures tell_faults { D.tell_faults dev.new ≡ D.tell_faults dev.old }
+{
+    finish(dev, name, end, next, size)?;
+    write_durably(dev, name, end, &[1])?;
+    Ok(())
+}
+
+// Closes the gate byte at the end, and makes room for the length behind it.
+fn make_ready<D: Device>(dev: &mut D, name: &str, end: u64, is_closed: bool) -> Result<(), Failed>
+    requires { D.tells → (spans : List (ℕ × ℕ)) × IsAt spans end is_closed name.now (D.disk dev.old) }
+    ensures quiet { D.tells → (spans : List (ℕ × ℕ)) → IsAt spans end is_closed name.now (D.disk dev.old) → OnOk result (Quiet spans end name.now (D.disk dev.new)) }
+    ensures room { D.tells → OnOk result (end + 9 ≤ length (contents ((D.disk dev.new).files name.now))) }
+    ensures sealed { D.tells → OnOk result (sealed ((D.disk dev.new).files name.now) ≡ sealed ((D.disk dev.old).files name.now)) }
+    ensures crash { D.tells → Effect (IsName name.now) (λ image. sealed (image name.now) ≡ sealed ((D.disk dev.old).files name.now)) (D.disk dev.old) (D.disk dev.new) }
+    ensures cause { OnErr result (HasRisen (D.disk_faults dev.old) (D.disk_faults dev.new)) }
+    ensures never_falls { D.disk_faults dev.old ≤ D.disk_faults dev.new }
+    ensures tell_faults { D.tell_faults dev.new ≡ D.tell_faults dev.old }
+{
+    close(dev, name, end, is_closed)?;
+    append(dev, name, end, end.saturating_add(1), &[0u8; 8])?;
+    Ok(())
+}
+
+// Sees to it that the bytes of a begun blob, of which there are so many, may be followed by more.
+pub fn keep_ready<D: Device>(
+    dev: &mut D,
+    name: &str,
+    end: u64,
+    is_closed: bool,
+    len: u64,
+) -> Result<(), Failed>
+    requires at { D.tells → (spans : List (ℕ × ℕ)) × IsAt spans end is_closed name.now (D.disk dev.old) }
+    requires room { D.tells → 0 < len → (is_closed ≡ true) × (end + 9 + len ≤ length (contents ((D.disk dev.old).files name.now))) }
+    ensures quiet { D.tells → (spans : List (ℕ × ℕ)) → IsAt spans end is_closed name.now (D.disk dev.old) → OnOk result (Quiet spans end name.now (D.disk dev.new)) }
+    ensures room { D.tells → OnOk result (end + 9 + len ≤ length (contents ((D.disk dev.new).files name.now))) }
+    ensures begun { D.tells → OnOk result (read_at (contents ((D.disk dev.new).files name.now)) (end + 9) len ≡ read_at (contents ((D.disk dev.old).files name.now)) (end + 9) len) }
+    ensures sealed { D.tells → OnOk result (sealed ((D.disk dev.new).files name.now) ≡ sealed ((D.disk dev.old).files name.now)) }
+    ensures crash { D.tells → Effect (IsName name.now) (λ image. sealed (image name.now) ≡ sealed ((D.disk dev.old).files name.now)) (D.disk dev.old) (D.disk dev.new) }
+    ensures cause { OnErr result (HasRisen (D.disk_faults dev.old) (D.disk_faults dev.new)) }
+    ensures never_falls { D.disk_faults dev.old ≤ D.disk_faults dev.new }
+    ensures tell_faults { D.tell_faults dev.new ≡ D.tell_faults dev.old }
+{
+    if len == 0 {
+        make_ready(dev, name, end, is_closed)?;
+    }
+    Ok(())
+}
+
+// Adds bytes to a blob that was begun.
+pub fn add_blob<D: Device>(
+    dev: &mut D,
+    name: &str,
+    end: u64,
+    is_closed: bool,
+    len: u64,
+    bytes: &[u8],
+) -> Result<(), Failed>
+    requires at { D.tells → (spans : List (ℕ × ℕ)) × IsAt spans end is_closed name.now (D.disk dev.old) }
+    requires room { D.tells → 0 < len → (is_closed ≡ true) × (end + 9 + len ≤ length (contents ((D.disk dev.old).files name.now))) }
+    ensures quiet { D.tells → (spans : List (ℕ × ℕ)) → IsAt spans end is_closed name.now (D.disk dev.old) → OnOk result (Quiet spans end name.now (D.disk dev.new)) }
+    ensures room { D.tells → OnOk result (end + 9 + (len + length bytes.now) ≤ length (contents ((D.disk dev.new).files name.now))) }
+    ensures begun { D.tells → OnOk result (read_at (contents ((D.disk dev.new).files name.now)) (end + 9) (len + length bytes.now) ≡ read_at (contents ((D.disk dev.old).files name.now)) (end + 9) len ++ bytes.now) }
+    ensures sealed { D.tells → OnOk result (sealed ((D.disk dev.new).files name.now) ≡ sealed ((D.disk dev.old).files name.now)) }
+    ensures small { OnOk result (end + 9 + (len + length bytes.now) < 2 ^ 62) }
+    ensures crash { D.tells → Effect (IsName name.now) (λ image. sealed (image name.now) ≡ sealed ((D.disk dev.old).files name.now)) (D.disk dev.old) (D.disk dev.new) }
+    ensures cause { OnErr result (HasRisen (D.disk_faults dev.old) (D.disk_faults dev.new)) }
+    ensures never_falls { D.disk_faults dev.old ≤ D.disk_faults dev.new }
+    ensures tell_faults { D.tell_faults dev.new ≡ D.tell_faults dev.old }
+{
+    keep_ready(dev, name, end, is_closed, len)?;
+    append(
+        dev,
+        name,
+        end,
+        end.saturating_add(9).saturating_add(len),
+        bytes,
+    )?;
+    Ok(())
+}
+
+// Seals a begun blob of so many bytes, and says where the next gate byte is.
+pub fn store_blob<D: Device>(
+    dev: &mut D,
+    name: &str,
+    end: u64,
+    is_closed: bool,
+    len: u64,
+) -> Result<u64, Failed>
+    requires at { D.tells → (spans : List (ℕ × ℕ)) × IsAt spans end is_closed name.now (D.disk dev.old) }
+    requires room { D.tells → 0 < len → (is_closed ≡ true) × (end + 9 + len ≤ length (contents ((D.disk dev.old).files name.now))) }
+    ensures quiet { D.tells → (spans : List (ℕ × ℕ)) → IsAt spans end is_closed name.now (D.disk dev.old) → OnOk result (Quiet (spans ++ (end + 9, len) ∷ []) (end + 9 + len) name.now (D.disk dev.new)) }
+    ensures sealed { D.tells → OnOk result (sealed ((D.disk dev.new).files name.now) ≡ sealed ((D.disk dev.old).files name.now) ++ read_at (contents ((D.disk dev.old).files name.now)) (end + 9) len ∷ []) }
+    ensures durable { D.tells → OnOk result (IsDurable (D.disk dev.new) name.now) }
+    ensures next { IfOk result (λ next. (next ≡ end + 9 + len) × (next < 2 ^ 62)) }
+    ensures crash { D.tells → Effect (IsName name.now) (λ image. (sealed (image name.now) ≡ sealed ((D.disk dev.old).files name.now)) ⊎ (sealed (image name.now) ≡ sealed ((D.disk dev.old).files name.now) ++ read_at (contents ((D.disk dev.old).files name.now)) (end + 9) len ∷ [])) (D.disk dev.old) (D.disk dev.new) }
+    ensures cause { OnErr result (HasRisen (D.disk_faults dev.old) (D.disk_faults dev.new)) }
+    ensures never_falls { D.disk_faults dev.old ≤ D.disk_faults dev.new }
+    ensures tell_faults { D.tell_faults dev.new ≡ D.tell_faults dev.old }
+{
+    keep_ready(dev, name, end, is_closed, len)?;
+    let next = end.saturating_add(9).saturating_add(len);
+    seal_blob(dev, name, end, next, len)?;
+    Ok(next)
+}
+
+// Cuts what stands behind the closed gate byte at the end.
+fn trim<D: Device>(dev: &mut D, name: &str, end: u64) -> Result<(), Failed>
+    requires { D.tells → (spans : List (ℕ × ℕ)) × Quiet spans end name.now (D.disk dev.old) }
+    ensures quiet { D.tells → (spans : List (ℕ × ℕ)) → Quiet spans end name.now (D.disk dev.old) → OnOk result (Quiet spans end name.now (D.disk dev.new)) }
+    ensures durable { D.tells → OnOk result (IsDurable (D.disk dev.new) name.now) }
+    ensures sealed { D.tells → OnOk result (sealed ((D.disk dev.new).files name.now) ≡ sealed ((D.disk dev.old).files name.now)) }
+    ensures crash { D.tells → Effect (IsName name.now) (λ image. sealed (image name.now) ≡ sealed ((D.disk dev.old).files name.now)) (D.disk dev.old) (D.disk dev.new) }
+    ensures cause { OnErr result (HasRisen (D.disk_faults dev.old) (D.disk_faults dev.new)) }
+    ensures never_falls { D.disk_faults dev.old ≤ D.disk_faults dev.new }
+    ensures tell_faults { D.tell_faults dev.new ≡ D.tell_faults dev.old }
+{
+    cut_behind(dev, name, end)?;
+    settle(dev, name, end)?;
+    Ok(())
+}
+
+fn cut_behind<D: Device>(dev: &mut D, name: &str, end: u64) -> Result<(), Failed>
+    requires { D.tells → (spans : List (ℕ × ℕ)) × Quiet spans end name.now (D.disk dev.old) }
+    ensures quiet { D.tells → (spans : List (ℕ × ℕ)) → Quiet spans end name.now (D.disk dev.old) → OnOk result (Quiet spans end name.now (D.disk dev.new)) }
+    ensures sealed { D.tells → OnOk result (sealed ((D.disk dev.new).files name.now) ≡ sealed ((D.disk dev.old).files name.now)) }
+    ensures crash { D.tells → Effect (IsName name.now) (λ image. sealed (image name.now) ≡ sealed ((D.disk dev.old).files name.now)) (D.disk dev.old) (D.disk dev.new) }
+    ensures cause { OnErr result (HasRisen (D.disk_faults dev.old) (D.disk_faults dev.new)) }
+    ensures never_falls { D.disk_faults dev.old ≤ D.disk_faults dev.new }
+    ensures tell_faults { D.tell_faults dev.new ≡ D.tell_faults dev.old }
+{
+    if end < u64::MAX {
+        dev.cut(name, end + 1)?;
+    }
+    Ok(())
+}
+
+// Cuts what stands behind the gate byte at the end, where it is closed.
+pub fn leave_closed<D: Device>(
+    dev: &mut D,
+    name: &str,
+    end: u64,
+    is_closed: bool,
+) -> Result<(), Failed>
+    requires { D.tells → (spans : List (ℕ × ℕ)) × IsAt spans end is_closed name.now (D.disk dev.old) }
+    ensures at { D.tells → (spans : List (ℕ × ℕ)) → IsAt spans end is_closed name.now (D.disk dev.old) → OnOk result (IsAt spans end is_closed name.now (D.disk dev.new)) }
+    ensures sealed { D.tells → OnOk result (sealed ((D.disk dev.new).files name.now) ≡ sealed ((D.disk dev.old).files name.now)) }
+    ensures crash { D.tells → Effect (IsName name.now) (λ image. sealed (image name.now) ≡ sealed ((D.disk dev.old).files name.now)) (D.disk dev.old) (D.disk dev.new) }
+    ensures cause { OnErr result (HasRisen (D.disk_faults dev.old) (D.disk_faults dev.new)) }
+    ensures never_falls { D.disk_faults dev.old ≤ D.disk_faults dev.new }
+    ensures tell_faults { D.tell_faults dev.new ≡ D.tell_faults dev.old }
+{
+    if is_closed {
+        trim(dev, name, end)?;
+    }
+    Ok(())
+}
+
+const HEADER: [u8; 17] = *b"SQLBAKGATE000001\0";
+
+// Makes a gate file with no blob.
+pub fn start<D: Device>(dev: &mut D, name: &str) -> Result<(), Failed>
+    ensures quiet { D.tells → OnOk result (Quiet [] 16 name.now (D.disk dev.new)) }
+    ensures durable { D.tells → OnOk result (IsDurable (D.disk dev.new) name.now) }
+    ensures crash { D.tells → Effect (IsName name.now) (λ image. (D.disk dev.old).may name.now (image name.now) ⊎ (sealed (image name.now) ≡ [])) (D.disk dev.old) (D.disk dev.new) }
+    ensures cause { OnErr result (HasRisen (D.disk_faults dev.old) (D.disk_faults dev.new)) }
+    ensures never_falls { D.disk_faults dev.old ≤ D.disk_faults dev.new }
+    ensures tell_faults { D.tell_faults dev.new ≡ D.tell_faults dev.old }
+{
+    remove_durably(dev, name)?;
+    write_durably(dev, name, 0, &HEADER)?;
+    Ok(())
+}
+
+// Closes the first gate byte of a file with blobs: a crash leaves them all, or none.
+fn erase<D: Device>(dev: &mut D, name: &str, end: u64) -> Result<(), Failed>
+    requires { D.tells → (spans : List (ℕ × ℕ)) × Quiet spans end name.now (D.disk dev.old) × (0 < length spans) }
+    ensures quiet { D.tells → OnOk result (Quiet [] 16 name.now (D.disk dev.new)) }
+    ensures sealed { D.tells → OnOk result (sealed ((D.disk dev.new).files name.now) ≡ []) }
+    ensures crash { D.tells → Effect (IsName name.now) (λ image. (sealed (image name.now) ≡ sealed ((D.disk dev.old).files name.now)) ⊎ (sealed (image name.now) ≡ [])) (D.disk dev.old) (D.disk dev.new) }
+    ensures cause { OnErr result (HasRisen (D.disk_faults dev.old) (D.disk_faults dev.new)) }
+    ensures never_falls { D.disk_faults dev.old ≤ D.disk_faults dev.new }
+    ensures tell_faults { D.tell_faults dev.new ≡ D.tell_faults dev.old }
+{
+    settle(dev, name, end)?;
+    write_durably(dev, name, 16, &[0])?;
+    Ok(())
+}
+
+fn erase_blobs<D: Device>(dev: &mut D, name: &str, end: u64, has_blobs: bool) -> Result<(), Failed>
+    requires { D.tells → (spans : List (ℕ × ℕ)) × Quiet spans end name.now (D.disk dev.old) × (has_blobs ≡ true → 0 < length spans) × (has_blobs ≡ false → spans ≡ []) }
+    ensures quiet { D.tells → OnOk result (Quiet [] 16 name.now (D.disk dev.new)) }
+    ensures sealed { D.tells → OnOk result (sealed ((D.disk dev.new).files name.now) ≡ []) }
+    ensures crash { D.tells → Effect (IsName name.now) (λ image. (sealed (image name.now) ≡ sealed ((D.disk dev.old).files name.now)) ⊎ (sealed (image name.now) ≡ [])) (D.disk dev.old) (D.disk dev.new) }
+    ensures cause { OnErr result (HasRisen (D.disk_faults dev.old) (D.disk_faults dev.new)) }
+    ensures never_falls { D.disk_faults dev.old ≤ D.disk_faults dev.new }
+    ensures tell_faults { D.tell_faults dev.new ≡ D.tell_faults dev.old }
+{
+    if has_blobs {
+        erase(dev, name, end)?;
+    }
+    Ok(())
+}
+
+// Empties a gate file: a crash leaves all blobs, or none.
+pub fn empty<D: Device>(
+    dev: &mut D,
+    name: &str,
+    end: u64,
+    is_closed: bool,
+    has_blobs: bool,
+) -> Result<(), Failed>
+    requires at { D.tells → (spans : List (ℕ × ℕ)) × IsAt spans end is_closed name.now (D.disk dev.old) × (has_blobs ≡ true → 0 < length spans) × (has_blobs ≡ false → spans ≡ []) }
+    ensures quiet { D.tells → OnOk result (Quiet [] 16 name.now (D.disk dev.new)) }
+    ensures durable { D.tells → OnOk result (IsDurable (D.disk dev.new) name.now) }
+    ensures sealed { D.tells → OnOk result (sealed ((D.disk dev.new).files name.now) ≡ []) }
+    ensures crash { D.tells → Effect (IsName name.now) (λ image. (sealed (image name.now) ≡ sealed ((D.disk dev.old).files name.now)) ⊎ (sealed (image name.now) ≡ [])) (D.disk dev.old) (D.disk dev.new) }
+    ensures cause { OnErr result (HasRisen (D.disk_faults dev.old) (D.disk_faults dev.new)) }
+    ensures never_falls { D.disk_faults dev.old ≤ D.disk_faults dev.new }
+    ensures tell_faults { D.tell_faults dev.new ≡ D.tell_faults dev.old }
+{
+    close(dev, name, end, is_closed)?;
+    erase_blobs(dev, name, end, has_blobs)?;
+    trim(dev, name, 16)?;
+    Ok(())
+}
