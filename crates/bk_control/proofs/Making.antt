@@ -1,213 +1,190 @@
 -- Making a control file.
-use Rattle.std.proofs.Common.{◌≡◌, ◌≤◌, ◌<◌, ◌⊎◌, ℕ, ◌+◌, ◌-◌, max, List, [], ◌∷◌, ◌++◌, length, take, drop, get_or, replicate, Option, Some, None, false, refl, inl, inr, sym, ◌∙◌, ap, subst, arith, length-append, lit≤, lit<}
-use Rattle.std.specs.Prelude.{slice_index, option_map, nat_le}
-use Rattle.std.proofs.lemmas.Grind.{common_steps}
-use Rattle.std.proofs.lemmas.List.{take_all, take_at, drop_at, take-take, get_or-take, get_or-append_right, get_or-replicate, take-append-le, drop-append-le, length-replicate, length-take, length-drop, take-append-drop}
+use Rattle.std.proofs.Common.{◌≡◌, ◌≢◌, ◌≤◌, ◌⊎◌, ℕ, List, [], ◌∷◌, length, Option, Some, None, true, false, refl, inl, inr, sym, ◌∙◌, ap, subst, arith, lit≤, lit<}
+use Rattle.std.specs.Prelude.{slice_index, option_map}
+use Rattle.std.proofs.lemmas.Bool.{cases_eq, ne_eqb}
 use Rattle.bk_device.specs.Calls.{contents, written, IsTorn, LeavesWrite}
-use Rattle.bk_device.specs.Compose.{effect_then, effect_weaken, effect_none}
+use Rattle.bk_device.specs.Compose.{effect_then, effect_weaken}
 use Rattle.bk_device.specs.Disk.{Files, Disk, IsDurable}
 use Rattle.bk_device.specs.Effects.{Effect, IsName}
-use Rattle.bk_device.specs.Torn.{take-torn, written-end}
-use Rattle.bk_control.specs.declared.side.Side.TheVariants.{First}
+use Rattle.bk_device.specs.Torn.{torn-written}
+use Rattle.bk_control.specs.declared.side.Side.TheVariants.{First, Second}
 use Rattle.bk_control.specs.Control.{IsControl}
-use Rattle.bk_control.specs.Fresh.{fresh, fresh_head, IsLaid}
 use Rattle.bk_control.specs.Reads.{torn-contents}
-use Rattle.bk_control.specs.Slots.{Slot, slot_at, slot_in, counting, control_of, number_bytes, magic}
-use Rattle.bk_control.specs.Stands.{Stands, IsFilled}
-use Rattle.bk_control.proofs.Filled.{length-number_bytes, length-head_bytes}
-use Rattle.bk_control.proofs.SlotLaws.{closed, opened, counts_alone}
+use Rattle.bk_control.specs.Slots.{Slot, slot_at, counting, control_of}
+use Rattle.bk_control.specs.Stands.{Stands, IsFilled, IsBlank, ChangesSlot, Grows, Lengthens}
+use Rattle.bk_control.proofs.Growing.{Growing, grown_byte, lengthens_grows, short_at}
+use Rattle.bk_control.proofs.SlotLaws.{closed, opened, counts_alone, gate_aside, gate_length, gate_written, filled_torn}
+use Rattle.bk_control.proofs.Steps.{Filling}
 
--- while the file is laid
+-- a file whose slots are closed holds no control
 
-abbrev pub Laying : List ℕ → List ℕ → Disk → Files → Type 0
-Laying name front a image = a.may name (image name) ⊎ IsLaid front (contents (image name))
+none_counts : (file : List ℕ) → slot_at file 0 ≡ None → slot_at file 65600 ≡ None → counting file ≡ None
+none_counts file first second = counts_alone First file second ∙ first
 
-short : (front content : List ℕ) → length content < 131200 → IsLaid front content
-unfolding IsLaid
-short front content less = inl less
+blank_counts : (file : List ℕ) → IsBlank file → counting file ≡ None
+blank_counts file blank = none_counts file (closed 0 file blank.first) (closed 65600 file blank.second)
 
-pub lay_removed : (name front : List ℕ) (a b : Disk) → Effect (IsName name) (λ image. a.may name (image name) ⊎ (image name ≡ None)) a b → Effect (IsName name) (Laying name front a) a b
-lay_removed name front a b effect =
-    effect_weaken (λ image either. elim either [
-      | inl before ↦ inl before
-      | inr none ↦ let gone : length (contents (image name)) ≡ 0 = ap (λ (file : Option (List ℕ)). length (contents file)) none in inr (short front (contents (image name)) (omega (arith, gone)))
-    ]) effect
+-- while the file is laid, up to the first gate byte, up to the second, and to the end
 
-pub lay_front : (name front : List ℕ) (a b d : Disk) → length front ≡ 131199 → Effect (IsName name) (Laying name front a) a b → b.files name ≡ None → Effect (IsName name) (λ image. LeavesWrite 0 (length front) (b.files name) (image name)) b d → Effect (IsName name) (Laying name front a) a d
-lay_front name front a b d size first gone effect =
-    effect_then first (effect_weaken (λ image leaves.
-    let torn = torn-contents 0 (length front) (b.files name) (image name) leaves in
-    let empty : length (contents (b.files name)) ≡ 0 = ap (λ (file : Option (List ℕ)). length (contents file)) gone in
-    let longest : length (contents (image name)) ≤ max (length (contents (b.files name))) (0 + length front) = torn.no_longer in
-    inr (short front (contents (image name)) (omega (arith, longest, empty, size)))) effect)
+grown_none : (at : ℕ) (file : List ℕ) → at ≤ 9 → length file ≡ 0 → (after : List ℕ) → Grows at file after → counting after ≡ None
+grown_none at file near empty after grows =
+    let longest = grows.short in
+    none_counts after (short_at 0 after (omega (arith, longest, empty))) (short_at 65600 after (omega (arith, longest, empty)))
 
-laid_front : (name front : List ℕ) (b d : Disk) → b.files name ≡ None → d.files name ≡ Some (written (contents (b.files name)) 0 front) → contents (d.files name) ≡ front
-laid_front name front b d gone wrote =
-    ap contents wrote ∙ ap (λ (file : Option (List ℕ)). written (contents file) 0 front) gone ∙ written-end [] front
+zero_shut : (byte : ℕ) → byte ≡ 0 → byte ≢ 1
+zero_shut byte zero one = absurd (omega (arith, zero, one))
 
-pub lay_length : (name front : List ℕ) (b d : Disk) → b.files name ≡ None → d.files name ≡ Some (written (contents (b.files name)) 0 front) → length front ≤ length (contents (d.files name))
-lay_length name front b d gone wrote = let same : length (contents (d.files name)) ≡ length front = ap length (laid_front name front b d gone wrote) in omega (arith, same)
+-- the first gate byte is there, and closed
+pub record OneGate (file : List ℕ) : Type 0 where
+  pub size : length file ≡ 9
+  pub first : slice_index file 8 ≡ 0
 
-laid : (front before after : List ℕ) → length front ≡ 131199 → before ≡ front → IsTorn (length front) 1 before after → IsLaid front after
-unfolding IsLaid
-laid front before after size is torn =
-    let same : length before ≡ length front = ap length is in
-    let longest : length after ≤ max (length before) (length front + 1) = torn.no_longer in
-    let front_is : take (length front) after ≡ front = take-torn (length front) (length front) 1 before after (omega arith) (omega (arith, same)) torn ∙ ap (take (length front)) is ∙ take_all (length front) front (omega arith) in
-    let either : (length after < 131200) ⊎ (length after ≡ 131200) = two (length after) (omega (arith, longest, same, size)) in
-    elim either [ inl less ↦ inl less | inr whole ↦ inr (whole, front_is) ]
-  where
-    two : (n : ℕ) → n ≤ 131200 → (n < 131200) ⊎ (n ≡ 131200)
-    two n within = grind (arith, common_steps)
-
-pub lay_last : (name front last : List ℕ) (a b d e : Disk) → length front ≡ 131199 → length last ≡ 1 → Effect (IsName name) (Laying name front a) a d → b.files name ≡ None → d.files name ≡ Some (written (contents (b.files name)) 0 front) → Effect (IsName name) (λ image. LeavesWrite (length front) (length last) (d.files name) (image name)) d e → Effect (IsName name) (Laying name front a) a e
-lay_last name front last a b d e size one first gone wrote effect =
-    effect_then first (effect_weaken (λ image leaves.
-    let By : ℕ → Type 0 = λ n. LeavesWrite (length front) n (d.files name) (image name) in
-    inr (laid front (contents (d.files name)) (contents (image name)) size (laid_front name front b d gone wrote) (torn-contents (length front) 1 (d.files name) (image name) (subst By one leaves)))) effect)
-
-pub lay_done : (name front last : List ℕ) (b d e : Disk) → b.files name ≡ None → d.files name ≡ Some (written (contents (b.files name)) 0 front) → e.files name ≡ Some (written (contents (d.files name)) (length front) last) → e.files name ≡ Some (front ++ last)
-lay_done name front last b d e gone wrote wrote2 =
-    wrote2 ∙ ap (λ (f : List ℕ). Some (written f (length front) last)) (laid_front name front b d gone wrote) ∙ ap Some (written-end front last)
-
--- a fresh file
-
-pub length-fresh_head : (size : ℕ) → length (fresh_head size) ≡ 23
-unfolding fresh_head
-length-fresh_head size = length-head_bytes 0 size
-
-length-zeros : (n : ℕ) → length {A = ℕ} (replicate n 0) ≡ n
-length-zeros n = length-replicate n 0
-
-fresh_front : List ℕ → List ℕ
-fresh_front bytes = magic ++ 1 ∷ [] ++ fresh_head (length bytes) ++ bytes
-
-length-fresh_front : (bytes : List ℕ) → length (fresh_front bytes) ≡ 32 + length bytes
-unfolding fresh_front
-length-fresh_front bytes = omega (arith, length-append (magic ++ 1 ∷ [] ++ fresh_head (length bytes)) bytes, length-append (magic ++ 1 ∷ []) (fresh_head (length bytes)), length-fresh_head (length bytes))
-
-fresh_split : (bytes : List ℕ) → fresh bytes ≡ fresh_front bytes ++ replicate (131168 - length bytes) 0
-unfolding fresh fresh_front
-fresh_split bytes = refl
-
-pub length-fresh : (bytes : List ℕ) → length bytes ≤ 65536 → length (fresh bytes) ≡ 131200
-length-fresh bytes small =
-    ap length (fresh_split bytes) ∙ length-append (fresh_front bytes) (replicate (131168 - length bytes) 0) ∙ omega (arith, length-fresh_front bytes, length-zeros (131168 - length bytes))
-
-first8 : (x y z w : List ℕ) → length x ≡ 8 → take 8 (((x ++ y) ++ z) ++ w) ≡ x
-first8 x y z w size =
-    take-append-le 8 ((x ++ y) ++ z) w (omega (arith, length-append (x ++ y) z, length-append x y, size))
-    ∙ take-append-le 8 (x ++ y) z (omega (arith, length-append x y, size))
-    ∙ take_at x y 8 size
-
-second8 : (x y z w : List ℕ) → length x ≡ 8 → length y ≡ 8 → take 8 (drop 8 (((x ++ y) ++ z) ++ w)) ≡ y
-second8 x y z w size size2 =
-    ap (take 8) (drop-append-le 8 ((x ++ y) ++ z) w (omega (arith, length-append (x ++ y) z, length-append x y, size))
-    ∙ ap (λ (r : List ℕ). r ++ w) (drop-append-le 8 (x ++ y) z (omega (arith, length-append x y, size)) ∙ ap (λ (r : List ℕ). r ++ z) (drop_at x y 8 size)))
-    ∙ take-append-le 8 (y ++ z) w (omega (arith, length-append y z, size2))
-    ∙ take_at y z 8 size2
-
-third : (x y z w : List ℕ) → length x ≡ 8 → length y ≡ 8 → take (length z) (drop 16 (((x ++ y) ++ z) ++ w)) ≡ z
-third x y z w size size2 =
-    let both : length (x ++ y) ≡ 16 = omega (arith, length-append x y, size, size2) in
-    ap (take (length z)) (drop-append-le 16 ((x ++ y) ++ z) w (omega (arith, length-append (x ++ y) z, both)) ∙ ap (λ (r : List ℕ). r ++ w) (drop_at (x ++ y) z 16 both))
-    ∙ take_at z w (length z) refl
-
-fresh_filled : (bytes : List ℕ) → IsFilled 0 (record { sequence = 0; bytes = bytes }) (fresh bytes)
-unfolding fresh fresh_head
-fresh_filled bytes = record {
-  mark = refl;
-  sequence = first8 (number_bytes 0) (number_bytes (length bytes)) bytes (replicate (131168 - length bytes) 0) (length-number_bytes 0);
-  size = second8 (number_bytes 0) (number_bytes (length bytes)) bytes (replicate (131168 - length bytes) 0) (length-number_bytes 0) (length-number_bytes (length bytes));
-  bytes = third (number_bytes 0) (number_bytes (length bytes)) bytes (replicate (131168 - length bytes) 0) (length-number_bytes 0) (length-number_bytes (length bytes));
+pub one_gate : (before after : List ℕ) → length before ≡ 0 → Lengthens 9 before after → OneGate after
+one_gate before after empty lengthens = record {
+  size = omega (arith, lengthens.size, empty);
+  first = lengthens.zeros 8 (omega (arith, empty));
 }
 
-fresh_gate : (bytes : List ℕ) → slice_index (fresh bytes) 8 ≡ 1
-unfolding fresh
-fresh_gate bytes = refl
+one_gate_none : (file after : List ℕ) → OneGate file → Grows 65609 file after → counting after ≡ None
+one_gate_none file after gate grows =
+    let longest = grows.short in
+    let byte : slice_index after 8 ≡ 0 = grown_byte 65609 8 file after grows (omega (arith, gate.size)) ∙ gate.first in
+    none_counts after (closed 0 after (zero_shut _ byte)) (short_at 65600 after (omega (arith, longest, gate.size)))
 
-fresh_other : (bytes : List ℕ) → length bytes ≤ 65536 → slice_index (fresh bytes) 65608 ≡ 0
-fresh_other bytes small =
-    ap (λ (f : List ℕ). get_or f 65608 0) (fresh_split bytes)
-    ∙ get_or-append_right (fresh_front bytes) (replicate (131168 - length bytes) 0) (32 + length bytes) 65608 0 (length-fresh_front bytes) (omega arith)
-    ∙ get_or-replicate (131168 - length bytes) (65608 - (32 + length bytes)) 0 0 (omega arith)
+-- both are
+pub record TwoGates (file : List ℕ) : Type 0 where
+  pub size : length file ≡ 65609
+  pub first : slice_index file 8 ≡ 0
+  pub second : slice_index file 65608 ≡ 0
 
--- the front of a fresh file stands, whatever the last byte is
-laid_stands : (bytes content : List ℕ) → length bytes ≤ 65536 → length content ≡ 131200 → take 131199 content ≡ take 131199 (fresh bytes) → Stands First false (record { sequence = 0; bytes = bytes }) content
-laid_stands bytes content small whole front =
-    let slot : take 65600 content ≡ take 65600 (fresh bytes) = sym (take-take 65600 131199 content (lit≤ tt)) ∙ ap (take 65600) front ∙ take-take 65600 131199 (fresh bytes) (lit≤ tt) in
-    let here : slot_at content 0 ≡ Some (record { sequence = 0; bytes = bytes }) = ap slot_in slot ∙ opened 0 (record { sequence = 0; bytes = bytes }) (fresh bytes) (lit< tt) small (fresh_filled bytes) (fresh_gate bytes) in
-    let byte : slice_index content 65608 ≡ 0 =
-    sym (get_or-take 131199 content 65608 0 (lit< tt)) ∙ ap (λ (f : List ℕ). get_or f 65608 0) front ∙ get_or-take 131199 (fresh bytes) 65608 0 (lit< tt) ∙ fresh_other bytes small in
-    let enough : 131200 ≤ length content = omega (arith, whole) in
+pub two_gates : (before after : List ℕ) → OneGate before → Lengthens 65609 before after → TwoGates after
+two_gates before after gate lengthens = record {
+  size = omega (arith, lengthens.size, gate.size);
+  first = grown_byte 65609 8 before after (lengthens_grows 65609 before after lengthens) (omega (arith, gate.size)) ∙ gate.first;
+  second = lengthens.zeros 65608 (omega (arith, gate.size));
+}
+
+two_gates_kept : (most : ℕ) (file after : List ℕ) → TwoGates file → Grows most file after → (slice_index after 8 ≡ 0) × (slice_index after 65608 ≡ 0)
+two_gates_kept most file after gates grows =
+    (grown_byte most 8 file after grows (omega (arith, gates.size)) ∙ gates.first, grown_byte most 65608 file after grows (omega (arith, gates.size)) ∙ gates.second)
+
+two_gates_none : (file after : List ℕ) → TwoGates file → Grows 131200 file after → counting after ≡ None
+two_gates_none file after gates grows =
+    let kept = two_gates_kept 131200 file after gates grows in
+    none_counts after (closed 0 after (zero_shut _ kept.0)) (closed 65600 after (zero_shut _ kept.1))
+
+pub laid_blank : (before after : List ℕ) → TwoGates before → Lengthens 131200 before after → IsBlank after
+laid_blank before after gates lengthens =
+    let kept = two_gates_kept 131200 before after gates (lengthens_grows 131200 before after lengthens) in
     record {
-      whole = enough;
-      here = here;
-      counts = counts_alone First content enough (closed 65600 content (λ one. absurd (omega (arith, byte, one)))) ∙ here;
-      gate = rw byte refl;
+      whole = omega (arith, lengthens.size);
+      first = zero_shut _ kept.0;
+      second = zero_shut _ kept.1;
     }
 
-too_short : (content : List ℕ) → length content < 131200 → counting content ≡ None
-unfolding counting
-too_short content less =
-    let test : nat_le 131200 (length content) ≡ false = grind (arith, common_steps) in
-    rw test refl
+-- what a crash leaves meanwhile
+
+abbrev pub Laying : List ℕ → Disk → Files → Type 0
+Laying name a image = a.may name (image name) ⊎ (counting (contents (image name)) ≡ None)
+
+empty_none : (file : Option (List ℕ)) → file ≡ None → counting (contents file) ≡ None
+empty_none file gone =
+    let empty : length (contents file) ≡ 0 = ap (λ (f : Option (List ℕ)). length (contents f)) gone in
+    none_counts (contents file) (short_at 0 (contents file) (omega (arith, empty))) (short_at 65600 (contents file) (omega (arith, empty)))
+
+pub gone_empty : (file : Option (List ℕ)) → file ≡ None → length (contents file) ≡ 0
+gone_empty file gone = ap (λ (f : Option (List ℕ)). length (contents f)) gone
+
+pub lay_removed : (name : List ℕ) (a b : Disk) → Effect (IsName name) (λ image. a.may name (image name) ⊎ (image name ≡ None)) a b → Effect (IsName name) (Laying name a) a b
+lay_removed name a b effect =
+    effect_weaken (λ image either. elim either [ inl before ↦ inl before | inr none ↦ inr (empty_none (image name) none) ]) effect
+
+pub lay_first : (name : List ℕ) (a b c : Disk) → Effect (IsName name) (Laying name a) a b → length (contents (b.files name)) ≡ 0 → Effect (IsName name) (Growing name 9 b) b c → Effect (IsName name) (Laying name a) a c
+lay_first name a b c first empty effect =
+    effect_then first (effect_weaken (λ image grows. inr (grown_none 9 (contents (b.files name)) (lit≤ tt) empty (contents (image name)) grows)) effect)
+
+pub lay_second : (name : List ℕ) (a b c : Disk) → Effect (IsName name) (Laying name a) a b → OneGate (contents (b.files name)) → Effect (IsName name) (Growing name 65609 b) b c → Effect (IsName name) (Laying name a) a c
+lay_second name a b c first gate effect =
+    effect_then first (effect_weaken (λ image grows. inr (one_gate_none (contents (b.files name)) (contents (image name)) gate grows)) effect)
+
+pub lay_rest : (name : List ℕ) (a b c : Disk) → Effect (IsName name) (Laying name a) a b → TwoGates (contents (b.files name)) → Effect (IsName name) (Growing name 131200 b) b c → Effect (IsName name) (Laying name a) a c
+lay_rest name a b c first gates effect =
+    effect_then first (effect_weaken (λ image grows. inr (two_gates_none (contents (b.files name)) (contents (image name)) gates grows)) effect)
+
+-- opening the first slot
+
+abbrev pub NoneOr : List ℕ → List ℕ → Files → Type 0
+NoneOr name bytes image = (control_of (image name) ≡ None) ⊎ (control_of (image name) ≡ Some bytes)
 
 bytes_of : Option Slot → Option (List ℕ)
 bytes_of slot = option_map (λ (s : Slot). s.bytes) slot
 
-pub laid_control : (bytes front : List ℕ) (file : Option (List ℕ)) → length bytes ≤ 65536 → front ≡ take 131199 (fresh bytes) → length front ≡ 131199 → IsLaid front (contents file) → (control_of file ≡ None) ⊎ (control_of file ≡ Some bytes)
-unfolding IsLaid
-laid_control bytes front file small is size either =
-    elim either [
-      | inl less ↦ inl (ap (option_map (λ (s : Slot). s.bytes)) (too_short (contents file) less))
-      | inr whole ↦
-          let same : take 131199 (contents file) ≡ take 131199 (fresh bytes) = ap (λ (n : ℕ). take n (contents file)) (sym size) ∙ whole.1 ∙ is in
-          inr (ap (option_map (λ (s : Slot). s.bytes)) (laid_stands bytes (contents file) small whole.0 same).counts)
+pub blank_filled : (before after : List ℕ) → IsBlank before → ChangesSlot 0 before after → IsBlank after
+blank_filled before after blank changes =
+    let enough : 131200 ≤ length before = blank.whole in
+    record {
+      whole = omega (arith, changes.same_length, enough);
+      first = λ one. blank.first (sym (changes.outside 8 (omega (arith, enough)) (inr (inr refl))) ∙ one);
+      second = λ one. blank.second (sym (changes.outside 65608 (omega (arith, enough)) (inr (inl (lit≤ tt)))) ∙ one);
+    }
+
+pub fill_blank : (name bytes : List ℕ) (a b : Disk) → IsBlank (contents (a.files name)) → Effect (IsName name) (Filling name 0 a) a b → Effect (IsName name) (NoneOr name bytes) a b
+fill_blank name bytes a b blank effect =
+    effect_weaken (λ image changes. inl (ap (option_map (λ (s : Slot). s.bytes)) (blank_counts (contents (image name)) (blank_filled (contents (a.files name)) (contents (image name)) blank changes)))) effect
+
+-- once the gate is open
+open_blank : (bytes before after : List ℕ) → IsBlank before → IsFilled 0 (record { sequence = 0; bytes = bytes }) before → length bytes ≤ 65536 → IsTorn 8 1 before after → slice_index after 8 ≡ 1 → Stands First false (record { sequence = 0; bytes = bytes }) after
+open_blank bytes before after blank filled short torn one =
+    let enough : 131200 ≤ length before = blank.whole in
+    let whole : 131200 ≤ length after = gate_length First before after blank.whole torn in
+    let here : slot_at after 0 ≡ Some (record { sequence = 0; bytes = bytes }) =
+    opened 0 (record { sequence = 0; bytes = bytes }) after (omega arith) (lit< tt) short (filled_torn 0 (record { sequence = 0; bytes = bytes }) before after (omega arith) short filled torn) one in
+    let byte : slice_index after 65608 ≡ slice_index before 65608 = torn.outside 65608 (omega arith) (inr (lit≤ tt)) in
+    let differ : slice_index after 65608 ≢ 1 = λ is. blank.second (sym byte ∙ is) in
+    record {
+      whole = whole;
+      here = here;
+      counts = counts_alone First after (closed 65600 after differ) ∙ here;
+      gate = sym (ne_eqb _ 1 differ);
+    }
+
+opening_blank : (bytes before after : List ℕ) → IsBlank before → IsFilled 0 (record { sequence = 0; bytes = bytes }) before → length bytes ≤ 65536 → IsTorn 8 1 before after → (counting after ≡ None) ⊎ (counting after ≡ Some (record { sequence = 0; bytes = bytes }))
+opening_blank bytes before after blank filled short torn =
+    elim (cases_eq (slice_index after 8) 1) [
+      | inl one ↦ inr (open_blank bytes before after blank filled short torn one).counts
+      | inr differ ↦ inl (none_counts after (closed 0 after differ) (gate_aside Second before after blank.whole torn ∙ closed 65600 before blank.second))
     ]
 
-pub made_stands : (bytes front last : List ℕ) (file : Option (List ℕ)) → length bytes ≤ 65536 → file ≡ Some (front ++ last) → front ++ last ≡ fresh bytes → Stands First false (record { sequence = 0; bytes = bytes }) (contents file)
-made_stands bytes front last file small is same =
-    let all : contents file ≡ fresh bytes = ap contents is ∙ same in
-    laid_stands bytes (contents file) small (ap length all ∙ length-fresh bytes small) (ap (take 131199) all)
+pub open_step : (name bytes : List ℕ) (a b : Disk) → IsBlank (contents (a.files name)) → IsFilled 0 (record { sequence = 0; bytes = bytes }) (contents (a.files name)) → length bytes ≤ 65536 → Effect (IsName name) (λ image. LeavesWrite 8 1 (a.files name) (image name)) a b → Effect (IsName name) (NoneOr name bytes) a b
+open_step name bytes a b blank filled short effect =
+    effect_weaken (λ image leaves.
+    elim (opening_blank bytes (contents (a.files name)) (contents (image name)) blank filled short (torn-contents 8 1 (a.files name) (image name) leaves)) [
+      | inl none ↦ inl (ap (option_map (λ (s : Slot). s.bytes)) none)
+      | inr made ↦ inr (ap (option_map (λ (s : Slot). s.bytes)) made)
+    ]) effect
 
-joined : (bytes none one two three four head : List ℕ) → none ≡ [] → one ≡ none ++ magic → two ≡ one ++ 1 ∷ [] → head ≡ fresh_head (length bytes) → three ≡ two ++ head → four ≡ three ++ bytes → four ≡ fresh_front bytes
-unfolding fresh_front
-joined bytes none one two three four head is_none is_one is_two is_head is_three is_four =
-    is_four ∙ ap (λ (f : List ℕ). f ++ bytes) (is_three ∙ ap (λ (f : List ℕ). f ++ head) (is_two ∙ ap (λ (f : List ℕ). f ++ 1 ∷ []) (is_one ∙ ap (λ (f : List ℕ). f ++ magic) is_none)) ∙ ap (λ (h : List ℕ). magic ++ 1 ∷ [] ++ h) is_head)
+pub open_done : (bytes before after : List ℕ) → IsBlank before → IsFilled 0 (record { sequence = 0; bytes = bytes }) before → length bytes ≤ 65536 → after ≡ written before 8 (1 ∷ []) → Stands First false (record { sequence = 0; bytes = bytes }) after
+open_done bytes before after blank filled short is =
+    let Done : List ℕ → Type 0 = λ file. Stands First false (record { sequence = 0; bytes = bytes }) file in
+    subst Done (sym is) (open_blank bytes before (written before 8 (1 ∷ [])) blank filled short (torn-written 8 before (1 ∷ [])) (gate_written First 1 before blank.whole))
 
--- how the code puts a fresh file together
-pub fresh_joined : (bytes none one two three four five head : List ℕ) (size : ℕ) → length bytes ≤ 65536 → none ≡ [] → one ≡ none ++ magic → two ≡ one ++ 1 ∷ [] → head ≡ fresh_head (length bytes) → three ≡ two ++ head → four ≡ three ++ bytes → size ≡ 32 + length bytes → five ≡ take 131200 four ++ replicate (131200 - size) 0 → five ≡ fresh bytes
-fresh_joined bytes none one two three four five head size small is_none is_one is_two is_head is_three is_four is_size is_five =
-    let front : four ≡ fresh_front bytes = joined bytes none one two three four head is_none is_one is_two is_head is_three is_four in
-    let all : length four ≡ 32 + length bytes = ap length front ∙ length-fresh_front bytes in
-    let rest : 131200 - size ≡ 131168 - length bytes = omega (arith, is_size) in
-    is_five ∙ ap (λ (n : ℕ). take 131200 four ++ replicate n 0) rest
-    ∙ ap (λ (f : List ℕ). f ++ replicate (131168 - length bytes) 0) (take_all 131200 four (omega (arith, all)) ∙ front)
-    ∙ sym (fresh_split bytes)
+-- laying, then opening
 
--- the two parts in which it is written
-pub laid_parts : (bytes file front last : List ℕ) → length bytes ≤ 65536 → file ≡ fresh bytes → front ≡ take 131199 file → last ≡ drop 131199 file → (front ≡ take 131199 (fresh bytes)) × (length front ≡ 131199) × (length last ≡ 1) × (front ++ last ≡ fresh bytes)
-laid_parts bytes file front last small is is_front is_last =
-    let size = length-fresh bytes small in
-    let one : front ≡ take 131199 (fresh bytes) = is_front ∙ ap (take 131199) is in
-    let two : last ≡ drop 131199 (fresh bytes) = is_last ∙ ap (drop 131199) is in
-    let length_one : length front ≡ 131199 = ap length one ∙ length-take 131199 (fresh bytes) ∙ omega (arith, size) in
-    let length_two : length last ≡ 1 = ap length two ∙ length-drop 131199 (fresh bytes) ∙ omega (arith, size) in
-    (one, length_one, length_two, ap (λ (f : List ℕ). f ++ last) one ∙ ap (λ (r : List ℕ). take 131199 (fresh bytes) ++ r) two ∙ take-append-drop 131199 (fresh bytes))
+pub laid_crash : (name bytes : List ℕ) (a b : Disk) → Effect (IsName name) (Laying name a) a b → Effect (IsName name) (λ image. a.may name (image name) ⊎ (control_of (image name) ≡ None) ⊎ (control_of (image name) ≡ Some bytes)) a b
+laid_crash name bytes a b effect =
+    effect_weaken (λ image either. elim either [ inl before ↦ inl before | inr none ↦ inr (inl (ap (option_map (λ (s : Slot). s.bytes)) none)) ]) effect
 
-pub make_crash : (name bytes front : List ℕ) (a b : Disk) → length bytes ≤ 65536 → front ≡ take 131199 (fresh bytes) → length front ≡ 131199 → Effect (IsName name) (λ image. a.may name (image name) ⊎ IsLaid front (contents (image name))) a b → Effect (IsName name) (λ image. a.may name (image name) ⊎ (control_of (image name) ≡ None) ⊎ (control_of (image name) ≡ Some bytes)) a b
-make_crash name bytes front a b small is size effect =
-    effect_weaken (λ image either. elim either [ inl before ↦ inl before | inr laid ↦ inr (laid_control bytes front (image name) small is size laid) ]) effect
+pub make_crash : (name bytes : List ℕ) (a b c : Disk) → Effect (IsName name) (Laying name a) a b → Effect (IsName name) (NoneOr name bytes) b c → Effect (IsName name) (λ image. a.may name (image name) ⊎ (control_of (image name) ≡ None) ⊎ (control_of (image name) ≡ Some bytes)) a c
+make_crash name bytes a b c laid opens =
+    effect_then (laid_crash name bytes a b laid) (effect_weaken (λ image either. inr either) opens)
 
-pub make_none : (name bytes : List ℕ) (a : Disk) → Effect (IsName name) (λ image. a.may name (image name) ⊎ (control_of (image name) ≡ None) ⊎ (control_of (image name) ≡ Some bytes)) a a
-make_none name bytes a = effect_none a (λ image mine. inl (mine name refl))
-
-pub made_control : (name bytes front last kept content : List ℕ) (b : Disk) → length bytes ≤ 65536 → b.files name ≡ Some (front ++ last) → front ++ last ≡ fresh bytes → IsDurable b name → kept ≡ name → content ≡ bytes → IsControl b (record { name = kept; content = content; failed = false; side = First; sequence = 0; is_other_open = false })
-made_control name bytes front last kept content b small is same durable named held =
+pub made_control : (name bytes kept content : List ℕ) (b : Disk) → Stands First false (record { sequence = 0; bytes = bytes }) (contents (b.files name)) → IsDurable b name → kept ≡ name → content ≡ bytes → IsControl b (record { name = kept; content = content; failed = false; side = First; sequence = 0; is_other_open = false; is_whole = true })
+made_control name bytes kept content b stands durable named held =
     let AtName : List ℕ → Type 0 = λ n. Stands First false (record { sequence = 0; bytes = bytes }) (contents (b.files n)) in
     let AtBytes : List ℕ → Type 0 = λ x. Stands First false (record { sequence = 0; bytes = x }) (contents (b.files kept)) in
+    let after = subst AtBytes (sym held) (subst AtName (sym named) stands) in
     record {
       durable = subst (IsDurable b) (sym named) durable;
-      stands = subst AtBytes (sym held) (subst AtName (sym named) (made_stands bytes front last (b.files name) small is same));
+      holds = record { here = after.here; counts = after.counts; gate = λ there. after.gate };
+      whole = λ known. after.whole;
     }

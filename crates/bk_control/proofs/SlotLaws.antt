@@ -1,9 +1,9 @@
 -- What changes of a slot's bytes make of the slot that counts.
 use Rattle.std.proofs.Common.{◌≡◌, ◌≢◌, ◌⊎◌, ◌<◌, ◌≤◌, ◌^◌, ℕ, ◌+◌, Bool, true, false, ◌&&◌, List, [], ◌∷◌, length, take, drop, get_or, Option, Some, None, refl, inl, inr, sym, ◌∙◌, ap, subst, arith, add-zero, lit≤, lit<, length-take, length-drop}
-use Rattle.std.specs.Prelude.{◌==◌, nat_le, nat_lt, slice_index, option_map}
+use Rattle.std.specs.Prelude.{◌==◌, nat_lt, slice_index, option_map}
 use Rattle.std.specs.Str.{bytes_eq}
 use Rattle.std.proofs.lemmas.List.{ext_get_or, append-nil, get_or-take, get_or-drop}
-use Rattle.std.proofs.lemmas.Bool.{eqb-true, eqb-false}
+use Rattle.std.proofs.lemmas.Bool.{eqb-true, eqb-false, le-leb, lt-leb, and_from, and_right}
 use Rattle.std.proofs.lemmas.Grind.{common_steps}
 use Rattle.byteorder.specs.Numbers.{little_number-reads_back}
 use Rattle.bk_device.specs.Calls.{read_at, written, IsTorn}
@@ -12,7 +12,7 @@ use Rattle.bk_device.specs.Torn.{length-torn, read_at-torn, torn-written, read_a
 use Rattle.bk_control.specs.declared.side.Side.{Side}
 use Rattle.bk_control.specs.declared.side.Side.TheVariants.{First, Second}
 use Rattle.bk_control.specs.Reads.{read_at-within, index-within}
-use Rattle.bk_control.specs.Slots.{Slot, number, number_bytes, magic, slot_in, slot_at, newer, counting, other, place}
+use Rattle.bk_control.specs.Slots.{Slot, number, number_bytes, magic, fits, slot_in, slot_at, newer, counting, other, place}
 use Rattle.bk_control.specs.Stands.{Stands, IsFilled, ChangesSlot, Rewrites, MayFollow}
 
 -- tests
@@ -33,6 +33,12 @@ pub number-reads_back : (n : ℕ) → n < 2 ^ 64 → number (number_bytes n) ≡
 unfolding number number_bytes
 number-reads_back n small = ap number (sym (append-nil (number_bytes n))) ∙ little_number-reads_back 8 n [] small
 
+pub fits_true : (size room : ℕ) → size ≤ 65536 → 32 + size ≤ room → fits size room ≡ true
+fits_true size room small inside = and_from _ _ (le-leb size 65536 small) (le-leb (32 + size) room inside)
+
+no_room : (size room : ℕ) → room < 32 → fits size room ≡ false
+no_room size room less = and_right _ _ (lt-leb (32 + size) room (omega arith))
+
 -- one slot
 
 -- a slot whose gate byte isn't 1 is closed
@@ -41,8 +47,16 @@ unfolding slot_in
 closed at file gate =
     let byte : get_or (read_at file at 65600) 8 0 ≡ get_or file (at + 8) 0 = index-within at 65600 8 file (omega arith) in
     let test : (get_or (read_at file at 65600) 8 0 == 1) ≡ false = test_false _ 1 (λ one. gate (sym byte ∙ one)) in
-    let tested : ((bytes_eq (take 8 (read_at file at 65600)) magic && (get_or (read_at file at 65600) 8 0 == 1)) && nat_le (number (read_at (read_at file at 65600) 24 8)) 65536) ≡ false =
+    let tested : ((bytes_eq (take 8 (read_at file at 65600)) magic && (get_or (read_at file at 65600) 8 0 == 1)) && fits (number (read_at (read_at file at 65600) 24 8)) (length (read_at file at 65600))) ≡ false =
     rw test (and_false _ _) in
+    rw tested refl
+
+-- a slot of which the file has no head is closed
+pub short_slot : (slot : List ℕ) → length slot < 32 → slot_in slot ≡ None
+unfolding slot_in
+short_slot slot less =
+    let tested : ((bytes_eq (take 8 slot) magic && (get_or slot 8 0 == 1)) && fits (number (read_at slot 24 8)) (length slot)) ≡ false =
+    and_right _ _ (no_room (number (read_at slot 24 8)) (length slot) less) in
     rw tested refl
 
 -- the gate byte of an open slot is 1
@@ -54,16 +68,17 @@ open_gate at file slot here =
     ]
 
 -- a filled slot with an open gate
-pub opened : (at : ℕ) (slot : Slot) (file : List ℕ) → slot.sequence < 2 ^ 64 → length slot.bytes ≤ 65536 → IsFilled at slot file → slice_index file (at + 8) ≡ 1 → slot_at file at ≡ Some slot
+pub opened : (at : ℕ) (slot : Slot) (file : List ℕ) → at + 65600 ≤ length file → slot.sequence < 2 ^ 64 → length slot.bytes ≤ 65536 → IsFilled at slot file → slice_index file (at + 8) ≡ 1 → slot_at file at ≡ Some slot
 unfolding slot_in
-opened at slot file small short filled gate =
+opened at slot file whole small short filled gate =
     let mark : take 8 (read_at file at 65600) ≡ magic = read_at-within at 65600 0 8 file (omega arith) ∙ ap (λ (p : ℕ). read_at file p 8) (add-zero at) ∙ filled.mark in
     let byte : get_or (read_at file at 65600) 8 0 ≡ 1 = index-within at 65600 8 file (omega arith) ∙ gate in
     let size : number (read_at (read_at file at 65600) 24 8) ≡ length slot.bytes = ap number (read_at-within at 65600 24 8 file (omega arith) ∙ filled.size) ∙ number-reads_back (length slot.bytes) (omega arith) in
     let sequence : number (read_at (read_at file at 65600) 16 8) ≡ slot.sequence = ap number (read_at-within at 65600 16 8 file (omega arith) ∙ filled.sequence) ∙ number-reads_back slot.sequence small in
     let body : read_at (read_at file at 65600) 32 (length slot.bytes) ≡ slot.bytes = read_at-within at 65600 32 (length slot.bytes) file (omega arith) ∙ filled.bytes in
-    let fits : nat_le (length slot.bytes) 65536 ≡ true = grind (arith, common_steps) in
-    rw (mark, byte, size, fits, sequence, body) refl
+    let room : length (read_at file at 65600) ≡ 65600 = simp (length-take, length-drop) (omega arith) in
+    let enough : fits (length slot.bytes) (length (read_at file at 65600)) ≡ true = fits_true (length slot.bytes) _ short (omega (arith, room)) in
+    rw (mark, byte, size, enough, sequence, body) refl
 
 -- of two slots
 
@@ -71,36 +86,33 @@ newer-none : (first : Option Slot) → newer first None ≡ first
 newer-none None = refl
 newer-none (Some first) = refl
 
-pub whole_test : (file : List ℕ) → 131200 ≤ length file → nat_le 131200 (length file) ≡ true
-whole_test file whole = grind (arith, common_steps)
-
-pub counts_alone : (side : Side) (file : List ℕ) → 131200 ≤ length file → slot_at file (place (other side)) ≡ None → counting file ≡ slot_at file (place side)
+pub counts_alone : (side : Side) (file : List ℕ) → slot_at file (place (other side)) ≡ None → counting file ≡ slot_at file (place side)
 unfolding counting
-counts_alone First file whole none = rw (whole_test file whole, none) (newer-none _)
-counts_alone Second file whole none = rw (whole_test file whole, none) refl
+counts_alone First file none = rw none (newer-none _)
+counts_alone Second file none = rw none refl
 
-pub counts_newer : (side : Side) (file : List ℕ) (old new : Slot) → 131200 ≤ length file → slot_at file (place (other side)) ≡ Some old → slot_at file (place side) ≡ Some new → old.sequence < new.sequence → counting file ≡ Some new
+pub counts_newer : (side : Side) (file : List ℕ) (old new : Slot) → slot_at file (place (other side)) ≡ Some old → slot_at file (place side) ≡ Some new → old.sequence < new.sequence → counting file ≡ Some new
 unfolding counting
-counts_newer First file old new whole there here less =
+counts_newer First file old new there here less =
     let test : nat_lt new.sequence old.sequence ≡ false = grind (arith, common_steps) in
-    rw (whole_test file whole, there, here, test) refl
-counts_newer Second file old new whole there here less =
+    rw (there, here, test) refl
+counts_newer Second file old new there here less =
     let test : nat_lt old.sequence new.sequence ≡ true = grind (arith, common_steps) in
-    rw (whole_test file whole, there, here, test) refl
+    rw (there, here, test) refl
 
 one_of_two : (a b : Slot) → (newer (Some a) (Some b) ≡ Some a) ⊎ (newer (Some a) (Some b) ≡ Some b)
 one_of_two a b = elim (true_or_false (nat_lt a.sequence b.sequence)) [ inl less ↦ inr (rw less refl) | inr not ↦ inl (rw not refl) ]
 
 -- of two open slots with the same bytes, either has them
-pub counts_same : (side : Side) (file : List ℕ) (old new : Slot) → 131200 ≤ length file → slot_at file (place (other side)) ≡ Some old → slot_at file (place side) ≡ Some new → old.bytes ≡ new.bytes → option_map (λ (slot : Slot). slot.bytes) (counting file) ≡ Some new.bytes
+pub counts_same : (side : Side) (file : List ℕ) (old new : Slot) → slot_at file (place (other side)) ≡ Some old → slot_at file (place side) ≡ Some new → old.bytes ≡ new.bytes → option_map (λ (slot : Slot). slot.bytes) (counting file) ≡ Some new.bytes
 unfolding counting
-counts_same First file old new whole there here same =
-    rw (whole_test file whole, there, here) (elim (one_of_two new old) [
+counts_same First file old new there here same =
+    rw (there, here) (elim (one_of_two new old) [
       | inl first ↦ rw first refl
       | inr second ↦ rw second (ap Some same)
     ])
-counts_same Second file old new whole there here same =
-    rw (whole_test file whole, there, here) (elim (one_of_two old new) [
+counts_same Second file old new there here same =
+    rw (there, here) (elim (one_of_two old new) [
       | inl first ↦ rw first (ap Some same)
       | inr second ↦ rw second refl
     ])
@@ -121,7 +133,7 @@ gate_aside side before after whole torn =
     let within : place side + 65600 ≤ 131200 = inside_gate side in
     ap slot_in (read_at-torn (place side) 65600 (place (other side) + 8) 1 before after (omega arith) (apart side) torn)
 
-gate_length : (side : Side) (before after : List ℕ) → 131200 ≤ length before → IsTorn (place side + 8) 1 before after → 131200 ≤ length after
+pub gate_length : (side : Side) (before after : List ℕ) → 131200 ≤ length before → IsTorn (place side + 8) 1 before after → 131200 ≤ length after
 gate_length side before after whole torn =
     let within : place side + 65600 ≤ 131200 = inside_gate side in
     let same : length after ≡ length before = length-torn (place side + 8) 1 before after (omega arith) torn in
@@ -153,7 +165,7 @@ closing side slot before after stands torn =
     elim (equal_or_not (slice_index after (place (other side) + 8)) 1) [
       | inl one ↦ ap counting (same_byte (place (other side) + 8) before after (omega arith) torn (one ∙ sym was)) ∙ stands.counts
       | inr differ ↦
-          counts_alone side after (gate_length (other side) before after whole torn) (closed (place (other side)) after differ)
+          counts_alone side after (closed (place (other side)) after differ)
           ∙ gate_aside side before after whole torn
           ∙ stands.here
     ]
@@ -175,7 +187,7 @@ closing_done side is_open slot before stands =
     record {
       whole = gate_length (other side) before _ stands.whole torn;
       here = here;
-      counts = counts_alone side _ (gate_length (other side) before _ stands.whole torn) (closed (place (other side)) _ differ) ∙ here;
+      counts = counts_alone side _ (closed (place (other side)) _ differ) ∙ here;
       gate = rw gate refl;
     }
 
@@ -231,13 +243,13 @@ filling side slot before after stands changes =
     record {
       whole = whole;
       here = here;
-      counts = counts_alone side after whole (closed (place (other side)) after (λ one. eqb-false _ 1 (sym shut) one)) ∙ here;
+      counts = counts_alone side after (closed (place (other side)) after (λ one. eqb-false _ 1 (sym shut) one)) ∙ here;
       gate = shut;
     }
 
 -- opening a filled slot
 
-filled_torn : (at : ℕ) (slot : Slot) (before after : List ℕ) → at + 65600 ≤ length before → length slot.bytes ≤ 65536 → IsFilled at slot before → IsTorn (at + 8) 1 before after → IsFilled at slot after
+pub filled_torn : (at : ℕ) (slot : Slot) (before after : List ℕ) → at + 65600 ≤ length before → length slot.bytes ≤ 65536 → IsFilled at slot before → IsTorn (at + 8) 1 before after → IsFilled at slot after
 filled_torn at slot before after inside short filled torn =
     record {
       mark = read_at-torn at 8 (at + 8) 1 before after (omega arith) (inl (omega arith)) torn ∙ filled.mark;
@@ -258,7 +270,7 @@ both_open side old new before after stands filled small short torn one =
     let Torn : Side → Type 0 = λ s. IsTorn (place s + 8) 1 before after in
     record {
       whole = gate_length side before after whole torn;
-      here = opened (place side) new after small short (filled_torn (place side) new before after (omega arith) short filled torn) one;
+      here = opened (place side) new after (omega (arith, gate_length side before after whole torn)) small short (filled_torn (place side) new before after (omega arith) short filled torn) one;
       there = gate_aside (other side) before after whole (subst Torn (sym (other_other side)) torn);
     }
 
@@ -266,8 +278,8 @@ both_open side old new before after stands filled small short torn one =
 pub rewritten : (side : Side) (old new : Slot) (before after : List ℕ) → Stands (other side) false old before → MayFollow old new → Rewrites side new before after → option_map (λ (slot : Slot). slot.bytes) (counting after) ≡ Some new.bytes
 rewritten side old new before after stands follows rewrites =
     elim follows [
-      | inl less ↦ ap (option_map (λ (slot : Slot). slot.bytes)) (counts_newer side after old new rewrites.whole (rewrites.there ∙ stands.here) rewrites.here less)
-      | inr same ↦ counts_same side after old new rewrites.whole (rewrites.there ∙ stands.here) rewrites.here same
+      | inl less ↦ ap (option_map (λ (slot : Slot). slot.bytes)) (counts_newer side after old new (rewrites.there ∙ stands.here) rewrites.here less)
+      | inr same ↦ counts_same side after old new (rewrites.there ∙ stands.here) rewrites.here same
     ]
 
 -- A crash while the gate is opened leaves the old content or the new one.
@@ -278,7 +290,7 @@ opening side old new before after stands filled small short follows torn =
       | inl one ↦ inr (rewritten side old new before after stands follows (both_open side old new before after stands filled small short torn one))
       | inr differ ↦
           let None_at : Side → Type 0 = λ s. slot_at after (place s) ≡ None in
-          inl (counts_alone (other side) after (gate_length side before after stands.whole torn) (subst None_at (sym (other_other side)) (closed (place side) after differ))
+          inl (counts_alone (other side) after (subst None_at (sym (other_other side)) (closed (place side) after differ))
           ∙ gate_aside (other side) before after stands.whole (subst Torn (sym (other_other side)) torn)
           ∙ stands.here)
     ]
@@ -299,8 +311,8 @@ dropping side old new is_open before mid after stands same rewrites torn =
     elim (equal_or_not (slice_index after (place (other side) + 8)) 1) [
       | inl one ↦
           ap (λ (f : List ℕ). option_map (λ (slot : Slot). slot.bytes) (counting f)) (same_byte (place (other side) + 8) mid after (omega arith) torn (one ∙ sym (dropped_gate side old new is_open before mid stands rewrites)))
-          ∙ counts_same side mid old new rewrites.whole (rewrites.there ∙ stands.here) rewrites.here same
-      | inr differ ↦ ap (option_map (λ (slot : Slot). slot.bytes)) (counts_alone side after (gate_length (other side) mid after whole torn) (closed (place (other side)) after differ) ∙ gate_aside side mid after whole torn ∙ rewrites.here)
+          ∙ counts_same side mid old new (rewrites.there ∙ stands.here) rewrites.here same
+      | inr differ ↦ ap (option_map (λ (slot : Slot). slot.bytes)) (counts_alone side after (closed (place (other side)) after differ) ∙ gate_aside side mid after whole torn ∙ rewrites.here)
     ]
 
 pub dropping_done : (side : Side) (new : Slot) (before mid : List ℕ) → Rewrites side new before mid → Stands side false new (written mid (place (other side) + 8) (0 ∷ []))
@@ -312,7 +324,7 @@ dropping_done side new before mid rewrites =
     record {
       whole = gate_length (other side) mid _ rewrites.whole torn;
       here = here;
-      counts = counts_alone side _ (gate_length (other side) mid _ rewrites.whole torn) (closed (place (other side)) _ differ) ∙ here;
+      counts = counts_alone side _ (closed (place (other side)) _ differ) ∙ here;
       gate = rw gate refl;
     }
 
@@ -323,6 +335,6 @@ advancing_done side old new is_open before after stands less rewrites =
     record {
       whole = rewrites.whole;
       here = rewrites.here;
-      counts = counts_newer side after old new rewrites.whole there rewrites.here less;
+      counts = counts_newer side after old new there rewrites.here less;
       gate = rw (open_gate (place (other side)) after old there) refl;
     }

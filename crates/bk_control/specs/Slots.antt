@@ -1,5 +1,5 @@
 -- The bytes of a control file: two slots, of which one counts.
-use Rattle.std.specs.Prelude.{◌&&◌, ◌==◌, ℕ, nat_le, nat_lt, if◌then◌else◌, List, [], ◌∷◌, length, take, slice_index, Option, None, Some, option_map}
+use Rattle.std.specs.Prelude.{◌+◌, ◌&&◌, ◌==◌, Bool, ℕ, nat_le, nat_lt, if◌then◌else◌, List, [], ◌∷◌, length, take, slice_index, Option, None, Some, option_map}
 use Rattle.std.specs.Str.{bytes_eq}
 use Rattle.byteorder.specs.Endian.{little_number, little_bytes}
 use Rattle.bk_device.specs.Calls.{contents, read_at}
@@ -23,13 +23,18 @@ pub record Slot : Type 0 where
   pub sequence : ℕ
   pub bytes : List ℕ
 
--- a slot of 65,600 bytes: the magic, a gate byte, seven bytes, a sequence, a length, and that many bytes
+-- a content of this length fits a slot, and stands whole in so many bytes of it
+abbrev pub fits : ℕ → ℕ → Bool
+fits size room = nat_le size 65536 && nat_le (32 + size) room
+
+-- the bytes of a slot, as far as its file has them: the magic, a gate byte, seven bytes, a sequence, a length, and that
+-- many bytes
 unfoldable pub slot_in : List ℕ → Option Slot
-slot_in slot = if bytes_eq (take 8 slot) magic && (slice_index slot 8 == 1) && nat_le (number (read_at slot 24 8)) 65536
+slot_in slot = if bytes_eq (take 8 slot) magic && (slice_index slot 8 == 1) && fits (number (read_at slot 24 8)) (length slot)
     then Some (record { sequence = number (read_at slot 16 8); bytes = read_at slot 32 (number (read_at slot 24 8)) })
     else None
 
--- the slot at this place of a file
+-- the slot of 65,600 bytes at this place of a file
 abbrev pub slot_at : List ℕ → ℕ → Option Slot
 slot_at file place = slot_in (read_at file place 65600)
 
@@ -39,9 +44,9 @@ newer None second = second
 newer (Some first) None = Some first
 newer (Some first) (Some second) = if nat_lt first.sequence second.sequence then Some second else Some first
 
--- the slot that counts, in a file that has both in their whole length
+-- the slot that counts
 unfoldable pub counting : List ℕ → Option Slot
-counting file = if nat_le 131200 (length file) then newer (slot_at file 0) (slot_at file 65600) else None
+counting file = newer (slot_at file 0) (slot_at file 65600)
 
 -- the content of a control file, none where it holds no control
 abbrev pub control_of : Option (List ℕ) → Option (List ℕ)

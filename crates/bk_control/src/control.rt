@@ -1,6 +1,6 @@
 // A control file: one content, which each crash leaves as it was or as it became.
 ghost use Rattle.std.specs.Prelude.{◌≡◌, ◌≤◌, ◌<◌, ◌-◌, ◌⊎◌, ◌^◌, ◌+◌, Some, None, length, vec_len, vec_capacity, true, false, is_err, string_bytes, IfOk, OnOk, OnErr, IsErrOf};
-ghost use Rattle.bk_control.specs.Control.{Kept, IsControl};
+ghost use Rattle.bk_control.specs.Control.{Kept, IsControl, IsReady};
 ghost use Rattle.bk_control.specs.Slots.{control_of};
 ghost use Rattle.bk_device.specs.Calls.{ChangesNothing};
 ghost use Rattle.bk_device.specs.Counts.{HasRisen};
@@ -9,10 +9,11 @@ ghost use Rattle.bk_device.specs.Effects.{Effect, IsName};
 
 use crate::durable::write_durably;
 use crate::error::ControlError;
-use crate::found::{find, read_content};
-use crate::fresh::{fresh_file, lay};
+use crate::found::{file_len, find, read_content};
+use crate::fresh::{lay, open_first};
 use crate::side::Side;
 use crate::slot::rewrite;
+use crate::whole::fill_up;
 use bk_device::{Device, Failed};
 use std::alloc::Global;
 use std::marker::Model;
@@ -28,6 +29,8 @@ pub struct Control {
     side: Side,
     sequence: u64,
     is_other_open: bool,
+    // whether the file is known to have both slots in their whole length
+    is_whole: bool,
     failed: bool,
 }
 
@@ -41,6 +44,7 @@ impl Model for Control {
       side = c.side;
       sequence = c.sequence;
       is_other_open = c.is_other_open;
+      is_whole = c.is_whole;
     } };
 
     ghost invariant = { λ c. (65536 ≤ vec_capacity c.content) × (vec_len c.content ≤ 65536) };
@@ -49,8 +53,8 @@ impl Model for Control {
 impl Control {
     /// Opens the control file of this name, and leaves it as it is.
     ///
-    /// `Foreign` is answered exactly where the file holds no control: where it hasn't both slots of 65,600 bytes, or
-    /// neither has the magic, an open gate and a length of at most 65,536.
+    /// `Foreign` is answered exactly where the file holds no control: where neither slot has the magic, an open gate and
+    /// a length that fits, which is at most 65,536 and leaves the content whole in the file.
     pub fn load<D: Device>(alloc: Global, dev: &mut D, name: &str) -> Result<Control, ControlError>
         ensures content { D.tells → IfOk result (λ c. control_of ((D.disk dev.old).files name.now) ≡ Some c.content) }
         ensures name { IfOk result (λ c. c.name ≡ name.now) }
@@ -65,7 +69,8 @@ impl Control {
     {
         let name_kept = String::from_str(alloc, name)?;
         let mut content = Vec::with_capacity(alloc, 65_536)?;
-        let Some(found) = find(dev, name)? else {
+        let len = file_len(dev, name)?;
+        let Some(found) = find(dev, name, len)? else {
             return Err(ControlError::Foreign);
         };
         read_content(dev, name, found, &mut content)?;
@@ -75,6 +80,7 @@ impl Control {
             side: found.side,
             sequence: found.sequence,
             is_other_open: found.is_other_open,
+            is_whole: 131_200 <= len,
             failed: false,
         })
     }
@@ -104,15 +110,15 @@ impl Control {
         let name_kept = String::from_str(alloc, name)?;
         let mut content = Vec::with_capacity(alloc, 65_536)?;
         refill(&mut content, bytes);
-        let file = fresh_file(alloc, bytes)?;
-        let (front, last) = file.as_slice().split_at(131_199);
-        lay(dev, name, front, last)?;
+        lay(dev, name)?;
+        open_first(dev, name, bytes)?;
         Ok(Control {
             name: name_kept,
             content,
             side: Side::First,
             sequence: 0,
             is_other_open: false,
+            is_whole: true,
             failed: false,
         })
     }
@@ -156,18 +162,53 @@ impl Control {
         ensures never_falls { D.disk_faults dev.old ≤ D.disk_faults dev.new }
         ensures tell_faults { D.tell_faults dev.new ≡ D.tell_faults dev.old }
     {
-        self.leave_room(dev)?;
+        self.make_ready(dev)?;
         self.advance(dev, bytes)?;
+        Ok(())
+    }
+
+    // Sees to it that both slots are there in their whole length, and that a sequence is left.
+    fn make_ready<D: Device>(&mut self, dev: &mut D) -> Result<(), Failed>
+        requires stands { D.tells → IsControl (D.disk dev.old) self.old }
+        ensures content { self.new.content ≡ self.old.content }
+        ensures name { self.new.name ≡ self.old.name }
+        ensures room { OnOk result (self.new.sequence < 2 ^ 64 - 1) }
+        ensures stands { D.tells → OnOk result (IsReady (D.disk dev.new) self.new) }
+        ensures crash { D.tells → Effect (IsName self.old.name) (λ image. control_of (image self.old.name) ≡ Some self.old.content) (D.disk dev.old) (D.disk dev.new) }
+        ensures cause { OnErr result (HasRisen (D.disk_faults dev.old) (D.disk_faults dev.new)) }
+        ensures never_falls { D.disk_faults dev.old ≤ D.disk_faults dev.new }
+        ensures tell_faults { D.tell_faults dev.new ≡ D.tell_faults dev.old }
+    {
+        self.make_whole(dev)?;
+        self.leave_room(dev)?;
+        Ok(())
+    }
+
+    // Sees to it that both slots are there in their whole length.
+    fn make_whole<D: Device>(&mut self, dev: &mut D) -> Result<(), Failed>
+        requires stands { D.tells → IsControl (D.disk dev.old) self.old }
+        ensures content { self.new.content ≡ self.old.content }
+        ensures name { self.new.name ≡ self.old.name }
+        ensures stands { D.tells → OnOk result (IsReady (D.disk dev.new) self.new) }
+        ensures crash { D.tells → Effect (IsName self.old.name) (λ image. control_of (image self.old.name) ≡ Some self.old.content) (D.disk dev.old) (D.disk dev.new) }
+        ensures cause { OnErr result (HasRisen (D.disk_faults dev.old) (D.disk_faults dev.new)) }
+        ensures never_falls { D.disk_faults dev.old ≤ D.disk_faults dev.new }
+        ensures tell_faults { D.tell_faults dev.new ≡ D.tell_faults dev.old }
+    {
+        if !self.is_whole {
+            self.is_other_open = fill_up(dev, &self.name, self.side, self.is_other_open)?;
+            self.is_whole = true;
+        }
         Ok(())
     }
 
     // Sees to it that a sequence is left.
     fn leave_room<D: Device>(&mut self, dev: &mut D) -> Result<(), Failed>
-        requires stands { D.tells → IsControl (D.disk dev.old) self.old }
+        requires stands { D.tells → IsReady (D.disk dev.old) self.old }
         ensures content { self.new.content ≡ self.old.content }
         ensures name { self.new.name ≡ self.old.name }
         ensures room { OnOk result (self.new.sequence < 2 ^ 64 - 1) }
-        ensures stands { D.tells → OnOk result (IsControl (D.disk dev.new) self.new) }
+        ensures stands { D.tells → OnOk result (IsReady (D.disk dev.new) self.new) }
         ensures crash { D.tells → Effect (IsName self.old.name) (λ image. control_of (image self.old.name) ≡ Some self.old.content) (D.disk dev.old) (D.disk dev.new) }
         ensures cause { OnErr result (HasRisen (D.disk_faults dev.old) (D.disk_faults dev.new)) }
         ensures never_falls { D.disk_faults dev.old ≤ D.disk_faults dev.new }
@@ -183,10 +224,10 @@ impl Control {
     fn advance<D: Device>(&mut self, dev: &mut D, bytes: &[u8]) -> Result<(), Failed>
         requires short { length bytes.now ≤ 65536 }
         requires room { self.old.sequence < 2 ^ 64 - 1 }
-        requires stands { D.tells → IsControl (D.disk dev.old) self.old }
+        requires stands { D.tells → IsReady (D.disk dev.old) self.old }
         ensures content { OnOk result (self.new.content ≡ bytes.now) }
         ensures name { self.new.name ≡ self.old.name }
-        ensures stands { D.tells → OnOk result (IsControl (D.disk dev.new) self.new) }
+        ensures stands { D.tells → OnOk result (IsReady (D.disk dev.new) self.new) }
         ensures crash { D.tells → Effect (IsName self.old.name) (λ image. (control_of (image self.old.name) ≡ Some self.old.content) ⊎ (control_of (image self.old.name) ≡ Some bytes.now)) (D.disk dev.old) (D.disk dev.new) }
         ensures cause { OnErr result (HasRisen (D.disk_faults dev.old) (D.disk_faults dev.new)) }
         ensures never_falls { D.disk_faults dev.old ≤ D.disk_faults dev.new }
@@ -204,11 +245,11 @@ impl Control {
 
     // Puts the same content into the other slot under the least sequence, and closes this one.
     fn renumber<D: Device>(&mut self, dev: &mut D) -> Result<(), Failed>
-        requires stands { D.tells → IsControl (D.disk dev.old) self.old }
+        requires stands { D.tells → IsReady (D.disk dev.old) self.old }
         ensures content { self.new.content ≡ self.old.content }
         ensures name { self.new.name ≡ self.old.name }
         ensures room { OnOk result (self.new.sequence ≡ 0) }
-        ensures stands { D.tells → OnOk result (IsControl (D.disk dev.new) self.new) }
+        ensures stands { D.tells → OnOk result (IsReady (D.disk dev.new) self.new) }
         ensures crash { D.tells → Effect (IsName self.old.name) (λ image. control_of (image self.old.name) ≡ Some self.old.content) (D.disk dev.old) (D.disk dev.new) }
         ensures cause { OnErr result (HasRisen (D.disk_faults dev.old) (D.disk_faults dev.new)) }
         ensures never_falls { D.disk_faults dev.old ≤ D.disk_faults dev.new }

@@ -1,7 +1,7 @@
 // Reading a control file.
-ghost use Rattle.std.specs.Prelude.{◌≡◌, ◌≤◌, ◌+◌, ◌==◌, List, ℕ, length, take, Some, None, slice_index, option_map, IfOk, OnErr, vec_len, vec_capacity, IfSome, OnOk, MatchOption};
+ghost use Rattle.std.specs.Prelude.{◌≡◌, ◌≤◌, ◌+◌, ◌-◌, ◌==◌, min, List, ℕ, length, take, Some, None, slice_index, option_map, IfOk, OnErr, vec_len, vec_capacity, IfSome, OnOk, MatchOption};
 ghost use Rattle.bk_control.specs.Found.{IsHead, IsFound, sized};
-ghost use Rattle.bk_control.specs.Slots.{slot_in, counting, place};
+ghost use Rattle.bk_control.specs.Slots.{slot_in, counting, fits, place};
 ghost use Rattle.bk_device.specs.Calls.{contents, read_at, ChangesNothing};
 ghost use Rattle.bk_device.specs.Counts.{HasRisen};
 
@@ -46,13 +46,21 @@ pub struct Found {
     pub is_other_open: bool,
 }
 
-// The entry of a slot that begins so.
-fn entry_of(head: &[u8; 32]) -> Option<Entry>
-    ensures entry { (slot : List ℕ) → take 32 slot ≡ head.now → slot_in slot ≡ option_map (sized slot) result }
+// Whether a content of this length fits a slot, of which the file has so many bytes.
+fn fits_slot(len: u64, room: u64) -> bool
+    ensures { result ≡ fits len room }
+{
+    len <= 65_536 && 32 + len <= room
+}
+
+// The entry of a slot that begins so, and of which the file has so many bytes.
+fn entry_of(head: &[u8; 32], room: u64) -> Option<Entry>
+    ensures entry { (slot : List ℕ) → length slot ≡ room → (32 ≤ room → take 32 slot ≡ head.now) → slot_in slot ≡ option_map (sized slot) result }
     ensures short { IfSome result (λ e. e.len ≤ 65536) }
+    ensures inside { IfSome result (λ e. 32 + e.len ≤ room) }
 {
     let len = read_number(&head[24..32]);
-    if head[..8] == MAGIC[..] && head[8] == 1 && len <= 65_536 {
+    if head[..8] == MAGIC[..] && head[8] == 1 && fits_slot(len, room) {
         let sequence = read_number(&head[16..24]);
         Some(Entry {
             sequence,
@@ -67,7 +75,7 @@ fn entry_of(head: &[u8; 32]) -> Option<Entry>
 fn newest(first: Head, second: Head) -> Option<Found>
     requires first { IfSome first.entry (λ e. e.len ≤ 65536) }
     requires second { IfSome second.entry (λ e. e.len ≤ 65536) }
-    ensures found { (file : List ℕ) → 131200 ≤ length file → IsHead file 0 first → IsHead file 65600 second → MatchOption result (counting file ≡ None) (IsFound file) }
+    ensures found { (file : List ℕ) → IsHead file 0 first → IsHead file 65600 second → MatchOption result (counting file ≡ None) (IsFound file) }
     ensures short { IfSome result (λ f. f.len ≤ 65536) }
 {
     let Some(a) = first.entry else {
@@ -86,8 +94,8 @@ fn newest(first: Head, second: Head) -> Option<Found>
     }
 }
 
-fn read_head<D: Device>(dev: &mut D, name: &str, start: u64) -> Result<Head, Failed>
-    ensures head { D.tells → start + 65600 ≤ length (contents ((D.disk dev.old).files name.now)) → IfOk result (IsHead (contents ((D.disk dev.old).files name.now)) start) }
+fn read_head<D: Device>(dev: &mut D, name: &str, start: u64, len: u64) -> Result<Head, Failed>
+    ensures head { D.tells → len ≡ length (contents ((D.disk dev.old).files name.now)) → IfOk result (IsHead (contents ((D.disk dev.old).files name.now)) start) }
     ensures short { IfOk result (λ head. IfSome head.entry (λ e. e.len ≤ 65536)) }
     ensures effect { D.tells → ChangesNothing (D.disk dev.old) (D.disk dev.new) }
     ensures cause { OnErr result (HasRisen (D.disk_faults dev.old) (D.disk_faults dev.new)) }
@@ -96,27 +104,36 @@ fn read_head<D: Device>(dev: &mut D, name: &str, start: u64) -> Result<Head, Fai
 {
     let mut head = [0u8; 32];
     dev.read(name, start, &mut head)?;
+    let room = len.saturating_sub(start).min(65_600);
     Ok(Head {
         gate_is_open: head[8] == 1,
-        entry: entry_of(&head),
+        entry: entry_of(&head, room),
     })
 }
 
-// The slot that counts, if the file holds a control.
-pub fn find<D: Device>(dev: &mut D, name: &str) -> Result<Option<Found>, Failed>
-    ensures found { D.tells → IfOk result (λ found. MatchOption found (counting (contents ((D.disk dev.old).files name.now)) ≡ None) (IsFound (contents ((D.disk dev.old).files name.now)))) }
+// The length of a file in bytes, 0 where there is none.
+pub fn file_len<D: Device>(dev: &mut D, name: &str) -> Result<u64, Failed>
+    ensures len { D.tells → IfOk result (λ len. len ≡ length (contents ((D.disk dev.old).files name.now))) }
+    ensures effect { D.tells → ChangesNothing (D.disk dev.old) (D.disk dev.new) }
+    ensures cause { OnErr result (HasRisen (D.disk_faults dev.old) (D.disk_faults dev.new)) }
+    ensures never_falls { D.disk_faults dev.old ≤ D.disk_faults dev.new }
+    ensures tell_faults { D.tell_faults dev.new ≡ D.tell_faults dev.old }
+{
+    let len = dev.len(name)?;
+    Ok(len.unwrap_or(0))
+}
+
+// The slot that counts in a file of this length, if one does.
+pub fn find<D: Device>(dev: &mut D, name: &str, len: u64) -> Result<Option<Found>, Failed>
+    ensures found { D.tells → len ≡ length (contents ((D.disk dev.old).files name.now)) → IfOk result (λ found. MatchOption found (counting (contents ((D.disk dev.old).files name.now)) ≡ None) (IsFound (contents ((D.disk dev.old).files name.now)))) }
     ensures short { IfOk result (λ found. IfSome found (λ f. f.len ≤ 65536)) }
     ensures effect { D.tells → ChangesNothing (D.disk dev.old) (D.disk dev.new) }
     ensures cause { OnErr result (HasRisen (D.disk_faults dev.old) (D.disk_faults dev.new)) }
     ensures never_falls { D.disk_faults dev.old ≤ D.disk_faults dev.new }
     ensures tell_faults { D.tell_faults dev.new ≡ D.tell_faults dev.old }
 {
-    let len = dev.len(name)?.unwrap_or(0);
-    if len < 131_200 {
-        return Ok(None);
-    }
-    let first = read_head(dev, name, 0)?;
-    let second = read_head(dev, name, 65_600)?;
+    let first = read_head(dev, name, 0, len)?;
+    let second = read_head(dev, name, 65_600, len)?;
     Ok(newest(first, second))
 }
 

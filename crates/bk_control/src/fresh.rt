@@ -1,44 +1,49 @@
 // A control file that is made.
-ghost use Rattle.std.specs.Prelude.{◌≡◌, ◌≤◌, ◌<◌, ◌⊎◌, ◌++◌, Some, None, length, vec_len, take, IfOk, OnOk, OnErr};
-ghost use Rattle.bk_control.specs.Fresh.{fresh, IsLaid};
+ghost use Rattle.std.specs.Prelude.{◌≡◌, ◌≤◌, ◌⊎◌, Some, None, length, false, OnOk, OnErr};
+ghost use Rattle.bk_control.specs.declared.side.Side.TheVariants.{First};
+ghost use Rattle.bk_control.specs.Slots.{counting, control_of};
+ghost use Rattle.bk_control.specs.Stands.{Stands, IsBlank};
 ghost use Rattle.bk_device.specs.Calls.{contents};
 ghost use Rattle.bk_device.specs.Counts.{HasRisen};
 ghost use Rattle.bk_device.specs.Disk.{IsDurable};
 ghost use Rattle.bk_device.specs.Effects.{Effect, IsName};
 
 use crate::durable::{remove_durably, write_durably};
-use crate::slot::{MAGIC, head};
+use crate::slot::fill;
+use crate::whole::lengthen;
 use bk_device::{Device, Failed};
-use std::alloc::{AllocError, Global};
 
-// The bytes of a file whose first slot holds this content.
-pub fn fresh_file(alloc: Global, bytes: &[u8]) -> Result<Vec<u8>, AllocError>
-    requires { length bytes.now ≤ 65536 }
-    ensures items { IfOk result (λ file. file.items ≡ fresh bytes.now) }
-{
-    let mut file = Vec::with_capacity(alloc, 131_200)?;
-    file.extend_from_slice(&MAGIC)?;
-    file.push(1)?;
-    file.extend_from_slice(&head(0, bytes.len() as u64))?;
-    file.extend_from_slice(bytes)?;
-    file.resize(131_200, 0)?;
-    Ok(file)
-}
-
-// Makes a file of these bytes and a last one: it has its whole length once the last byte is written, and before
-// that a crash leaves what it might have left before, or too short a file.
-pub fn lay<D: Device>(dev: &mut D, name: &str, front: &[u8], last: &[u8]) -> Result<(), Failed>
-    requires front { length front.now ≡ 131199 }
-    requires last { length last.now ≡ 1 }
-    ensures written { D.tells → OnOk result ((D.disk dev.new).files name.now ≡ Some (front.now ++ last.now)) }
+// Makes a file of two closed slots in place of what was under the name: a crash leaves what it might have left before,
+// or no control.
+pub fn lay<D: Device>(dev: &mut D, name: &str) -> Result<(), Failed>
+    ensures blank { D.tells → OnOk result (IsBlank (contents ((D.disk dev.new).files name.now))) }
     ensures durable { D.tells → OnOk result (IsDurable (D.disk dev.new) name.now) }
-    ensures crash { D.tells → Effect (IsName name.now) (λ image. (D.disk dev.old).may name.now (image name.now) ⊎ IsLaid front.now (contents (image name.now))) (D.disk dev.old) (D.disk dev.new) }
+    ensures crash { D.tells → Effect (IsName name.now) (λ image. (D.disk dev.old).may name.now (image name.now) ⊎ (counting (contents (image name.now)) ≡ None)) (D.disk dev.old) (D.disk dev.new) }
     ensures cause { OnErr result (HasRisen (D.disk_faults dev.old) (D.disk_faults dev.new)) }
     ensures never_falls { D.disk_faults dev.old ≤ D.disk_faults dev.new }
     ensures tell_faults { D.tell_faults dev.new ≡ D.tell_faults dev.old }
 {
     remove_durably(dev, name)?;
-    write_durably(dev, name, 0, front)?;
-    write_durably(dev, name, front.len() as u64, last)?;
+    // up to a slot's gate byte, and with it
+    lengthen(dev, name, 0, 9)?;
+    lengthen(dev, name, 9, 65_609)?;
+    lengthen(dev, name, 65_609, 131_200)?;
+    Ok(())
+}
+
+// Puts a content into the first slot of a file whose slots are closed: a crash leaves no control, or this one.
+pub fn open_first<D: Device>(dev: &mut D, name: &str, bytes: &[u8]) -> Result<(), Failed>
+    requires short { length bytes.now ≤ 65536 }
+    requires blank { D.tells → IsBlank (contents ((D.disk dev.old).files name.now)) }
+    requires settled { D.tells → IsDurable (D.disk dev.old) name.now }
+    ensures stands { D.tells → OnOk result (Stands First false (record { sequence = 0; bytes = bytes.now }) (contents ((D.disk dev.new).files name.now))) }
+    ensures durable { D.tells → OnOk result (IsDurable (D.disk dev.new) name.now) }
+    ensures crash { D.tells → Effect (IsName name.now) (λ image. (control_of (image name.now) ≡ None) ⊎ (control_of (image name.now) ≡ Some bytes.now)) (D.disk dev.old) (D.disk dev.new) }
+    ensures cause { OnErr result (HasRisen (D.disk_faults dev.old) (D.disk_faults dev.new)) }
+    ensures never_falls { D.disk_faults dev.old ≤ D.disk_faults dev.new }
+    ensures tell_faults { D.tell_faults dev.new ≡ D.tell_faults dev.old }
+{
+    fill(dev, name, 0, 0, bytes)?;
+    write_durably(dev, name, 8, &[1])?;
     Ok(())
 }

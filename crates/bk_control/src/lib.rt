@@ -8,6 +8,7 @@ mod found;
 mod fresh;
 mod side;
 mod slot;
+mod whole;
 
 pub use control::Control;
 pub use error::ControlError;

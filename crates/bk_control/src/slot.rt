@@ -39,7 +39,7 @@ pub fn head(sequence: u64, len: u64) -> [u8; 23]
 }
 
 // Writes all of a slot but its gate byte, durably.
-fn fill<D: Device>(
+pub fn fill<D: Device>(
     dev: &mut D,
     name: &str,
     start: u64,

@@ -2,14 +2,14 @@ use Rattle.std.proofs.Common.{◌≡◌, ap, subst, sym, ◌∙◌, inr, Some}
 use Rattle.bk_device.specs.Effects.{Effect, IsName}
 use Rattle.bk_control.specs.Slots.{control_of}
 use Rattle.bk_device.specs.Compose.{effect_then}
-use Rattle.bk_control.specs.Control.{Kept, IsControl}
+use Rattle.bk_control.specs.Control.{Kept, IsReady}
 use Rattle.bk_control.proofs.Puts.{stands_before, same_crash, drop_crash, drop_done}
 use Rattle.bk_control.proofs.control.Control.renumber.Goals as goal
 
 pub rewrite-requires-clause-stands : goal.rewrite-requires-clause-stands
 rewrite-requires-clause-stands g c t =
     let a = g.D.Device.disk c.args.dev.now in
-    let is = subst (IsControl a) (sym c.self.view_is) (c.requires.stands t) in
+    let is = subst (IsReady a) (sym c.self.view_is) (c.requires.stands t) in
     (_, stands_before c.other-side.result _ c.deref.result.now a is c.other-side.ensures c.deref.ensures, inr (sym c.deref-2.ensures.value))
 
 pub returns-in_err-rewrite-clause-crash : goal.returns-in_err-rewrite-clause-crash
@@ -24,7 +24,7 @@ returns-in_err-write_durably-clause-crash g c t =
     let disk = g.D.Device.disk in
     let a = disk c.args.dev.now in
     let b = disk c.rewrite.new.dev in
-    let is = subst (IsControl a) (sym c.self.view_is) (c.requires.stands t) in
+    let is = subst (IsReady a) (sym c.self.view_is) (c.requires.stands t) in
     let named = ap (λ (k : Kept). k.name) c.self.view_is in
     let same = c.deref-2.ensures.value in
     let whole = ap (λ (k : Kept). k.content) c.self.view_is in
@@ -38,7 +38,7 @@ returns-clause-crash g c t =
     let disk = g.D.Device.disk in
     let a = disk c.args.dev.now in
     let b = disk c.rewrite.new.dev in
-    let is = subst (IsControl a) (sym c.self.view_is) (c.requires.stands t) in
+    let is = subst (IsReady a) (sym c.self.view_is) (c.requires.stands t) in
     let named = ap (λ (k : Kept). k.name) c.self.view_is in
     let same = c.deref-2.ensures.value in
     let whole = ap (λ (k : Kept). k.content) c.self.view_is in
@@ -52,6 +52,6 @@ returns-clause-stands g c t =
     let disk = g.D.Device.disk in
     let a = disk c.args.dev.now in
     let b = disk c.rewrite.new.dev in
-    let is = subst (IsControl a) (sym c.self.view_is) (c.requires.stands t) in
+    let is = subst (IsReady a) (sym c.self.view_is) (c.requires.stands t) in
     let same = c.deref-2.ensures.value in
     drop_done c.other-side.result _ c.deref.result.now c.deref-3.result.now _ _ c.place.result a b (disk c.write_durably.new.dev) is c.other-side.ensures c.deref.ensures c.deref-3.ensures (sym same) c.place.ensures (c.in_ok-rewrite.ensures.rewritten t) (c.in_ok-write_durably.ensures.written t) (c.in_ok-write_durably.ensures.durable t)
