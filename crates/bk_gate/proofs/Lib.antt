@@ -1,3 +1,4 @@
 pub mod Gates
+pub mod Pairs
 pub mod Reading
 pub mod Steps

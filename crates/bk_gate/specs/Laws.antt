@@ -1,5 +1,5 @@
 -- What the layers above may take of a gate file.
-use Rattle.std.proofs.Common.{◌≡◌, ◌≤◌, ◌<◌, ◌⊎◌, ◌+◌, ℕ, Bool, true, false, List, Option, length, take, refl, ap, sym, subst, ◌∙◌}
+use Rattle.std.proofs.Common.{◌≡◌, ◌≤◌, ◌<◌, ◌⊎◌, ◌+◌, ℕ, Bool, true, false, List, Option, Some, length, take, refl, ap, sym, subst, ◌∙◌, arith}
 use Rattle.std.specs.Prelude.{slice_index}
 use Rattle.bk_device.specs.Calls.{contents}
 use Rattle.bk_device.specs.Compose.{durable_kept}
@@ -65,3 +65,14 @@ gate_spans {a = a} {gate = gate} is = go gate.is_closed is.at
     go : (is_closed : Bool) → IsAt gate.spans gate.end is_closed gate.name a → spans_of (contents (a.files gate.name)) ≡ gate.spans
     go true quiet = stands_spans gate.spans gate.end (contents (a.files gate.name)) quiet.stands
     go false loose = stands_spans gate.spans gate.end (contents (a.files gate.name)) loose.stands
+
+-- a blob may be begun
+pub gate_begun : {a : Disk} {gate : Kept} → IsGate a gate → IsGate a (record gate { begun = Some 0 })
+gate_begun {a = a} {gate = gate} is = record {
+  at = is.at;
+  room = λ n begun more. let none : 0 ≡ n = cc in absurd (omega (arith, none));
+}
+
+-- and room be made for spans
+pub gate_reserved : {a : Disk} {gate : Kept} (spare : ℕ) → IsGate a gate → IsGate a (record gate { spare = spare })
+gate_reserved spare is = record { at = is.at; room = is.room }
