@@ -1,0 +1,4 @@
+pub mod Held
+pub mod Others
+pub mod Replay
+pub mod Rests

@@ -1,0 +1,6 @@
+use Rattle.bk_undo.proofs.Held.{held_part}
+use Rattle.bk_undo.proofs.Rests.{rest_part}
+use Rattle.bk_undo.proofs.law.undo_law.Goals as goal
+
+pub returns : goal.returns
+returns c = record { rest = rest_part; held = held_part }

@@ -1,0 +1,12 @@
+use Rattle.std.proofs.Common.{◌≡◌, List}
+use Rattle.bk_ids.specs.declared.record.Rec.{Rec}
+use Rattle.bk_record.proofs.WalkSteps.{Walked}
+use Rattle.bk_undo.specs.Losers.{pending, records_below}
+use Rattle.bk_undo.proofs.undo.read_pending.Given as goal
+
+abbrev pub invariant-loop-record : goal.invariant-loop-record
+invariant-loop-record l = record {
+  can : (goal.iterator-loop-record).can_next l.record-iterator;
+  finite : (goal.iterator-loop-record).is_finite l.record-iterator;
+  walked : (records : List Rec) × Walked l.log records l.record-iterator × (l.writes.items ≡ pending (records_below l.below records));
+}

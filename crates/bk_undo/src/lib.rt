@@ -1,0 +1,15 @@
+//! The transactions of a log that are to be undone, and the records that undo them.
+#![tactic(auto)]
+
+mod error;
+mod law;
+mod pending;
+mod undo;
+
+pub use error::UndoError;
+pub use law::undo_law;
+pub use pending::Pending;
+pub use undo::losers;
+
+#[cfg(test)]
+mod tests;
