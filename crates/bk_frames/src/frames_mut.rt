@@ -1,0 +1,78 @@
+ghost use Rattle.std.specs.Prelude.{◌≡◌, ◌≢◌, ◌<◌, ◌≤◌, ◌++◌, Some, length, slice_get, take, drop};
+ghost use Rattle.std.specs.Borrow.{sem, LendsBoth, Array, u8};
+ghost use Rattle.bk_frames.specs.Pages.{with_pair};
+
+use crate::frames::Page;
+
+/// Some of the pages of a `Frames`, lent to be written.
+#[derive(Drop)]
+pub struct FramesMut<'a> {
+    /// They as a slice.
+    pub pages: &'a mut [Page],
+}
+
+impl<'a> FramesMut<'a> {
+    /// How many pages there are.
+    pub fn len(&self) -> usize
+        ensures { result ≡ length self.now.pages.now }
+    {
+        self.pages.len()
+    }
+
+    /// The page at a place below `len`.
+    pub fn page(&self, i: usize) -> &Page
+        requires { i < length self.now.pages.now }
+        ensures { slice_get self.now.pages.now i ≡ Some result.now }
+    {
+        let pages = &*self.pages;
+        &pages[i]
+    }
+
+    /// The page at a place below `len`, to be written. All others stay as they are.
+    pub fn page_mut(&mut self, i: usize) -> &mut Page
+        requires { i < length self.old.pages.now }
+        ensures value { slice_get self.old.pages.now i ≡ Some result.now }
+    {
+        let pages = &mut *self.pages;
+        &mut pages[i]
+    }
+
+    /// The pages below a place and those from it on, to be written. The place is at most `len`.
+    pub fn split_at_mut(self, mid: usize) -> (FramesMut<'a>, FramesMut<'a>)
+        requires { mid ≤ length self.pages.now }
+        ensures front { result.0.pages.now ≡ take mid self.entry.pages.now }
+        ensures back { result.1.pages.now ≡ drop mid self.entry.pages.now }
+    {
+        let FramesMut { pages } = self;
+        let (front, back) = pages.split_at_mut(mid);
+        (FramesMut { pages: front }, FramesMut { pages: back })
+    }
+}
+
+// The pages below a place and those from it on.
+pub(crate) fn lend_parts(pages: &mut [Page], mid: usize) -> (&mut [Page], &mut [Page])
+    requires { mid ≤ length pages.old }
+    ensures* writes_back { sem 𝓛 (LendsBoth (Array (Array u8 0) 0) (Array (Array u8 0) 0) (Array (Array u8 0) 0) pages.entry result ◌++◌) }
+    ensures front { result.0.now ≡ take mid pages.old }
+    ensures back { result.1.now ≡ drop mid pages.old }
+{
+    pages.split_at_mut(mid)
+}
+
+// The pages at two places.
+pub(crate) fn lend_pair(pages: &mut [Page], i: usize, j: usize) -> (&mut Page, &mut Page)
+    requires first { i < length pages.old }
+    requires second { j < length pages.old }
+    requires apart { i ≢ j }
+    ensures* writes_back { sem 𝓛 (LendsBoth (Array (Array u8 0) 0) (Array u8 0) (Array u8 0) pages.entry result (with_pair pages.old i j)) }
+    ensures first { slice_get pages.old i ≡ Some result.0.now }
+    ensures second { slice_get pages.old j ≡ Some result.1.now }
+{
+    if i < j {
+        let (front, back) = pages.split_at_mut(j);
+        (&mut front[i], &mut back[0])
+    } else {
+        let (front, back) = pages.split_at_mut(i);
+        (&mut back[0], &mut front[j])
+    }
+}

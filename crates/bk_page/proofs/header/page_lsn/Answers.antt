@@ -1,0 +1,6 @@
+use Rattle.std.proofs.Common.{sym, ◌∙◌}
+use Rattle.bk_page.proofs.Parts.{number_of-part}
+use Rattle.bk_page.proofs.header.page_lsn.Goals as goal
+
+pub returns : goal.returns
+returns c = c.in-Some.ensures.1 ∙ sym (number_of-part 8 0 c.args.page.now)
