@@ -1,0 +1,2 @@
+pub mod Lsns
+pub mod Lists

@@ -1,0 +1,3 @@
+pub mod Marks
+pub mod Maps
+pub mod Calls
