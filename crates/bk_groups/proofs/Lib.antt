@@ -1,0 +1,4 @@
+pub mod BitLemmas
+pub mod Agreement
+pub mod Spaces
+pub mod Rows

@@ -1,0 +1,5 @@
+pub mod Bits
+pub mod FileSpace
+pub mod Groups
+pub mod Sound
+pub mod Changes
