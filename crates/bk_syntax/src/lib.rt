@@ -3,18 +3,35 @@
 
 ghost use Rattle.std.specs.Prelude.{◌≡◌, ℕ, List};
 ghost use Rattle.bk_syntax.specs.Script.{IsScript};
+ghost use Rattle.bk_token.specs.declared.token.Token.{Token};
+ghost use Rattle.bk_items.specs.declared.item.ScriptEntry.{ScriptEntry};
+ghost use Rattle.bk_syntax.specs.Items.{AreEntries, AreItems};
 ghost use Rattle.bk_world.specs.declared.item.Statement.{Statement};
 
 mod cut;
+mod entries;
 mod forms;
+mod limits;
+mod statement;
 mod stuck;
 
 pub use cut::statements;
+pub use entries::items;
 
 /// Bytes are the script of exactly one list of statements.
 pub fn one_statement_list()
     ensures { (src : List ℕ) (statements others : List Statement) → IsScript src statements → IsScript src others → statements ≡ others }
 {}
 
+/// Bytes have at most one list of items, and each token list has one.
+pub fn one_item_list()
+    ensures one { (src : List ℕ) (entries others : List ScriptEntry) → AreItems src entries → AreItems src others → entries ≡ others }
+    ensures some { (src : List ℕ) (tokens : List Token) → (entries : List ScriptEntry) × AreEntries src tokens entries }
+{}
+
+#[cfg(test)]
+mod script_tests;
+#[cfg(test)]
+mod shown;
 #[cfg(test)]
 mod tests;

@@ -17,7 +17,7 @@ mod words;
 pub use opening::is_blank;
 use piece::{Piece, first_piece};
 pub use plain::{all_blank, is_plain};
-pub use runs::line_feeds;
+pub use runs::{decimal, digits_len, line_feeds};
 use std::alloc::{AllocError, Global};
 pub use token::{Kind, Token};
 pub use words::{RESERVED, bytes_of, is_reserved, is_word, name_of, text_of};

@@ -16,6 +16,7 @@ pub fn word_len(bytes: &[u8]) -> usize
     bytes.iter().take_while(|b| is_word_byte(**b)).count()
 }
 
+/// How many decimal digits stand in front.
 pub fn digits_len(bytes: &[u8]) -> usize
     ensures value { result ≡ prefix_len char.is_ascii_digit bytes.now }
     ensures within { result ≤ length bytes.now }

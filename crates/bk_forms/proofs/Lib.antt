@@ -1,0 +1,2 @@
+pub mod CreatingLeaving
+pub mod RowsLeaving

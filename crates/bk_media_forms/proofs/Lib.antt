@@ -1,0 +1,2 @@
+pub mod BackupLeaving
+pub mod RestoreLeaving

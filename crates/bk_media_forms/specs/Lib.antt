@@ -1,0 +1,6 @@
+pub mod Backup
+pub mod Idle
+pub mod Media
+pub mod Pages
+pub mod Restore
+pub mod Stops
