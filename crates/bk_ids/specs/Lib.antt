@@ -1,3 +1,4 @@
+pub mod Digest
 pub mod Guid
 pub mod Name
 pub mod Path

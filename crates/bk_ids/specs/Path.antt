@@ -1,5 +1,5 @@
 -- Recovery paths. SQL Server: "Recovery Paths" under Restore and Recovery Overview.
-use Rattle.std.specs.Prelude.{◌≡◌, ◌<◌, ◌≤◌, ℕ, List, [], ◌∷◌, Option, Some, None, if◌then◌else◌, nat_le}
+use Rattle.std.specs.Prelude.{◌≡◌, ◌≢◌, ◌<◌, ◌≤◌, ℕ, List, [], ◌∷◌, Option, Some, None, if◌then◌else◌, nat_le}
 use Rattle.bk_ids.specs.declared.guid.Guid.{Guid}
 use Rattle.bk_ids.specs.declared.path.Branch.{Branch}
 
@@ -31,3 +31,11 @@ StartsRiseFrom least (branch ∷ path) = (least ≤ branch.start) × StartsRiseF
 abbrev pub IsPath : List Branch → Type 0
 IsPath [] = ⊥
 IsPath (branch ∷ path) = (branch.start ≡ 1) × StartsRiseFrom 1 path
+
+-- the least number from 1, below both points, at which two paths aren't on one branch
+pub record FirstDiffer (path : List Branch) (end : ℕ) (other : List Branch) (other_end : ℕ) (k : ℕ) : Type 0 where
+  pub positive : 0 < k
+  pub below : k < end
+  pub below_other : k < other_end
+  pub differ : branch_at path k ≢ branch_at other k
+  pub agree_before : Agree path k other k

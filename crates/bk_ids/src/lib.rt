@@ -1,6 +1,7 @@
-//! What the other crates name things by: GUIDs, log sequence numbers, recovery paths, names and texts.
+//! What the other crates name things by: GUIDs, digests, log sequence numbers, recovery paths, names and texts.
 #![tactic(auto)]
 
+mod digest;
 mod guid;
 mod name;
 mod path;
@@ -9,6 +10,7 @@ mod sequence;
 mod text;
 mod unit;
 
+pub use digest::Digest;
 pub use guid::Guid;
 pub use name::{Name, NameError};
 pub use path::{Branch, Lsn, Path};

@@ -1,0 +1,35 @@
+ghost use Rattle.std.specs.Prelude.{◌≡◌, IfOk};
+ghost use Rattle.std.specs.String.{string_bytes};
+ghost use Rattle.bk_ids.specs.Digest.{digest_text};
+
+use std::alloc::{AllocError, Global};
+
+/// A SHA-256 digest.
+#[derive(Clone, Copy, Debug, PartialEq, Eq)]
+pub struct Digest {
+    pub bytes: [u8; 32],
+}
+
+impl Digest {
+    /// Its 64 hexadecimal digits, in lower case.
+    pub fn text(&self, alloc: Global) -> Result<String, AllocError>
+        ensures { IfOk result (λ text. string_bytes text ≡ digest_text self.now) }
+    {
+        hex::encode(alloc, &self.bytes)
+    }
+}
+
+#[cfg(test)]
+mod tests {
+    use super::*;
+    use std::test::Fail;
+
+    #[test]
+    fn a_digest_prints_in_lower_case(rt: HostRuntime) -> Result<(), Fail> {
+        let digest = Digest { bytes: [0xA5; 32] };
+        let text = digest.text(rt.alloc())?;
+        assert_eq!(rt; text.len(), 64);
+        assert!(rt; text.as_str().starts_with("a5a5"));
+        Ok(())
+    }
+}
