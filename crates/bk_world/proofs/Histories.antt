@@ -10,7 +10,7 @@ use Rattle.bk_ids.specs.declared.path.Branch.{Branch}
 use Rattle.bk_ids.specs.Path.{started, last_branch, branch_at}
 use Rattle.bk_world.specs.Entry.{Entry}
 use Rattle.bk_world.specs.History.{Touch, Line, History, is_guid, line_of, longer, appended, at_branch, along, entry_on, entries}
-use Rattle.bk_world.specs.Machine.{appended_to}
+use Rattle.bk_world.specs.Changes.{appended_to}
 use Rattle.bk_world.specs.Sound.{has_line, GoesOn}
 
 -- Paths.

@@ -1,3 +1,4 @@
+pub mod Apart
 pub mod Histories
 pub mod Folds
 pub mod Worlds

@@ -1,5 +1,5 @@
 -- What a crash leaves: a prefix of the parts of a run, without what was open.
-use Rattle.std.specs.Prelude.{◌≡◌, ◌<◌, ◌≤◌, ℕ, ◌+◌, ◌-◌, max, min, false, List, [], ◌∷◌, Option, None, Some, take, drop, filter, nat_lt}
+use Rattle.std.specs.Prelude.{◌≡◌, ◌<◌, ◌≤◌, ℕ, ◌+◌, ◌-◌, max, false, List, [], ◌∷◌, Option, None, Some, take, drop, filter, nat_lt}
 use Rattle.std.specs.List.{AllByRecursion, AllZip}
 use Rattle.bk_ids.specs.declared.guid.Guid.{Guid}
 use Rattle.bk_ids.specs.declared.path.Branch.{Branch}
@@ -9,13 +9,13 @@ use Rattle.bk_world.specs.declared.database.Status.TheVariants.{Online, Standby,
 use Rattle.bk_world.specs.declared.item.Statement.{Statement}
 use Rattle.bk_world.specs.declared.reply.Reply.{Reply}
 use Rattle.bk_world.specs.History.{Line, History, line_of}
-use Rattle.bk_world.specs.World.{World, Database, Open, database_named}
+use Rattle.bk_world.specs.World.{World, Database, least_begin, database_named}
 use Rattle.bk_world.specs.Machine.{Choice, IsAllowed, step, last_world}
 use Rattle.bk_world.specs.Run.{IsRun}
 
 -- from before, some parts of the next statement lead to cut, and all of them to whole
 abbrev pub CutsNext : World → List Statement → List ℕ → World → World → Type 0
-CutsNext before (s ∷ statements) (now ∷ moments) cut whole = (choice : Choice) × (n : ℕ) × IsAllowed before choice s.item
+CutsNext before (s ∷ statements) (now ∷ moments) cut whole = (choice : Choice) × (n : ℕ) × IsAllowed before choice s
     × (cut ≡ last_world before (take n (step before choice s now).parts)) × (whole ≡ last_world before (step before choice s now).parts)
 CutsNext before _ _ cut whole = (cut ≡ before) × (whole ≡ before)
 
@@ -36,11 +36,6 @@ pub record LineLeft (whole : History) (cut left : Line) : Type 0 where
   pub above_entries : AllByRecursion (λ e. e.lsn < below) cut.entries
   pub touches : left.touches ≡ filter (λ t. nat_lt t.lsn below) (line_of whole cut.branch).touches
   pub records : left.records ≡ filter (λ r. nat_lt r.lsn below) (line_of whole cut.branch).records
-
--- the least begin of some transactions, at most this end
-abbrev pub least_begin : List Open → ℕ → ℕ
-least_begin [] end = end
-least_begin (t ∷ transactions) end = min t.begin (least_begin transactions end)
 
 -- the end of a database, 0 where there is none
 abbrev pub end_of : Option Database → ℕ

@@ -11,7 +11,7 @@ use Rattle.bk_world.specs.declared.database.State.{State}
 use Rattle.bk_world.specs.declared.database.State.TheVariants as state
 use Rattle.bk_world.specs.declared.database.Status.TheVariants as status
 use Rattle.bk_world.specs.declared.database.Unit.{Unit as RestoreUnit}
-use Rattle.bk_world.specs.Medium.{Slot, Reading, readable, damaged, no_set, not_media, medium}
+use Rattle.bk_world.specs.Medium.{Slot, Reading, readable, damaged, no_set, not_media, medium, medium_at, without_medium, with_medium}
 use Rattle.bk_world.specs.History.{History, line_of}
 use Rattle.bk_world.specs.World.{World, Database, database_named, with_database}
 
@@ -77,15 +77,6 @@ pub record FileRemoved (old new : World) : Type 0 where
 
 -- Media and standby files.
 
--- the reading of the medium at a path
-abbrev pub medium_at : List (List ℕ × Reading) → List ℕ → Option Reading
-medium_at [] path = None
-medium_at (m ∷ media) path = if bytes_eq m.0 path then Some m.1 else medium_at media path
-
--- the media without the one at a path
-abbrev pub without_medium : List (List ℕ × Reading) → List ℕ → List (List ℕ × Reading)
-without_medium media path = filter (λ m. not (bytes_eq m.0 path)) media
-
 pub record MediumRemoved (old new : World) : Type 0 where
   pub path : List ℕ
   pub becomes : new ≡ record old { media = without_medium old.media path }
@@ -112,7 +103,7 @@ pub record MediumChanged (old new : World) : Type 0 where
   pub after : Reading
   pub there : medium_at old.media path ≡ Some before
   pub changed : ReadingChanged before after
-  pub becomes : new ≡ record old { media = (path, after) ∷ without_medium old.media path }
+  pub becomes : new ≡ record old { media = with_medium old.media path after }
 
 -- one list is a front of the other, and the longer stays
 abbrev pub IsLonger : {A : Type 0} → List A → List A → List A → Type 0

@@ -3,6 +3,11 @@ pub mod History
 pub mod Rows
 pub mod Medium
 pub mod World
+pub mod Checks
+pub mod Seen
+pub mod Changes
+pub mod Backup
+pub mod Restore
 pub mod Machine
 pub mod Run
 pub mod Crash

@@ -2,15 +2,31 @@
 use Rattle.std.specs.Prelude.{ℕ, List, ◌++◌, length, codes, flat_map}
 use Rattle.std.specs.Fmt.{decimal}
 use Rattle.bk_world.specs.declared.reply.Reply.{Reply}
-use Rattle.bk_world.specs.declared.reply.Reply.TheVariants.{Done, Counted, Selected, Refused}
+use Rattle.bk_world.specs.declared.reply.Reply.TheVariants.{Done, Counted, Selected, SetMade, Recovered, Refused}
+use Rattle.bk_world.specs.declared.rule.Limit.{Limit}
+use Rattle.bk_world.specs.declared.rule.Limit.TheVariants.{Lsn}
 use Rattle.bk_world.specs.declared.rule.Rule.{Rule}
-use Rattle.bk_world.specs.declared.rule.Rule.TheVariants.{NoSuchDatabase, NoSuchTable, DuplicateKey, NotBuilt}
+use Rattle.bk_world.specs.declared.rule.Rule.TheVariants.{NoSuchDatabase, NoSuchTable, DuplicateKey, MediaMissing, NotMedia, NoSuchSet, SetDamaged, OtherFamily, TailNotBackedUp, PathFull, LimitReached, NotBuilt}
+use Rattle.bk_ids.specs.Digest.{digest_text}
+use Rattle.bk_ids.specs.Guid.{guid_text}
+
+-- the word of a limit
+abbrev pub limit_text : Limit → List ℕ
+limit_text Lsn = codes "LSN"
 
 -- a rule: its number, its name and the values that were compared
 abbrev pub rule_text : Rule → List ℕ
 rule_text NoSuchDatabase = codes "3 NoSuchDatabase"
 rule_text NoSuchTable = codes "7 NoSuchTable"
 rule_text (DuplicateKey key) = codes "10 DuplicateKey " ++ decimal key
+rule_text MediaMissing = codes "30 MediaMissing"
+rule_text NotMedia = codes "31 NotMedia"
+rule_text (NoSuchSet position count) = codes "32 NoSuchSet " ++ (decimal position ++ (codes " " ++ decimal count))
+rule_text (SetDamaged stored found) = codes "33 SetDamaged " ++ (digest_text stored ++ (codes " " ++ digest_text found))
+rule_text (OtherFamily database set) = codes "36 OtherFamily " ++ (guid_text database ++ (codes " " ++ guid_text set))
+rule_text (TailNotBackedUp archive end) = codes "37 TailNotBackedUp " ++ (decimal archive ++ (codes " " ++ decimal end))
+rule_text PathFull = codes "52 PathFull 64"
+rule_text (LimitReached which) = codes "54 LimitReached " ++ limit_text which
 rule_text (NotBuilt line) = codes "99 NotBuilt " ++ decimal line
 
 -- a count of rows
@@ -26,6 +42,9 @@ abbrev pub reply_text : Reply → List ℕ
 reply_text Done = codes "Done.\n"
 reply_text (Counted rows) = count_text rows
 reply_text (Selected rows) = flat_map row_text rows ++ count_text (length rows)
+reply_text (SetMade position first checkpoint last) =
+    codes "Set " ++ (decimal position ++ (codes ": first " ++ (decimal first ++ (codes ", checkpoint " ++ (decimal checkpoint ++ (codes ", last " ++ (decimal last ++ codes ".\n")))))))
+reply_text (Recovered at) = codes "Recovered at " ++ (decimal at ++ codes ".\n")
 reply_text (Refused rule) = codes "Refused " ++ (rule_text rule ++ codes "\n")
 
 -- the replies to a script, one after the other

@@ -1,5 +1,5 @@
 -- The world: one instance with its databases, media, standby files, tables of msdb and sessions.
-use Rattle.std.specs.Prelude.{ℕ, Bool, false, List, [], ◌∷◌, Option, Some, None, ◌==◌, if◌then◌else◌}
+use Rattle.std.specs.Prelude.{ℕ, Bool, false, min, List, [], ◌∷◌, Option, Some, None, ◌==◌, if◌then◌else◌}
 use Rattle.bk_ids.specs.declared.guid.Guid.{Guid}
 use Rattle.bk_ids.specs.declared.path.Branch.{Branch}
 use Rattle.bk_ids.specs.declared.record.Mark.{Mark}
@@ -118,6 +118,11 @@ empty_world instance = record {
 unfoldable pub opened : World → World
 opened w = record w { session = 1; sessions = []; closed = false }
 
+-- the least begin of some transactions, at most this end
+abbrev pub least_begin : List Open → ℕ → ℕ
+least_begin [] end = end
+least_begin (t ∷ transactions) end = min t.begin (least_begin transactions end)
+
 -- the database of this name
 abbrev pub database_named : List Database → List ℕ → Option Database
 database_named [] name = None
@@ -127,6 +132,11 @@ database_named (database ∷ databases) name = if same_name database.name name t
 abbrev pub with_database : List Database → List ℕ → (Database → Database) → List Database
 with_database [] name change = []
 with_database (database ∷ databases) name change = if same_name database.name name then change database ∷ databases else database ∷ with_database databases name change
+
+-- the databases with this one in the place of that with its name, or else behind the others
+abbrev pub with_new_database : List Database → Database → List Database
+with_new_database [] new = new ∷ []
+with_new_database (database ∷ databases) new = if same_name database.name new.name then new ∷ databases else database ∷ with_new_database databases new
 
 -- what there is to say of a session
 abbrev pub session_numbered : List Session → ℕ → Session

@@ -4,15 +4,38 @@ use bk_ids::{Name, Text};
 #[derive(Debug, Drop)]
 pub enum Item {
     /// `CREATE DATABASE name`
-    CreateDatabase { name: Name },
+    CreateDatabase {
+        name: Name,
+    },
     /// `USE name`
-    Use { name: Name },
+    Use {
+        name: Name,
+    },
     /// `CREATE TABLE name (k BIGINT PRIMARY KEY, v VARCHAR(112))`
-    CreateTable { name: Name },
+    CreateTable {
+        name: Name,
+    },
     /// `INSERT INTO table VALUES (key, value)`
-    Insert { table: Name, key: u64, value: Text },
+    Insert {
+        table: Name,
+        key: u64,
+        value: Text,
+    },
     /// `SELECT * FROM table`
-    Select { table: Name },
+    Select {
+        table: Name,
+    },
+    /// `BACKUP DATABASE database TO DISK = 'path'`: a full backup to a new medium, at a path of 1 to 100 bytes
+    Backup {
+        database: Name,
+        path: Text,
+    },
+    /// `RESTORE DATABASE database FROM DISK = 'path' [WITH RECOVERY, REPLACE]`, at a path of 1 to 100 bytes
+    Restore {
+        database: Name,
+        path: Text,
+        replace: bool,
+    },
     /// Anything else.
     NotBuilt,
 }

@@ -5,7 +5,7 @@ ghost use Rattle.bk_ids.specs.declared.path.Branch.{Branch};
 ghost use Rattle.bk_ids.specs.Path.{last_branch};
 ghost use Rattle.bk_world.specs.Entry.{Entry};
 ghost use Rattle.bk_world.specs.History.{History, Touch, appended, entries};
-ghost use Rattle.bk_world.specs.Machine.{appended_to};
+ghost use Rattle.bk_world.specs.Changes.{appended_to};
 ghost use Rattle.bk_world.specs.Sound.{GoesOn};
 
 /// What is appended to any branch at a number or above leaves what every path shows below that number.

@@ -1,5 +1,5 @@
 use crate::rule::Rule;
-use bk_ids::{Sequence, Text};
+use bk_ids::{Lsn, Sequence, Text};
 
 /// What is answered to a statement.
 #[derive(Debug, Drop)]
@@ -7,9 +7,27 @@ pub enum Reply {
     /// It is done.
     Done,
     /// It changed this many rows.
-    Counted { rows: u64 },
+    Counted {
+        rows: u64,
+    },
     /// The rows that it selected, by rising key.
-    Selected { rows: Sequence<(u64, Text)> },
+    Selected {
+        rows: Sequence<(u64, Text)>,
+    },
+    /// A backup set was made: its position on the medium from 1, the first log record that it holds, its checkpoint, and
+    /// one more than the last record.
+    SetMade {
+        position: u32,
+        first: Lsn,
+        checkpoint: Lsn,
+        last: Lsn,
+    },
+    /// The database was recovered, and shows what was committed below this number.
+    Recovered {
+        at: Lsn,
+    },
     /// It was refused, and changed nothing.
-    Refused { rule: Rule },
+    Refused {
+        rule: Rule,
+    },
 }

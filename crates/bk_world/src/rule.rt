@@ -1,6 +1,17 @@
-ghost use Rattle.std.specs.Prelude.{Some};
+ghost use Rattle.std.specs.Prelude.{◌≡◌, IfOk};
+ghost use Rattle.std.specs.String.{string_bytes};
+ghost use Rattle.bk_world.specs.declared.rule.Rule.TheVariants.{SetDamaged, OtherFamily};
+ghost use Rattle.bk_world.specs.Text.{rule_text};
 
-use std::fmt;
+use bk_ids::{Digest, Guid, Lsn};
+use std::alloc::{AllocError, Global};
+
+/// A limit that a statement would pass.
+#[derive(Clone, Copy, Debug, PartialEq, Eq)]
+pub enum Limit {
+    /// Log records or GUIDs are used up, but for those that what is never refused may need.
+    Lsn,
+}
 
 /// Why a statement was refused: the first rule that it breaks, with the values that were compared.
 #[derive(Clone, Copy, Debug, PartialEq, Eq)]
@@ -11,21 +22,66 @@ pub enum Rule {
     NoSuchTable,
     /// The table has a row with this key.
     DuplicateKey { key: u64 },
+    /// There is no file at the medium's path.
+    MediaMissing,
+    /// The file is no medium, or what stands at the position is no backup set.
+    NotMedia,
+    /// The medium has no set at this position, but so many sets.
+    NoSuchSet { position: u64, count: u64 },
+    /// The set's digest isn't that of its bytes.
+    SetDamaged { stored: Digest, found: Digest },
+    /// The set is of another family of databases.
+    OtherFamily { database: Guid, set: Guid },
+    /// Log records from `archive` to below `end` weren't backed up, and would be lost.
+    TailNotBackedUp { archive: Lsn, end: Lsn },
+    /// The recovery path has 64 branches, and can take no more.
+    PathFull,
+    /// The statement would pass a limit.
+    LimitReached { which: Limit },
     /// This program doesn't know the statement on this line yet.
     NotBuilt { line: u32 },
 }
 
-impl fmt::Display for Rule {
-    ghost use Rattle.bk_world.specs.Text.{rule_text};
-
-    ghost output = { λ rule. Some (rule_text rule) };
-
-    fn fmt<W: fmt::Write>(&self, f: &mut fmt::Formatter<W>) -> fmt::Result {
+impl Rule {
+    /// Its number, its name and its values, joined by single blanks.
+    pub fn text(&self, alloc: Global) -> Result<String, AllocError>
+        ensures { IfOk result (λ text. string_bytes text ≡ rule_text self.now) }
+    {
         match self {
-            Rule::NoSuchDatabase => write!(f, "3 NoSuchDatabase"),
-            Rule::NoSuchTable => write!(f, "7 NoSuchTable"),
-            Rule::DuplicateKey { key } => write!(f, "10 DuplicateKey {key}"),
-            Rule::NotBuilt { line } => write!(f, "99 NotBuilt {line}"),
+            Rule::NoSuchDatabase => String::from_str(alloc, "3 NoSuchDatabase"),
+            Rule::NoSuchTable => String::from_str(alloc, "7 NoSuchTable"),
+            Rule::DuplicateKey { key } => format!(in alloc; "10 DuplicateKey {key}"),
+            Rule::MediaMissing => String::from_str(alloc, "30 MediaMissing"),
+            Rule::NotMedia => String::from_str(alloc, "31 NotMedia"),
+            Rule::NoSuchSet { position, count } => {
+                format!(in alloc; "32 NoSuchSet {position} {count}")
+            }
+            Rule::SetDamaged { stored, found } => damaged_text(alloc, *stored, *found),
+            Rule::OtherFamily { database, set } => family_text(alloc, *database, *set),
+            Rule::TailNotBackedUp { archive, end } => {
+                format!(in alloc; "37 TailNotBackedUp {archive} {end}")
+            }
+            Rule::PathFull => String::from_str(alloc, "52 PathFull 64"),
+            Rule::LimitReached { which: Limit::Lsn } => {
+                String::from_str(alloc, "54 LimitReached LSN")
+            }
+            Rule::NotBuilt { line } => format!(in alloc; "99 NotBuilt {line}"),
         }
     }
+}
+
+fn damaged_text(alloc: Global, stored: Digest, found: Digest) -> Result<String, AllocError>
+    ensures { IfOk result (λ text. string_bytes text ≡ rule_text (SetDamaged stored found)) }
+{
+    let stored_text = stored.text(alloc)?;
+    let found_text = found.text(alloc)?;
+    format!(in alloc; "33 SetDamaged {stored_text} {found_text}")
+}
+
+fn family_text(alloc: Global, database: Guid, set: Guid) -> Result<String, AllocError>
+    ensures { IfOk result (λ text. string_bytes text ≡ rule_text (OtherFamily database set)) }
+{
+    let database_text = database.text(alloc)?;
+    let set_text = set.text(alloc)?;
+    format!(in alloc; "36 OtherFamily {database_text} {set_text}")
 }
