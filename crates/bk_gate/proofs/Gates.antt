@@ -14,14 +14,15 @@ seal_named gate name end len a b named ended sized effect =
     let ByName : List ℕ → Type 0 = λ n. Effect (IsName n) (λ image. (sealed (image n) ≡ sealed (a.files n)) ⊎ (sealed (image n) ≡ sealed (a.files n) ++ read_at (contents (a.files n)) (gate.end + 9) (unwrap_or gate.begun 0) ∷ [])) a b in
     subst ByName named (subst ByEnd ended (subst ByLen sized effect))
 
-pub sealed_gate : (spans items : List (ℕ × ℕ)) (end next len spare : ℕ) (name kept : List ℕ) (failed : Bool) (b : Disk) → items ≡ spans ++ (end + 9, len) ∷ [] → next ≡ end + 9 + len → name ≡ kept → Quiet (spans ++ (end + 9, len) ∷ []) (end + 9 + len) name b → IsGate b (record { name = kept; spans = items; end = next; is_closed = true; begun = None; spare = spare; failed = failed })
-sealed_gate spans items end next len spare name kept failed b is next_is named quiet =
+pub sealed_gate : (spans items : List (ℕ × ℕ)) (end next len stored spare : ℕ) (name kept : List ℕ) (failed : Bool) (b : Disk) → items ≡ spans ++ (end + 9, len) ∷ [] → next ≡ end + 9 + len → name ≡ kept → Quiet (spans ++ (end + 9, len) ∷ []) (end + 9 + len) name b → IsGate b (record { name = kept; spans = items; end = next; is_closed = true; begun = None; stored = stored; spare = spare; failed = failed })
+sealed_gate spans items end next len stored spare name kept failed b is next_is named quiet =
     let ByName : List ℕ → Type 0 = λ n. Quiet (spans ++ (end + 9, len) ∷ []) (end + 9 + len) n b in
     let ByEnd : ℕ → Type 0 = λ e. Quiet (spans ++ (end + 9, len) ∷ []) e kept b in
     let BySpans : List (ℕ × ℕ) → Type 0 = λ s. Quiet s next kept b in
     record {
       at = subst BySpans (sym is) (subst ByEnd (sym next_is) (subst ByName named quiet));
       room = λ n begun more. absurd (none_begun n begun);
+      sized = λ n begun more. absurd (none_begun n begun);
     }
   where
     none_begun : (n : ℕ) → None ≡ Some n → ⊥

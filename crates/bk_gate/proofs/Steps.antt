@@ -8,10 +8,10 @@ use Rattle.bk_device.specs.Compose.{effect_then, effect_weaken, effect_none, eff
 use Rattle.bk_device.specs.Disk.{Files, Disk, IsDurable}
 use Rattle.bk_device.specs.Effects.{Effect, IsName}
 use Rattle.bk_device.specs.Torn.{torn-refl, torn-written, length-torn, written-length}
-use Rattle.bk_gate.specs.Blobs.{magic, sealed, spans_of, part_of}
+use Rattle.bk_gate.specs.Blobs.{magic, sealed, blobs_in}
 use Rattle.bk_gate.specs.Gate.{Stands, Quiet, Loose, IsAt, IsPrepared}
 use Rattle.bk_gate.specs.Laws.{quiet_front}
-use Rattle.bk_gate.specs.BlobLaws.{front_stands, behind, mending, mended_sealed, longer, same_front_byte, byte_written, equal_or_not, opened_sealed, opened_stands, shut_sealed, short_blob, ended_spans, erasing, erased}
+use Rattle.bk_gate.specs.BlobLaws.{front_stands, behind, mending, mended_sealed, longer, same_front_byte, byte_written, equal_or_not, opened_sealed, opened_stands, shut_sealed, short_blob, ended_spans, no_blobs, erasing, erased}
 
 -- a crash leaves the blobs that there are
 abbrev pub Keeps : List ℕ → Disk → Files → Type 0
@@ -72,7 +72,7 @@ close_crash spans end name a b loose effect =
 pub close_sealed : (spans : List (ℕ × ℕ)) (end : ℕ) (name : List ℕ) (a b : Disk) → Loose spans end name a → b.files name ≡ Some (written (contents (a.files name)) end (0 ∷ [])) → sealed (b.files name) ≡ sealed (a.files name)
 close_sealed spans end name a b loose wrote =
     let file = ap contents wrote in
-    ap (λ (f : List ℕ). map (part_of f) (spans_of f)) file ∙ mended_sealed spans end (contents (a.files name)) (written (contents (a.files name)) end (0 ∷ [])) loose.stands loose.why (torn-written end (contents (a.files name)) (0 ∷ []))
+    ap blobs_in file ∙ mended_sealed spans end (contents (a.files name)) (written (contents (a.files name)) end (0 ∷ [])) loose.stands loose.why (torn-written end (contents (a.files name)) (0 ∷ []))
 
 pub close_quiet : (spans : List (ℕ × ℕ)) (end : ℕ) (name : List ℕ) (a b : Disk) → Loose spans end name a → b.files name ≡ Some (written (contents (a.files name)) end (0 ∷ [])) → IsDurable b name → Quiet spans end name b
 close_quiet spans end name a b loose wrote durable =
@@ -130,7 +130,7 @@ open_crash spans end size name a b quiet prepared effect =
 pub open_sealed : (spans : List (ℕ × ℕ)) (end size : ℕ) (name : List ℕ) (a b : Disk) → Quiet spans end name a → IsPrepared end size (contents (a.files name)) → b.files name ≡ Some (written (contents (a.files name)) end (1 ∷ [])) → sealed (b.files name) ≡ sealed (a.files name) ++ read_at (contents (a.files name)) (end + 9) size ∷ []
 open_sealed spans end size name a b quiet prepared wrote =
     let file = ap contents wrote in
-    ap (λ (f : List ℕ). map (part_of f) (spans_of f)) file
+    ap blobs_in file
     ∙ opened_sealed spans end size (contents (a.files name)) (written (contents (a.files name)) end (1 ∷ [])) quiet.stands prepared (torn-written end (contents (a.files name)) (1 ∷ [])) (byte_written end 1 (contents (a.files name)) quiet.stands.within)
 
 pub open_quiet : (spans : List (ℕ × ℕ)) (end size : ℕ) (name : List ℕ) (a b : Disk) → Quiet spans end name a → IsPrepared end size (contents (a.files name)) → b.files name ≡ Some (written (contents (a.files name)) end (1 ∷ [])) → IsDurable b name → Quiet (spans ++ (end + 9, size) ∷ []) (end + 9 + size) name b
@@ -220,10 +220,10 @@ start_image n file before is gone leaves =
     let torn = torn-contents 0 n before file leaves in
     let empty : length (contents before) ≡ 0 = ap (λ (f : Option (List ℕ)). length (contents f)) gone in
     let longest : length (contents file) ≤ max (length (contents before)) (0 + n) = torn.no_longer in
-    ap (map (part_of (contents file))) (ended_spans (contents file) (short_blob (contents file) 16 (omega (arith, longest, empty, is))))
+    no_blobs (contents file) (ended_spans (contents file) (short_blob (contents file) 16 (omega (arith, longest, empty, is))))
 
 nothing_sealed : sealed None ≡ []
-nothing_sealed = ap (map (part_of [])) (ended_spans [] (short_blob [] 16 (lit< tt)))
+nothing_sealed = no_blobs [] (ended_spans [] (short_blob [] 16 (lit< tt)))
 
 pub start_removed : (name : List ℕ) (a b : Disk) → Effect (IsName name) (λ image. a.may name (image name) ⊎ (image name ≡ None)) a b → Effect (IsName name) (λ image. a.may name (image name) ⊎ (sealed (image name) ≡ [])) a b
 start_removed name a b effect =
@@ -278,7 +278,7 @@ erase_quiet spans end name b c quiet wrote durable =
     }
 
 pub no_spans : (name : List ℕ) (c : Disk) → Quiet [] 16 name c → sealed (c.files name) ≡ []
-no_spans name c quiet = ap (map (part_of (contents (c.files name)))) (ended_spans (contents (c.files name)) quiet.stands.ends)
+no_spans name c quiet = no_blobs (contents (c.files name)) (ended_spans (contents (c.files name)) quiet.stands.ends)
 
 -- a gate file with no blob
 pub none_quiet : (spans : List (ℕ × ℕ)) (end : ℕ) (name : List ℕ) (a : Disk) → spans ≡ [] → Quiet spans end name a → Quiet [] 16 name a

@@ -1,15 +1,19 @@
 -- What the front of a gate file says of its sealed blobs.
-use Rattle.std.proofs.Common.{◌≡◌, ◌≢◌, ◌⊎◌, ◌<◌, ◌≤◌, ◌^◌, ℕ, zero, suc, ◌+◌, ◌-◌, max, Bool, true, false, ◌&&◌, List, [], ◌∷◌, ◌++◌, length, map, take, drop, get_or, Some, None, refl, inl, inr, sym, ◌∙◌, ap, subst, arith, lit<, length-take, add-zero}
-use Rattle.std.specs.Prelude.{◌==◌, nat_le, slice_index, if◌then◌else◌}
-use Rattle.std.proofs.lemmas.Bool.{eqb-true, leb-true}
+use Rattle.std.proofs.Common.{◌≡◌, ◌≢◌, ◌⊎◌, ◌<◌, ◌≤◌, ◌^◌, ℕ, zero, suc, ◌+◌, ◌-◌, max, Bool, true, false, ◌&&◌, List, [], ◌∷◌, ◌++◌, length, map, take, drop, get_or, Option, Some, None, refl, inl, inr, sym, ◌∙◌, ap, subst, arith, lit<, length-append, length-take, length-drop, add-zero}
+use Rattle.std.specs.Prelude.{◌==◌, nat_le, slice_index, slice_get, if◌then◌else◌}
+use Rattle.std.specs.Option.{option_map_or}
+use Rattle.std.specs.Str.{bytes_eq}
+use Rattle.std.proofs.lemmas.Bool.{eqb-true, leb-true, le-leb, and_parts, and_from}
+use Rattle.std.proofs.lemmas.Slice.Eq.{bytes_eq-Decides}
+use Rattle.std.proofs.Math.Seq.{take-append_seam, drop-append_seam, take-length}
 use Rattle.std.proofs.lemmas.Grind.{common_steps}
-use Rattle.std.proofs.lemmas.List.{get_or-take, get_or-drop, take-take, drop-take, drop-drop, map-append, ext_get_or, append-nil, take-append-drop}
+use Rattle.std.proofs.lemmas.List.{get_or-take, get_or-drop, take-take, drop-take, drop-drop, map-append, ext_get_or, append-nil, take_all, take-append-drop}
 use Rattle.byteorder.specs.Numbers.{length-bytes_low_first, little_number-reads_back}
 use Rattle.bk_device.specs.Calls.{read_at, written, IsTorn}
 use Rattle.bk_device.specs.Names.{true_or_false}
 use Rattle.bk_device.specs.Torn.{take-torn, length-torn, read_at-torn, torn-written, read_at-written, read_at-written_other, written-length}
-use Rattle.bk_gate.specs.Blobs.{number, number_bytes, blob_at, spans_from, spans_of, part_of}
-use Rattle.bk_gate.specs.Gate.{Lies, Stands, IsPrepared}
+use Rattle.bk_gate.specs.Blobs.{number, number_bytes, magic, blob_at, spans_from, spans_of, part_of, IsGateFile, is_gate_file, blobs_in}
+use Rattle.bk_gate.specs.Gate.{Lies, Stands, IsPrepared, HasFront, IfThere}
 
 -- tests
 
@@ -22,6 +26,9 @@ test_false m n differ = grind (arith, common_steps)
 and_true : (a b : Bool) → (a && b) ≡ true → (a ≡ true) × (b ≡ true)
 and_true true b is = (refl, is)
 and_true false b is = absurd (cc)
+
+some_is : {A : Type 0} (x y : A) → Some x ≡ Some y → x ≡ y
+some_is x y is = cc
 
 -- a blob
 
@@ -157,6 +164,42 @@ front_length n one two same inside =
     let lengths : length (take n two) ≡ length (take n one) = ap length same in
     omega (arith, lengths, length-take n one, length-take n two)
 
+-- the blobs of a gate file
+pub gate_blobs : (file : List ℕ) → IsGateFile file → blobs_in file ≡ map (part_of file) (spans_of file)
+unfolding blobs_in
+gate_blobs file is =
+    let test : is_gate_file file ≡ true = and_from _ _ ((bytes_eq-Decides (take 16 file) magic).1 is.0) (le-leb _ _ is.1) in
+    rw test refl
+
+-- a file that is no gate file has none
+pub foreign_blobs : (file : List ℕ) → (IsGateFile file → ⊥) → blobs_in file ≡ []
+unfolding blobs_in
+foreign_blobs file foreign =
+    elim (true_or_false (is_gate_file file)) [
+      | inl is ↦ let p = and_parts (bytes_eq (take 16 file) magic) (nat_le 17 (length file)) is in absurd (foreign ((bytes_eq-Decides (take 16 file) magic).0 p.0, leb-true _ _ p.1))
+      | inr other ↦ rw other refl
+    ]
+
+pub no_blobs : (file : List ℕ) → spans_of file ≡ [] → blobs_in file ≡ []
+unfolding blobs_in
+no_blobs file none =
+    elim (true_or_false (is_gate_file file)) [
+      | inl is ↦ rw (is, none) refl
+      | inr other ↦ rw other refl
+    ]
+
+inside_from : (gate : ℕ) (file : List ℕ) (span : ℕ × ℕ) (rest : ℕ → List (ℕ × ℕ)) → ((size i : ℕ) → slice_get (rest size) i ≡ Some span → span.0 + span.1 ≤ length file)
+    → (r : Option ℕ) → blob_at file gate ≡ r → (i : ℕ) → slice_get (option_map_or (λ size. (gate + 9, size) ∷ rest size) r []) i ≡ Some span → span.0 + span.1 ≤ length file
+inside_from gate file span rest others None at i is = absurd (cc)
+inside_from gate file span rest others (Some size) at zero is = omega (arith, (of_blob file gate size at).2, ap (λ (s : ℕ × ℕ). s.0 + s.1) (some_is (gate + 9, size) span is))
+inside_from gate file span rest others (Some size) at (suc i) is = others size i is
+
+-- each blob lies whole in the file
+pub spans_inside : (most gate : ℕ) (file : List ℕ) (i : ℕ) (span : ℕ × ℕ) → slice_get (spans_from most gate file) i ≡ Some span → span.0 + span.1 ≤ length file
+spans_inside zero gate file i span is = absurd (cc)
+spans_inside (suc most) gate file i span is =
+    inside_from gate file span (λ size. spans_from most (gate + 9 + size) file) (λ size j at. spans_inside most (gate + 9 + size) file j span at) (blob_at file gate) refl i is
+
 shorter_front : (m n : ℕ) (one two : List ℕ) → m ≤ n → take n two ≡ take n one → take m two ≡ take m one
 shorter_front m n one two less same = sym (take-take m n two less) ∙ ap (take m) same ∙ take-take m n one less
 
@@ -175,12 +218,14 @@ front_stands spans end one two stands inside closed same =
       within = omega arith;
     }
 
-pub front_sealed : (spans : List (ℕ × ℕ)) (end : ℕ) (one two : List ℕ) → Stands spans end one → Stands spans end two → take end two ≡ take end one → map (part_of two) (spans_of two) ≡ map (part_of one) (spans_of one)
+pub front_sealed : (spans : List (ℕ × ℕ)) (end : ℕ) (one two : List ℕ) → Stands spans end one → Stands spans end two → take end two ≡ take end one → blobs_in two ≡ blobs_in one
 front_sealed spans end one two stands stands2 same =
     let from : 16 ≤ length one = omega (arith, stands.is_gate.1) in
-    ap (map (part_of two)) (stands_spans spans end two stands2)
+    gate_blobs two stands2.is_gate
+    ∙ ap (map (part_of two)) (stands_spans spans end two stands2)
     ∙ front_blobs one two 16 spans end from same stands.lies
     ∙ ap (map (part_of one)) (sym (stands_spans spans end one stands))
+    ∙ sym (gate_blobs one stands.is_gate)
 
 -- a write behind the closed gate byte
 pub behind : (end at n : ℕ) (before after : List ℕ) → end < length before → end + 1 ≤ at → IsTorn at n before after → take (end + 1) after ≡ take (end + 1) before
@@ -209,16 +254,19 @@ opened_stands spans end size before after stands prepared torn one =
       within = omega (arith, lengths);
     }
 
-pub opened_sealed : (spans : List (ℕ × ℕ)) (end size : ℕ) (before after : List ℕ) → Stands spans end before → IsPrepared end size before → IsTorn end 1 before after → slice_index after end ≡ 1 → map (part_of after) (spans_of after) ≡ map (part_of before) (spans_of before) ++ read_at before (end + 9) size ∷ []
+pub opened_sealed : (spans : List (ℕ × ℕ)) (end size : ℕ) (before after : List ℕ) → Stands spans end before → IsPrepared end size before → IsTorn end 1 before after → slice_index after end ≡ 1 → blobs_in after ≡ blobs_in before ++ read_at before (end + 9) size ∷ []
 opened_sealed spans end size before after stands prepared torn one =
     let from : 16 ≤ length before = omega (arith, stands.is_gate.1) in
     let room : end + 9 + size < length before = prepared.inside in
     let last : read_at after (end + 9) size ≡ read_at before (end + 9) size = read_at-torn (end + 9) size end 1 before after (omega arith) (inr (omega arith)) torn in
-    let here : spans_of after ≡ spans ++ (end + 9, size) ∷ [] = stands_spans (spans ++ (end + 9, size) ∷ []) (end + 9 + size) after (opened_stands spans end size before after stands prepared torn one) in
-    let old : map (part_of after) spans ≡ map (part_of before) (spans_of before) = front_blobs before after 16 spans end from (byte_front end before after stands.within torn) stands.lies ∙ ap (map (part_of before)) (sym (stands_spans spans end before stands)) in
-    ap (map (part_of after)) here ∙ map-append (part_of after) spans ((end + 9, size) ∷ [])
+    let stands2 = opened_stands spans end size before after stands prepared torn one in
+    let here : spans_of after ≡ spans ++ (end + 9, size) ∷ [] = stands_spans (spans ++ (end + 9, size) ∷ []) (end + 9 + size) after stands2 in
+    let old : map (part_of after) spans ≡ blobs_in before =
+    front_blobs before after 16 spans end from (byte_front end before after stands.within torn) stands.lies
+    ∙ ap (map (part_of before)) (sym (stands_spans spans end before stands)) ∙ sym (gate_blobs before stands.is_gate) in
+    gate_blobs after stands2.is_gate ∙ ap (map (part_of after)) here ∙ map-append (part_of after) spans ((end + 9, size) ∷ [])
     ∙ ap (λ (b : List (List ℕ)). b ++ read_at after (end + 9) size ∷ []) old
-    ∙ ap (λ (x : List ℕ). map (part_of before) (spans_of before) ++ x ∷ []) last
+    ∙ ap (λ (x : List ℕ). blobs_in before ++ x ∷ []) last
 
 -- Closing a gate byte that is missing, or 1 with no whole blob behind it, changes nothing.
 same_byte : (at : ℕ) (before after : List ℕ) → at < length before → IsTorn at 1 before after → get_or after at 0 ≡ get_or before at 0 → after ≡ before
@@ -257,7 +305,7 @@ mending spans end before after stands why torn =
       within = omega (arith, reach.1);
     }
 
-pub mended_sealed : (spans : List (ℕ × ℕ)) (end : ℕ) (before after : List ℕ) → Stands spans end before → (end ≡ length before) ⊎ (end < length before) × (slice_index before end ≡ 1) → IsTorn end 1 before after → map (part_of after) (spans_of after) ≡ map (part_of before) (spans_of before)
+pub mended_sealed : (spans : List (ℕ × ℕ)) (end : ℕ) (before after : List ℕ) → Stands spans end before → (end ≡ length before) ⊎ (end < length before) × (slice_index before end ≡ 1) → IsTorn end 1 before after → blobs_in after ≡ blobs_in before
 mended_sealed spans end before after stands why torn =
     front_sealed spans end before after stands (mending spans end before after stands why torn) (byte_front end before after stands.within torn)
 
@@ -281,7 +329,7 @@ byte_written at byte file inside =
     ∙ ap (λ (xs : List ℕ). get_or xs 0 0) read
 
 -- a gate byte that stays closed
-pub shut_sealed : (spans : List (ℕ × ℕ)) (end : ℕ) (before after : List ℕ) → Stands spans end before → IsTorn end 1 before after → slice_index after end ≢ 1 → map (part_of after) (spans_of after) ≡ map (part_of before) (spans_of before)
+pub shut_sealed : (spans : List (ℕ × ℕ)) (end : ℕ) (before after : List ℕ) → Stands spans end before → IsTorn end 1 before after → slice_index after end ≢ 1 → blobs_in after ≡ blobs_in before
 shut_sealed spans end before after stands torn differ =
     let from : 16 ≤ length before = omega (arith, stands.is_gate.1) in
     let reach = lies_within before 16 spans end from stands.lies in
@@ -304,29 +352,32 @@ unfolding number number_bytes
 number-reads_back n small = ap number (sym (append-nil (number_bytes n))) ∙ little_number-reads_back 8 n [] small
 
 -- what makes a blob ready to be sealed
-pub prepares : (end size : ℕ) (f : List ℕ) → end + 9 + size ≤ length f → size < 2 ^ 64 → IsPrepared end size (written (written f (end + 9 + size) (0 ∷ [])) (end + 1) (number_bytes size))
-prepares end size f inside small =
-    let one : List ℕ = written f (end + 9 + size) (0 ∷ []) in
-    let length_one : length one ≡ max (length f) (end + 9 + size + 1) = written-length (end + 9 + size) f (0 ∷ []) inside in
-    let eight = length-number_bytes size in
-    let length_two : length (written one (end + 1) (number_bytes size)) ≡ max (length one) (end + 1 + length (number_bytes size)) = written-length (end + 1) one (number_bytes size) (omega (arith, length_one)) in
-    let torn = torn-written (end + 1) one (number_bytes size) in
-    let read : read_at (written one (end + 1) (number_bytes size)) (end + 1) 8 ≡ number_bytes size = ap (read_at (written one (end + 1) (number_bytes size)) (end + 1)) (sym eight) ∙ read_at-written (end + 1) one (number_bytes size) (omega (arith, length_one)) in
-    let next : slice_index (written one (end + 1) (number_bytes size)) (end + 9 + size) ≡ 0 = torn.outside (end + 9 + size) (omega (arith, length_one)) (inr (omega (arith, eight))) ∙ byte_written (end + 9 + size) 0 f inside in
+pub prepares : (end size : ℕ) (f : List ℕ) → end + 9 + size ≤ length f → size < 2 ^ 64 → read_at f (end + 1) 8 ≡ number_bytes size → IsPrepared end size (written f (end + 9 + size) (0 ∷ []))
+prepares end size f inside small is =
+    let length_one : length (written f (end + 9 + size) (0 ∷ [])) ≡ max (length f) (end + 9 + size + 1) = written-length (end + 9 + size) f (0 ∷ []) inside in
+    let read : read_at (written f (end + 9 + size) (0 ∷ [])) (end + 1) 8 ≡ read_at f (end + 1) 8 = read_at-written_other (end + 1) 8 (end + 9 + size) f (0 ∷ []) (omega (arith, inside)) (inl (omega arith)) in
+    let next : slice_index (written f (end + 9 + size) (0 ∷ [])) (end + 9 + size) ≡ 0 = byte_written (end + 9 + size) 0 f inside in
     record {
-      size_is = ap number read ∙ number-reads_back size small;
-      inside = omega (arith, length_one, length_two);
+      size_is = ap number (read ∙ is) ∙ number-reads_back size small;
+      inside = omega (arith, length_one);
       closed = λ open_. absurd (omega (arith, next, open_));
     }
 
 -- and leaves its content
-pub prepares_blob : (end size : ℕ) (f : List ℕ) → end + 9 + size ≤ length f → read_at (written (written f (end + 9 + size) (0 ∷ [])) (end + 1) (number_bytes size)) (end + 9) size ≡ read_at f (end + 9) size
-prepares_blob end size f inside =
-    let one : List ℕ = written f (end + 9 + size) (0 ∷ []) in
-    let length_one : length one ≡ max (length f) (end + 9 + size + 1) = written-length (end + 9 + size) f (0 ∷ []) inside in
-    let eight = length-number_bytes size in
-    read_at-written_other (end + 9) size (end + 1) one (number_bytes size) (omega (arith, length_one)) (inr (omega (arith, eight)))
-    ∙ read_at-written_other (end + 9) size (end + 9 + size) f (0 ∷ []) inside (inl (omega arith))
+pub prepares_blob : (end size : ℕ) (f : List ℕ) → end + 9 + size ≤ length f → read_at (written f (end + 9 + size) (0 ∷ [])) (end + 9) size ≡ read_at f (end + 9) size
+prepares_blob end size f inside = read_at-written_other (end + 9) size (end + 9 + size) f (0 ∷ []) inside (inl (omega arith))
+
+-- another length leaves the content and the file's length
+
+pub sizes : (end size : ℕ) (f : List ℕ) → end + 9 ≤ length f → read_at (written f (end + 1) (number_bytes size)) (end + 1) 8 ≡ number_bytes size
+sizes end size f inside =
+    ap (read_at (written f (end + 1) (number_bytes size)) (end + 1)) (sym (length-number_bytes size)) ∙ read_at-written (end + 1) f (number_bytes size) (omega (arith, inside))
+
+pub sizes_length : (end size : ℕ) (f : List ℕ) → end + 9 ≤ length f → length (written f (end + 1) (number_bytes size)) ≡ length f
+sizes_length end size f inside = let eight = length-number_bytes size in omega (arith, eight, inside, written-length (end + 1) f (number_bytes size) (omega (arith, inside)))
+
+pub sizes_blob : (end size : ℕ) (f : List ℕ) → IfThere end f (written f (end + 1) (number_bytes size))
+sizes_blob end size f n inside = let eight = length-number_bytes size in read_at-written_other (end + 9) n (end + 1) f (number_bytes size) inside (inr (omega (arith, eight)))
 
 -- bytes that are added behind others
 
@@ -341,6 +392,71 @@ adds file bytes at len inside =
     read_two (written file (at + len) bytes) at len (length bytes)
     ∙ ap (λ (r : List ℕ). r ++ read_at (written file (at + len) bytes) (at + len) (length bytes)) (read_at-written_other at len (at + len) file bytes inside (inl (omega arith)))
     ∙ ap (λ (r : List ℕ). read_at file at len ++ r) (read_at-written (at + len) file bytes inside)
+
+-- a length and the first bytes of a blob, written at once
+
+fronts_length : (end n : ℕ) (bytes f : List ℕ) → n ≤ length bytes → length (number_bytes (length bytes) ++ take n bytes) ≡ 8 + n
+fronts_length end n bytes f within = let eight = length-number_bytes (length bytes) in simp (length-append, length-take) (omega (arith, eight, within))
+
+pub fronts : (end n : ℕ) (bytes f : List ℕ) → end < length f → n ≤ length bytes → HasFront end bytes n (written f (end + 1) (number_bytes (length bytes) ++ take n bytes))
+fronts end n bytes f inside within =
+    let x : List ℕ = number_bytes (length bytes) ++ take n bytes in
+    let w : List ℕ = written f (end + 1) x in
+    let eight : length (number_bytes (length bytes)) ≡ 8 = length-number_bytes (length bytes) in
+    let total : length x ≡ 8 + n = fronts_length end n bytes f within in
+    let long : length w ≡ max (length f) (end + 1 + length x) = written-length (end + 1) f x (omega (arith, inside)) in
+    let read : read_at w (end + 1) (8 + n) ≡ x = ap (read_at w (end + 1)) (sym total) ∙ read_at-written (end + 1) f x (omega (arith, inside)) in
+    let here : end + 1 + 8 ≡ end + 9 = omega arith in
+    record {
+      size = sym (take-take 8 (8 + n) (drop (end + 1) w) (omega arith)) ∙ ap (take 8) read ∙ ap (λ (k : ℕ). take k x) (sym eight) ∙ take-append_seam (number_bytes (length bytes)) (take n bytes);
+      bytes_there =
+          ap (λ (k : ℕ). read_at w k n) (sym here)
+          ∙ ap (take n) (sym (drop-drop 8 (end + 1) w))
+          ∙ sym (drop-take 8 n (drop (end + 1) w))
+          ∙ ap (drop 8) read
+          ∙ ap (λ (k : ℕ). drop k x) (sym eight) ∙ drop-append_seam (number_bytes (length bytes)) (take n bytes);
+      room = omega (arith, long, total);
+    }
+
+-- they lie so once both were put where they belong
+pub put_whole : (n : ℕ) (bytes part before sized whole : List ℕ) → n ≤ length bytes → part ≡ take n bytes → sized ≡ number_bytes (length bytes) ++ drop 8 before → whole ≡ take 8 sized ++ part ++ drop (8 + length part) sized
+    → take (8 + n) whole ≡ number_bytes (length bytes) ++ take n bytes
+put_whole n bytes part before sized whole within part_is sized_is whole_is =
+    let eight : length (number_bytes (length bytes)) ≡ 8 = length-number_bytes (length bytes) in
+    let first : take 8 sized ≡ number_bytes (length bytes) =
+    ap (take 8) sized_is ∙ ap (λ (k : ℕ). take k (number_bytes (length bytes) ++ drop 8 before)) (sym eight) ∙ take-append_seam (number_bytes (length bytes)) (drop 8 before) in
+    let front : take 8 sized ++ part ≡ number_bytes (length bytes) ++ take n bytes = ap (λ (xs : List ℕ). xs ++ part) first ∙ ap (λ (xs : List ℕ). number_bytes (length bytes) ++ xs) part_is in
+    let total : length (take 8 sized ++ part) ≡ 8 + n = ap length front ∙ fronts_length 0 n bytes bytes within in
+    ap (take (8 + n)) whole_is ∙ ap (λ (k : ℕ). take k (take 8 sized ++ part ++ drop (8 + length part) sized)) (sym total)
+    ∙ take-append_seam (take 8 sized ++ part) (drop (8 + length part) sized) ∙ front
+
+-- the other bytes behind them
+front_dropped : (end n : ℕ) (bytes f : List ℕ) → n ≤ length bytes → HasFront end bytes n f → HasFront end bytes (length bytes) (written f (end + 9 + n) (drop n bytes))
+front_dropped end n bytes f within front =
+    let rest : length (drop n bytes) ≡ length bytes - n = length-drop n bytes in
+    let whole : n + length (drop n bytes) ≡ length bytes = omega (arith, rest, within) in
+    let long : length (written f (end + 9 + n) (drop n bytes)) ≡ max (length f) (end + 9 + n + length (drop n bytes)) = written-length (end + 9 + n) f (drop n bytes) front.room in
+    record {
+      size = read_at-written_other (end + 1) 8 (end + 9 + n) f (drop n bytes) (omega (arith, front.room)) (inl (omega arith)) ∙ front.size;
+      bytes_there =
+          ap (read_at (written f (end + 9 + n) (drop n bytes)) (end + 9)) (sym whole)
+          ∙ adds f (drop n bytes) (end + 9) n front.room
+          ∙ ap (λ (r : List ℕ). r ++ drop n bytes) front.bytes_there
+          ∙ take-append-drop n bytes
+          ∙ sym (take-length bytes);
+      room = omega (arith, long, whole);
+    }
+
+pub front_rest : (end n : ℕ) (bytes f : List ℕ) → n ≤ length bytes → HasFront end bytes n f → HasFront end bytes (length bytes) (written f (end + 9 + n) (take (length bytes - n) (drop n bytes)))
+front_rest end n bytes f within front =
+    let Front : List ℕ → Type 0 = λ rest. HasFront end bytes (length bytes) (written f (end + 9 + n) rest) in
+    subst Front (sym (take_all (length bytes - n) (drop n bytes) (omega (arith, length-drop n bytes)))) (front_dropped end n bytes f within front)
+
+pub front_all : (end n : ℕ) (bytes f : List ℕ) → length bytes ≤ n → n ≤ length bytes → HasFront end bytes n f → HasFront end bytes (length bytes) f
+front_all end n bytes f least most front =
+    let same : n ≡ length bytes = omega (arith, least, most) in
+    let At : ℕ → Type 0 = λ k. HasFront end bytes k f in
+    subst At same front
 
 pub adds_length : (file bytes : List ℕ) (at : ℕ) → at ≤ length file → at + length bytes ≤ length (written file at bytes)
 adds_length file bytes at inside = omega (arith, written-length at file bytes inside)
@@ -373,13 +489,13 @@ first_gate : (spans : List (ℕ × ℕ)) (end : ℕ) (file : List ℕ) → 0 < l
 first_gate [] end file some stands = absurd (omega arith)
 first_gate (span ∷ spans) end file some stands = (of_blob file 16 span.1 stands.lies.1).0
 
-pub erasing : (spans : List (ℕ × ℕ)) (end : ℕ) (before after : List ℕ) → 0 < length spans → Stands spans end before → IsTorn 16 1 before after → (map (part_of after) (spans_of after) ≡ map (part_of before) (spans_of before)) ⊎ (map (part_of after) (spans_of after) ≡ [])
+pub erasing : (spans : List (ℕ × ℕ)) (end : ℕ) (before after : List ℕ) → 0 < length spans → Stands spans end before → IsTorn 16 1 before after → (blobs_in after ≡ blobs_in before) ⊎ (blobs_in after ≡ [])
 erasing spans end before after some stands torn =
     elim (equal_or_not (slice_index after 16) 1) [
       | inl one ↦
           let same : after ≡ before = same_byte 16 before after (omega (arith, stands.is_gate.1)) torn (one ∙ sym (first_gate spans end before some stands)) in
-          inl (ap (λ (f : List ℕ). map (part_of f) (spans_of f)) same)
-      | inr differ ↦ inr (ap (map (part_of after)) (ended_spans after (no_blob after 16 differ)))
+          inl (ap blobs_in same)
+      | inr differ ↦ inr (no_blobs after (ended_spans after (no_blob after 16 differ)))
     ]
 
 pub erased : (spans : List (ℕ × ℕ)) (end : ℕ) (before : List ℕ) → Stands spans end before → Stands [] 16 (written before 16 (0 ∷ []))

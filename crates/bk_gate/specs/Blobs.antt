@@ -1,6 +1,7 @@
 -- The bytes of a gate file: sixteen letters, and then blobs, each behind a gate byte of 1.
-use Rattle.std.specs.Prelude.{◌≡◌, ◌≤◌, ◌+◌, ◌&&◌, ◌==◌, ℕ, zero, suc, nat_le, if◌then◌else◌, List, [], ◌∷◌, length, map, take, slice_index, Option, None, Some}
+use Rattle.std.specs.Prelude.{◌≡◌, ◌≤◌, ◌+◌, ◌&&◌, ◌==◌, ℕ, zero, suc, nat_le, if◌then◌else◌, Bool, List, [], ◌∷◌, length, map, take, slice_index, Option, None, Some}
 use Rattle.std.specs.Option.{option_map_or}
+use Rattle.std.specs.Str.{bytes_eq}
 use Rattle.byteorder.specs.Endian.{little_number, little_bytes}
 use Rattle.bk_device.specs.Calls.{contents, read_at}
 
@@ -33,10 +34,18 @@ spans_of file = spans_from (length file) 16 file
 abbrev pub part_of : List ℕ → ℕ × ℕ → List ℕ
 part_of file span = read_at file span.0 span.1
 
--- the sealed blobs of a file
-abbrev pub sealed : Option (List ℕ) → List (List ℕ)
-sealed file = map (part_of (contents file)) (spans_of (contents file))
-
 -- the file is a gate file
 abbrev pub IsGateFile : List ℕ → Type 0
 IsGateFile file = (take 16 file ≡ magic) × (17 ≤ length file)
+
+-- the same as a test
+abbrev pub is_gate_file : List ℕ → Bool
+is_gate_file file = bytes_eq (take 16 file) magic && nat_le 17 (length file)
+
+-- the sealed blobs in these bytes, none where they are no gate file
+unfoldable pub blobs_in : List ℕ → List (List ℕ)
+blobs_in file = if is_gate_file file then map (part_of file) (spans_of file) else []
+
+-- the sealed blobs of a file
+abbrev pub sealed : Option (List ℕ) → List (List ℕ)
+sealed file = blobs_in (contents file)

@@ -1,13 +1,13 @@
 -- What the layers above may take of a gate file.
-use Rattle.std.proofs.Common.{◌≡◌, ◌≤◌, ◌<◌, ◌⊎◌, ◌+◌, ℕ, Bool, true, false, List, Option, Some, length, take, refl, ap, sym, subst, ◌∙◌, arith}
-use Rattle.std.specs.Prelude.{slice_index}
-use Rattle.bk_device.specs.Calls.{contents}
+use Rattle.std.proofs.Common.{◌≡◌, ◌≤◌, ◌<◌, ◌⊎◌, ◌+◌, ℕ, Bool, true, false, List, Option, Some, length, map, take, refl, ap, sym, subst, ◌∙◌, arith}
+use Rattle.std.specs.Prelude.{slice_index, slice_get}
+use Rattle.bk_device.specs.Calls.{contents, read_at}
 use Rattle.bk_device.specs.Compose.{durable_kept}
 use Rattle.bk_device.specs.Disk.{Disk}
 use Rattle.bk_device.specs.Effects.{IsName, KeepsFiles}
-use Rattle.bk_gate.specs.Blobs.{sealed, spans_of}
+use Rattle.bk_gate.specs.Blobs.{sealed, spans_of, part_of, IsGateFile}
 use Rattle.bk_gate.specs.Gate.{Kept, Stands, Quiet, IsAt, IsGate}
-use Rattle.bk_gate.specs.BlobLaws.{stands_spans, front_stands, front_sealed, shorter}
+use Rattle.bk_gate.specs.BlobLaws.{stands_spans, front_stands, front_sealed, shorter, gate_blobs, spans_inside}
 
 -- files that agree up to the closed gate byte have the same blobs
 pub quiet_front : (spans : List (ℕ × ℕ)) (end : ℕ) (name : List ℕ) (a : Disk) (file : Option (List ℕ)) → Quiet spans end name a → take (end + 1) (contents file) ≡ take (end + 1) (contents (a.files name)) → sealed file ≡ sealed (a.files name)
@@ -44,6 +44,7 @@ gate_kept {a = a} {b = b} {gate = gate} keeps is = record {
   room = λ n begun more.
       let OfRoom : List ℕ → Type 0 = λ f. gate.end + 9 + n ≤ length f in
       ((is.room n begun more).0, subst OfRoom (sym (ap contents (keeps.same gate.name refl))) (is.room n begun more).1);
+  sized = λ n begun more. ap (λ (f : Option (List ℕ)). read_at (contents f) (gate.end + 1) 8) (keeps.same gate.name refl) ∙ is.sized n begun more;
 }
 
 -- and its sealed blobs
@@ -66,13 +67,33 @@ gate_spans {a = a} {gate = gate} is = go gate.is_closed is.at
     go true quiet = stands_spans gate.spans gate.end (contents (a.files gate.name)) quiet.stands
     go false loose = stands_spans gate.spans gate.end (contents (a.files gate.name)) loose.stands
 
+-- the file is a gate file
+pub gate_file : {a : Disk} {gate : Kept} → IsGate a gate → IsGateFile (contents (a.files gate.name))
+gate_file {a = a} {gate = gate} is = go gate.is_closed is.at
+  where
+    go : (is_closed : Bool) → IsAt gate.spans gate.end is_closed gate.name a → IsGateFile (contents (a.files gate.name))
+    go true quiet = quiet.stands.is_gate
+    go false loose = loose.stands.is_gate
+
+-- the sealed blobs lie in the spans
+pub gate_sealed : {a : Disk} {gate : Kept} → IsGate a gate → sealed (a.files gate.name) ≡ map (part_of (contents (a.files gate.name))) gate.spans
+gate_sealed {a = a} {gate = gate} is =
+    gate_blobs (contents (a.files gate.name)) (gate_file is) ∙ ap (map (part_of (contents (a.files gate.name)))) (gate_spans is)
+
+-- and whole in the file
+pub gate_inside : {a : Disk} {gate : Kept} (i : ℕ) (span : ℕ × ℕ) → IsGate a gate → slice_get gate.spans i ≡ Some span → span.0 + span.1 ≤ length (contents (a.files gate.name))
+unfolding spans_of
+gate_inside {a = a} {gate = gate} i span is there =
+    spans_inside (length (contents (a.files gate.name))) 16 (contents (a.files gate.name)) i span (ap (λ (spans : List (ℕ × ℕ)). slice_get spans i) (gate_spans is) ∙ there)
+
 -- a blob may be begun
 pub gate_begun : {a : Disk} {gate : Kept} → IsGate a gate → IsGate a (record gate { begun = Some 0 })
 gate_begun {a = a} {gate = gate} is = record {
   at = is.at;
   room = λ n begun more. let none : 0 ≡ n = cc in absurd (omega (arith, none));
+  sized = λ n begun more. let none : 0 ≡ n = cc in absurd (omega (arith, none));
 }
 
 -- and room be made for spans
 pub gate_reserved : {a : Disk} {gate : Kept} (spare : ℕ) → IsGate a gate → IsGate a (record gate { spare = spare })
-gate_reserved spare is = record { at = is.at; room = is.room }
+gate_reserved spare is = record { at = is.at; room = is.room; sized = is.sized }

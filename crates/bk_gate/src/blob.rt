@@ -1,7 +1,7 @@
 // The writes that put a blob behind the end of a gate file.
-ghost use Rattle.std.specs.Prelude.{◌≡◌, ◌≢◌, ◌≤◌, ◌<◌, ◌+◌, ◌^◌, ◌++◌, ◌∷◌, ◌⊎◌, [], List, ℕ, Some, length, drop, true, false, slice_index, IfOk, OnOk, OnErr};
+ghost use Rattle.std.specs.Prelude.{◌≡◌, ◌≢◌, ◌≤◌, ◌<◌, ◌+◌, ◌^◌, ◌++◌, ◌∷◌, ◌⊎◌, [], List, ℕ, Some, length, take, drop, true, false, slice_index, IfOk, OnOk, OnErr};
 ghost use Rattle.bk_gate.specs.Blobs.{number, number_bytes, sealed};
-ghost use Rattle.bk_gate.specs.Gate.{Stands, Quiet, IsAt, IsPrepared};
+ghost use Rattle.bk_gate.specs.Gate.{Stands, Quiet, IsAt, IsPrepared, HasFront, IfThere};
 ghost use Rattle.bk_device.specs.Calls.{contents, written, read_at};
 ghost use Rattle.bk_device.specs.Counts.{HasRisen};
 ghost use Rattle.bk_device.specs.Disk.{IsDurable};
@@ -82,11 +82,46 @@ fn settle<D: Device>(dev: &mut D, name: &str, end: u64) -> Result<(), Failed>
     Ok(())
 }
 
+// Writes the length of the blob behind the end, where another one is written there.
+fn set_length<D: Device>(
+    dev: &mut D,
+    name: &str,
+    end: u64,
+    size: u64,
+    stored: u64,
+) -> Result<(), Failed>
+    requires inside { D.tells → end + 9 ≤ length (contents ((D.disk dev.old).files name.now)) }
+    requires stored { D.tells → read_at (contents ((D.disk dev.old).files name.now)) (end + 1) 8 ≡ number_bytes stored }
+    requires quiet { D.tells → (spans : List (ℕ × ℕ)) × Quiet spans end name.now (D.disk dev.old) }
+    ensures quiet { D.tells → (spans : List (ℕ × ℕ)) → Quiet spans end name.now (D.disk dev.old) → OnOk result (Quiet spans end name.now (D.disk dev.new)) }
+    ensures size { D.tells → OnOk result (read_at (contents ((D.disk dev.new).files name.now)) (end + 1) 8 ≡ number_bytes size) }
+    ensures length { D.tells → OnOk result (length (contents ((D.disk dev.new).files name.now)) ≡ length (contents ((D.disk dev.old).files name.now))) }
+    ensures blob { D.tells → OnOk result (IfThere end (contents ((D.disk dev.old).files name.now)) (contents ((D.disk dev.new).files name.now))) }
+    ensures sealed { D.tells → OnOk result (sealed ((D.disk dev.new).files name.now) ≡ sealed ((D.disk dev.old).files name.now)) }
+    ensures crash { D.tells → Effect (IsName name.now) (λ image. sealed (image name.now) ≡ sealed ((D.disk dev.old).files name.now)) (D.disk dev.old) (D.disk dev.new) }
+    ensures cause { OnErr result (HasRisen (D.disk_faults dev.old) (D.disk_faults dev.new)) }
+    ensures never_falls { D.disk_faults dev.old ≤ D.disk_faults dev.new }
+    ensures tell_faults { D.tell_faults dev.new ≡ D.tell_faults dev.old }
+{
+    if size != stored {
+        append(dev, name, end, end.saturating_add(1), &spelled(size))?;
+    }
+    Ok(())
+}
+
 // Writes the length of the blob behind the end, and a closed gate byte behind the blob, durably.
-fn finish<D: Device>(dev: &mut D, name: &str, end: u64, next: u64, size: u64) -> Result<(), Failed>
+fn finish<D: Device>(
+    dev: &mut D,
+    name: &str,
+    end: u64,
+    next: u64,
+    size: u64,
+    stored: u64,
+) -> Result<(), Failed>
     requires next { next < 2 ^ 62 → next ≡ end + 9 + size }
     requires inside { D.tells → end + 9 + size ≤ length (contents ((D.disk dev.old).files name.now)) }
     requires near { D.tells → next ≤ end + 9 + size }
+    requires stored { D.tells → read_at (contents ((D.disk dev.old).files name.now)) (end + 1) 8 ≡ number_bytes stored }
     requires quiet { D.tells → (spans : List (ℕ × ℕ)) × Quiet spans end name.now (D.disk dev.old) }
     ensures quiet { D.tells → (spans : List (ℕ × ℕ)) → Quiet spans end name.now (D.disk dev.old) → OnOk result (Quiet spans end name.now (D.disk dev.new)) }
     ensures durable { D.tells → OnOk result (IsDurable (D.disk dev.new) name.now) }
@@ -99,8 +134,8 @@ fn finish<D: Device>(dev: &mut D, name: &str, end: u64, next: u64, size: u64) ->
     ensures never_falls { D.disk_faults dev.old ≤ D.disk_faults dev.new }
     ensures tell_faults { D.tell_faults dev.new ≡ D.tell_faults dev.old }
 {
+    set_length(dev, name, end, size, stored)?;
     append(dev, name, end, next, &[0])?;
-    append(dev, name, end, end + 1, &spelled(size))?;
     settle(dev, name, end)?;
     Ok(())
 }
@@ -112,10 +147,12 @@ pub fn seal_blob<D: Device>(
     end: u64,
     next: u64,
     size: u64,
+    stored: u64,
 ) -> Result<(), Failed>
     requires next { next < 2 ^ 62 → next ≡ end + 9 + size }
     requires inside { D.tells → end + 9 + size ≤ length (contents ((D.disk dev.old).files name.now)) }
     requires near { D.tells → next ≤ end + 9 + size }
+    requires stored { D.tells → read_at (contents ((D.disk dev.old).files name.now)) (end + 1) 8 ≡ number_bytes stored }
     requires quiet { D.tells → (spans : List (ℕ × ℕ)) × Quiet spans end name.now (D.disk dev.old) }
     ensures quiet { D.tells → (spans : List (ℕ × ℕ)) → Quiet spans end name.now (D.disk dev.old) → OnOk result (Quiet (spans ++ (end + 9, size) ∷ []) (end + 9 + size) name.now (D.disk dev.new)) }
     ensures durable { D.tells → OnOk result (IsDurable (D.disk dev.new) name.now) }
@@ -126,40 +163,117 @@ pub fn seal_blob<D: Device>(
     ensures never_falls { D.disk_faults dev.old ≤ D.disk_faults dev.new }
     ensures tell_faults { D.tell_faults dev.new ≡ D.tell_faults dev.old }
 {
-    finish(dev, name, end, next, size)?;
+    finish(dev, name, end, next, size, stored)?;
     write_durably(dev, name, end, &[1])?;
     Ok(())
 }
 
-// Closes the gate byte at the end, and makes room for the length behind it.
-fn make_ready<D: Device>(dev: &mut D, name: &str, end: u64, is_closed: bool) -> Result<(), Failed>
+// Puts bytes behind the first eight.
+fn put_behind(front: &mut [u8], bytes: &[u8])
+    requires { 8 + length bytes.now ≤ length front.old }
+    ensures { front.new ≡ take 8 front.old ++ bytes.now ++ drop (8 + length bytes.now) front.old }
+{
+    front[8..8 + bytes.len()].copy_from_slice(bytes);
+}
+
+// Puts the length of a blob and so many of its bytes one behind the other.
+fn put_front(front: &mut [u8], bytes: &[u8], n: usize)
+    requires room { 8 + n ≤ length front.old }
+    requires within { n ≤ length bytes.now }
+    ensures { take (8 + n) front.new ≡ number_bytes (length bytes.now) ++ take n bytes.now }
+{
+    LittleEndian::write_u64(front, bytes.len() as u64);
+    put_behind(front, &bytes[..n]);
+}
+
+// Writes the length of a blob behind the closed gate byte at the end, and its first bytes, at once. Answers how many
+// there are.
+fn lay_front<D: Device>(dev: &mut D, name: &str, end: u64, bytes: &[u8]) -> Result<usize, Failed>
+    requires { D.tells → (spans : List (ℕ × ℕ)) × Quiet spans end name.now (D.disk dev.old) }
+    ensures quiet { D.tells → (spans : List (ℕ × ℕ)) → Quiet spans end name.now (D.disk dev.old) → OnOk result (Quiet spans end name.now (D.disk dev.new)) }
+    ensures within { IfOk result (λ n. n ≤ length bytes.now) }
+    ensures front { D.tells → IfOk result (λ n. HasFront end bytes.now n (contents ((D.disk dev.new).files name.now))) }
+    ensures sealed { D.tells → OnOk result (sealed ((D.disk dev.new).files name.now) ≡ sealed ((D.disk dev.old).files name.now)) }
+    ensures small { IfOk result (λ n. end + 9 + n < 2 ^ 62) }
+    ensures crash { D.tells → Effect (IsName name.now) (λ image. sealed (image name.now) ≡ sealed ((D.disk dev.old).files name.now)) (D.disk dev.old) (D.disk dev.new) }
+    ensures cause { OnErr result (HasRisen (D.disk_faults dev.old) (D.disk_faults dev.new)) }
+    ensures never_falls { D.disk_faults dev.old ≤ D.disk_faults dev.new }
+    ensures tell_faults { D.tell_faults dev.new ≡ D.tell_faults dev.old }
+{
+    let n = bytes.len().min(4088);
+    let mut front = [0u8; 4096];
+    put_front(&mut front, bytes, n);
+    append(dev, name, end, end.saturating_add(1), &front[..8 + n])?;
+    Ok(n)
+}
+
+// Writes the bytes of a blob behind its first ones.
+fn lay_rest<D: Device>(
+    dev: &mut D,
+    name: &str,
+    end: u64,
+    bytes: &[u8],
+    n: usize,
+) -> Result<(), Failed>
+    requires within { n ≤ length bytes.now }
+    requires near { end + 9 + n < 2 ^ 62 }
+    requires front { D.tells → HasFront end bytes.now n (contents ((D.disk dev.old).files name.now)) }
+    requires quiet { D.tells → (spans : List (ℕ × ℕ)) × Quiet spans end name.now (D.disk dev.old) }
+    ensures quiet { D.tells → (spans : List (ℕ × ℕ)) → Quiet spans end name.now (D.disk dev.old) → OnOk result (Quiet spans end name.now (D.disk dev.new)) }
+    ensures front { D.tells → OnOk result (HasFront end bytes.now (length bytes.now) (contents ((D.disk dev.new).files name.now))) }
+    ensures sealed { D.tells → OnOk result (sealed ((D.disk dev.new).files name.now) ≡ sealed ((D.disk dev.old).files name.now)) }
+    ensures small { OnOk result (end + 9 + length bytes.now < 2 ^ 62) }
+    ensures crash { D.tells → Effect (IsName name.now) (λ image. sealed (image name.now) ≡ sealed ((D.disk dev.old).files name.now)) (D.disk dev.old) (D.disk dev.new) }
+    ensures cause { OnErr result (HasRisen (D.disk_faults dev.old) (D.disk_faults dev.new)) }
+    ensures never_falls { D.disk_faults dev.old ≤ D.disk_faults dev.new }
+    ensures tell_faults { D.tell_faults dev.new ≡ D.tell_faults dev.old }
+{
+    if n < bytes.len() {
+        append(dev, name, end, end + 9 + n as u64, &bytes[n..])?;
+    }
+    Ok(())
+}
+
+// Closes the gate byte at the end, and writes a blob behind it with its length.
+fn lay_blob<D: Device>(
+    dev: &mut D,
+    name: &str,
+    end: u64,
+    is_closed: bool,
+    bytes: &[u8],
+) -> Result<(), Failed>
     requires { D.tells → (spans : List (ℕ × ℕ)) × IsAt spans end is_closed name.now (D.disk dev.old) }
     ensures quiet { D.tells → (spans : List (ℕ × ℕ)) → IsAt spans end is_closed name.now (D.disk dev.old) → OnOk result (Quiet spans end name.now (D.disk dev.new)) }
-    ensures room { D.tells → OnOk result (end + 9 ≤ length (contents ((D.disk dev.new).files name.now))) }
+    ensures front { D.tells → OnOk result (HasFront end bytes.now (length bytes.now) (contents ((D.disk dev.new).files name.now))) }
     ensures sealed { D.tells → OnOk result (sealed ((D.disk dev.new).files name.now) ≡ sealed ((D.disk dev.old).files name.now)) }
+    ensures small { OnOk result (end + 9 + length bytes.now < 2 ^ 62) }
     ensures crash { D.tells → Effect (IsName name.now) (λ image. sealed (image name.now) ≡ sealed ((D.disk dev.old).files name.now)) (D.disk dev.old) (D.disk dev.new) }
     ensures cause { OnErr result (HasRisen (D.disk_faults dev.old) (D.disk_faults dev.new)) }
     ensures never_falls { D.disk_faults dev.old ≤ D.disk_faults dev.new }
     ensures tell_faults { D.tell_faults dev.new ≡ D.tell_faults dev.old }
 {
     close(dev, name, end, is_closed)?;
-    append(dev, name, end, end.saturating_add(1), &[0u8; 8])?;
+    let n = lay_front(dev, name, end, bytes)?;
+    lay_rest(dev, name, end, bytes, n)?;
     Ok(())
 }
 
-// Sees to it that the bytes of a begun blob, of which there are so many, may be followed by more.
+// Sees to it that a begun blob of so many bytes has a length before it. Answers which one is written there.
 pub fn keep_ready<D: Device>(
     dev: &mut D,
     name: &str,
     end: u64,
     is_closed: bool,
     len: u64,
-) -> Result<(), Failed>
+    stored: u64,
+) -> Result<u64, Failed>
     requires at { D.tells → (spans : List (ℕ × ℕ)) × IsAt spans end is_closed name.now (D.disk dev.old) }
     requires room { D.tells → 0 < len → (is_closed ≡ true) × (end + 9 + len ≤ length (contents ((D.disk dev.old).files name.now))) }
+    requires stored { D.tells → 0 < len → read_at (contents ((D.disk dev.old).files name.now)) (end + 1) 8 ≡ number_bytes stored }
     ensures quiet { D.tells → (spans : List (ℕ × ℕ)) → IsAt spans end is_closed name.now (D.disk dev.old) → OnOk result (Quiet spans end name.now (D.disk dev.new)) }
     ensures room { D.tells → OnOk result (end + 9 + len ≤ length (contents ((D.disk dev.new).files name.now))) }
     ensures begun { D.tells → OnOk result (read_at (contents ((D.disk dev.new).files name.now)) (end + 9) len ≡ read_at (contents ((D.disk dev.old).files name.now)) (end + 9) len) }
+    ensures stored { D.tells → IfOk result (λ now. read_at (contents ((D.disk dev.new).files name.now)) (end + 1) 8 ≡ number_bytes now) }
     ensures sealed { D.tells → OnOk result (sealed ((D.disk dev.new).files name.now) ≡ sealed ((D.disk dev.old).files name.now)) }
     ensures crash { D.tells → Effect (IsName name.now) (λ image. sealed (image name.now) ≡ sealed ((D.disk dev.old).files name.now)) (D.disk dev.old) (D.disk dev.new) }
     ensures cause { OnErr result (HasRisen (D.disk_faults dev.old) (D.disk_faults dev.new)) }
@@ -167,9 +281,10 @@ pub fn keep_ready<D: Device>(
     ensures tell_faults { D.tell_faults dev.new ≡ D.tell_faults dev.old }
 {
     if len == 0 {
-        make_ready(dev, name, end, is_closed)?;
+        lay_blob(dev, name, end, is_closed, &[])?;
+        return Ok(0);
     }
-    Ok(())
+    Ok(stored)
 }
 
 // Adds bytes to a blob that was begun.
@@ -186,6 +301,8 @@ pub fn add_blob<D: Device>(
     ensures quiet { D.tells → (spans : List (ℕ × ℕ)) → IsAt spans end is_closed name.now (D.disk dev.old) → OnOk result (Quiet spans end name.now (D.disk dev.new)) }
     ensures room { D.tells → OnOk result (end + 9 + (len + length bytes.now) ≤ length (contents ((D.disk dev.new).files name.now))) }
     ensures begun { D.tells → OnOk result (read_at (contents ((D.disk dev.new).files name.now)) (end + 9) (len + length bytes.now) ≡ read_at (contents ((D.disk dev.old).files name.now)) (end + 9) len ++ bytes.now) }
+    ensures fresh { D.tells → len ≡ 0 → OnOk result (read_at (contents ((D.disk dev.new).files name.now)) (end + 1) 8 ≡ number_bytes (length bytes.now)) }
+    ensures kept { D.tells → 0 < len → OnOk result (read_at (contents ((D.disk dev.new).files name.now)) (end + 1) 8 ≡ read_at (contents ((D.disk dev.old).files name.now)) (end + 1) 8) }
     ensures sealed { D.tells → OnOk result (sealed ((D.disk dev.new).files name.now) ≡ sealed ((D.disk dev.old).files name.now)) }
     ensures small { OnOk result (end + 9 + (len + length bytes.now) < 2 ^ 62) }
     ensures crash { D.tells → Effect (IsName name.now) (λ image. sealed (image name.now) ≡ sealed ((D.disk dev.old).files name.now)) (D.disk dev.old) (D.disk dev.new) }
@@ -193,7 +310,10 @@ pub fn add_blob<D: Device>(
     ensures never_falls { D.disk_faults dev.old ≤ D.disk_faults dev.new }
     ensures tell_faults { D.tell_faults dev.new ≡ D.tell_faults dev.old }
 {
-    keep_ready(dev, name, end, is_closed, len)?;
+    if len == 0 {
+        lay_blob(dev, name, end, is_closed, bytes)?;
+        return Ok(());
+    }
     append(
         dev,
         name,
@@ -211,9 +331,11 @@ pub fn store_blob<D: Device>(
     end: u64,
     is_closed: bool,
     len: u64,
+    stored: u64,
 ) -> Result<u64, Failed>
     requires at { D.tells → (spans : List (ℕ × ℕ)) × IsAt spans end is_closed name.now (D.disk dev.old) }
     requires room { D.tells → 0 < len → (is_closed ≡ true) × (end + 9 + len ≤ length (contents ((D.disk dev.old).files name.now))) }
+    requires stored { D.tells → 0 < len → read_at (contents ((D.disk dev.old).files name.now)) (end + 1) 8 ≡ number_bytes stored }
     ensures quiet { D.tells → (spans : List (ℕ × ℕ)) → IsAt spans end is_closed name.now (D.disk dev.old) → OnOk result (Quiet (spans ++ (end + 9, len) ∷ []) (end + 9 + len) name.now (D.disk dev.new)) }
     ensures sealed { D.tells → OnOk result (sealed ((D.disk dev.new).files name.now) ≡ sealed ((D.disk dev.old).files name.now) ++ read_at (contents ((D.disk dev.old).files name.now)) (end + 9) len ∷ []) }
     ensures durable { D.tells → OnOk result (IsDurable (D.disk dev.new) name.now) }
@@ -223,9 +345,9 @@ pub fn store_blob<D: Device>(
     ensures never_falls { D.disk_faults dev.old ≤ D.disk_faults dev.new }
     ensures tell_faults { D.tell_faults dev.new ≡ D.tell_faults dev.old }
 {
-    keep_ready(dev, name, end, is_closed, len)?;
+    let stored = keep_ready(dev, name, end, is_closed, len, stored)?;
     let next = end.saturating_add(9).saturating_add(len);
-    seal_blob(dev, name, end, next, len)?;
+    seal_blob(dev, name, end, next, len, stored)?;
     Ok(next)
 }
 

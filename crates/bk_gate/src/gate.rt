@@ -24,6 +24,8 @@ pub struct Gate {
     end: u64,
     is_closed: bool,
     begun: Option<u64>,
+    // the length that is written for the begun blob
+    stored: u64,
     // how many more spans there is room for, at least
     spare: usize,
     failed: bool,
@@ -38,6 +40,7 @@ impl Model for Gate {
       end = g.end;
       is_closed = g.is_closed;
       begun = g.begun;
+      stored = g.stored;
       spare = g.spare;
       failed = g.failed;
     } };
@@ -74,6 +77,7 @@ impl Gate {
             end,
             is_closed,
             begun: None,
+            stored: 0,
             spare: 0,
             failed: false,
         })
@@ -103,9 +107,17 @@ impl Gate {
             end: 16,
             is_closed: true,
             begun: None,
+            stored: 0,
             spare: 0,
             failed: false,
         })
+    }
+
+    /// The name of its file.
+    pub fn name(&self) -> &str
+        ensures { result.now ≡ self.now.name }
+    {
+        self.name.as_str()
     }
 
     /// How many sealed blobs there are.
@@ -156,7 +168,7 @@ impl Gate {
         ensures begun { OnOk result (self.new.begun ≡ Some (unwrap_or self.old.begun 0 + length bytes.now)) }
         ensures added { D.tells → OnOk result (begun_of (D.disk dev.new) self.new ≡ begun_of (D.disk dev.old) self.old ++ bytes.now) }
         ensures sealed { D.tells → OnOk result (sealed ((D.disk dev.new).files self.old.name) ≡ sealed ((D.disk dev.old).files self.old.name)) }
-        ensures same { OnOk result (self.new ≡ record self.old { begun = self.new.begun; is_closed = true }) }
+        ensures same { OnOk result (self.new ≡ record self.old { begun = self.new.begun; stored = self.new.stored; is_closed = true }) }
         ensures failed { self.new.failed ≡ is_err result }
         ensures crash { D.tells → Effect (IsName self.old.name) (λ image. sealed (image self.old.name) ≡ sealed ((D.disk dev.old).files self.old.name)) (D.disk dev.old) (D.disk dev.new) }
         ensures cause { OnErr result (HasRisen (D.disk_faults dev.old) (D.disk_faults dev.new)) }
@@ -167,6 +179,9 @@ impl Gate {
         match add_blob(dev, &self.name, self.end, self.is_closed, len, bytes) {
             Ok(()) => {
                 self.is_closed = true;
+                if len == 0 {
+                    self.stored = bytes.len() as u64;
+                }
                 self.begun = Some(len + bytes.len() as u64);
                 Ok(())
             }
@@ -198,7 +213,7 @@ impl Gate {
         ensures tell_faults { D.tell_faults dev.new ≡ D.tell_faults dev.old }
     {
         let len = self.begun.unwrap_or(0);
-        match store_blob(dev, &self.name, self.end, self.is_closed, len) {
+        match store_blob(dev, &self.name, self.end, self.is_closed, len, self.stored) {
             Ok(next) => {
                 push_reserved(&mut self.spans, (self.end + 9, len));
                 self.spare -= 1;

@@ -127,7 +127,8 @@ fn seal_two(alloc: Global, device: &mut MemDevice) -> Result<bool, Fail>
     Ok(gate.seal(device).is_ok())
 }
 
-// A blob of 5 writes, and one of 6 behind a gate byte that is missing.
+// A blob of 3 writes, its bytes with their length, the next gate and the gate; and one of 4 behind a gate byte that is
+// missing.
 #[test]
 fn a_seal_that_is_cut_short_leaves_the_blobs(rt: HostRuntime) -> Result<(), Fail> {
     let mut whole = MemDevice::new(rt.alloc());
@@ -135,7 +136,7 @@ fn a_seal_that_is_cut_short_leaves_the_blobs(rt: HostRuntime) -> Result<(), Fail
     whole.write("a", 28, &[0])?;
     let mut loose = MemDevice::new(rt.alloc());
     loose.write("a", 0, &LOOSE)?;
-    for (start, writes) in [(&whole, 5u64), (&loose, 6)] {
+    for (start, writes) in [(&whole, 3u64), (&loose, 4)] {
         for write in 1..writes + 2 {
             for keep in [false, true] {
                 let mut device = stopped(start, write)?;
@@ -149,20 +150,41 @@ fn a_seal_that_is_cut_short_leaves_the_blobs(rt: HostRuntime) -> Result<(), Fail
     Ok(())
 }
 
-// The opening of the gate was written and not synced. The calls are four of the load, two of the blob's bytes, and of
-// the seal three and two on the gate byte.
+// The opening of the gate was written and not synced. The calls are four of the load, one of the blob's bytes, and of
+// the seal two and two on the gate byte.
 #[test]
 fn a_seal_before_its_last_sync_is_kept_or_gone(rt: HostRuntime) -> Result<(), Fail> {
     let mut start = MemDevice::new(rt.alloc());
     start.write("a", 0, &LOOSE)?;
     start.write("a", 28, &[0])?;
     for keep in [false, true] {
-        let mut device = failing(&start, 11)?;
+        let mut device = failing(&start, 9)?;
         assert!(rt; !seal_two(rt.alloc(), &mut device)?);
         let mut device = device.restart(keep);
         let gate = Gate::load(rt.alloc(), &mut device, "a")?;
         assert_eq!(rt; gate.count(), if keep { 2 } else { 1 });
     }
+    Ok(())
+}
+
+// A blob that is longer than what is written with its length at once.
+#[test]
+fn a_long_blob_is_sealed_whole(rt: HostRuntime) -> Result<(), Fail> {
+    let mut bytes = Vec::new(rt.alloc());
+    for i in 0..5000u32 {
+        bytes.push((i % 251) as u8)?;
+    }
+    let mut device = MemDevice::new(rt.alloc());
+    let mut gate = Gate::make(rt.alloc(), &mut device, "a")?;
+    gate.begin();
+    gate.add(&mut device, &bytes)?;
+    gate.seal(&mut device)?;
+    let gate = Gate::load(rt.alloc(), &mut device, "a")?;
+    assert_eq!(rt; gate.count(), 1);
+    assert_eq!(rt; gate.span(0), (25, 5000));
+    let mut read = [0u8; 5000];
+    assert_eq!(rt; device.read("a", 25, &mut read)?, 5000);
+    assert_eq!(rt; read.as_slice(), bytes.as_slice());
     Ok(())
 }
 

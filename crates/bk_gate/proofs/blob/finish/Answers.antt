@@ -1,6 +1,5 @@
-use Rattle.std.proofs.Common.{◌≡◌, ◌<◌, ◌^◌, ◌+◌, ◌∙◌, [], ◌∷◌, ap, subst, sym, arith, List, ℕ}
+use Rattle.std.proofs.Common.{◌≡◌, ◌≤◌, ◌<◌, ◌^◌, ◌+◌, ◌∙◌, [], ◌∷◌, length, ap, subst, sym, arith, List, ℕ}
 use Rattle.bk_device.specs.Calls.{contents, written, read_at}
-use Rattle.bk_gate.specs.Blobs.{number_bytes}
 use Rattle.bk_gate.specs.Gate.{IsPrepared}
 use Rattle.bk_gate.specs.BlobLaws.{prepares, prepares_blob}
 use Rattle.bk_gate.proofs.blob.finish.Goals as goal
@@ -11,14 +10,14 @@ returns-clause-prepared g c t =
     let name = c.args.name.now in
     let size = c.args.size in
     let end = c.args.end in
-    let before = contents ((disk c.args.dev.now).files name) in
+    let before = contents ((disk c.set_length.new.dev).files name) in
     let near : c.args.next < 2 ^ 62 = omega (arith, c.in_ok-append.ensures.small) in
     let one : contents ((disk c.append.new.dev).files name) ≡ written before (end + 9 + size) (0 ∷ []) = ap contents (c.in_ok-append.ensures.written t) ∙ ap (λ (p : ℕ). written before p (0 ∷ [])) (c.requires.next near) in
-    let two : contents ((disk c.append-2.new.dev).files name) ≡ written (written before (end + 9 + size) (0 ∷ [])) (end + 1) (number_bytes size) = ap contents (c.in_ok-append-2.ensures.written t) ∙ ap (λ (f : List ℕ). written f (end + 1) c.spelled.result) one ∙ ap (written (written before (end + 9 + size) (0 ∷ [])) (end + 1)) c.spelled.ensures in
-    let all = ap contents (c.in_ok-settle.ensures.same t) ∙ two in
+    let all = ap contents (c.in_ok-settle.ensures.same t) ∙ one in
+    let room : end + 9 + size ≤ length before = omega (arith, c.in_ok-set_length.ensures.length t, c.requires.inside t) in
     let fits : size < 2 ^ 64 = omega arith in
     let Ready : List ℕ → Type 0 = IsPrepared end size in
-    subst Ready (sym all) (prepares end size before (c.requires.inside t) fits)
+    subst Ready (sym all) (prepares end size before room fits (c.in_ok-set_length.ensures.size t))
 
 pub returns-clause-blob : goal.returns-clause-blob
 returns-clause-blob g c t =
@@ -26,9 +25,9 @@ returns-clause-blob g c t =
     let name = c.args.name.now in
     let size = c.args.size in
     let end = c.args.end in
-    let before = contents ((disk c.args.dev.now).files name) in
+    let before = contents ((disk c.set_length.new.dev).files name) in
     let near : c.args.next < 2 ^ 62 = omega (arith, c.in_ok-append.ensures.small) in
     let one : contents ((disk c.append.new.dev).files name) ≡ written before (end + 9 + size) (0 ∷ []) = ap contents (c.in_ok-append.ensures.written t) ∙ ap (λ (p : ℕ). written before p (0 ∷ [])) (c.requires.next near) in
-    let two : contents ((disk c.append-2.new.dev).files name) ≡ written (written before (end + 9 + size) (0 ∷ [])) (end + 1) (number_bytes size) = ap contents (c.in_ok-append-2.ensures.written t) ∙ ap (λ (f : List ℕ). written f (end + 1) c.spelled.result) one ∙ ap (written (written before (end + 9 + size) (0 ∷ [])) (end + 1)) c.spelled.ensures in
-    let all = ap contents (c.in_ok-settle.ensures.same t) ∙ two in
-    ap (λ (f : List ℕ). read_at f (end + 9) size) all ∙ prepares_blob end size before (c.requires.inside t)
+    let all = ap contents (c.in_ok-settle.ensures.same t) ∙ one in
+    let room : end + 9 + size ≤ length before = omega (arith, c.in_ok-set_length.ensures.length t, c.requires.inside t) in
+    ap (λ (f : List ℕ). read_at f (end + 9) size) all ∙ prepares_blob end size before room ∙ c.in_ok-set_length.ensures.blob t size (c.requires.inside t)

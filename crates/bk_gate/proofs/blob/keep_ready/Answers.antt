@@ -3,8 +3,8 @@ use Rattle.bk_gate.specs.Gate.{IsAt}
 use Rattle.bk_gate.proofs.Steps.{quiet_none}
 use Rattle.bk_gate.proofs.blob.keep_ready.Goals as goal
 
-pub returns-else-len-eq0-clause-crash : goal.returns-else-len-eq0-clause-crash
-returns-else-len-eq0-clause-crash g c t =
+pub returns-clause-crash : goal.returns-clause-crash
+returns-clause-crash g c t =
     let a = g.D.Device.disk c.args.dev.now in
     let at = c.requires.at t in
     let more : 0 < c.args.len = omega arith in

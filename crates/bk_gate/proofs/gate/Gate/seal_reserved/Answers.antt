@@ -14,5 +14,5 @@ returns-in-Ok-clause-stands g c t =
     let a = g.D.Device.disk c.args.dev.now in
     let is = subst (IsGate a) (sym c.self.view_is) (c.requires.stands t) in
     let At : List ℕ → Type 0 = λ n. IsAt c.self.inside.spans.items c.self.inside.end c.self.inside.is_closed n a in
-    sealed_gate c.self.inside.spans.items _ c.self.inside.end c.in-Ok.next c.unwrap_or-len.result _ c.deref.result.now _ c.self.inside.failed (g.D.Device.disk c.store_blob.new.dev)
+    sealed_gate c.self.inside.spans.items _ c.self.inside.end c.in-Ok.next c.unwrap_or-len.result _ _ c.deref.result.now _ c.self.inside.failed (g.D.Device.disk c.store_blob.new.dev)
     c.push_reserved.ensures.items c.in-Ok.ensures.next.0 c.deref.ensures (c.in-Ok.ensures.quiet t c.self.inside.spans.items (subst At (sym c.deref.ensures) is.at))
