@@ -1,0 +1,5 @@
+pub mod Readings
+pub mod Forms
+pub mod Laws
+pub mod Founds
+pub mod Kept

@@ -1,0 +1,6 @@
+use Rattle.bk_set.proofs.Laws.{one_body}
+use Rattle.bk_set.proofs.Founds.{set_found}
+use Rattle.bk_set.proofs.found.set_law.Goals as goal
+
+pub returns : goal.returns
+returns c = record { one_spelling = one_body; found = set_found }

@@ -1,0 +1,5 @@
+pub mod Conditions
+pub mod Spelling
+pub mod Reading
+pub mod Decoding
+pub mod Found

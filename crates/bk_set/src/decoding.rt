@@ -1,0 +1,50 @@
+//! Reading a body.
+
+ghost use Rattle.std.specs.Prelude.{◌≡◌, IfOk};
+ghost use Rattle.bk_header.specs.Reading.{header_form};
+ghost use Rattle.bk_set.specs.Conditions.{IsBody};
+ghost use Rattle.bk_set.specs.Reading.{body_form, body_of};
+ghost use Rattle.bk_set.specs.Decoding.{Reads};
+
+use crate::body::SetBody;
+use crate::conditions::make;
+use crate::lists::{read_rows, read_tables};
+use crate::unread::Unread;
+use bk_header::decode;
+use bk_world::Header;
+use std::alloc::Global;
+
+fn read_header(alloc: Global, bytes: &[u8]) -> Result<(Header, &[u8]), Unread>
+    ensures { Reads (λ x. (x.0, x.1.now)) result (header_form.reading bytes.now) }
+{
+    match decode(alloc, bytes)? {
+        Some((header, size)) => Ok((header, &bytes[size..])),
+        None => Err(Unread::NoBody),
+    }
+}
+
+#[tactic(auto, unfolding(crate::specs::Reading::body_form))]
+fn read_body(alloc: Global, bytes: &[u8]) -> Result<(SetBody, &[u8]), Unread>
+    ensures { Reads (λ x. (x.0, x.1.now)) result (body_form.reading bytes.now) }
+{
+    let (header, rest) = read_header(alloc, bytes)?;
+    let (tables, rest) = read_tables(alloc, rest)?;
+    let (rows, rest) = read_rows(alloc, rest)?;
+    match make(header, tables, rows) {
+        Some(body) => Ok((body, rest)),
+        None => Err(Unread::NoBody),
+    }
+}
+
+/// The body that all of these bytes spell.
+#[tactic(auto, unfolding(crate::specs::Reading::body_of))]
+pub fn read_all(alloc: Global, bytes: &[u8]) -> Result<SetBody, Unread>
+    ensures read { Reads (λ body. body) result (body_of bytes.now) }
+    ensures is_body { IfOk result IsBody }
+{
+    let (body, rest) = read_body(alloc, bytes)?;
+    if !rest.is_empty() {
+        return Err(Unread::NoBody);
+    }
+    Ok(body)
+}
