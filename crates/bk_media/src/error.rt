@@ -1,0 +1,133 @@
+// Why a medium couldn't be opened, made, read or added to.
+ghost use Rattle.std.specs.Prelude.{◌≡◌};
+ghost use Rattle.bk_media.specs.declared.error.LoadError.TheVariants as load;
+ghost use Rattle.bk_media.specs.declared.error.MakeError.TheVariants as make;
+ghost use Rattle.bk_media.specs.declared.error.SetError.TheVariants as set;
+ghost use Rattle.bk_media.specs.declared.error.AddError.TheVariants as add;
+
+use bk_device::Failed;
+use std::alloc::AllocError;
+use thiserror::Error;
+
+/// Why a medium couldn't be opened.
+#[derive(Clone, Copy, Debug, PartialEq, Eq, Error)]
+pub enum LoadError {
+    /// There is no file at its path.
+    #[error("there is no file at the path of the medium")]
+    Missing,
+    /// The file there is no medium.
+    #[error("the file is no medium")]
+    NotMedia,
+    /// The device failed.
+    #[error("the device has failed")]
+    Fault,
+    /// There was no memory.
+    #[error("out of memory")]
+    NoMemory,
+}
+
+/// Why a medium couldn't be made.
+#[derive(Clone, Copy, Debug, PartialEq, Eq, Error)]
+pub enum MakeError {
+    /// The device failed.
+    #[error("the device has failed")]
+    Fault,
+    /// There was no memory.
+    #[error("out of memory")]
+    NoMemory,
+}
+
+/// Why a set couldn't be read.
+#[derive(Clone, Copy, Debug, PartialEq, Eq, Error)]
+pub enum SetError {
+    /// The position is 0, or above the number of slots.
+    #[error("there is no set at this position")]
+    NoSuchSet,
+    /// The stored digest isn't the one that was found.
+    #[error("the set is damaged")]
+    Damaged { stored: [u8; 32], found: [u8; 32] },
+    /// The bytes in the slot are no set.
+    #[error("the slot holds no set")]
+    NotMedia,
+    /// The device failed.
+    #[error("the device has failed")]
+    Fault,
+    /// There was no memory.
+    #[error("out of memory")]
+    NoMemory,
+}
+
+/// Why a set couldn't be added.
+#[derive(Clone, Copy, Debug, PartialEq, Eq, Error)]
+pub enum AddError {
+    /// The device failed.
+    #[error("the device has failed")]
+    Fault,
+    /// There was no memory. The device is as it was, and so is the value.
+    #[error("out of memory")]
+    NoMemory,
+}
+
+impl From<Failed> for LoadError {
+    ghost from_gives = { λ _ e. e ≡ load.Fault };
+
+    fn from(_: Failed) -> LoadError {
+        LoadError::Fault
+    }
+}
+
+impl From<AllocError> for LoadError {
+    ghost from_gives = { λ _ e. e ≡ load.NoMemory };
+
+    fn from(_: AllocError) -> LoadError {
+        LoadError::NoMemory
+    }
+}
+
+impl From<Failed> for MakeError {
+    ghost from_gives = { λ _ e. e ≡ make.Fault };
+
+    fn from(_: Failed) -> MakeError {
+        MakeError::Fault
+    }
+}
+
+impl From<AllocError> for MakeError {
+    ghost from_gives = { λ _ e. e ≡ make.NoMemory };
+
+    fn from(_: AllocError) -> MakeError {
+        MakeError::NoMemory
+    }
+}
+
+impl From<Failed> for SetError {
+    ghost from_gives = { λ _ e. e ≡ set.Fault };
+
+    fn from(_: Failed) -> SetError {
+        SetError::Fault
+    }
+}
+
+impl From<AllocError> for SetError {
+    ghost from_gives = { λ _ e. e ≡ set.NoMemory };
+
+    fn from(_: AllocError) -> SetError {
+        SetError::NoMemory
+    }
+}
+
+impl From<Failed> for AddError {
+    ghost from_gives = { λ _ e. e ≡ add.Fault };
+
+    fn from(_: Failed) -> AddError {
+        AddError::Fault
+    }
+}
+
+impl From<AllocError> for AddError {
+    ghost from_gives = { λ _ e. e ≡ add.NoMemory };
+
+    fn from(_: AllocError) -> AddError {
+        AddError::NoMemory
+    }
+}

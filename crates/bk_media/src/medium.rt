@@ -1,0 +1,167 @@
+// A medium: a gate file, whose first blob says so and whose further blobs are backup sets.
+ghost use Rattle.std.specs.Prelude.{◌≡◌, ◌≤◌, ◌<◌, ◌⊎◌, ◌↔◌, ◌+◌, ◌-◌, ◌++◌, ◌∷◌, [], List, ℕ, Option, Some, None, length, true, false, IfOk, OnOk, IsErrOf};
+ghost use Rattle.bk_device.specs.Calls.{ChangesNothing};
+ghost use Rattle.bk_device.specs.Counts.{HasRisen};
+ghost use Rattle.bk_device.specs.Disk.{IsDurable};
+ghost use Rattle.bk_device.specs.Effects.{Effect, IsName};
+ghost use Rattle.bk_gate.specs.Gate.{Kept};
+ghost use Rattle.bk_world.specs.Medium.{not_media};
+ghost use Rattle.bk_set.specs.Conditions.{IsBody, KeepsBody};
+ghost use Rattle.bk_set.specs.Found.{HoldsBody};
+ghost use Rattle.bk_media.specs.Names.{medium_file};
+ghost use Rattle.bk_media.specs.Media.{HasSets, LeavesMade, HasAdded, LeavesAdded, IsMedium, ShowsMedium, sets_of, read_medium, found_at, count_of, HasNoSet, AnswersSet};
+
+use crate::error::{AddError, LoadError, MakeError, SetError};
+use crate::first::{begins_well, load_gate, make_empty};
+use crate::name::medium_file;
+use crate::seal::seal;
+use crate::span::read_blob;
+use bk_device::Device;
+use bk_gate::Gate;
+use bk_set::{Found, SetBody, encode_set, read_set};
+use std::alloc::Global;
+use std::marker::Model;
+
+/// A medium.
+///
+/// Once a call has answered `Fault` at a `&mut` value it is failed, and is no longer used.
+#[derive(Drop)]
+pub struct Medium {
+    gate: Gate,
+}
+
+impl Model for Medium {
+    ghost Value = { Kept };
+
+    ghost view = { λ m. m.gate };
+
+    ghost invariant = { λ m. m.gate.failed ≡ false → (1 ≤ length m.gate.spans) × (m.gate.begun ≡ None) };
+}
+
+impl Medium {
+    /// Opens the medium at this path, and changes nothing.
+    ///
+    /// `Missing` is answered exactly where there is no file at the path, `NotMedia` exactly where the file is no gate
+    /// file or its first blob isn't `SBMEDIA1`. `NoMemory` may come after reads.
+    pub fn load<D: Device>(alloc: Global, dev: &mut D, path: &str) -> Result<Medium, LoadError>
+        ensures name { IfOk result (λ m. m.name ≡ medium_file path.now) }
+        ensures failed { IfOk result (λ m. m.failed ≡ false) }
+        ensures sets { D.tells → OnOk result (HasSets (sets_of ((D.disk dev.old).files (medium_file path.now))) ((D.disk dev.old).files (medium_file path.now))) }
+        ensures count { D.tells → IfOk result (λ m. count_of m ≡ length (sets_of ((D.disk dev.old).files (medium_file path.now)))) }
+        ensures shows { D.tells → IfOk result (λ m. ShowsMedium (D.disk dev.new) m) }
+        ensures stands { D.tells → IsDurable (D.disk dev.old) (medium_file path.now) → IfOk result (λ m. IsMedium (D.disk dev.new) m) }
+        ensures missing { D.tells → IsErrOf result LoadError.Missing → (D.disk dev.old).files (medium_file path.now) ≡ None }
+        ensures not_media { D.tells → IsErrOf result LoadError.NotMedia → read_medium ((D.disk dev.old).files (medium_file path.now)) ≡ Some not_media }
+        ensures effect { D.tells → ChangesNothing (D.disk dev.old) (D.disk dev.new) }
+        ensures cause { IsErrOf result LoadError.Fault → HasRisen (D.disk_faults dev.old) (D.disk_faults dev.new) }
+        ensures never_falls { D.disk_faults dev.old ≤ D.disk_faults dev.new }
+        ensures tell_faults { D.tell_faults dev.new ≡ D.tell_faults dev.old }
+    {
+        let name = medium_file(alloc, path)?;
+        if dev.len(&name)?.is_none() {
+            return Err(LoadError::Missing);
+        }
+        let gate = load_gate(alloc, dev, &name)?;
+        if begins_well(dev, &gate)? {
+            Ok(Medium { gate })
+        } else {
+            Err(LoadError::NotMedia)
+        }
+    }
+
+    /// Makes a medium without sets, in place of what is at the path. A crash leaves what it might have left before, or
+    /// a file with no sealed blob, or the medium. `NoMemory` may come after the file was touched.
+    pub fn make<D: Device>(alloc: Global, dev: &mut D, path: &str) -> Result<Medium, MakeError>
+        ensures name { IfOk result (λ m. m.name ≡ medium_file path.now) }
+        ensures failed { IfOk result (λ m. m.failed ≡ false) }
+        ensures none { IfOk result (λ m. count_of m ≡ 0) }
+        ensures stands { D.tells → IfOk result (λ m. IsMedium (D.disk dev.new) m) }
+        ensures sets { D.tells → OnOk result (HasSets [] ((D.disk dev.new).files (medium_file path.now))) }
+        ensures durable { D.tells → OnOk result (IsDurable (D.disk dev.new) (medium_file path.now)) }
+        ensures crash { D.tells → Effect (IsName (medium_file path.now)) (λ image. LeavesMade ((D.disk dev.old).may (medium_file path.now)) (image (medium_file path.now))) (D.disk dev.old) (D.disk dev.new) }
+        ensures cause { IsErrOf result MakeError.Fault → HasRisen (D.disk_faults dev.old) (D.disk_faults dev.new) }
+        ensures never_falls { D.disk_faults dev.old ≤ D.disk_faults dev.new }
+        ensures tell_faults { D.tell_faults dev.new ≡ D.tell_faults dev.old }
+    {
+        let name = medium_file(alloc, path)?;
+        let gate = make_empty(alloc, dev, &name)?;
+        Ok(Medium { gate })
+    }
+
+    /// How many slots there are, one for each set.
+    pub fn count(&self) -> usize
+        requires { self.now.failed ≡ false }
+        ensures { result ≡ count_of self.now }
+    {
+        self.gate.count() - 1
+    }
+
+    /// The set at position `p`, from 1. Changes nothing.
+    ///
+    /// `NoSuchSet` is answered exactly where `p` is 0 or above the count, `Damaged` exactly where the digest that the
+    /// slot stores isn't the one of its bytes, `NotMedia` exactly where the slot holds no set.
+    pub fn set<D: Device>(&self, alloc: Global, dev: &mut D, p: usize) -> Result<SetBody, SetError>
+        requires fit { self.now.failed ≡ false }
+        requires shows { D.tells → ShowsMedium (D.disk dev.old) self.now }
+        ensures answer { D.tells → AnswersSet result (found_at ((D.disk dev.old).files self.now.name) p) }
+        ensures no_such { IsErrOf result SetError.NoSuchSet ↔ HasNoSet self.now p }
+        ensures is_body { IfOk result IsBody }
+        ensures effect { D.tells → ChangesNothing (D.disk dev.old) (D.disk dev.new) }
+        ensures cause { IsErrOf result SetError.Fault → HasRisen (D.disk_faults dev.old) (D.disk_faults dev.new) }
+        ensures never_falls { D.disk_faults dev.old ≤ D.disk_faults dev.new }
+        ensures tell_faults { D.tell_faults dev.new ≡ D.tell_faults dev.old }
+    {
+        if p == 0 {
+            return Err(SetError::NoSuchSet);
+        }
+        if self.count() < p {
+            return Err(SetError::NoSuchSet);
+        }
+        let bytes = read_blob(alloc, dev, &self.gate, p)?;
+        let found = read_set(alloc, &bytes)?;
+        held(found)
+    }
+
+    /// Adds a set behind the others. A crash leaves the sets that there were, or this one too. Takes the memory first.
+    pub fn add_set<D: Device>(
+        &mut self,
+        alloc: Global,
+        dev: &mut D,
+        body: &SetBody,
+    ) -> Result<(), AddError>
+        requires fit { self.old.failed ≡ false }
+        requires keeps { KeepsBody body.now }
+        requires stands { D.tells → IsMedium (D.disk dev.old) self.old }
+        ensures stands { D.tells → OnOk result (IsMedium (D.disk dev.new) self.new) }
+        ensures sets { D.tells → OnOk result (HasAdded (sets_of ((D.disk dev.old).files self.old.name)) body.now ((D.disk dev.new).files self.old.name)) }
+        ensures count { OnOk result (count_of self.new ≡ count_of self.old + 1) }
+        ensures durable { D.tells → OnOk result (IsDurable (D.disk dev.new) self.old.name) }
+        ensures name { OnOk result (self.new.name ≡ self.old.name) }
+        ensures failed { IsErrOf result AddError.Fault → self.new.failed ≡ true }
+        ensures fit { OnOk result (self.new.failed ≡ false) }
+        ensures no_memory { IsErrOf result AddError.NoMemory → (self.new ≡ self.old) × (dev.new ≡ dev.old) }
+        ensures crash { D.tells → Effect (IsName self.old.name) (λ image. LeavesAdded (sets_of ((D.disk dev.old).files self.old.name)) body.now (image self.old.name)) (D.disk dev.old) (D.disk dev.new) }
+        ensures cause { IsErrOf result AddError.Fault → HasRisen (D.disk_faults dev.old) (D.disk_faults dev.new) }
+        ensures never_falls { D.disk_faults dev.old ≤ D.disk_faults dev.new }
+        ensures tell_faults { D.tell_faults dev.new ≡ D.tell_faults dev.old }
+    {
+        let bytes = encode_set(alloc, body)?;
+        self.gate.reserve(1)?;
+        seal(&mut self.gate, dev, &bytes)?;
+        Ok(())
+    }
+}
+
+// The body of a set that was read.
+fn held(found: Found) -> Result<SetBody, SetError>
+    ensures answer { AnswersSet result (Some found) }
+    ensures is_body { HoldsBody found → IfOk result IsBody }
+    ensures there { IsErrOf result SetError.NoSuchSet → ⊥ }
+    ensures fault { IsErrOf result SetError.Fault → ⊥ }
+{
+    match found {
+        Found::Holds(body) => Ok(body),
+        Found::Damaged { stored, found } => Err(SetError::Damaged { stored, found }),
+        Found::NoSet => Err(SetError::NotMedia),
+    }
+}
