@@ -35,11 +35,11 @@ pending-append (r ∷ a) b =
     ∙ sym (append_assoc (filter (is_open b) (filter (is_open a) (writes r))) (filter (is_open b) (pending a)) (pending b))
     ∙ ap (λ (ws : List Pending). ws ++ pending b) (sym (filter-append (is_open b) (filter (is_open a) (writes r)) (pending a)))
 
-filter_none : {X : Type 0} (p : X → Bool) (xs : List X) → ((x : X) → p x ≡ true) → filter p xs ≡ xs
+pub filter_none : {X : Type 0} (p : X → Bool) (xs : List X) → ((x : X) → p x ≡ true) → filter p xs ≡ xs
 filter_none {X = X} p [] all = refl
 filter_none {X = X} p (x ∷ xs) all = rw (all x) (ap (λ (rest : List X). x ∷ rest) (filter_none p xs all))
 
-pending_one : (r : Rec) → pending (r ∷ []) ≡ writes r
+pub pending_one : (r : Rec) → pending (r ∷ []) ≡ writes r
 pending_one r = append-nil (filter (is_open []) (writes r)) ∙ filter_none (is_open []) (writes r) (λ write. refl)
 
 -- one record more

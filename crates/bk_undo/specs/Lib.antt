@@ -1,2 +1,4 @@
 pub mod Cause
 pub mod Losers
+pub mod Cells
+pub mod CellSteps
