@@ -1,0 +1,10 @@
+pub mod Between
+pub mod Fresh
+pub mod Halves
+pub mod Indexes
+pub mod OneRecord
+pub mod PageLaws
+pub mod Parts
+pub mod Whole
+pub mod Writing
+pub mod ChainLaws

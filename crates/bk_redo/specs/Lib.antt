@@ -1,0 +1,7 @@
+pub mod Effects
+pub mod Frames
+pub mod PageStates
+pub mod Redo
+pub mod Shares
+pub mod Tasks
+pub mod Chains
