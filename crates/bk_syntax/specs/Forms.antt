@@ -1,5 +1,5 @@
 -- The statements that are read so far, as a grammar over tokens. What is read is a value and the tokens behind it.
-use Rattle.std.specs.Prelude.{ℕ, ◌^◌, Bool, false, ◌&&◌, ◌||◌, ◌==◌, nat_lt, nat_le, if◌then◌else◌, List, [], ◌∷◌, length, codes, Option, Some, None, unwrap_or}
+use Rattle.std.specs.Prelude.{ℕ, ◌^◌, Bool, true, false, ◌&&◌, ◌||◌, ◌==◌, nat_lt, nat_le, if◌then◌else◌, List, [], ◌∷◌, length, codes, Option, Some, None, unwrap_or}
 use Rattle.bk_ids.specs.Name.{same_name}
 use Rattle.bk_token.specs.Bytes.{begins}
 use Rattle.bk_token.specs.Contents.{is_word_kind, is_word, text_of, name_of, is_plain}
@@ -8,7 +8,7 @@ use Rattle.bk_token.specs.declared.token.Kind.{Kind}
 use Rattle.bk_token.specs.declared.token.Kind.TheVariants.{Number, Sign}
 use Rattle.bk_token.specs.declared.token.Token.{Token}
 use Rattle.bk_world.specs.declared.item.Item.{Item}
-use Rattle.bk_world.specs.declared.item.Item.TheVariants.{CreateDatabase, Use, CreateTable, Insert, Select, NotBuilt}
+use Rattle.bk_world.specs.declared.item.Item.TheVariants.{CreateDatabase, Use, CreateTable, Insert, Select, Backup, Restore, NotBuilt}
 
 infixl 10 ◌>>=◌
 -- the first thing, and then the next, which may look at it
@@ -68,12 +68,24 @@ database src ts = do
   n ← name src ts
   if is_system n.0 then None else Some n
 
--- a text without an N, of at most 112 bytes
-unfoldable pub value : List ℕ → List Token → Option (List ℕ × List Token)
-value src [] = None
-value src (t ∷ ts) = do
+-- a text without an N
+unfoldable pub plain_text : List ℕ → List Token → Option (List ℕ × List Token)
+plain_text src [] = None
+plain_text src (t ∷ ts) = do
   text ← text_of src t
-  if begins (λ b. b == 39) (bytes_of src t) && nat_le (length text) 112 then Some (text, ts) else None
+  if begins (λ b. b == 39) (bytes_of src t) then Some (text, ts) else None
+
+-- such a text of at most 112 bytes
+unfoldable pub value : List ℕ → List Token → Option (List ℕ × List Token)
+value src ts = do
+  text ← plain_text src ts
+  if nat_le (length text.0) 112 then Some text else None
+
+-- such a text of 1 to 100 bytes
+unfoldable pub path : List ℕ → List Token → Option (List ℕ × List Token)
+path src ts = do
+  text ← plain_text src ts
+  if nat_lt 0 (length text.0) && nat_le (length text.0) 100 then Some text else None
 
 -- no token is left
 abbrev pub finished : List Token → Item → Option Item
@@ -160,7 +172,62 @@ select src ts = do
   table ← name src from
   finished table.1 (Select table.0)
 
--- CREATE .. | USE .. | INSERT .. | SELECT ..
+-- DISK = path
+unfoldable pub disk : List ℕ → List Token → Option (List ℕ × List Token)
+disk src ts = do
+  word ← keyword src (codes "DISK") ts
+  equals ← sign 61 word
+  path src equals
+
+-- DATABASE name TO DISK = path
+unfoldable pub backup : List ℕ → List Token → Option Item
+backup src ts = do
+  word ← keyword src (codes "DATABASE") ts
+  source ← name src word
+  to ← keyword src (codes "TO") source.1
+  medium ← disk src to
+  finished medium.1 (Backup source.0 medium.0)
+
+-- RECOVERY or REPLACE: whether it is REPLACE
+unfoldable pub option : List ℕ → List Token → Option (Bool × List Token)
+option src [] = None
+option src (t ∷ ts) =
+    if is_word src t (codes "RECOVERY") then Some (false, ts)
+    else (if is_word src t (codes "REPLACE") then Some (true, ts)
+    else None)
+
+-- the word of the option that may stand beside one
+abbrev pub other_word : Bool → List ℕ
+other_word true = codes "RECOVERY"
+other_word false = codes "REPLACE"
+
+-- behind an option nothing, or a comma and the other one: whether REPLACE stands there
+unfoldable pub other_option : List ℕ → Bool → List Token → Option (Bool × List Token)
+other_option src replace [] = Some (replace, [])
+other_option src replace (t ∷ ts) = do
+  comma ← sign 44 (t ∷ ts)
+  rest ← keyword src (other_word replace) comma
+  Some (true, rest)
+
+-- nothing, or WITH and the options: whether REPLACE stands there
+unfoldable pub options : List ℕ → List Token → Option (Bool × List Token)
+options src [] = Some (false, [])
+options src (t ∷ ts) = do
+  word ← keyword src (codes "WITH") (t ∷ ts)
+  first ← option src word
+  other_option src first.0 first.1
+
+-- DATABASE name FROM DISK = path options
+unfoldable pub restore : List ℕ → List Token → Option Item
+restore src ts = do
+  word ← keyword src (codes "DATABASE") ts
+  target ← name src word
+  from ← keyword src (codes "FROM") target.1
+  medium ← disk src from
+  replace ← options src medium.1
+  finished replace.1 (Restore target.0 medium.0 replace.0)
+
+-- CREATE .. | USE .. | INSERT .. | SELECT .. | BACKUP .. | RESTORE ..
 unfoldable pub form : List ℕ → List Token → Option Item
 form src [] = None
 form src (t ∷ ts) =
@@ -168,7 +235,9 @@ form src (t ∷ ts) =
     else (if is_word src t (codes "USE") then use_database src ts
     else (if is_word src t (codes "INSERT") then insert src ts
     else (if is_word src t (codes "SELECT") then select src ts
-    else None)))
+    else (if is_word src t (codes "BACKUP") then backup src ts
+    else (if is_word src t (codes "RESTORE") then restore src ts
+    else None)))))
 
 -- the item that a piece of the script is, by its tokens: one of the forms without a comment, or not built
 unfoldable pub item_by : List ℕ → List Token → Item

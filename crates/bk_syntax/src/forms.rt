@@ -121,9 +121,13 @@ fn begins_with_quote(bytes: &[u8]) -> bool
     }
 }
 
-#[tactic(auto, unfolding(crate::specs::Forms::value))]
-fn value<'t>(alloc: Global, src: &[u8], tokens: &'t [Token]) -> Result<(Text, &'t [Token]), Stuck>
-    ensures { Gives (λ x. (x.0, x.1.now)) result (spec.value src.now tokens.now) }
+#[tactic(auto, unfolding(crate::specs::Forms::plain_text))]
+fn plain_text<'t>(
+    alloc: Global,
+    src: &[u8],
+    tokens: &'t [Token],
+) -> Result<(Text, &'t [Token]), Stuck>
+    ensures { Gives (λ x. (x.0, x.1.now)) result (spec.plain_text src.now tokens.now) }
 {
     let [token, rest @ ..] = tokens else {
         return Err(Stuck::Form);
@@ -131,8 +135,32 @@ fn value<'t>(alloc: Global, src: &[u8], tokens: &'t [Token]) -> Result<(Text, &'
     let Some(text) = text_of(alloc, src, token)? else {
         return Err(Stuck::Form);
     };
-    if begins_with_quote(bytes_of(src, token)) && text.len() <= 112 {
+    if begins_with_quote(bytes_of(src, token)) {
         Ok((Text::new(text), rest))
+    } else {
+        Err(Stuck::Form)
+    }
+}
+
+#[tactic(auto, unfolding(crate::specs::Forms::value))]
+fn value<'t>(alloc: Global, src: &[u8], tokens: &'t [Token]) -> Result<(Text, &'t [Token]), Stuck>
+    ensures { Gives (λ x. (x.0, x.1.now)) result (spec.value src.now tokens.now) }
+{
+    let (text, rest) = plain_text(alloc, src, tokens)?;
+    if text.as_str().len() <= 112 {
+        Ok((text, rest))
+    } else {
+        Err(Stuck::Form)
+    }
+}
+
+#[tactic(auto, unfolding(crate::specs::Forms::path))]
+fn path<'t>(alloc: Global, src: &[u8], tokens: &'t [Token]) -> Result<(Text, &'t [Token]), Stuck>
+    ensures { Gives (λ x. (x.0, x.1.now)) result (spec.path src.now tokens.now) }
+{
+    let (text, rest) = plain_text(alloc, src, tokens)?;
+    if !text.as_str().is_empty() && text.as_str().len() <= 100 {
+        Ok((text, rest))
     } else {
         Err(Stuck::Form)
     }
@@ -253,6 +281,93 @@ fn select(alloc: Global, src: &[u8], tokens: &[Token]) -> Result<Item, Stuck>
     finished(rest, Item::Select { table })
 }
 
+#[tactic(auto, unfolding(crate::specs::Forms::disk))]
+fn disk<'t>(alloc: Global, src: &[u8], tokens: &'t [Token]) -> Result<(Text, &'t [Token]), Stuck>
+    ensures { Gives (λ x. (x.0, x.1.now)) result (spec.disk src.now tokens.now) }
+{
+    let rest = keyword(src, b"DISK", tokens)?;
+    let rest = sign(b'=', rest)?;
+    path(alloc, src, rest)
+}
+
+#[tactic(auto, unfolding(crate::specs::Forms::backup))]
+fn backup(alloc: Global, src: &[u8], tokens: &[Token]) -> Result<Item, Stuck>
+    ensures { Gives (λ i. i) result (spec.backup src.now tokens.now) }
+{
+    let rest = keyword(src, b"DATABASE", tokens)?;
+    let (database, rest) = name(alloc, src, rest)?;
+    let rest = keyword(src, b"TO", rest)?;
+    let (path, rest) = disk(alloc, src, rest)?;
+    finished(rest, Item::Backup { database, path })
+}
+
+// RECOVERY or REPLACE: whether it is REPLACE.
+#[tactic(auto, unfolding(crate::specs::Forms::option))]
+fn option<'t>(src: &[u8], tokens: &'t [Token]) -> Result<(bool, &'t [Token]), Stuck>
+    ensures { Gives (λ x. (x.0, x.1.now)) result (spec.option src.now tokens.now) }
+{
+    match tokens {
+        [token, rest @ ..] if is_word(src, token, b"RECOVERY") => Ok((false, rest)),
+        [token, rest @ ..] if is_word(src, token, b"REPLACE") => Ok((true, rest)),
+        _ => Err(Stuck::Form),
+    }
+}
+
+// The word of the option that may stand beside one.
+fn other_word(replace: bool) -> &'static [u8]
+    ensures { result.now ≡ spec.other_word replace }
+{
+    if replace { b"RECOVERY" } else { b"REPLACE" }
+}
+
+#[tactic(auto, unfolding(crate::specs::Forms::other_option))]
+fn other_option<'t>(
+    src: &[u8],
+    replace: bool,
+    tokens: &'t [Token],
+) -> Result<(bool, &'t [Token]), Stuck>
+    ensures { Gives (λ x. (x.0, x.1.now)) result (spec.other_option src.now replace tokens.now) }
+{
+    let [_, ..] = tokens else {
+        return Ok((replace, tokens));
+    };
+    let rest = sign(b',', tokens)?;
+    let rest = keyword(src, other_word(replace), rest)?;
+    Ok((true, rest))
+}
+
+// Whether REPLACE is among the options.
+#[tactic(auto, unfolding(crate::specs::Forms::options))]
+fn options<'t>(src: &[u8], tokens: &'t [Token]) -> Result<(bool, &'t [Token]), Stuck>
+    ensures { Gives (λ x. (x.0, x.1.now)) result (spec.options src.now tokens.now) }
+{
+    let [_, ..] = tokens else {
+        return Ok((false, tokens));
+    };
+    let rest = keyword(src, b"WITH", tokens)?;
+    let (replace, rest) = option(src, rest)?;
+    other_option(src, replace, rest)
+}
+
+#[tactic(auto, unfolding(crate::specs::Forms::restore))]
+fn restore(alloc: Global, src: &[u8], tokens: &[Token]) -> Result<Item, Stuck>
+    ensures { Gives (λ i. i) result (spec.restore src.now tokens.now) }
+{
+    let rest = keyword(src, b"DATABASE", tokens)?;
+    let (database, rest) = name(alloc, src, rest)?;
+    let rest = keyword(src, b"FROM", rest)?;
+    let (path, rest) = disk(alloc, src, rest)?;
+    let (replace, rest) = options(src, rest)?;
+    finished(
+        rest,
+        Item::Restore {
+            database,
+            path,
+            replace,
+        },
+    )
+}
+
 /// The statement that the tokens are, all of them.
 #[tactic(auto, unfolding(crate::specs::Forms::form))]
 pub fn form(alloc: Global, src: &[u8], tokens: &[Token]) -> Result<Item, Stuck>
@@ -263,6 +378,8 @@ pub fn form(alloc: Global, src: &[u8], tokens: &[Token]) -> Result<Item, Stuck>
         [token, rest @ ..] if is_word(src, token, b"USE") => use_database(alloc, src, rest),
         [token, rest @ ..] if is_word(src, token, b"INSERT") => insert(alloc, src, rest),
         [token, rest @ ..] if is_word(src, token, b"SELECT") => select(alloc, src, rest),
+        [token, rest @ ..] if is_word(src, token, b"BACKUP") => backup(alloc, src, rest),
+        [token, rest @ ..] if is_word(src, token, b"RESTORE") => restore(alloc, src, rest),
         _ => Err(Stuck::Form),
     }
 }

@@ -25,6 +25,18 @@ fn shown(alloc: std::alloc::Global, item: &Item) -> Result<String, AllocError> {
             let table = table.as_str();
             format!(in alloc; "select {table}")
         }
+        Item::Backup { database, path } => {
+            let (database, path) = (database.as_str(), path.as_str());
+            format!(in alloc; "backup {database} to {path:?}")
+        }
+        Item::Restore {
+            database,
+            path,
+            replace,
+        } => {
+            let (database, path) = (database.as_str(), path.as_str());
+            format!(in alloc; "restore {database} from {path:?} {replace}")
+        }
         Item::NotBuilt => format!(in alloc; "not built"),
     }
 }
@@ -121,6 +133,87 @@ fn scripts_are_read(rt: HostRuntime) -> Result<(), Fail> {
     for (script, wanted) in SCRIPTS {
         let found = read(&rt, script)?;
         assert_eq!(rt; found.as_str(), wanted, "{script:?}");
+    }
+    Ok(())
+}
+
+// Each script of backups and restores with its statements.
+const MEDIA: [(&str, &str); 14] = [
+    (
+        "BACKUP DATABASE S TO DISK = 'f.bak'; backup database msdb to disk='it''s'",
+        "1 backup S to \"f.bak\"; 1 backup msdb to \"it's\"; ",
+    ),
+    (
+        "RESTORE DATABASE S FROM DISK = 'f.bak';",
+        "1 restore S from \"f.bak\" false; ",
+    ),
+    (
+        "restore database s from disk = 'a' with recovery",
+        "1 restore s from \"a\" false; ",
+    ),
+    (
+        "RESTORE DATABASE S FROM DISK = 'a' WITH REPLACE",
+        "1 restore S from \"a\" true; ",
+    ),
+    (
+        "RESTORE DATABASE S FROM DISK = 'a' WITH RECOVERY, REPLACE",
+        "1 restore S from \"a\" true; ",
+    ),
+    (
+        "RESTORE DATABASE S FROM DISK = 'a' WITH Replace,Recovery",
+        "1 restore S from \"a\" true; ",
+    ),
+    (
+        "RESTORE DATABASE S FROM DISK = 'a' WITH RECOVERY, RECOVERY",
+        "1 not built; ",
+    ),
+    (
+        "RESTORE DATABASE S FROM DISK = 'a' WITH REPLACE, REPLACE",
+        "1 not built; ",
+    ),
+    (
+        "RESTORE DATABASE S FROM DISK = 'a' WITH; RESTORE DATABASE S FROM DISK = 'a' WITH REPLACE,",
+        "1 not built; 1 not built; ",
+    ),
+    (
+        "RESTORE DATABASE S FROM DISK = 'a' WITH REPLACE, RECOVERY, REPLACE",
+        "1 not built; ",
+    ),
+    (
+        "RESTORE DATABASE S FROM DISK = 'a' WITH NORECOVERY; BACKUP DATABASE S TO DISK = 'a' WITH INIT",
+        "1 not built; 1 not built; ",
+    ),
+    (
+        "RESTORE DATABASE S TO DISK = 'a'; BACKUP DATABASE S FROM DISK = 'a'; BACKUP LOG S TO DISK = 'a'",
+        "1 not built; 1 not built; 1 not built; ",
+    ),
+    (
+        "BACKUP DATABASE S TO DISK = ''; BACKUP DATABASE S TO DISK = N'a'; BACKUP DATABASE [S] TO DISK = 'a'",
+        "1 not built; 1 not built; 1 not built; ",
+    ),
+    (
+        "BACKUP DATABASE S TO DISK 'a'; BACKUP DATABASE TO TO DISK = 'a'",
+        "1 not built; 1 not built; ",
+    ),
+];
+
+#[test]
+fn backups_and_restores_are_read(rt: HostRuntime) -> Result<(), Fail> {
+    for (script, wanted) in MEDIA {
+        let found = read(&rt, script)?;
+        assert_eq!(rt; found.as_str(), wanted, "{script:?}");
+    }
+    Ok(())
+}
+
+#[test]
+fn a_path_has_at_most_100_bytes(rt: HostRuntime) -> Result<(), Fail> {
+    for (len, wanted) in [(100, true), (101, false)] {
+        let path = "a".repeat(rt.alloc(), len)?;
+        let path = path.as_str();
+        let script = format!(in rt.alloc(); "BACKUP DATABASE S TO DISK = '{path}'")?;
+        let found = read(&rt, script.as_str())?;
+        assert_eq!(rt; found.as_str() != "1 not built; ", wanted);
     }
     Ok(())
 }
