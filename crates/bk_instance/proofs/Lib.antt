@@ -1,0 +1,16 @@
+pub mod Alone
+pub mod BackupSteps
+pub mod Backups
+pub mod Bodies
+pub mod Broken
+pub mod Carrying
+pub mod Cuts
+pub mod FirstSets
+pub mod Paths
+pub mod Recoveries
+pub mod Restores
+pub mod Rows
+pub mod Sources
+pub mod Standings
+pub mod Steps
+pub mod Tables

@@ -1,0 +1,10 @@
+pub mod Begins
+pub mod Carried
+pub mod Changed
+pub mod Errors
+pub mod Kept
+pub mod Laws
+pub mod Making
+pub mod Restoring
+pub mod Sets
+pub mod Standing
