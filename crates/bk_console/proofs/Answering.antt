@@ -1,17 +1,60 @@
 -- One statement more is answered, or is the last.
-use Rattle.std.proofs.Common.{◌≡◌, ◌<◌, ◌≤◌, ◌⊎◌, ℕ, zero, suc, ◌+◌, List, [], ◌∷◌, ◌++◌, length, get_or, take, inl, inr, refl, sym, ◌∙◌, ap, subst, arith, append_assoc, add_assoc, length-append, flat_map}
-use Rattle.std.proofs.lemmas.List.{append-nil, get_or_append_left, length-take-le}
+use Rattle.std.proofs.Common.{◌≡◌, ◌<◌, ◌≤◌, ◌⊎◌, ℕ, ◌+◌, ◌-◌, Bool, true, false, List, [], ◌∷◌, ◌++◌, length, get_or, take, drop, inl, inr, refl, sym, ◌∙◌, ap, subst, arith, append_assoc, length-append}
+use Rattle.std.specs.Prelude.{◌||◌}
+use Rattle.std.specs.List.{list_any}
+use Rattle.std.proofs.lemmas.List.{append-nil, get_or_append_left, take-append-drop}
+use Rattle.std.proofs.lemmas.List.Folds.{list_any-append}
 use Rattle.std.proofs.lemmas.Bool.{cases_lt}
 use Rattle.std.proofs.lemmas.Grind.{flat_map-append}
-use Rattle.std.proofs.Math.Seq.{get_or-append_seam, take-append-add, take-length}
+use Rattle.std.proofs.Math.Seq.{get_or-append_seam, take-append-add, take-append_seam, take-length}
 use Rattle.bk_device.specs.Calls.{TellsFront}
+use Rattle.bk_device.specs.Disk.{Disk}
+use Rattle.bk_instance.specs.declared.instance.Instance.{Instance}
 use Rattle.bk_world.specs.declared.item.Statement.{Statement}
 use Rattle.bk_world.specs.declared.reply.Reply.{Reply}
+use Rattle.bk_world.specs.declared.reply.Reply.TheVariants.{Done, Counted, Selected, SetMade, Recovered, Refused}
 use Rattle.bk_world.specs.Text.{reply_text, replies_text}
 use Rattle.bk_world.specs.Run.{IsRun}
 use Rattle.bk_world.proofs.Runs.{IsRun-more}
-use Rattle.bk_console.specs.declared.instance.Instance.{Instance}
-use Rattle.bk_console.specs.Answers.{Asked, Moves, MayReply, Runs, MayRun, Answered, CutShort, AnsweredAll, CutAll}
+use Rattle.bk_console.specs.Answers.{is_refusal, NoneRefused, EndsRefused, GoesOnAccepted, Asked, MayReply, Runs, Answered, CutShort, AnsweredAll, Stopped, CutAll}
+
+-- Refusals.
+
+none-more : (replies : List Reply) (reply : Reply) → NoneRefused replies → is_refusal reply ≡ false → NoneRefused (replies ++ reply ∷ [])
+none-more replies reply none accepted =
+    list_any-append is_refusal replies (reply ∷ []) ∙ ap (λ t. t || (is_refusal reply || false)) none ∙ ap (λ t. t || false) accepted
+
+goes-on : (replies rest : List Reply) (n : ℕ) → length replies ≡ n → NoneRefused replies → GoesOnAccepted (n + 1) (replies ++ rest)
+goes-on replies rest n is none =
+    let front : n + 1 - 1 ≡ length replies = omega arith in
+    ap (list_any is_refusal) (ap (λ k. take k (replies ++ rest)) front ∙ take-append_seam replies rest) ∙ none
+
+none-left : (a b : Bool) → (a || b) ≡ false → a ≡ false
+none-left true b e = e
+none-left false b e = refl
+
+pub none-front : (n : ℕ) (replies : List Reply) → NoneRefused replies → NoneRefused (take n replies)
+none-front n replies none =
+    none-left (list_any is_refusal (take n replies)) (list_any is_refusal (drop n replies))
+    (sym (list_any-append is_refusal (take n replies) (drop n replies)) ∙ ap (list_any is_refusal) (take-append-drop n replies) ∙ none)
+
+goes-on-all : (replies : List Reply) (n : ℕ) → length replies ≡ n → NoneRefused replies → GoesOnAccepted (n + 1) replies
+goes-on-all replies n is none =
+    let front : n + 1 - 1 ≡ length replies = omega arith in
+    ap (list_any is_refusal) (ap (λ k. take k replies) front ∙ take-length replies) ∙ none
+
+ends-refused : (before : List Reply) (reply : Reply) → is_refusal reply ≡ true → EndsRefused (before ++ reply ∷ [])
+ends-refused before (Refused rule) is = (before, rule, refl)
+ends-refused before Done is = let no : ⊥ = cc is in absurd no
+ends-refused before (Counted rows) is = let no : ⊥ = cc is in absurd no
+ends-refused before (Selected rows) is = let no : ⊥ = cc is in absurd no
+ends-refused before (SetMade position first checkpoint last) is = let no : ⊥ = cc is in absurd no
+ends-refused before (Recovered at) is = let no : ⊥ = cc is in absurd no
+
+-- a refusal that stops nothing, or none
+pub not-stopped : (stop refused : Bool) → ((refused ≡ true) × (stop ≡ false)) ⊎ (refused ≡ false) → stop ≡ true → refused ≡ false
+not-stopped stop refused (inl on) asked = let no : true ≡ false = sym asked ∙ on.1 in absurd cc
+not-stopped stop refused (inr accepted) asked = accepted
 
 -- one moment more
 asked_more : (tells : Type 0) (before middle after : ℕ → ℕ) (moments : List ℕ) (n now : ℕ) → length moments ≡ n → Asked tells before middle moments n → Asked tells middle after (now ∷ []) 1
@@ -56,26 +99,49 @@ front_same : (told told1 told2 : List ℕ) (replies : List Reply) → told1 ≡ 
 front_same told told1 told2 replies before same =
     (length (replies_text replies), same ∙ before ∙ ap (λ texts. told ++ texts) (sym (take-length (replies_text replies))))
 
-module _ (old mid : Instance) (ss : List Statement) (s : Statement) (ct : Type 0) (before middle after : ℕ → ℕ) (tt' : Type 0) (told told1 told2 : List ℕ)
-    (so_far : AnsweredAll old mid ss ct before middle tt' told told1) where
-  pub AnsweredAll-more : (new : Instance) → Answered mid new s ct middle after tt' told1 told2 → AnsweredAll old new (ss ++ s ∷ []) ct before after tt' told told2
-  AnsweredAll-more new one = record {
-    moments = so_far.moments ++ one.now ∷ [];
-    replies = so_far.replies ++ one.reply ∷ [];
-    each_moment = omega (arith, length-append so_far.moments (one.now ∷ []), length-append ss (s ∷ []), so_far.each_moment);
-    each_reply = omega (arith, length-append so_far.replies (one.reply ∷ []), length-append ss (s ∷ []), so_far.each_reply);
-    asked = subst (λ n. Asked ct before after (so_far.moments ++ one.now ∷ []) n) (sym (length-append ss (s ∷ []))) (asked_more ct before middle after so_far.moments (length ss) one.now so_far.each_moment so_far.asked one.asked);
-    runs = λ w kept.
-        let to = so_far.runs w kept in
-        let next = one.moves to.0 to.2 in
-        (next.0, IsRun-more w to.0 next.0 ss so_far.moments so_far.replies s one.now one.reply to.1 next.1, next.2);
-    text = λ t. texts_more told told1 told2 so_far.replies one.reply (so_far.text t) (one.text t);
-  }
+module _ (stop : Bool) (old mid : Instance) (ss : List Statement) (s : Statement) (ct : Type 0) (before middle after : ℕ → ℕ) (dt : Type 0) (disk disk1 disk2 : Disk)
+    (so_far : AnsweredAll stop old mid ss ct before middle dt disk disk1) where
+  module _ (new : Instance) (refused : Bool) (one : Answered mid new s ct middle after dt disk1 disk2 refused) where
+    runs-more : dt → Runs old disk (ss ++ s ∷ []) (so_far.moments ++ one.now ∷ []) (so_far.replies ++ one.reply ∷ []) new disk2
+    runs-more t w kept media =
+        let to = so_far.runs t w kept media in
+        let next = one.moves t to.0 to.2 to.3 in
+        (next.0, IsRun-more w to.0 next.0 ss so_far.moments so_far.replies s one.now one.reply to.1 next.1, next.2, next.3)
+
+    pub AnsweredAll-more : (stop ≡ true → refused ≡ false) → AnsweredAll stop old new (ss ++ s ∷ []) ct before after dt disk disk2
+    AnsweredAll-more accepted = record {
+      moments = so_far.moments ++ one.now ∷ [];
+      replies = so_far.replies ++ one.reply ∷ [];
+      each_moment = omega (arith, length-append so_far.moments (one.now ∷ []), length-append ss (s ∷ []), so_far.each_moment);
+      each_reply = omega (arith, length-append so_far.replies (one.reply ∷ []), length-append ss (s ∷ []), so_far.each_reply);
+      asked = subst (λ n. Asked ct before after (so_far.moments ++ one.now ∷ []) n) (sym (length-append ss (s ∷ []))) (asked_more ct before middle after so_far.moments (length ss) one.now so_far.each_moment so_far.asked one.asked);
+      runs = runs-more;
+      text = λ t. texts_more disk.told disk1.told disk2.told so_far.replies one.reply (so_far.text t) (one.text t);
+      accepted = λ on. none-more so_far.replies one.reply (so_far.accepted on) (sym one.which ∙ accepted on);
+    }
+
+    -- the statement was refused, and stops it
+    pub Stopped-from : (all : List Statement) → take (length ss + 1) all ≡ ss ++ s ∷ [] → length ss < length all → refused ≡ true → stop ≡ true → Stopped stop old new all ct before after dt disk disk2
+    Stopped-from all more room is on =
+        let replies = so_far.replies ++ one.reply ∷ [] in
+        let n : length replies ≡ length ss + 1 = omega (arith, length-append so_far.replies (one.reply ∷ []), so_far.each_reply) in
+        record {
+          moments = so_far.moments ++ one.now ∷ [];
+          replies = replies;
+          each_moment = omega (arith, length-append so_far.moments (one.now ∷ []), so_far.each_moment);
+          within = omega arith;
+          asked = subst (λ k. Asked ct before after (so_far.moments ++ one.now ∷ []) k) (sym n) (asked_more ct before middle after so_far.moments (length ss) one.now so_far.each_moment so_far.asked one.asked);
+          runs = λ t. subst (λ xs. Runs old disk xs (so_far.moments ++ one.now ∷ []) replies new disk2) (sym (ap (λ k. take k all) n ∙ more)) (runs-more t);
+          text = λ t. texts_more disk.told disk1.told disk2.told so_far.replies one.reply (so_far.text t) (one.text t);
+          stops = on;
+          accepted = subst (λ k. GoesOnAccepted k replies) (sym n) (goes-on so_far.replies (one.reply ∷ []) (length ss) so_far.each_reply (so_far.accepted on));
+          refused = ends-refused so_far.replies one.reply (sym one.which ∙ is);
+        }
 
   -- the last statement has its reply, or has none
   cut-by : (all : List Statement) → take (length ss) all ≡ ss → take (length ss + 1) all ≡ ss ++ s ∷ [] → length ss < length all → (has_reply asks : Type 0) → (asks → has_reply) → (now : ℕ) → Asked ct middle after (now ∷ []) 1
-      → ((reply : Reply) × MayReply mid s now reply × (tt' → TellsFront (reply_text reply) told1 told2)) ⊎ ((has_reply → ⊥) × (tt' → told2 ≡ told1))
-      → CutAll old all ct before after tt' told told2 asks
+      → ((reply : Reply) × (dt → MayReply mid disk1 s now reply) × (dt → TellsFront (reply_text reply) disk1.told disk2.told)) ⊎ ((has_reply → ⊥) × (dt → disk2.told ≡ disk1.told))
+      → CutAll stop old all ct before after dt disk disk2 asks
   cut-by all front more room has_reply asks weaker now asked (inl last) =
       let replies = so_far.replies ++ last.0 ∷ [] in
       let n : length replies ≡ length ss + 1 = omega (arith, length-append so_far.replies (last.0 ∷ []), so_far.each_reply) in
@@ -87,15 +153,16 @@ module _ (old mid : Instance) (ss : List Statement) (s : Statement) (ct : Type 0
         each_moment = omega (arith, length-append so_far.moments (now ∷ []), so_far.each_moment);
         within = omega arith;
         asked = asked_more ct before middle after so_far.moments (length ss) now so_far.each_moment so_far.asked asked;
-        runs = λ w kept.
-            let to = so_far.runs w kept in
-            let next = last.1 to.0 to.2 in (
+        runs = λ t w kept media.
+            let to = so_far.runs t w kept media in
+            let next = last.1 t to.0 to.2 to.3 in (
               next.0,
               subst (λ xs. IsRun w xs (so_far.moments ++ now ∷ []) replies next.0) (sym (ap (λ k. take k all) n ∙ more))
                   (IsRun-more w to.0 next.0 ss so_far.moments so_far.replies s now last.0 to.1 next.1),
             );
-        front = λ t. front_more told told1 told2 so_far.replies last.0 (so_far.text t) (last.2 t);
+        front = λ t. front_more disk.told disk1.told disk2.told so_far.replies last.0 (so_far.text t) (last.2 t);
         some = λ h. omega arith;
+        accepted = λ on. goes-on so_far.replies (last.0 ∷ []) (length ss) so_far.each_reply (so_far.accepted on);
       }
   cut-by all front more room has_reply asks weaker now asked (inr none) = record {
     moments = so_far.moments;
@@ -108,25 +175,27 @@ module _ (old mid : Instance) (ss : List Statement) (s : Statement) (ct : Type 0
       shown = so_far.asked.shown;
       moved = λ t i. asked.moved t i ∙ so_far.asked.moved t (1 + i) ∙ ap before (omega arith);
     };
-    runs = λ w kept.
-        let to = so_far.runs w kept in
+    runs = λ t w kept media.
+        let to = so_far.runs t w kept media in
         (to.0, subst (λ xs. IsRun w xs so_far.moments so_far.replies to.0) (sym (ap (λ k. take k all) so_far.each_reply ∙ front)) to.1);
-    front = λ t. front_same told told1 told2 so_far.replies (so_far.text t) (none.1 t);
+    front = λ t. front_same disk.told disk1.told disk2.told so_far.replies (so_far.text t) (none.1 t);
     some = λ h. absurd (none.0 (weaker h));
+    accepted = λ on. goes-on-all so_far.replies (length ss) so_far.each_reply (so_far.accepted on);
   }
 
   pub CutAll-from : (all : List Statement) → take (length ss) all ≡ ss → take (length ss + 1) all ≡ ss ++ s ∷ [] → length ss < length all → (has_reply asks : Type 0) → (asks → has_reply)
-      → CutShort mid s ct middle after tt' told1 told2 has_reply → CutAll old all ct before after tt' told told2 asks
+      → CutShort mid s ct middle after dt disk1 disk2 has_reply → CutAll stop old all ct before after dt disk disk2 asks
   CutAll-from all front more room has_reply asks weaker cut = cut-by all front more room has_reply asks weaker cut.now cut.asked cut.front
 
 -- nothing is answered yet
-pub AnsweredAll-none : (old : Instance) (ct : Type 0) (before : ℕ → ℕ) (tt' : Type 0) (told : List ℕ) → AnsweredAll old old [] ct before before tt' told told
-AnsweredAll-none old ct before tt' told = record {
+pub AnsweredAll-none : (stop : Bool) (old : Instance) (ct : Type 0) (before : ℕ → ℕ) (dt : Type 0) (disk : Disk) → AnsweredAll stop old old [] ct before before dt disk disk
+AnsweredAll-none stop old ct before dt disk = record {
   moments = [];
   replies = [];
   each_moment = refl;
   each_reply = refl;
   asked = record { shown = λ t i lt. absurd (omega (arith, lt)); moved = λ t i. ap before (omega arith) };
-  runs = λ w kept. (w, refl, kept);
-  text = λ t. sym (append-nil told);
+  runs = λ t w kept media. (w, refl, kept, media);
+  text = λ t. sym (append-nil disk.told);
+  accepted = λ on. refl;
 }

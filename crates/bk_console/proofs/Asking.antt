@@ -1,12 +1,16 @@
--- Asking the clock, and answers that are cut short.
-use Rattle.std.proofs.Common.{inl, ◌≡◌, ◌<◌, ℕ, zero, suc, ◌+◌, List, [], ◌∷◌, ◌++◌, length, get_or, take, Result, Ok, Err, refl, sym, ◌∙◌, ap, arith, add_comm, rules}
+-- Asking the clock, telling, and answers that are cut short.
+use Rattle.std.proofs.Common.{inl, ◌≡◌, ◌<◌, ℕ, zero, suc, ◌+◌, List, [], ◌∷◌, length, get_or, Result, Ok, Err, sym, ◌∙◌, ap, arith, add_comm}
 use Rattle.std.specs.Result.{OnErr}
-use Rattle.std.proofs.lemmas.List.{append-nil}
-use Rattle.bk_device.specs.Calls.{TellsFront}
+use Rattle.bk_device.specs.Calls.{TellsFront, TellsBytes}
+use Rattle.bk_device.specs.Disk.{Disk}
+use Rattle.bk_instance.specs.declared.instance.Instance.{Instance}
+use Rattle.bk_instance.specs.Standing.{KeepsMedia}
+use Rattle.bk_media.specs.Media.{read_medium, found_at}
+use Rattle.bk_media.specs.Names.{medium_file}
 use Rattle.bk_world.specs.declared.item.Statement.{Statement}
 use Rattle.bk_world.specs.declared.reply.Reply.{Reply}
+use Rattle.bk_world.specs.World.{World}
 use Rattle.bk_world.specs.Text.{reply_text}
-use Rattle.bk_console.specs.declared.instance.Instance.{Instance}
 use Rattle.bk_console.specs.Answers.{Asked, MayReply, CutShort}
 
 pub OnErr-from : {T E : Type 0} {P : Type 0} → (r : Result T E) → P → OnErr r P
@@ -23,8 +27,16 @@ asked_once tells before after now first next = record {
     one zero lt e = e
     one (suc i) lt e = absurd (omega (arith, lt))
 
+-- what is told changes no medium
+pub told-media : (w : World) (before after : Disk) (bytes : List ℕ) → TellsBytes bytes before after → KeepsMedia w before → KeepsMedia w after
+told-media w before after bytes tells keeps = record {
+  read = λ path are. keeps.read path are ∙ sym (ap read_medium (tells.files (medium_file path)));
+  durable = λ path are content may. keeps.durable path are content (tells.nothing_more (medium_file path) content may) ∙ sym (tells.files (medium_file path));
+  carried = λ path p body are is. keeps.carried path p body are (ap (λ f. found_at f p) (sym (tells.files (medium_file path))) ∙ is);
+}
+
 -- an answer that has a reply, and was told in part
-pub cut-in_reply : (old : Instance) (s : Statement) (clock_tells : Type 0) (before after : ℕ → ℕ) (told_tells : Type 0) (told told_after : List ℕ) (has_reply : Type 0)
-    (now : ℕ) → Asked clock_tells before after (now ∷ []) 1 → (reply : Reply) → MayReply old s now reply → (told_tells → TellsFront (reply_text reply) told told_after)
-    → CutShort old s clock_tells before after told_tells told told_after has_reply
-cut-in_reply old s clock_tells before after told_tells told told_after has_reply now asked reply may front = record { now = now; asked = asked; front = inl (reply, may, front) }
+pub cut-in_reply : (old : Instance) (s : Statement) (clock_tells : Type 0) (before after : ℕ → ℕ) (device_tells : Type 0) (disk disk_after : Disk) (has_reply : Type 0)
+    (now : ℕ) → Asked clock_tells before after (now ∷ []) 1 → (reply : Reply) → (device_tells → MayReply old disk s now reply) → (device_tells → TellsFront (reply_text reply) disk.told disk_after.told)
+    → CutShort old s clock_tells before after device_tells disk disk_after has_reply
+cut-in_reply old s clock_tells before after device_tells disk disk_after has_reply now asked reply may front = record { now = now; asked = asked; front = inl (reply, may, front) }

@@ -1,6 +1,4 @@
 pub mod Asking
 pub mod Answering
 pub mod Running
-pub mod Tables
-pub mod Broken
-pub mod Steps
+pub mod Taking

@@ -1,4 +1,4 @@
 pub mod Answers
-pub mod Kept
+pub mod Given
 pub mod Run
 pub mod Words

@@ -1,28 +1,34 @@
 -- The run: what a call of the console read, told and did, and how it ended.
-use Rattle.std.specs.Prelude.{◌≡◌, ◌⊎◌, ◌<◌, ◌≤◌, ℕ, ◌+◌, List, [], ◌∷◌, ◌++◌, length, take, Result, Ok, Err}
+use Rattle.std.specs.Prelude.{◌≡◌, ◌⊎◌, ◌<◌, ◌≤◌, ℕ, ◌+◌, true, List, [], ◌++◌, length, take, Option, None, Some, Result, Ok, Err}
 use Rattle.bk_device.specs.Calls.{TellsFront}
+use Rattle.bk_device.specs.Disk.{Disk}
+use Rattle.bk_instance.specs.Begins.{Begins}
+use Rattle.bk_instance.specs.Standing.{KeepsMedia}
 use Rattle.bk_syntax.specs.Script.{IsScript}
 use Rattle.bk_world.specs.declared.item.Statement.{Statement}
 use Rattle.bk_world.specs.declared.reply.Reply.{Reply}
-use Rattle.bk_world.specs.World.{World, empty_world, opened}
+use Rattle.bk_world.specs.World.{World}
 use Rattle.bk_world.specs.Run.{IsRun}
 use Rattle.bk_world.specs.Text.{replies_text}
 use Rattle.bk_console.specs.declared.status.Status.{Status}
-use Rattle.bk_console.specs.declared.status.Status.TheVariants.{Done, Usage, SourceFault, ConsoleFault, NoMemory, ScriptTooLong}
+use Rattle.bk_console.specs.declared.status.Status.TheVariants.{Done, StoppedAtRefusal, Usage, SourceFault, ConsoleFault, DeviceFault, NoMemory, ScriptTooLong}
 use Rattle.bk_console.specs.declared.reading.ReadError.{ReadError}
 use Rattle.bk_console.specs.declared.reading.ReadError.TheVariants as read
 use Rattle.bk_console.specs.declared.answers.AnswerError.{AnswerError}
 use Rattle.bk_console.specs.declared.answers.AnswerError.TheVariants as answer
 use Rattle.bk_console.specs.declared.command_line.WordsError.{WordsError}
 use Rattle.bk_console.specs.declared.command_line.WordsError.TheVariants as words
-use Rattle.bk_console.specs.Answers.{Asked}
+use Rattle.bk_console.specs.Answers.{Asked, NoneRefused, EndsRefused, GoesOnAccepted}
+use Rattle.bk_console.specs.Words.{WordOptions}
 
 -- the exit status
 abbrev pub code_of : Status → ℕ
 code_of Done = 0
+code_of StoppedAtRefusal = 1
 code_of Usage = 2
 code_of SourceFault = 3
 code_of ConsoleFault = 4
+code_of DeviceFault = 5
 code_of NoMemory = 6
 code_of ScriptTooLong = 8
 
@@ -38,6 +44,7 @@ read_status read.NoMemory = NoMemory
 
 abbrev pub answer_status : AnswerError → Status
 answer_status answer.Console = ConsoleFault
+answer_status answer.Device = DeviceFault
 answer_status answer.NoMemory = NoMemory
 
 -- how a run ended
@@ -49,20 +56,30 @@ status_of (Err status) = status
 abbrev pub script_bytes : ℕ
 script_bytes = 16777216
 
+-- the words ask to stop at the first refusal
+abbrev pub AsksStop : Option WordOptions → Type 0
+AsksStop None = ⊥
+AsksStop (Some options) = options.stop ≡ true
+
+-- the run that they ask for may begin with this world on this device
+abbrev pub MayBegin : Option WordOptions → Disk → World → Type 0
+MayBegin None disk w = ⊥
+MayBegin (Some options) disk w = Begins options.instance w disk
+
 -- These bytes are the whole source, and the statements are their script.
 pub record IsWhole (tells : Type 0) (bytes rest_after : List ℕ) (statements : List Statement) : Type 0 where
   pub script : IsScript bytes statements
   pub to_its_end : tells → rest_after ≡ []
   pub short : length bytes ≤ script_bytes
 
--- A run from the world of an instance that has nothing yet: what was read, the machine's replies, and what was told of them.
-pub record Ran (source_tells : Type 0) (rest rest_after : List ℕ) (clock_tells : Type 0) (coming coming_after : ℕ → ℕ) (told_tells : Type 0) (told told_after : List ℕ) (status : ℕ) : Type 0 where
+-- A run from each world with which it may begin: what was read, the machine's replies, and what was told of them.
+pub record Ran (asks : Option WordOptions) (source_tells : Type 0) (rest rest_after : List ℕ) (clock_tells : Type 0) (coming coming_after : ℕ → ℕ)
+    (device_tells : Type 0) (disk disk_after : Disk) (status : ℕ) : Type 0 where
   pub bytes : List ℕ
   pub statements : List Statement
   -- one moment for each reply
   pub moments : List ℕ
   pub replies : List Reply
-  pub last : World
   -- how often the clock was asked
   pub times : ℕ
   -- the bytes that were read, at most one above the limit, which is exactly where the script is too long
@@ -70,15 +87,22 @@ pub record Ran (source_tells : Type 0) (rest rest_after : List ℕ) (clock_tells
   pub few : length bytes ≤ script_bytes + 1
   pub too_long : status ≡ 8 → script_bytes < length bytes
   pub long : script_bytes < length bytes → (status ≡ 8) ⊎ (status ≡ 6)
-  -- the machine's run over a front of the script, at the moments that the clock showed
-  pub run : IsRun (opened (empty_world 1)) (take (length replies) statements) moments replies last
+  -- the machine's run over a front of the script, at the moments that the clock showed; at the end the device holds the media of its last world
+  pub runs : device_tells → (w : World) → MayBegin asks disk w
+      → (last : World) × IsRun w (take (length replies) statements) moments replies last × ((status ≡ 0) ⊎ (status ≡ 1) → KeepsMedia last disk_after)
   pub asked : Asked clock_tells coming coming_after moments times
   pub asked_each : (length replies ≤ times) × (times ≤ length replies + 1)
   pub begun : 0 < length replies → IsWhole source_tells bytes rest_after statements
   -- whole texts of replies, and then perhaps a front of the next
-  pub front : told_tells → TellsFront (replies_text replies) told told_after
+  pub front : device_tells → TellsFront (replies_text replies) disk.told disk_after.told
+  -- where a refusal stops the run, no statement is begun behind one
+  pub accepted : AsksStop asks → GoesOnAccepted times replies
   -- at the end every statement has its reply, and all are told whole
   pub done : status ≡ 0 → IsWhole source_tells bytes rest_after statements
-      × (length replies ≡ length statements) × (times ≡ length replies) × (told_tells → told_after ≡ told ++ replies_text replies)
+      × (length replies ≡ length statements) × (times ≡ length replies) × (device_tells → disk_after.told ≡ disk.told ++ replies_text replies)
+      × (AsksStop asks → NoneRefused replies)
+  -- it was asked to stop at a refusal, and the last reply is one; all replies are told whole
+  pub stopped : status ≡ 1 → IsWhole source_tells bytes rest_after statements
+      × AsksStop asks × EndsRefused replies × (times ≡ length replies) × (device_tells → disk_after.told ≡ disk.told ++ replies_text replies)
   -- a fault of the console comes where a reply is told
   pub cut : status ≡ 4 → 0 < length replies

@@ -1,13 +1,16 @@
 // Answering statements, one after the other.
-ghost use Rattle.std.specs.Prelude.{◌≡◌, ◌≤◌, ◌++◌, List, ℕ, OnOk, OnErr, IsErrOf};
+ghost use Rattle.std.specs.Prelude.{◌≡◌, ◌≤◌, IfOk, OnOk, OnErr, IsErrOf};
 ghost use Rattle.bk_device.specs.Counts.{HasRisen};
-ghost use Rattle.bk_console.specs.Answers.{Answered, CutShort, AnsweredAll, CutAll};
-ghost use Rattle.bk_console.specs.declared.answers.AnswerError.TheVariants.{Console, NoMemory};
+ghost use Rattle.bk_instance.specs.Kept.{SoundDatabase};
+ghost use Rattle.bk_instance.specs.Standing.{KeepsOthers};
+ghost use Rattle.bk_console.specs.Answers as spec;
+ghost use Rattle.bk_console.specs.Answers.{Answered, CutShort, AnsweredBy, CutAll, executed_error};
+ghost use Rattle.bk_console.specs.declared.answers.AnswerError.TheVariants as answer_error;
 
-use crate::instance::Instance;
 use crate::report;
 use bk_device::{Clock, Device, Failed};
-use bk_world::Statement;
+use bk_instance::{ExecuteError, Instance};
+use bk_world::{Reply, Statement};
 use std::alloc::{AllocError, Global};
 use thiserror::Error;
 
@@ -17,70 +20,109 @@ pub enum AnswerError {
     /// Telling it failed.
     #[error("the console failed")]
     Console,
+    /// A file call of its statement failed.
+    #[error("the device failed")]
+    Device,
     /// Memory was wanting.
     #[error("out of memory")]
     NoMemory,
 }
 
 impl From<Failed> for AnswerError {
-    ghost from_gives = { λ _ e. e ≡ Console };
+    ghost from_gives = { λ _ e. e ≡ answer_error.Console };
 
     fn from(_: Failed) -> Self {
         AnswerError::Console
     }
 }
 
+impl From<ExecuteError> for AnswerError {
+    ghost from_gives = { λ error e. e ≡ executed_error error };
+
+    fn from(error: ExecuteError) -> Self {
+        match error {
+            ExecuteError::Fault => AnswerError::Device,
+            ExecuteError::NoMemory => AnswerError::NoMemory,
+        }
+    }
+}
+
 impl From<AllocError> for AnswerError {
-    ghost from_gives = { λ _ e. e ≡ NoMemory };
+    ghost from_gives = { λ _ e. e ≡ answer_error.NoMemory };
 
     fn from(_: AllocError) -> Self {
         AnswerError::NoMemory
     }
 }
 
-/// Asks the clock, makes the step of one statement, and tells its reply.
+/// Where answering ended that wasn't cut short.
+#[derive(Clone, Copy, Debug, PartialEq, Eq)]
+pub enum Ended {
+    /// Each statement has its reply.
+    AtTheEnd,
+    /// The last reply is a refusal, behind which no statement was to be begun.
+    AtARefusal,
+}
+
+fn is_refusal(reply: &Reply) -> bool
+    ensures { result ≡ spec.is_refusal reply.now }
+{
+    matches!(reply, Reply::Refused { .. })
+}
+
+/// Asks the clock, makes the step of one statement, and tells its reply. Says whether that is a refusal.
 pub fn answer<D: Device, C: Clock>(
     alloc: Global,
     instance: &mut Instance,
     statement: &Statement,
     device: &mut D,
     clock: &mut C,
-) -> Result<(), AnswerError>
-    ensures answered { OnOk result (Answered instance.old instance.new statement.now C.tells (C.coming clock.old) (C.coming clock.new)
-        D.tells (D.disk device.old).told (D.disk device.new).told) }
+) -> Result<bool, AnswerError>
+    requires sound { SoundDatabase instance.old.database }
+    ensures answered { IfOk result (λ refused. Answered instance.old instance.new statement.now C.tells (C.coming clock.old) (C.coming clock.new)
+        D.tells (D.disk device.old) (D.disk device.new) refused) }
     ensures cut_short { OnErr result (CutShort instance.old statement.now C.tells (C.coming clock.old) (C.coming clock.new)
-        D.tells (D.disk device.old).told (D.disk device.new).told (IsErrOf result Console)) }
-    ensures files { D.tells → (name : List ℕ) → (D.disk device.new).files name ≡ (D.disk device.old).files name }
-    ensures disk_faults { D.disk_faults device.new ≡ D.disk_faults device.old }
-    ensures cause { IsErrOf result Console → HasRisen (D.tell_faults device.old) (D.tell_faults device.new) }
-    ensures never_falls { D.tell_faults device.old ≤ D.tell_faults device.new }
+        D.tells (D.disk device.old) (D.disk device.new) (IsErrOf result answer_error.Console)) }
+    ensures sound { OnOk result (SoundDatabase instance.new.database) }
+    ensures others { D.tells → KeepsOthers (D.disk device.old) (D.disk device.new) }
+    ensures device_fault { IsErrOf result answer_error.Device → HasRisen (D.disk_faults device.old) (D.disk_faults device.new) }
+    ensures console_fault { IsErrOf result answer_error.Console → HasRisen (D.tell_faults device.old) (D.tell_faults device.new) }
+    ensures disk_faults { D.disk_faults device.old ≤ D.disk_faults device.new }
+    ensures tell_faults { D.tell_faults device.old ≤ D.tell_faults device.new }
 {
-    let _now = clock.now();
-    let reply = instance.execute(statement)?;
+    let now = clock.now();
+    let reply = instance.execute(device, statement, now)?;
     let text = report::text(alloc, &reply)?;
     device.tell(text.as_bytes())?;
-    Ok(())
+    Ok(is_refusal(&reply))
 }
 
-/// Answers all the statements, in their order. At an error the rest isn't begun.
+/// Answers the statements in their order: all of them, or up to the first that is refused, where `stop` asks for that.
+/// At an error the rest isn't begun.
 pub fn answer_all<D: Device, C: Clock>(
     alloc: Global,
     instance: &mut Instance,
     statements: &[Statement],
+    stop: bool,
     device: &mut D,
     clock: &mut C,
-) -> Result<(), AnswerError>
-    ensures answered { OnOk result (AnsweredAll instance.old instance.new statements.now C.tells (C.coming clock.old) (C.coming clock.new)
-        D.tells (D.disk device.old).told (D.disk device.new).told) }
-    ensures cut_short { OnErr result (CutAll instance.old statements.now C.tells (C.coming clock.old) (C.coming clock.new)
-        D.tells (D.disk device.old).told (D.disk device.new).told (IsErrOf result Console)) }
-    ensures files { D.tells → (name : List ℕ) → (D.disk device.new).files name ≡ (D.disk device.old).files name }
-    ensures disk_faults { D.disk_faults device.new ≡ D.disk_faults device.old }
-    ensures cause { IsErrOf result Console → HasRisen (D.tell_faults device.old) (D.tell_faults device.new) }
-    ensures never_falls { D.tell_faults device.old ≤ D.tell_faults device.new }
+) -> Result<Ended, AnswerError>
+    requires sound { SoundDatabase instance.old.database }
+    ensures answered { IfOk result (λ ended. AnsweredBy ended stop instance.old instance.new statements.now C.tells (C.coming clock.old) (C.coming clock.new)
+        D.tells (D.disk device.old) (D.disk device.new)) }
+    ensures cut_short { OnErr result (CutAll stop instance.old statements.now C.tells (C.coming clock.old) (C.coming clock.new)
+        D.tells (D.disk device.old) (D.disk device.new) (IsErrOf result answer_error.Console)) }
+    ensures others { D.tells → KeepsOthers (D.disk device.old) (D.disk device.new) }
+    ensures device_fault { IsErrOf result answer_error.Device → HasRisen (D.disk_faults device.old) (D.disk_faults device.new) }
+    ensures console_fault { IsErrOf result answer_error.Console → HasRisen (D.tell_faults device.old) (D.tell_faults device.new) }
+    ensures disk_faults { D.disk_faults device.old ≤ D.disk_faults device.new }
+    ensures tell_faults { D.tell_faults device.old ≤ D.tell_faults device.new }
 {
     for statement in statements {
-        answer(alloc, instance, statement, device, clock)?;
+        let refused = answer(alloc, instance, statement, device, clock)?;
+        if refused && stop {
+            return Ok(Ended::AtARefusal);
+        }
     }
-    Ok(())
+    Ok(Ended::AtTheEnd)
 }

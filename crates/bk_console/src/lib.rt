@@ -4,7 +4,6 @@
 mod answers;
 mod command_line;
 mod console;
-mod instance;
 mod reading;
 mod report;
 mod status;

@@ -1,11 +1,11 @@
 // The text of a reply.
 ghost use Rattle.std.specs.Prelude.{◌≡◌, ◌++◌, ℕ, IfOk, OnOk, flat_map, length};
 ghost use Rattle.std.specs.String.{string_bytes};
-ghost use Rattle.bk_world.specs.declared.reply.Reply.TheVariants.{Selected};
+ghost use Rattle.bk_world.specs.declared.reply.Reply.TheVariants.{Selected, SetMade, Refused};
 ghost use Rattle.bk_world.specs.Text.{reply_text, row_text};
 
-use bk_ids::Text;
-use bk_world::Reply;
+use bk_ids::{Lsn, Text};
+use bk_world::{Reply, Rule};
 use std::alloc::{AllocError, Global};
 
 /// The bytes of a reply, each line ended by a line feed.
@@ -16,8 +16,36 @@ pub fn text(alloc: Global, reply: &Reply) -> Result<String, AllocError>
         Reply::Done => String::from_str(alloc, "Done.\n"),
         Reply::Counted { rows } => format!(in alloc; "({rows} rows)\n"),
         Reply::Selected { rows } => table_text(alloc, rows.as_slice()),
-        Reply::Refused { rule } => format!(in alloc; "Refused {rule}\n"),
+        Reply::SetMade {
+            position,
+            first,
+            checkpoint,
+            last,
+        } => set_text(alloc, *position, *first, *checkpoint, *last),
+        Reply::Recovered { at } => format!(in alloc; "Recovered at {at}.\n"),
+        Reply::Refused { rule } => refusal_text(alloc, rule),
     }
+}
+
+// A backup set that was made.
+fn set_text(
+    alloc: Global,
+    position: u32,
+    first: Lsn,
+    checkpoint: Lsn,
+    last: Lsn,
+) -> Result<String, AllocError>
+    ensures { IfOk result (λ text. string_bytes text ≡ reply_text (SetMade position first checkpoint last)) }
+{
+    format!(in alloc; "Set {position}: first {first}, checkpoint {checkpoint}, last {last}.\n")
+}
+
+// The first rule that was broken.
+fn refusal_text(alloc: Global, rule: &Rule) -> Result<String, AllocError>
+    ensures { IfOk result (λ text. string_bytes text ≡ reply_text (Refused rule.now)) }
+{
+    let rule = rule.text(alloc)?;
+    format!(in alloc; "Refused {rule}\n")
 }
 
 // Each row, and how many they are.

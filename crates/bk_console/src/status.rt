@@ -12,12 +12,16 @@ use std::alloc::AllocError;
 pub enum Status {
     /// Each statement had its reply.
     Done = 0,
+    /// The last reply is a refusal, and `-b` asked to stop there.
+    StoppedAtRefusal = 1,
     /// The words are in no form; nothing was read or touched.
     Usage = 2,
     /// Reading the script failed.
     SourceFault = 3,
     /// Telling a reply failed.
     ConsoleFault = 4,
+    /// A file call of the device failed.
+    DeviceFault = 5,
     /// Memory was wanting.
     NoMemory = 6,
     /// The script has more than 16,777,216 bytes.
@@ -62,6 +66,7 @@ impl From<AnswerError> for Status {
     fn from(error: AnswerError) -> Self {
         match error {
             AnswerError::Console => Status::ConsoleFault,
+            AnswerError::Device => Status::DeviceFault,
             AnswerError::NoMemory => Status::NoMemory,
         }
     }

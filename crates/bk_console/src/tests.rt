@@ -1,6 +1,8 @@
 use crate::run;
-use bk_device::{FixedClock, MemDevice, MemSource};
+use bk_device::{Device, FileDevice, FixedClock, MemDevice, MemSource};
 use std::alloc::{AllocError, Global};
+use std::fs;
+use std::process::Abort;
 use std::test::Fail;
 use std::thread::Threads;
 
@@ -19,18 +21,28 @@ fn words(alloc: Global, all: &[&str]) -> Result<Vec<String>, AllocError> {
     Ok(words)
 }
 
+// The status of a script over a device.
+fn answers_on<R: AllocGlobal + Threads + Sync>(
+    rt: &R,
+    line: &[&str],
+    script: &[u8],
+    device: &mut MemDevice,
+) -> Result<u8, Fail> {
+    let alloc = rt.alloc();
+    let line = words(alloc, line)?;
+    let mut source = MemSource::new(alloc, script)?;
+    let mut clock = FixedClock::new(START, 1000);
+    Ok(run(rt, alloc, &line, &mut source, device, &mut clock))
+}
+
 // The status of a script over an empty device, and what it tells.
 fn answers<R: AllocGlobal + Threads + Sync>(
     rt: &R,
     line: &[&str],
     script: &[u8],
 ) -> Result<(u8, MemDevice), Fail> {
-    let alloc = rt.alloc();
-    let line = words(alloc, line)?;
-    let mut source = MemSource::new(alloc, script)?;
-    let mut device = MemDevice::new(alloc);
-    let mut clock = FixedClock::new(START, 1000);
-    let status = run(rt, alloc, &line, &mut source, &mut device, &mut clock);
+    let mut device = MemDevice::new(rt.alloc());
+    let status = answers_on(rt, line, script, &mut device)?;
     Ok((status, device))
 }
 
@@ -66,7 +78,13 @@ INSERT INTO t VALUES (10, 'it''s');INSERT INTO T VALUES (9, '');\nselect * from 
 
 #[test]
 fn exit_status_of_words(rt: HostRuntime) -> Result<(), Fail> {
-    for line in [[].as_slice(), &["-b"], &[""], &["a", "b"]] {
+    for line in [
+        [].as_slice(),
+        &["-b"],
+        &[""],
+        &["a", "b"],
+        &["a", "--instance=0"],
+    ] {
         let (status, device) = answers(&rt, line, FIRST_SCRIPT.as_bytes())?;
         assert_eq!(rt; status, 2);
         assert_eq!(rt; device.told(), b"".as_slice());
@@ -111,5 +129,194 @@ fn exit_status_of_a_long_script(rt: HostRuntime) -> Result<(), Fail> {
     let (status, device) = answers(&rt, &["d"], &script)?;
     assert_eq!(rt; status, 8);
     assert_eq!(rt; device.told(), b"".as_slice());
+    Ok(())
+}
+
+const BACKUP: &str =
+    "CREATE DATABASE S; USE S; CREATE TABLE t (k BIGINT PRIMARY KEY, v VARCHAR(112)); \
+INSERT INTO t VALUES (1, 'a'); BACKUP DATABASE S TO DISK = 'f.bak';";
+
+const BACKUP_TOLD: &str = "Done.\nDone.\nDone.\n(1 rows)\nSet 1: first 6, checkpoint 6, last 8.\n";
+
+// The medium that it makes, under the name of its path `f.bak`.
+const MEDIUM_NAME: &str = "m-662e62616b";
+
+const MEDIUM: [u8; 292] = [
+    83, 81, 76, 66, 65, 75, 71, 65, 84, 69, 48, 48, 48, 48, 48, 49, 1, 8, 0, 0, 0, 0, 0, 0, 0, 83,
+    66, 77, 69, 68, 73, 65, 49, 1, 249, 0, 0, 0, 0, 0, 0, 0, 1, 0, 1, 1, 0, 3, 0, 0, 0, 0, 0, 0, 0,
+    1, 0, 0, 0, 0, 0, 0, 0, 1, 0, 0, 0, 0, 0, 0, 0, 1, 0, 0, 0, 0, 0, 0, 0, 6, 0, 0, 0, 0, 0, 0, 0,
+    6, 0, 0, 0, 0, 0, 0, 0, 8, 0, 0, 0, 0, 0, 0, 0, 0, 0, 0, 0, 0, 0, 0, 0, 0, 0, 0, 0, 0, 0, 0, 0,
+    0, 0, 0, 0, 0, 0, 0, 0, 0, 0, 0, 0, 0, 0, 0, 0, 160, 155, 43, 141, 155, 1, 0, 0, 160, 155, 43,
+    141, 155, 1, 0, 0, 0, 0, 0, 0, 0, 0, 0, 0, 1, 0, 83, 0, 0, 1, 0, 2, 0, 0, 0, 0, 0, 0, 0, 1, 0,
+    0, 0, 0, 0, 0, 0, 1, 0, 0, 0, 0, 0, 0, 0, 1, 7, 0, 80, 82, 73, 77, 65, 82, 89, 1, 0, 1, 0, 0,
+    128, 0, 0, 0, 1, 1, 0, 83, 1, 0, 83, 5, 0, 83, 95, 108, 111, 103, 5, 0, 83, 95, 108, 111, 103,
+    1, 0, 1, 0, 0, 0, 1, 0, 116, 0, 1, 0, 0, 0, 1, 0, 0, 0, 1, 0, 0, 0, 0, 0, 0, 0, 1, 0, 97, 183,
+    237, 111, 5, 230, 29, 123, 4, 56, 156, 241, 253, 245, 84, 159, 29, 255, 141, 6, 181, 133, 159,
+    226, 88, 216, 62, 241, 26, 28, 103, 164, 159, 0,
+];
+
+// The script behind that of a backup tells this behind what that tells.
+fn tells_behind_a_backup<R: AllocGlobal + Threads + Sync + Abort>(
+    rt: &R,
+    script: &str,
+    told: &str,
+) -> Result<MemDevice, Fail> {
+    let script = format!(in rt.alloc(); "{BACKUP}{script}")?;
+    let told = format!(in rt.alloc(); "{BACKUP_TOLD}{told}")?;
+    let (status, device) = answers(rt, &["d"], script.as_bytes())?;
+    assert_eq!(rt; status, 0);
+    assert_eq!(rt; device.told(), told.as_bytes());
+    Ok(device)
+}
+
+#[test]
+fn full_backup_and_its_restore(rt: HostRuntime) -> Result<(), Fail> {
+    let script = "RESTORE DATABASE S FROM DISK = 'f.bak';\
+RESTORE DATABASE S FROM DISK = 'f.bak' WITH REPLACE; SELECT * FROM t; RESTORE DATABASE S FROM DISK = 'none';";
+    let told =
+        "Refused 37 TailNotBackedUp 6 8\nRecovered at 8.\n1\ta\n(1 rows)\nRefused 30 MediaMissing\n";
+    let mut device = tells_behind_a_backup(&rt, script, told)?;
+    let mut medium = [0u8; 300];
+    assert_eq!(rt; device.read(MEDIUM_NAME, 0, &mut medium)?, 292);
+    assert_eq!(rt; medium.get(..292), Some(MEDIUM.as_slice()));
+    Ok(())
+}
+
+#[test]
+fn restores_from_two_media(rt: HostRuntime) -> Result<(), Fail> {
+    let script = "RESTORE DATABASE S FROM DISK = 'f.bak' WITH REPLACE;\
+INSERT INTO t VALUES (2, 'b'); BACKUP DATABASE S TO DISK = 'g.bak'; INSERT INTO t VALUES (3, 'c');\
+RESTORE DATABASE S FROM DISK = 'g.bak'; RESTORE DATABASE S FROM DISK = 'g.bak' WITH REPLACE; SELECT * FROM t;\
+RESTORE DATABASE s FROM DISK = 'f.bak' WITH RECOVERY, REPLACE; SELECT * FROM t;\
+BACKUP DATABASE S TO DISK = 'f.bak'; RESTORE DATABASE T FROM DISK = 'f.bak'; BACKUP DATABASE T TO DISK = 'h.bak';";
+    let told = "Recovered at 8.\n(1 rows)\nSet 1: first 12, checkpoint 12, last 14.\n(1 rows)\n\
+Refused 37 TailNotBackedUp 8 17\nRecovered at 14.\n1\ta\n2\tb\n(2 rows)\nRecovered at 8.\n1\ta\n(1 rows)\n\
+Refused 99 NotBuilt 1\nRefused 99 NotBuilt 1\nRefused 3 NoSuchDatabase\n";
+    tells_behind_a_backup(&rt, script, told)?;
+    Ok(())
+}
+
+// What a run of an instance with this number tells over a medium of these bytes.
+fn told_over<R: AllocGlobal + Threads + Sync + Abort>(
+    rt: &R,
+    instance: &str,
+    medium: &[u8],
+    script: &str,
+    told: &str,
+) -> Result<(), Fail> {
+    let mut device = MemDevice::new(rt.alloc());
+    device.write(MEDIUM_NAME, 0, medium)?;
+    device.sync(MEDIUM_NAME)?;
+    let status = answers_on(
+        rt,
+        &["--instance", instance, "d"],
+        script.as_bytes(),
+        &mut device,
+    )?;
+    assert_eq!(rt; status, 0);
+    assert_eq!(rt; device.told(), told.as_bytes());
+    Ok(())
+}
+
+#[test]
+fn another_instance_reads_a_medium(rt: HostRuntime) -> Result<(), Fail> {
+    let script =
+        "RESTORE DATABASE S FROM DISK = 'f.bak'; USE S; SELECT * FROM t; CREATE DATABASE U;\
+BACKUP DATABASE S TO DISK = 'g.bak';";
+    let told =
+        "Recovered at 8.\nDone.\n1\ta\n(1 rows)\nRefused 99 NotBuilt 1\nSet 1: first 9, checkpoint 9, last 11.\n";
+    told_over(&rt, "2", &MEDIUM, script, told)
+}
+
+// Runs over a directory: the first instance makes a medium, and the second reads it. With `-b` a run is done only where
+// nothing was refused.
+#[test]
+fn two_runs_over_a_directory(rt: HostRuntime) -> Result<(), Fail> {
+    let alloc = rt.alloc();
+    let id = std::process::id(rt.process());
+    let place = std::env::temp_dir(&rt)?;
+    let dir = format!(in alloc; "{}/bk_console-{id}", place.as_path().display())?;
+    fs::create_dir(&rt, dir.as_str())?;
+    let made = "CREATE DATABASE S; USE S; CREATE TABLE t (k BIGINT PRIMARY KEY, v VARCHAR(112)); \
+INSERT INTO t VALUES (1, 'a'); BACKUP DATABASE S TO DISK = 'f.bak';";
+    let restored = "RESTORE DATABASE S FROM DISK = 'f.bak'; USE S; INSERT INTO t VALUES (2, 'b'); \
+BACKUP DATABASE S TO DISK = 'g.bak';";
+    let refused = "RESTORE DATABASE S FROM DISK = 'g.bak'; USE S; INSERT INTO t VALUES (2, 'x');";
+    for (instance, script, status) in [("1", made, 0u8), ("2", restored, 0), ("3", refused, 1)] {
+        let mut device = FileDevice::new(&rt, alloc, dir.as_str())?;
+        let line = words(alloc, &["-b", "--instance", instance, dir.as_str()])?;
+        let mut source = MemSource::new(alloc, script.as_bytes())?;
+        let mut clock = FixedClock::new(START, 1000);
+        assert_eq!(rt; run(&rt, alloc, &line, &mut source, &mut device, &mut clock), status);
+    }
+    fs::remove_dir_all(&rt, dir.as_str())?;
+    Ok(())
+}
+
+#[test]
+fn bytes_that_are_no_medium(rt: HostRuntime) -> Result<(), Fail> {
+    let script = "RESTORE DATABASE S FROM DISK = 'f.bak';";
+    for medium in [b"".as_slice(), b"SQLBAKGATE000001", &[1; 64]] {
+        told_over(&rt, "1", medium, script, "Refused 31 NotMedia\n")?;
+    }
+    Ok(())
+}
+
+#[test]
+fn a_damaged_set(rt: HostRuntime) -> Result<(), Fail> {
+    let mut medium = MEDIUM;
+    medium[258] = 158;
+    let told =
+        "Refused 33 SetDamaged b7ed6f05e61d7b04389cf1fdf5549f1dff8d06b5859fe258d83ef11a1c67a49f \
+541af87daa1991c1577534fd9214634f55b589ed14314a0eac471a4783c0cce1\n";
+    told_over(
+        &rt,
+        "1",
+        &medium,
+        "RESTORE DATABASE S FROM DISK = 'f.bak';",
+        told,
+    )
+}
+
+#[test]
+fn exit_status_of_a_refusal(rt: HostRuntime) -> Result<(), Fail> {
+    let (status, device) = answers(&rt, &["-b", "d"], FIRST_SCRIPT.as_bytes())?;
+    let told = "Done.\nDone.\nDone.\n(1 rows)\n1\ta\n(1 rows)\nRefused 10 DuplicateKey 1\n";
+    assert_eq!(rt; status, 1);
+    assert_eq!(rt; device.told(), told.as_bytes());
+    let (status, device) = answers(&rt, &["d", "-b"], BACKUP.as_bytes())?;
+    assert_eq!(rt; status, 0);
+    assert_eq!(rt; device.told(), BACKUP_TOLD.as_bytes());
+    Ok(())
+}
+
+#[test]
+fn exit_status_of_a_device_that_fails(rt: HostRuntime) -> Result<(), Fail> {
+    let script = b"BACKUP DATABASE S TO DISK = 'f.bak';";
+    let mut device = MemDevice::new(rt.alloc());
+    device.fail_at(1)?;
+    let status = answers_on(&rt, &["d"], script, &mut device)?;
+    assert_eq!(rt; status, 5);
+    assert_eq!(rt; device.told(), b"".as_slice());
+    Ok(())
+}
+
+// Five calls tell replies; all others are on the medium's file.
+#[test]
+fn each_call_of_a_backup_fails(rt: HostRuntime) -> Result<(), Fail> {
+    let (mut console_faults, mut device_faults) = (0u32, 0u32);
+    for call in 1..60 {
+        let mut device = MemDevice::new(rt.alloc());
+        device.fail_at(call)?;
+        match answers_on(&rt, &["d"], BACKUP.as_bytes(), &mut device)? {
+            0 => assert_eq!(rt; device.told(), BACKUP_TOLD.as_bytes()),
+            4 => console_faults = console_faults.saturating_add(1),
+            5 => device_faults = device_faults.saturating_add(1),
+            _ => return Err(Fail::from("another status")),
+        }
+        assert!(rt; BACKUP_TOLD.as_bytes().starts_with(device.told()));
+    }
+    assert_eq!(rt; console_faults, 5);
+    assert!(rt; device_faults > 5);
     Ok(())
 }

@@ -1,5 +1,4 @@
-use Rattle.std.proofs.Common.{◌≡◌, ◌≤◌, ◌++◌, ℕ, List, length, take, sym, ◌∙◌, ap, arith, append_assoc, length-append, length-take, rules}
-use Rattle.std.proofs.lemmas.Grind.{common_steps}
+use Rattle.std.proofs.Common.{◌≤◌, ◌++◌, length, take, sym, ◌∙◌, ap, arith, append_assoc, length-append, length-take, rules}
 use Rattle.std.proofs.lemmas.Result.{err_from_is_err_and}
 use Rattle.bk_console.proofs.reading.read_script.Goals as goal
 

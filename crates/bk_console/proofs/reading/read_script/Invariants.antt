@@ -1,4 +1,4 @@
-use Rattle.std.proofs.Common.{◌≡◌, ◌≤◌, ◌+◌, ◌-◌, ◌++◌, length, vec_len}
+use Rattle.std.proofs.Common.{◌≡◌, ◌≤◌, ◌-◌, ◌++◌, length, vec_len}
 use Rattle.bk_console.proofs.reading.read_script.Given as goal
 
 abbrev pub invariant-loop-chunk : goal.invariant-loop-chunk
