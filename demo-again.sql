@@ -1,0 +1,3 @@
+RESTORE DATABASE Sales FROM DISK = 'sales.bak';
+USE Sales;
+SELECT * FROM orders;
