@@ -10,13 +10,14 @@ use Rattle.std.proofs.Math.Seq.{get_or-append_seam, take-append-add, take-append
 use Rattle.bk_device.specs.Calls.{TellsFront}
 use Rattle.bk_device.specs.Disk.{Disk}
 use Rattle.bk_instance.specs.declared.instance.Instance.{Instance}
+use Rattle.bk_instance.specs.Standing.{IsOffMedia}
 use Rattle.bk_world.specs.declared.item.Statement.{Statement}
 use Rattle.bk_world.specs.declared.reply.Reply.{Reply}
 use Rattle.bk_world.specs.declared.reply.Reply.TheVariants.{Done, Counted, Selected, SetMade, Recovered, Refused}
 use Rattle.bk_world.specs.Text.{reply_text, replies_text}
 use Rattle.bk_world.specs.Run.{IsRun}
 use Rattle.bk_world.proofs.Runs.{IsRun-more}
-use Rattle.bk_console.specs.Answers.{is_refusal, NoneRefused, EndsRefused, GoesOnAccepted, Asked, MayReply, Runs, Answered, CutShort, AnsweredAll, Stopped, CutAll}
+use Rattle.bk_console.specs.Answers.{is_refusal, NoneRefused, EndsRefused, GoesOnAccepted, Asked, MayReply, Runs, Answered, CutShort, AnsweredAll, Stopped, CutAll, AreOffMedia, StepsOn, MayStep, MayStepOn}
 
 -- Refusals.
 
@@ -55,6 +56,11 @@ ends-refused before (Recovered at) is = let no : ⊥ = cc is in absurd no
 pub not-stopped : (stop refused : Bool) → ((refused ≡ true) × (stop ≡ false)) ⊎ (refused ≡ false) → stop ≡ true → refused ≡ false
 not-stopped stop refused (inl on) asked = let no : true ≡ false = sym asked ∙ on.1 in absurd cc
 not-stopped stop refused (inr accepted) asked = accepted
+
+-- each of some statements looks at no medium, and the last
+off-parts : (ss : List Statement) (s : Statement) → AreOffMedia (ss ++ s ∷ []) → AreOffMedia ss × IsOffMedia s.item
+off-parts [] s off = (tt, off.0)
+off-parts (t ∷ ss) s off = let rest = off-parts ss s off.1 in ((off.0, rest.0), rest.1)
 
 -- one moment more
 asked_more : (tells : Type 0) (before middle after : ℕ → ℕ) (moments : List ℕ) (n now : ℕ) → length moments ≡ n → Asked tells before middle moments n → Asked tells middle after (now ∷ []) 1
@@ -108,6 +114,13 @@ module _ (stop : Bool) (old mid : Instance) (ss : List Statement) (s : Statement
         let next = one.moves t to.0 to.2 to.3 in
         (next.0, IsRun-more w to.0 next.0 ss so_far.moments so_far.replies s one.now one.reply to.1 next.1, next.2, next.3)
 
+    steps-more : AreOffMedia (ss ++ s ∷ []) → StepsOn old (ss ++ s ∷ []) (so_far.moments ++ one.now ∷ []) (so_far.replies ++ one.reply ∷ []) new
+    steps-more off w kept =
+        let parts = off-parts ss s off in
+        let to = so_far.alone parts.0 w kept in
+        let next = one.alone parts.1 to.0 to.2 in
+        (next.0, IsRun-more w to.0 next.0 ss so_far.moments so_far.replies s one.now one.reply to.1 next.1, next.2)
+
     pub AnsweredAll-more : (stop ≡ true → refused ≡ false) → AnsweredAll stop old new (ss ++ s ∷ []) ct before after dt disk disk2
     AnsweredAll-more accepted = record {
       moments = so_far.moments ++ one.now ∷ [];
@@ -116,6 +129,7 @@ module _ (stop : Bool) (old mid : Instance) (ss : List Statement) (s : Statement
       each_reply = omega (arith, length-append so_far.replies (one.reply ∷ []), length-append ss (s ∷ []), so_far.each_reply);
       asked = subst (λ n. Asked ct before after (so_far.moments ++ one.now ∷ []) n) (sym (length-append ss (s ∷ []))) (asked_more ct before middle after so_far.moments (length ss) one.now so_far.each_moment so_far.asked one.asked);
       runs = runs-more;
+      alone = steps-more;
       text = λ t. texts_more disk.told disk1.told disk2.told so_far.replies one.reply (so_far.text t) (one.text t);
       accepted = λ on. none-more so_far.replies one.reply (so_far.accepted on) (sym one.which ∙ accepted on);
     }
@@ -132,6 +146,7 @@ module _ (stop : Bool) (old mid : Instance) (ss : List Statement) (s : Statement
           within = omega arith;
           asked = subst (λ k. Asked ct before after (so_far.moments ++ one.now ∷ []) k) (sym n) (asked_more ct before middle after so_far.moments (length ss) one.now so_far.each_moment so_far.asked one.asked);
           runs = λ t. subst (λ xs. Runs old disk xs (so_far.moments ++ one.now ∷ []) replies new disk2) (sym (ap (λ k. take k all) n ∙ more)) (runs-more t);
+          alone = subst (λ xs. AreOffMedia xs → StepsOn old xs (so_far.moments ++ one.now ∷ []) replies new) (sym (ap (λ k. take k all) n ∙ more)) steps-more;
           text = λ t. texts_more disk.told disk1.told disk2.told so_far.replies one.reply (so_far.text t) (one.text t);
           stops = on;
           accepted = subst (λ k. GoesOnAccepted k replies) (sym n) (goes-on so_far.replies (one.reply ∷ []) (length ss) so_far.each_reply (so_far.accepted on));
@@ -140,7 +155,7 @@ module _ (stop : Bool) (old mid : Instance) (ss : List Statement) (s : Statement
 
   -- the last statement has its reply, or has none
   cut-by : (all : List Statement) → take (length ss) all ≡ ss → take (length ss + 1) all ≡ ss ++ s ∷ [] → length ss < length all → (has_reply asks : Type 0) → (asks → has_reply) → (now : ℕ) → Asked ct middle after (now ∷ []) 1
-      → ((reply : Reply) × (dt → MayReply mid disk1 s now reply) × (dt → TellsFront (reply_text reply) disk1.told disk2.told)) ⊎ ((has_reply → ⊥) × (dt → disk2.told ≡ disk1.told))
+      → ((reply : Reply) × (dt → MayReply mid disk1 s now reply) × (IsOffMedia s.item → MayStep mid s now reply) × (dt → TellsFront (reply_text reply) disk1.told disk2.told)) ⊎ ((has_reply → ⊥) × (dt → disk2.told ≡ disk1.told))
       → CutAll stop old all ct before after dt disk disk2 asks
   cut-by all front more room has_reply asks weaker now asked (inl last) =
       let replies = so_far.replies ++ last.0 ∷ [] in
@@ -160,7 +175,13 @@ module _ (stop : Bool) (old mid : Instance) (ss : List Statement) (s : Statement
               subst (λ xs. IsRun w xs (so_far.moments ++ now ∷ []) replies next.0) (sym (ap (λ k. take k all) n ∙ more))
                   (IsRun-more w to.0 next.0 ss so_far.moments so_far.replies s now last.0 to.1 next.1),
             );
-        front = λ t. front_more disk.told disk1.told disk2.told so_far.replies last.0 (so_far.text t) (last.2 t);
+        alone = subst (λ xs. AreOffMedia xs → MayStepOn old xs (so_far.moments ++ now ∷ []) replies) (sym (ap (λ k. take k all) n ∙ more))
+            (λ off w kept.
+            let parts = off-parts ss s off in
+            let to = so_far.alone parts.0 w kept in
+            let next = last.2 parts.1 to.0 to.2 in
+            (next.0, IsRun-more w to.0 next.0 ss so_far.moments so_far.replies s now last.0 to.1 next.1));
+        front = λ t. front_more disk.told disk1.told disk2.told so_far.replies last.0 (so_far.text t) (last.3 t);
         some = λ h. omega arith;
         accepted = λ on. goes-on so_far.replies (last.0 ∷ []) (length ss) so_far.each_reply (so_far.accepted on);
       }
@@ -178,6 +199,8 @@ module _ (stop : Bool) (old mid : Instance) (ss : List Statement) (s : Statement
     runs = λ t w kept media.
         let to = so_far.runs t w kept media in
         (to.0, subst (λ xs. IsRun w xs so_far.moments so_far.replies to.0) (sym (ap (λ k. take k all) so_far.each_reply ∙ front)) to.1);
+    alone = subst (λ xs. AreOffMedia xs → MayStepOn old xs so_far.moments so_far.replies) (sym (ap (λ k. take k all) so_far.each_reply ∙ front))
+        (λ off w kept. let to = so_far.alone off w kept in (to.0, to.1));
     front = λ t. front_same disk.told disk1.told disk2.told so_far.replies (so_far.text t) (none.1 t);
     some = λ h. absurd (none.0 (weaker h));
     accepted = λ on. goes-on-all so_far.replies (length ss) so_far.each_reply (so_far.accepted on);
@@ -196,6 +219,7 @@ AnsweredAll-none stop old ct before dt disk = record {
   each_reply = refl;
   asked = record { shown = λ t i lt. absurd (omega (arith, lt)); moved = λ t i. ap before (omega arith) };
   runs = λ t w kept media. (w, refl, kept, media);
+  alone = λ off w kept. (w, refl, kept);
   text = λ t. sym (append-nil disk.told);
   accepted = λ on. refl;
 }

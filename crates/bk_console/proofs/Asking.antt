@@ -4,14 +4,14 @@ use Rattle.std.specs.Result.{OnErr}
 use Rattle.bk_device.specs.Calls.{TellsFront, TellsBytes}
 use Rattle.bk_device.specs.Disk.{Disk}
 use Rattle.bk_instance.specs.declared.instance.Instance.{Instance}
-use Rattle.bk_instance.specs.Standing.{KeepsMedia}
+use Rattle.bk_instance.specs.Standing.{KeepsMedia, IsOffMedia}
 use Rattle.bk_media.specs.Media.{read_medium, found_at}
 use Rattle.bk_media.specs.Names.{medium_file}
 use Rattle.bk_world.specs.declared.item.Statement.{Statement}
 use Rattle.bk_world.specs.declared.reply.Reply.{Reply}
 use Rattle.bk_world.specs.World.{World}
 use Rattle.bk_world.specs.Text.{reply_text}
-use Rattle.bk_console.specs.Answers.{Asked, MayReply, CutShort}
+use Rattle.bk_console.specs.Answers.{Asked, MayReply, MayStep, CutShort}
 
 pub OnErr-from : {T E : Type 0} {P : Type 0} → (r : Result T E) → P → OnErr r P
 OnErr-from (Ok x) p = tt
@@ -37,6 +37,7 @@ told-media w before after bytes tells keeps = record {
 
 -- an answer that has a reply, and was told in part
 pub cut-in_reply : (old : Instance) (s : Statement) (clock_tells : Type 0) (before after : ℕ → ℕ) (device_tells : Type 0) (disk disk_after : Disk) (has_reply : Type 0)
-    (now : ℕ) → Asked clock_tells before after (now ∷ []) 1 → (reply : Reply) → (device_tells → MayReply old disk s now reply) → (device_tells → TellsFront (reply_text reply) disk.told disk_after.told)
+    (now : ℕ) → Asked clock_tells before after (now ∷ []) 1 → (reply : Reply) → (device_tells → MayReply old disk s now reply) → (IsOffMedia s.item → MayStep old s now reply)
+    → (device_tells → TellsFront (reply_text reply) disk.told disk_after.told)
     → CutShort old s clock_tells before after device_tells disk disk_after has_reply
-cut-in_reply old s clock_tells before after device_tells disk disk_after has_reply now asked reply may front = record { now = now; asked = asked; front = inl (reply, may, front) }
+cut-in_reply old s clock_tells before after device_tells disk disk_after has_reply now asked reply may alone front = record { now = now; asked = asked; front = inl (reply, may, alone, front) }

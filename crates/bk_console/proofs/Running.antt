@@ -19,7 +19,7 @@ use Rattle.bk_console.specs.declared.answers.Ended.{Ended}
 use Rattle.bk_console.specs.declared.answers.AnswerError.TheVariants as answer
 use Rattle.bk_console.specs.declared.command_line.WordsError.{WordsError}
 use Rattle.bk_console.specs.declared.command_line.WordsError.TheVariants as words
-use Rattle.bk_console.specs.Answers.{AnsweredAll, Stopped, CutAll}
+use Rattle.bk_console.specs.Answers.{AreOffMedia, AnsweredAll, Stopped, CutAll}
 use Rattle.bk_console.proofs.Answering.{none-front}
 use Rattle.bk_console.specs.Run.{code_of, words_status, read_status, answer_status, script_bytes, IsWhole, Ran}
 use Rattle.bk_console.specs.Words.{WordOptions}
@@ -39,6 +39,7 @@ nothing-ran asks st rest rest_after ct coming dt disk status bytes read few too_
   too_long = too_long;
   long = long;
   runs = λ t w may. (w, refl, λ h. absurd (not_first h));
+  alone = λ off w may. (w, refl);
   asked = record { shown = λ t i lt. absurd (omega (arith, lt)); moved = λ t i. ap coming (omega arith) };
   asked_each = (omega arith, omega arith);
   begun = λ some. absurd (omega (arith, some));
@@ -104,6 +105,10 @@ module _ (st : Type 0) (rest rest_after : List ℕ) (ct : Type 0) (coming coming
     runs = λ t w may.
         let to = all.runs t w (keeps w may.0) may.1 in
         (to.0, subst (λ ss. IsRun w ss all.moments all.replies to.0) (sym (ap (λ n. take n statements) all.each_reply ∙ take-length statements)) to.1, λ h. to.3);
+    alone = λ off w may.
+        let whole : take (length all.replies) statements ≡ statements = ap (λ n. take n statements) all.each_reply ∙ take-length statements in
+        let to = all.alone (subst AreOffMedia whole off) w (keeps w may) in
+        (to.0, subst (λ ss. IsRun w ss all.moments all.replies to.0) (sym whole) to.1);
     asked = all.asked;
     asked_each = (omega (arith, all.each_reply), omega (arith, all.each_reply));
     begun = λ some. is_whole;
@@ -130,6 +135,9 @@ module _ (st : Type 0) (rest rest_after : List ℕ) (ct : Type 0) (coming coming
     runs = λ t w may.
         let to = front.runs t w (keeps w may.0) may.1 in
         (to.0, to.1, λ h. to.3);
+    alone = λ off w may.
+        let to = front.alone off w (keeps w may) in
+        (to.0, to.1);
     asked = front.asked;
     asked_each = (omega arith, omega arith);
     begun = λ some. is_whole;
@@ -156,6 +164,7 @@ module _ (st : Type 0) (rest rest_after : List ℕ) (ct : Type 0) (coming coming
     runs = λ t w may.
         let to = cut.runs t w (keeps w may.0) may.1 in
         (to.0, to.1, λ h. absurd (not_first h));
+    alone = λ off w may. cut.alone off w (keeps w may);
     asked = cut.asked;
     asked_each = cut.asked_each;
     begun = λ some. is_whole;

@@ -1,13 +1,13 @@
 -- What answering statements does: to the instance, the device, the clock and the told bytes.
 use Rattle.std.specs.Prelude.{◌≡◌, ◌⊎◌, ◌<◌, ◌≤◌, ℕ, ◌+◌, ◌-◌, Bool, true, false, List, [], ◌∷◌, ◌++◌, length, take, slice_index}
-use Rattle.std.specs.List.{list_any}
+use Rattle.std.specs.List.{list_any, AllByRecursion}
 use Rattle.bk_device.specs.Calls.{TellsFront}
 use Rattle.bk_device.specs.Disk.{Disk}
 use Rattle.bk_instance.specs.declared.instance.Instance.{Instance}
 use Rattle.bk_instance.specs.declared.error.ExecuteError.{ExecuteError}
 use Rattle.bk_instance.specs.declared.error.ExecuteError.TheVariants as execute
 use Rattle.bk_instance.specs.Kept.{Keeps}
-use Rattle.bk_instance.specs.Standing.{KeepsMedia}
+use Rattle.bk_instance.specs.Standing.{KeepsMedia, IsOffMedia}
 use Rattle.bk_world.specs.declared.item.Statement.{Statement}
 use Rattle.bk_world.specs.declared.reply.Reply.{Reply}
 use Rattle.bk_world.specs.declared.reply.Reply.TheVariants.{Refused}
@@ -61,12 +61,32 @@ Runs old disk ss moments replies new disk_after = (w : World) → Keeps w old �
 abbrev pub MayRun : Instance → Disk → List Statement → List ℕ → List Reply → Type 0
 MayRun old disk ss moments replies = (w : World) → Keeps w old → KeepsMedia w disk → (next : World) × IsRun w ss moments replies next
 
+-- Without media: on any device.
+
+abbrev pub AreOffMedia : List Statement → Type 0
+AreOffMedia ss = AllByRecursion (λ s. IsOffMedia s.item) ss
+
+-- The machine goes from each world for which the instance stands, by this step or this run, to one for which it stands then.
+abbrev pub Steps : Instance → Statement → ℕ → Reply → Instance → Type 0
+Steps old s now reply new = (w : World) → Keeps w old → (next : World) × Step w s now reply next × Keeps next new
+
+abbrev pub MayStep : Instance → Statement → ℕ → Reply → Type 0
+MayStep old s now reply = (w : World) → Keeps w old → (next : World) × Step w s now reply next
+
+abbrev pub StepsOn : Instance → List Statement → List ℕ → List Reply → Instance → Type 0
+StepsOn old ss moments replies new = (w : World) → Keeps w old → (next : World) × IsRun w ss moments replies next × Keeps next new
+
+-- The same without saying what stands then.
+abbrev pub MayStepOn : Instance → List Statement → List ℕ → List Reply → Type 0
+MayStepOn old ss moments replies = (w : World) → Keeps w old → (next : World) × IsRun w ss moments replies next
+
 -- A statement was answered: the clock was asked once, and the text of the reply was told, which is a refusal or isn't.
 pub record Answered (old new : Instance) (s : Statement) (clock_tells : Type 0) (before after : ℕ → ℕ) (device_tells : Type 0) (disk disk_after : Disk) (refused : Bool) : Type 0 where
   pub now : ℕ
   pub reply : Reply
   pub asked : Asked clock_tells before after (now ∷ []) 1
   pub moves : device_tells → Moves old disk s now reply new disk_after
+  pub alone : IsOffMedia s.item → Steps old s now reply new
   pub text : device_tells → disk_after.told ≡ disk.told ++ reply_text reply
   pub which : refused ≡ is_refusal reply
 
@@ -75,7 +95,8 @@ pub record CutShort (old : Instance) (s : Statement) (clock_tells : Type 0) (bef
   pub now : ℕ
   pub asked : Asked clock_tells before after (now ∷ []) 1
   -- there is a reply, or there is none and nothing was told
-  pub front : ((reply : Reply) × (device_tells → MayReply old disk s now reply) × (device_tells → TellsFront (reply_text reply) disk.told disk_after.told))
+  pub front : ((reply : Reply) × (device_tells → MayReply old disk s now reply) × (IsOffMedia s.item → MayStep old s now reply)
+      × (device_tells → TellsFront (reply_text reply) disk.told disk_after.told))
       ⊎ ((has_reply → ⊥) × (device_tells → disk_after.told ≡ disk.told))
 
 -- All these statements were answered, one after the other; where a refusal stops it there was none.
@@ -86,6 +107,7 @@ pub record AnsweredAll (stop : Bool) (old new : Instance) (ss : List Statement) 
   pub each_reply : length replies ≡ length ss
   pub asked : Asked clock_tells before after moments (length ss)
   pub runs : device_tells → Runs old disk ss moments replies new disk_after
+  pub alone : AreOffMedia ss → StepsOn old ss moments replies new
   pub text : device_tells → disk_after.told ≡ disk.told ++ replies_text replies
   pub accepted : stop ≡ true → NoneRefused replies
 
@@ -97,6 +119,7 @@ pub record Stopped (stop : Bool) (old new : Instance) (ss : List Statement) (clo
   pub within : length replies ≤ length ss
   pub asked : Asked clock_tells before after moments (length replies)
   pub runs : device_tells → Runs old disk (take (length replies) ss) moments replies new disk_after
+  pub alone : AreOffMedia (take (length replies) ss) → StepsOn old (take (length replies) ss) moments replies new
   pub text : device_tells → disk_after.told ≡ disk.told ++ replies_text replies
   pub stops : stop ≡ true
   pub accepted : GoesOnAccepted (length replies) replies
@@ -118,6 +141,7 @@ pub record CutAll (stop : Bool) (old : Instance) (ss : List Statement) (clock_te
   pub within : length replies ≤ length ss
   pub asked : Asked clock_tells before after moments times
   pub runs : device_tells → MayRun old disk (take (length replies) ss) moments replies
+  pub alone : AreOffMedia (take (length replies) ss) → MayStepOn old (take (length replies) ss) moments replies
   pub front : device_tells → TellsFront (replies_text replies) disk.told disk_after.told
   pub some : has_reply → 0 < length replies
   pub accepted : stop ≡ true → GoesOnAccepted times replies

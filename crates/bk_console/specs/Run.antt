@@ -2,7 +2,7 @@
 use Rattle.std.specs.Prelude.{◌≡◌, ◌⊎◌, ◌<◌, ◌≤◌, ℕ, ◌+◌, true, List, [], ◌++◌, length, take, Option, None, Some, Result, Ok, Err}
 use Rattle.bk_device.specs.Calls.{TellsFront}
 use Rattle.bk_device.specs.Disk.{Disk}
-use Rattle.bk_instance.specs.Begins.{Begins}
+use Rattle.bk_instance.specs.Begins.{IsNew, Begins}
 use Rattle.bk_instance.specs.Standing.{KeepsMedia}
 use Rattle.bk_syntax.specs.Script.{IsScript}
 use Rattle.bk_world.specs.declared.item.Statement.{Statement}
@@ -18,7 +18,7 @@ use Rattle.bk_console.specs.declared.answers.AnswerError.{AnswerError}
 use Rattle.bk_console.specs.declared.answers.AnswerError.TheVariants as answer
 use Rattle.bk_console.specs.declared.command_line.WordsError.{WordsError}
 use Rattle.bk_console.specs.declared.command_line.WordsError.TheVariants as words
-use Rattle.bk_console.specs.Answers.{Asked, NoneRefused, EndsRefused, GoesOnAccepted}
+use Rattle.bk_console.specs.Answers.{Asked, NoneRefused, EndsRefused, GoesOnAccepted, AreOffMedia}
 use Rattle.bk_console.specs.Words.{WordOptions}
 
 -- the exit status
@@ -66,6 +66,11 @@ abbrev pub MayBegin : Option WordOptions → Disk → World → Type 0
 MayBegin None disk w = ⊥
 MayBegin (Some options) disk w = Begins options.instance w disk
 
+-- the same but for its media
+abbrev pub IsAsked : Option WordOptions → World → Type 0
+IsAsked None w = ⊥
+IsAsked (Some options) w = IsNew options.instance w
+
 -- These bytes are the whole source, and the statements are their script.
 pub record IsWhole (tells : Type 0) (bytes rest_after : List ℕ) (statements : List Statement) : Type 0 where
   pub script : IsScript bytes statements
@@ -90,6 +95,8 @@ pub record Ran (asks : Option WordOptions) (source_tells : Type 0) (rest rest_af
   -- the machine's run over a front of the script, at the moments that the clock showed; at the end the device holds the media of its last world
   pub runs : device_tells → (w : World) → MayBegin asks disk w
       → (last : World) × IsRun w (take (length replies) statements) moments replies last × ((status ≡ 0) ⊎ (status ≡ 1) → KeepsMedia last disk_after)
+  -- on any device, so long as no statement looks at media
+  pub alone : AreOffMedia (take (length replies) statements) → (w : World) → IsAsked asks w → (last : World) × IsRun w (take (length replies) statements) moments replies last
   pub asked : Asked clock_tells coming coming_after moments times
   pub asked_each : (length replies ≤ times) × (times ≤ length replies + 1)
   pub begun : 0 < length replies → IsWhole source_tells bytes rest_after statements

@@ -140,3 +140,7 @@ alone-answers old new disk line i shown now reply is alone goes = λ w keeps med
 pub not_built-goes : (old : Instance) (line now : ℕ) → Goes old line item.NotBuilt now (Refused (rule.NotBuilt line)) old
 unfolding broken
 not_built-goes old line now = λ w keeps. (w, stepped-refused w line item.NotBuilt now (rule.NotBuilt line) refl, keeps)
+
+-- the same item by another name
+pub goes-as : (old new : Instance) (line : ℕ) (i j : Item) (now : ℕ) (reply : Reply) → i ≡ j → Goes old line j now reply new → Goes old line i now reply new
+goes-as old new line i j now reply same goes = subst (λ k. Goes old line k now reply new) (sym same) goes

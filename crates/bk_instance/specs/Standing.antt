@@ -8,6 +8,7 @@ use Rattle.bk_set.specs.declared.body.SetBody.{SetBody}
 use Rattle.bk_set.specs.declared.found.Found.TheVariants.{Holds}
 use Rattle.bk_world.specs.declared.header.Header.{Header}
 use Rattle.bk_world.specs.declared.item.Item.{Item}
+use Rattle.bk_world.specs.declared.item.Item.TheVariants.{Backup, Restore}
 use Rattle.bk_world.specs.declared.reply.Reply.{Reply}
 use Rattle.bk_world.specs.declared.rule.Rule.{Rule}
 use Rattle.bk_world.specs.Medium.{Slot, readable, medium, medium_at}
@@ -29,6 +30,12 @@ pub record KeepsMedia (w : World) (disk : Disk) : Type 0 where
 abbrev pub Answers : Instance → Disk → ℕ → Item → ℕ → Reply → Instance → Disk → Type 0
 Answers old before line item now reply new after = (w : World) → Keeps w old → KeepsMedia w before
     → (next : World) × Step w (record { item = item; line = line }) now reply next × Keeps next new × KeepsMedia next after
+
+-- an item that looks at no medium
+abbrev pub IsOffMedia : Item → Type 0
+IsOffMedia (Backup database path) = ⊥
+IsOffMedia (Restore database path replace) = ⊥
+IsOffMedia _ = Unit {0}
 
 -- what the first set of a file is: the body that it holds, or the rule by which it is refused
 abbrev pub IsFirst : Option (List ℕ) → Result SetBody Rule → Type 0

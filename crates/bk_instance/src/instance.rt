@@ -33,7 +33,7 @@ impl Instance {
     ghost use Rattle.bk_device.specs.Counts.{HasRisen};
     ghost use Rattle.bk_world.specs.Machine.{source_broken};
     ghost use Rattle.bk_instance.specs.Begins.{IsNew};
-    ghost use Rattle.bk_instance.specs.Standing.{Answers, KeepsMedia, KeepsOthers};
+    ghost use Rattle.bk_instance.specs.Standing.{Answers, KeepsMedia, KeepsOthers, IsOffMedia};
     ghost use Rattle.bk_instance.specs.declared.error.ExecuteError.TheVariants.{Fault};
     ghost use Rattle.bk_world.specs.World.{World, empty_world, opened};
     ghost use Rattle.bk_world.specs.Checks.{kept_numbers};
@@ -335,6 +335,8 @@ impl Instance {
     ) -> Result<Reply, ExecuteError>
         requires sound { SoundDatabase self.old.database }
         ensures answers { D.tells → IfOk result (λ reply. Answers self.old (D.disk dev.old) statement.now.line statement.now.item now reply self.new (D.disk dev.new)) }
+        // On any device, so long as the item looks at no medium.
+        ensures goes { IsOffMedia statement.now.item → IfOk result (λ reply. Goes self.old statement.now.line statement.now.item now reply self.new) }
         ensures sound { OnOk result (SoundDatabase self.new.database) }
         ensures others { D.tells → KeepsOthers (D.disk dev.old) (D.disk dev.new) }
         ensures told { D.tells → (D.disk dev.new).told ≡ (D.disk dev.old).told }
