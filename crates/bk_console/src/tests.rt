@@ -3,6 +3,7 @@ use bk_device::{Device, FileDevice, FixedClock, MemDevice, MemSource};
 use std::alloc::{AllocError, Global};
 use std::fs;
 use std::process::Abort;
+use std::rt::Files;
 use std::test::Fail;
 use std::thread::Threads;
 
@@ -228,27 +229,36 @@ BACKUP DATABASE S TO DISK = 'g.bak';";
     told_over(&rt, "2", &MEDIUM, script, told)
 }
 
-// Runs over a directory: the first instance makes a medium, and the second reads it. With `-b` a run is done only where
-// nothing was refused.
-#[test]
-fn two_runs_over_a_directory(rt: HostRuntime) -> Result<(), Fail> {
+// The status of a script over a directory, which stops at the first refusal.
+fn status_in<R: AllocGlobal + Files + Print + Threads + Sync>(
+    rt: &R,
+    dir: &str,
+    instance: &str,
+    script: &str,
+) -> Result<u8, Fail> {
     let alloc = rt.alloc();
+    let line = words(alloc, &["-b", "--instance", instance, dir])?;
+    let mut device = FileDevice::new(rt, alloc, dir)?;
+    let mut source = MemSource::new(alloc, script.as_bytes())?;
+    let mut clock = FixedClock::new(START, 1000);
+    Ok(run(rt, alloc, &line, &mut source, &mut device, &mut clock))
+}
+
+// The first run makes a medium in a directory, which others read. A run is done only where nothing was refused.
+#[test]
+fn runs_over_a_directory(rt: HostRuntime) -> Result<(), Fail> {
     let id = std::process::id(rt.process());
     let place = std::env::temp_dir(&rt)?;
-    let dir = format!(in alloc; "{}/bk_console-{id}", place.as_path().display())?;
+    let dir = format!(in rt.alloc(); "{}/bk_console-{id}", place.as_path().display())?;
     fs::create_dir(&rt, dir.as_str())?;
     let made = "CREATE DATABASE S; USE S; CREATE TABLE t (k BIGINT PRIMARY KEY, v VARCHAR(112)); \
 INSERT INTO t VALUES (1, 'a'); BACKUP DATABASE S TO DISK = 'f.bak';";
     let restored = "RESTORE DATABASE S FROM DISK = 'f.bak'; USE S; INSERT INTO t VALUES (2, 'b'); \
 BACKUP DATABASE S TO DISK = 'g.bak';";
     let refused = "RESTORE DATABASE S FROM DISK = 'g.bak'; USE S; INSERT INTO t VALUES (2, 'x');";
-    for (instance, script, status) in [("1", made, 0u8), ("2", restored, 0), ("3", refused, 1)] {
-        let mut device = FileDevice::new(&rt, alloc, dir.as_str())?;
-        let line = words(alloc, &["-b", "--instance", instance, dir.as_str()])?;
-        let mut source = MemSource::new(alloc, script.as_bytes())?;
-        let mut clock = FixedClock::new(START, 1000);
-        assert_eq!(rt; run(&rt, alloc, &line, &mut source, &mut device, &mut clock), status);
-    }
+    assert_eq!(rt; status_in(&rt, dir.as_str(), "1", made)?, 0);
+    assert_eq!(rt; status_in(&rt, dir.as_str(), "2", restored)?, 0);
+    assert_eq!(rt; status_in(&rt, dir.as_str(), "3", refused)?, 1);
     fs::remove_dir_all(&rt, dir.as_str())?;
     Ok(())
 }
