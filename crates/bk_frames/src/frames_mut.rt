@@ -1,5 +1,6 @@
-ghost use Rattle.std.specs.Prelude.{◌≡◌, ◌≢◌, ◌<◌, ◌≤◌, ◌++◌, Some, length, slice_get, take, drop};
-ghost use Rattle.std.specs.Borrow.{sem, LendsBoth, Array, u8};
+ghost use Rattle.std.specs.Prelude.{◌≡◌, ◌≢◌, ◌<◌, ◌≤◌, ◌++◌, Some, length, slice_get, slice_set, take, drop};
+ghost use Rattle.std.specs.Borrow.{sem, Lends, LendsBoth, Array, u8};
+ghost use Rattle.bk_frames.specs.Lending.{LendsPageOfPart, LendsPagesOfPart, LendsPartsOfPart};
 ghost use Rattle.bk_frames.specs.Pages.{with_pair};
 
 use crate::frames::Page;
@@ -31,22 +32,39 @@ impl<'a> FramesMut<'a> {
     /// The page at a place below `len`, to be written. All others stay as they are.
     pub fn page_mut(&mut self, i: usize) -> &mut Page
         requires { i < length self.old.pages.now }
+        ensures* writes_back { sem 𝓛 (LendsPageOfPart self.entry i result) }
         ensures value { slice_get self.old.pages.now i ≡ Some result.now }
     {
-        let pages = &mut *self.pages;
-        &mut pages[i]
+        lend_page(self.as_mut_slice(), i)
+    }
+
+    /// All pages, to be written.
+    pub fn as_mut_slice(&mut self) -> &mut [Page]
+        ensures* writes_back { sem 𝓛 (LendsPagesOfPart self.entry result) }
+        ensures value { result.now ≡ self.old.pages.now }
+    {
+        &mut *self.pages
     }
 
     /// The pages below a place and those from it on, to be written. The place is at most `len`.
-    pub fn split_at_mut(self, mid: usize) -> (FramesMut<'a>, FramesMut<'a>)
-        requires { mid ≤ length self.pages.now }
-        ensures front { result.0.pages.now ≡ take mid self.entry.pages.now }
-        ensures back { result.1.pages.now ≡ drop mid self.entry.pages.now }
+    pub fn split_at_mut(&mut self, mid: usize) -> (FramesMut<'_>, FramesMut<'_>)
+        requires { mid ≤ length self.old.pages.now }
+        ensures* writes_back { sem 𝓛 (LendsPartsOfPart self.entry result) }
+        ensures front { result.0.pages.now ≡ take mid self.old.pages.now }
+        ensures back { result.1.pages.now ≡ drop mid self.old.pages.now }
     {
-        let FramesMut { pages } = self;
-        let (front, back) = pages.split_at_mut(mid);
+        let (front, back) = lend_parts(self.as_mut_slice(), mid);
         (FramesMut { pages: front }, FramesMut { pages: back })
     }
+}
+
+// The page at a place.
+fn lend_page(pages: &mut [Page], i: usize) -> &mut Page
+    requires { i < length pages.old }
+    ensures* writes_back { sem 𝓛 (Lends (Array (Array u8 0) 0) (Array u8 0) pages.entry result (slice_set pages.old i)) }
+    ensures value { slice_get pages.old i ≡ Some result.now }
+{
+    &mut pages[i]
 }
 
 // The pages below a place and those from it on.

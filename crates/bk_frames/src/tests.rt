@@ -48,7 +48,7 @@ fn parts_cross_threads(rt: HostRuntime) -> Result<(), Fail> {
     let mut frames = Frames::new(rt.alloc(), 4)?;
     assert_eq!(rt; frames.len(), 4);
     let (front, back) = frames.split_at_mut(1);
-    let (mut front, back) = (is_send(front), is_send(back));
+    let (mut front, mut back) = (is_send(front), is_send(back));
     assert_eq!(rt; (front.len(), back.len()), (1, 3));
     let (middle, mut last) = back.split_at_mut(2);
     assert_eq!(rt; (middle.len(), last.len()), (2, 1));
