@@ -23,3 +23,11 @@ module _ {M : Type 1} {𝓤 : Ura M} (𝓛 : Logic 𝓤) (R T U V : RattleType) 
       use2 𝓛 (‵ (fres γ' (T.coded.code (G w.0 w.1)))) (followed₂ 𝓛 (mem T) (mem U) (mem V) G γ' γ₁ γ₂ w.0 w.1) $ move ! (1 ∷ 0 ∷ []) $
       use2 𝓛 (‵ (fres γ (R.coded.code (F (G w.0 w.1))))) (followed 𝓛 R T F γ γ' (G w.0 w.1)) $
       rewrite ! 0 (λ (z : R.Denot). ‵ (fres γ (R.coded.code z))) (same w.0 w.1) refl $ done !)
+
+module _ {M : Type 1} {𝓤 : Ura M} (𝓛 : Logic 𝓤) (R T U : RattleType) (F : T.Denot → U.Denot → R.Denot) (γ γ₁ γ₂ : GName) where
+  open 𝓛 use {A}
+
+  -- the last value of the whole, from those of its two parts
+  pub both_back : (x : T.Denot) (y : U.Denot) → ent 𝓤 (sep 𝓤 (sep 𝓤 (A.res γ₁ (T.coded.code x)) (A.res γ₂ (U.coded.code y))) (sem 𝓛 (follows_both R T U γ γ₁ γ₂ F))) (A.res γ (R.coded.code (F x y)))
+  unfolding both_by
+  both_back x y = followed₂ 𝓛 (mem R) (mem T) (mem U) F γ γ₁ γ₂ x y

@@ -38,3 +38,16 @@ refilled-with_pair pages lent i j x y same =
     let written = with_pair pages i j x y in
     let len : length written ≡ length pages = length-set (slice_set pages i x) j y ∙ length-set pages i x in
     ap (λ l. refilled pages (with_pair l i j x y)) same ∙ take_at written (drop (length written) pages) (length pages) len
+
+-- a page behind a cut is the page of the whole
+pub set-behind : {X : Type 0} → (xs : List X) (mid i : ℕ) (x : X) → mid + i < length xs → take mid xs ++ slice_set (drop mid xs) i x ≡ slice_set xs (mid + i) x
+set-behind xs mid i x within =
+    let front = take mid xs in
+    let back = drop mid xs in
+    let len : length front ≡ mid = length-take-le mid xs (omega arith) in
+    let start : i ≡ mid + i - mid = omega arith in
+    ap (λ k. front ++ slice_set back k x) start ∙ sym (set-append_right front back mid (mid + i) x len (omega arith))
+    ∙ ap (λ l. slice_set l (mid + i) x) (take-append-drop mid xs)
+
+pub refilled-set : (pages : List (List ℕ)) (i : ℕ) (x : List ℕ) → refilled pages (slice_set pages i x) ≡ slice_set pages i x
+refilled-set pages i x = let written = slice_set pages i x in take_at written (drop (length written) pages) (length pages) (length-set pages i x)

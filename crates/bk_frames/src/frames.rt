@@ -77,7 +77,8 @@ impl Frames {
         self.pages.as_mut_slice()
     }
 
-    /// The pages at two places below `len`, to be written. The places differ, and all other pages stay as they are.
+    /// The pages at two places below `len`, to be written. The places differ, and all other pages stay as they are. A caller's proof
+    /// applies this by hand.
     pub fn pair_mut(&mut self, i: usize, j: usize) -> (&mut Page, &mut Page)
         requires first { i < length self.old }
         requires second { j < length self.old }
@@ -89,7 +90,9 @@ impl Frames {
         lend_pair(self.as_mut_slice(), i, j)
     }
 
-    /// The pages below a place and those from it on, to be written. The place is at most `len`.
+    /// The pages below a place and those from it on, to be written. The place is at most `len`. The frames then have the pages of
+    /// the one as they were left, and then those of the other. A caller's proof applies this by hand, as `put_behind` in the tests
+    /// does; of `as_mut_slice` and std's `split_at_mut` it learns as much by itself.
     pub fn split_at_mut(&mut self, mid: usize) -> (FramesMut<'_>, FramesMut<'_>)
         requires { mid ≤ length self.old }
         ensures* writes_back { sem 𝓛 (LendsParts self.entry result) }

@@ -6,6 +6,9 @@ ghost use Rattle.bk_frames.specs.Pages.{with_pair};
 use crate::frames::Page;
 
 /// Some of the pages of a `Frames`, lent to be written.
+///
+/// What a caller writes by the field `pages` its own proof learns by itself. The clauses `writes_back` below say the same of
+/// `page_mut`, `as_mut_slice` and `split_at_mut`, but a proof has to apply them by hand: `put` in the tests does.
 #[derive(Drop)]
 pub struct FramesMut<'a> {
     /// They as a slice.
@@ -29,7 +32,7 @@ impl<'a> FramesMut<'a> {
         &pages[i]
     }
 
-    /// The page at a place below `len`, to be written. All others stay as they are.
+    /// The page at a place below `len`, to be written. The part then has it as it was left, and all others as they were.
     pub fn page_mut(&mut self, i: usize) -> &mut Page
         requires { i < length self.old.pages.now }
         ensures* writes_back { sem 𝓛 (LendsPageOfPart self.entry i result) }
@@ -38,7 +41,7 @@ impl<'a> FramesMut<'a> {
         lend_page(self.as_mut_slice(), i)
     }
 
-    /// All pages, to be written.
+    /// All pages, to be written. The part then has them as they were left.
     pub fn as_mut_slice(&mut self) -> &mut [Page]
         ensures* writes_back { sem 𝓛 (LendsPagesOfPart self.entry result) }
         ensures value { result.now ≡ self.old.pages.now }
@@ -46,7 +49,8 @@ impl<'a> FramesMut<'a> {
         &mut *self.pages
     }
 
-    /// The pages below a place and those from it on, to be written. The place is at most `len`.
+    /// The pages below a place and those from it on, to be written. The place is at most `len`. The part then has the pages of the
+    /// one as they were left, and then those of the other.
     pub fn split_at_mut(&mut self, mid: usize) -> (FramesMut<'_>, FramesMut<'_>)
         requires { mid ≤ length self.old.pages.now }
         ensures* writes_back { sem 𝓛 (LendsPartsOfPart self.entry result) }

@@ -1,6 +1,53 @@
+ghost use Rattle.std.specs.Prelude.{◌≡◌, ◌<◌, ◌+◌, length, slice_set};
+
 use crate::*;
 use std::test::Fail;
 use std::thread;
+
+fn copy_page(page: &mut Page, from: &Page)
+    ensures { page.new ≡ from.now }
+{
+    *page = *from;
+}
+
+// Writes the page at a place of a part, and no other.
+fn put(part: &mut FramesMut<'_>, i: usize, page: &Page)
+    requires { i < length part.old.pages.now }
+    ensures same_reference { part.new.pages.ghost_name ≡ part.old.pages.ghost_name }
+    ensures written { part.new.pages.now ≡ slice_set part.old.pages.now i page.now }
+{
+    copy_page(part.page_mut(i), page);
+}
+
+// Writes a page of the second of two parts, and no other.
+fn put_in_second(first: FramesMut<'_>, second: FramesMut<'_>, i: usize, page: &Page)
+    requires { i < length second.pages.now }
+    ensures first { first.exit.0.now ≡ first.entry.pages.now }
+    ensures second { second.exit.0.now ≡ slice_set second.entry.pages.now i page.now }
+{
+    let FramesMut { pages } = second;
+    let mut part = FramesMut { pages };
+    put(&mut part, i, page);
+}
+
+// Writes the page that is so many behind another of a part, by its second part.
+fn put_in_part_behind(part: &mut FramesMut<'_>, mid: usize, i: usize, page: &Page)
+    requires { mid + i < length part.old.pages.now }
+    ensures same_reference { part.new.pages.ghost_name ≡ part.old.pages.ghost_name }
+    ensures written { part.new.pages.now ≡ slice_set part.old.pages.now (mid + i) page.now }
+{
+    let (first, second) = part.split_at_mut(mid);
+    put_in_second(first, second, i, page);
+}
+
+// The same of all pages.
+fn put_behind(frames: &mut Frames, mid: usize, i: usize, page: &Page)
+    requires { mid + i < length frames.old }
+    ensures { frames.new ≡ slice_set frames.old (mid + i) page.now }
+{
+    let (first, second) = frames.split_at_mut(mid);
+    put_in_second(first, second, i, page);
+}
 
 fn is_send<T: Send>(value: T) -> T {
     value
@@ -40,6 +87,23 @@ fn two_pages_are_written_at_once(rt: HostRuntime) -> Result<(), Fail> {
     assert_eq!(rt; frames.page(0)[0], 9);
     assert_eq!(rt; frames.page(1)[0], 0);
     assert_eq!(rt; frames.page(2)[0], 2);
+    Ok(())
+}
+
+#[test]
+fn parts_are_given_back(rt: HostRuntime) -> Result<(), Fail> {
+    let mut frames = Frames::new(rt.alloc(), 4)?;
+    assert_eq!(rt; frames.len(), 4);
+    put_behind(&mut frames, 1, 1, &[7; 8192]);
+    let mut whole = FramesMut {
+        pages: frames.as_mut_slice(),
+    };
+    put_in_part_behind(&mut whole, 2, 1, &[9; 8192]);
+    assert_eq!(rt; frames.len(), 4);
+    assert_eq!(rt; frames.page(0)[8191], 0);
+    assert_eq!(rt; frames.page(1)[8191], 0);
+    assert_eq!(rt; frames.page(2)[8191], 7);
+    assert_eq!(rt; frames.page(3)[8191], 9);
     Ok(())
 }
 

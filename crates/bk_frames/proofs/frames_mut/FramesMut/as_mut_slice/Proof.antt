@@ -1,15 +1,13 @@
 use Prim.Native.Nat.{ℕ, ◌*◌, ◌^◌, ◌+◌}
 use lib.ListN.{length}
-use mathlib.Core.Path.{◌≡◌, refl, sym, ap, subst, ◌∙◌}
+use mathlib.Core.Path.{refl, ap}
 use mathlib.Core.List.{List, [], ◌∷◌}
-use base.Logic.{id⊢, emp}
 use base.Fraction.{full_share}
-use base.Fml.{Fml, GName, ftrue, flft, fat, fobs, fbor}
+use base.Fml.{GName, ftrue, flft, fat, fobs, fbor}
 use mir.Syntax.{Ty, ty_ref, ty_int, ty_array, erased, mut, w8, named}
 use mir.Val.{Val}
-use contract.Monad.{fact}
 use contract.Running.{tables}
-use types.Kit.{‵, raw, ◌⊛◌, some, later, ◌$◌, ◌∵◌, !, qed, done, move, keep, drop, use0, use1, use2, use3, split, split3, fsplit3, fjoin3, feq_i, feq_l, flt_i, flt_l, join, pick, await, rewrite, suffices, group, frame}
+use types.Kit.{‵, ◌⊛◌, some, later, ◌$◌, ◌∵◌, !, qed, done, move, keep, drop, use1, use2, use3, split, split3, fsplit3, fjoin3, feq_i, feq_l, flt_i, flt_l, join, pick, await, rewrite, suffices, group, frame}
 use types.Part.{agg, sub, look_in, whole}
 use types.Run.{enter, addr, load, stop, fld, hop, of_opd, no_more, and_then, returns}
 use types.ByLocal.{alloc_all, pass_all, free_all, look_at, get, through, sets}
@@ -21,7 +19,6 @@ use denote.Slice.{MutSlice, mut_slice_vals, slice_ty, slice_val}
 use denote.Memory.{mem, part_at}
 use denote.Follow.{follows, follows_then}
 use denote.Through.{renamed, lends_inner_slice}
-use denote.RattleType.{RattleType}
 use denote.Exit.{no}
 use denote.Ref.{MutBor, MutRef, mut_vals, mut_Tells, at_last}
 use denote.Signature.{plain, mut_ref_to, named_lft}
@@ -55,10 +52,10 @@ as_mut_slice_spec 𝓤 𝓛 𝓜 𝓡 wired =
     let y : W.Ghost = ((κs, qs, bounds, a, (mut_vals r, tt)), tt) in
     let back : MutBor (List (List ℕ)) → FramesMut = λ w. record { pages = w } in
     let hands : HandsTo 𝓛 R F (λ n. n + 0) r.now pages back = hands_on 𝓛 R F 0 (λ x. get_at T.parts 0 (S.as_values x))
-        (put_record T L 0 0 S.as_values S.Ghost S.make (λ v. tt) (λ x. refl) (λ v g. refl) (λ x. x))
-        (kept_record T L 0 0 S.as_values S.Ghost S.make (λ v. tt) (λ x. refl) (λ v g. refl) (λ x. x))
-        (record_fill T L 0 0 S.as_values S.Ghost S.make (λ v. tt) (λ x. refl) (λ v g. refl) (λ x. x) refl (λ w. refl))
-        (record_apart T L 0 0 S.as_values S.Ghost S.make (λ v. tt) (λ x. refl) (λ v g. refl) (λ x. x) 𝓛 refl refl) r.now in
+    (put_record T L 0 0 S.as_values S.Ghost S.make (λ v. tt) (λ x. refl) (λ v g. refl) (λ x. x))
+    (kept_record T L 0 0 S.as_values S.Ghost S.make (λ v. tt) (λ x. refl) (λ v g. refl) (λ x. x))
+    (record_fill T L 0 0 S.as_values S.Ghost S.make (λ v. tt) (λ x. refl) (λ v g. refl) (λ x. x) refl (λ w. refl))
+    (record_apart T L 0 0 S.as_values S.Ghost S.make (λ v. tt) (λ x. refl) (λ v g. refl) (λ x. x) 𝓛 refl refl) r.now in
     let cell : Ty = slice_ty (ty_ref erased mut (ty_array (ty_int w8) 8192)) in
     let n : ℕ = length pages.now in
     qed 𝓛 (((‵ (flft κ q) ⊛ ‵ (flft κs.1.0 qs.1.0) ⊛ ‵ ftrue) ⊛ ‵ ((MutRef (named 0) κ R).own_val r (mut_vals r)) ⊛ ‵ ftrue) ∷ ‵ ftrue ∷ []) ∵

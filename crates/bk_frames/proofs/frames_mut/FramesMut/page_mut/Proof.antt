@@ -23,7 +23,7 @@ use denote.Follow.{follows_then}
 use denote.Plain.{uint_vals, uint_Tells, uint_Makes}
 use denote.Ref.{MutBor, MutRef, mut_vals, mut_Tells, mut_Lawful}
 use denote.Signature.{plain, mut_ref_to, type_at, named_lft}
-use Rattle.bk_frames.specs.Lending.{LendsPagesOfPart, LendsPageOfPart, with_pages}
+use Rattle.bk_frames.specs.Lending.{LendsPagesOfPart, with_pages}
 use denote.Steps.{nothing, heard, owned, peeks}
 use denote.Triple.Call.{calls_at}
 use denote.Triple.Clauses.{lasts, Lasts}
