@@ -2,6 +2,7 @@ pub mod Between
 pub mod Fresh
 pub mod Halves
 pub mod Indexes
+pub mod Listed
 pub mod OneRecord
 pub mod PageLaws
 pub mod Parts

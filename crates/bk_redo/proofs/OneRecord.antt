@@ -1,16 +1,17 @@
--- Pages redone by one record.
+-- What one record makes of a page, and what it gives to be listed.
 use Rattle.std.proofs.Common.{◌≡◌, ◌≢◌, ◌<◌, ℕ, ◌+◌, Bool, true, false, not, ◌&&◌, cond, List, [], ◌∷◌, length, get_or, set, Option, Some, None, refl, ap, subst, ◌∙◌, sym, ⊎_elim}
 use Rattle.std.specs.Prelude.{nat_lt, ◌==◌}
-use Rattle.std.proofs.lemmas.Bool.{cases_Bool, cases_eq, cond-true, cond-false, eq-eqb, ne_eqb}
-use Rattle.std.proofs.lemmas.List.{length-set, get_or-set_same, get_or-set_other}
+use Rattle.std.proofs.lemmas.Bool.{cases_Bool, cond-true, cond-false}
+use Rattle.std.proofs.lemmas.List.Elements.{All-nil, All-cons}
 use Rattle.bk_ids.specs.declared.record.Place.{Place}
 use Rattle.bk_ids.specs.declared.record.Rec.{Rec}
 use Rattle.bk_redo.specs.declared.place.PageAt.{PageAt}
 use Rattle.bk_redo.specs.PageStates.{PageState, page_of}
 use Rattle.bk_redo.specs.Effects.{Effect, sets_cell, fills_extents, leaves_pages, effect_of, is_on, fills_page, is_effect_on, cells_after}
 use Rattle.bk_redo.specs.Redo.{is_between, records_between, redone_by}
-use Rattle.bk_redo.specs.Frames.{Becomes, PartRedone, cell_redone, cell_set, cell_between, is_frame}
-use Rattle.bk_redo.proofs.Writing.{becomes_same}
+use Rattle.bk_redo.specs.Frames.{cell_redone, cell_set, cell_between, is_frame}
+use Rattle.bk_redo.specs.declared.writes.CellWrite.{CellWrite}
+use Rattle.bk_redo.specs.CellWrites.{IsListOf}
 
 -- a page on which a cell is set, if the cell is one of its
 abbrev set_on : PageAt → Option (Place × List ℕ) → ℕ → PageState → PageState
@@ -52,31 +53,43 @@ redone_one at from to r page =
     ∙ ap (λ (o : Option (Place × List ℕ)). set_on at o r.lsn page) (sym (cond-false (is_between from to r) cell None outside)))
     (cases_Bool (is_between from to r))
 
--- a record that sets a cell of one page of a part
-pub part_set : (places : List PageAt) (first from to : ℕ) (r : Rec) (place : Place) (image : List ℕ) (i : ℕ) (old : List (List ℕ)) (new : List ℕ)
-    → Some (place, image) ≡ cell_between from to r
-    → ((k : ℕ) (nowhere : PageAt) → k < length old → is_on place (get_or places (first + k) nowhere) ≡ is_frame (Some i) k)
-    → i < length old → Becomes (get_or old i []) (cell_redone place.slot image r.lsn (page_of (get_or old i []))) new
-    → PartRedone places first (records_between from to (r ∷ [])) old (set old i new)
-part_set places first from to r place image i old new sets found within becomes = record {
-  size = length-set old i new;
-  pages = λ k nowhere low.
-      let at : PageAt = get_or places (first + k) nowhere in
-      let page : List ℕ = get_or old k [] in
-      let after : PageState = cell_redone place.slot image r.lsn (page_of page) in
-      let made : redone_by at (records_between from to (r ∷ [])) (page_of page) ≡ cond (k == i) after (page_of page) =
-      redone_one at from to r (page_of page)
-      ∙ ap (λ (o : Option (Place × List ℕ)). set_on at o r.lsn (page_of page)) (sym sets)
-      ∙ ap (λ (b : Bool). cond b after (page_of page)) (found k nowhere low) in
-      ⊎_elim
-      (λ (same : k ≡ i).
-      let here : Becomes page after new = subst (λ (j : ℕ). Becomes (get_or old j []) (cell_redone place.slot image r.lsn (page_of (get_or old j []))) new) (sym same) becomes in
-      let state : after ≡ redone_by at (records_between from to (r ∷ [])) (page_of page) = sym (made ∙ cond-true (k == i) after (page_of page) (eq-eqb k i same)) in
-      let bytes : new ≡ get_or (set old i new) k [] = sym (ap (λ (j : ℕ). get_or (set old i new) j []) same ∙ get_or-set_same old i new [] within) in
-      subst (λ (b : List ℕ). Becomes page (redone_by at (records_between from to (r ∷ [])) (page_of page)) b) bytes (subst (λ (s : PageState). Becomes page s new) state here))
-      (λ (apart : k ≢ i).
-      let state : page_of page ≡ redone_by at (records_between from to (r ∷ [])) (page_of page) = sym (made ∙ cond-false (k == i) after (page_of page) (ne_eqb k i apart)) in
-      let bytes : page ≡ get_or (set old i new) k [] = sym (get_or-set_other old i k new [] apart) in
-      subst (λ (b : List ℕ). Becomes page (redone_by at (records_between from to (r ∷ [])) (page_of page)) b) bytes (subst (λ (s : PageState). Becomes page s page) state (becomes_same page)))
-      (cases_eq k i);
+-- ---- the list of what one record sets
+
+-- it sets no cell
+pub none_set : (places : List PageAt) (from to : ℕ) (r : Rec) → None ≡ cell_between from to r → IsListOf places (records_between from to (r ∷ [])) []
+none_set places from to r none = record {
+  pages = λ i nowhere page low.
+      let at : PageAt = get_or places i nowhere in
+      sym (redone_one at from to r page ∙ ap (λ (o : Option (Place × List ℕ)). set_on at o r.lsn page) (sym none));
+  slots = All-nil (λ (w : CellWrite). w.slot < 63);
+}
+
+-- it sets a cell of another page than those of the places
+pub none_framed : (places : List PageAt) (from to : ℕ) (r : Rec) (cell : Place × List ℕ) → Some cell ≡ cell_between from to r
+    → ((k : ℕ) (nowhere : PageAt) → k < length places → is_on cell.0 (get_or places k nowhere) ≡ is_frame None k)
+    → IsListOf places (records_between from to (r ∷ [])) []
+none_framed places from to r cell sets apart = record {
+  pages = λ i nowhere page low.
+      let at : PageAt = get_or places i nowhere in
+      sym (redone_one at from to r page
+      ∙ ap (λ (o : Option (Place × List ℕ)). set_on at o r.lsn page) (sym sets)
+      ∙ cond-false (is_on cell.0 at) (cell_redone cell.0.slot cell.1 r.lsn page) page (apart i nowhere low));
+  slots = All-nil (λ (w : CellWrite). w.slot < 63);
+}
+
+-- it sets a cell of the page of one place
+pub one_framed : (places : List PageAt) (from to : ℕ) (r : Rec) (cell : Place × List ℕ) (write : CellWrite) → Some cell ≡ cell_between from to r
+    → ((k : ℕ) (nowhere : PageAt) → k < length places → is_on cell.0 (get_or places k nowhere) ≡ is_frame (Some write.frame) k)
+    → write.slot ≡ cell.0.slot → write.image.now ≡ cell.1 → write.lsn ≡ r.lsn → write.slot < 63
+    → IsListOf places (records_between from to (r ∷ [])) (write ∷ [])
+one_framed places from to r cell write sets found slot image lsn low_slot = record {
+  pages = λ i nowhere page low.
+      let at : PageAt = get_or places i nowhere in
+      let same : cell_redone write.slot write.image.now write.lsn page ≡ cell_redone cell.0.slot cell.1 r.lsn page =
+      rw (slot, image, lsn) refl in
+      sym (redone_one at from to r page
+      ∙ ap (λ (o : Option (Place × List ℕ)). set_on at o r.lsn page) (sym sets)
+      ∙ ap (λ (b : Bool). cond b (cell_redone cell.0.slot cell.1 r.lsn page) page) (found i nowhere low)
+      ∙ ap (λ (s : PageState). cond (i == write.frame) s page) (sym same));
+  slots = All-cons (λ (w : CellWrite). w.slot < 63) write [] low_slot (All-nil (λ (w : CellWrite). w.slot < 63));
 }

@@ -31,12 +31,6 @@ pub record FramesRedone (places : List PageAt) (records : List Rec) (old new : L
       → (let page = slice_index_or old i [] in Becomes page (redone_by (slice_index_or places i nowhere) records (page_of page)) (slice_index_or new i []))
   pub others : (i : ℕ) → length places ≤ i → slice_index_or new i [] ≡ slice_index_or old i []
 
--- a part of frames is redone by records; its pages are those of the places from the first on
-pub record PartRedone (places : List PageAt) (first : ℕ) (records : List Rec) (old new : List (List ℕ)) : Type 0 where
-  pub size : length new ≡ length old
-  pub pages : (i : ℕ) (nowhere : PageAt) → i < length old
-      → (let page = slice_index_or old i [] in Becomes page (redone_by (slice_index_or places (first + i) nowhere) records (page_of page)) (slice_index_or new i []))
-
 -- a page whose cell is set by redo
 abbrev pub cell_redone : ℕ → List ℕ → ℕ → PageState → PageState
 cell_redone slot image lsn page = if nat_lt page.lsn lsn then record { lsn = lsn; cells = slice_set page.cells slot image } else page

@@ -3,5 +3,6 @@ pub mod Frames
 pub mod PageStates
 pub mod Redo
 pub mod Shares
-pub mod Tasks
+pub mod CellWrites
 pub mod Chains
+pub mod Tasks

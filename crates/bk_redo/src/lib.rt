@@ -10,6 +10,7 @@ mod redoing;
 mod share;
 mod turn;
 mod worker;
+mod writes;
 
 pub use error::RedoError;
 pub use law::{chain_law, page_law};
