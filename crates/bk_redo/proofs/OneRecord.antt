@@ -1,12 +1,12 @@
 -- What one record makes of a page, and what it gives to be listed.
-use Rattle.std.proofs.Common.{◌≡◌, ◌≢◌, ◌<◌, ℕ, ◌+◌, Bool, true, false, not, ◌&&◌, cond, List, [], ◌∷◌, length, get_or, set, Option, Some, None, refl, ap, subst, ◌∙◌, sym, ⊎_elim}
+use Rattle.std.proofs.Common.{◌≡◌, ◌<◌, ℕ, Bool, true, false, not, ◌&&◌, cond, List, [], ◌∷◌, length, get_or, set, Option, Some, None, refl, ap, ◌∙◌, sym, ⊎_elim}
 use Rattle.std.specs.Prelude.{nat_lt, ◌==◌}
 use Rattle.std.proofs.lemmas.Bool.{cases_Bool, cond-true, cond-false}
 use Rattle.std.proofs.lemmas.List.Elements.{All-nil, All-cons}
 use Rattle.bk_ids.specs.declared.record.Place.{Place}
 use Rattle.bk_ids.specs.declared.record.Rec.{Rec}
 use Rattle.bk_redo.specs.declared.place.PageAt.{PageAt}
-use Rattle.bk_redo.specs.PageStates.{PageState, page_of}
+use Rattle.bk_redo.specs.PageStates.{PageState}
 use Rattle.bk_redo.specs.Effects.{Effect, sets_cell, fills_extents, leaves_pages, effect_of, is_on, fills_page, is_effect_on, cells_after}
 use Rattle.bk_redo.specs.Redo.{is_between, records_between, redone_by}
 use Rattle.bk_redo.specs.Frames.{cell_redone, cell_set, cell_between, is_frame}

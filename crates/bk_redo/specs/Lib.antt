@@ -4,5 +4,6 @@ pub mod PageStates
 pub mod Redo
 pub mod Shares
 pub mod CellWrites
+pub mod Listing
 pub mod Chains
 pub mod Tasks

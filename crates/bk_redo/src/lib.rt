@@ -5,6 +5,7 @@ mod cell;
 mod error;
 mod index;
 mod law;
+mod listing;
 mod place;
 mod redoing;
 mod share;

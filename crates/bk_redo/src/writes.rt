@@ -1,22 +1,18 @@
-//! The cells that a log sets, listed for the workers.
+//! The cells that records set.
 
-ghost use Rattle.std.specs.Prelude.{◌≡◌, ◌≢◌, ◌↔◌, ℕ, [], ◌∷◌, List, length, IfOk, None, Some, Err, MatchResult};
-ghost use Rattle.std.specs.List.{AllPairs};
+ghost use Rattle.std.specs.Prelude.{[], ◌∷◌, IfSome};
 ghost use Rattle.std.specs.Option.{option_to_list};
-ghost use Rattle.bk_ids.specs.declared.record.Rec.{Rec};
-ghost use Rattle.bk_record.specs.Log.{IsLog};
 ghost use Rattle.bk_record.specs.Spelling.{IsRecord};
 ghost use Rattle.bk_record.specs.View.{record_of};
 ghost use Rattle.bk_redo.specs.Redo.{records_between};
-ghost use Rattle.bk_redo.specs.Frames.{IsIndex};
 ghost use Rattle.bk_redo.specs.CellWrites.{IsListOf};
+ghost use Rattle.bk_redo.specs.Listing.{IsWanted, IsListed};
 
 use crate::cell::cell_of;
-use crate::error::RedoError;
-use crate::index::{frame_of, index_of};
+use crate::index::frame_of;
 use crate::place::PageAt;
 use bk_ids::Lsn;
-use bk_record::{RecRef, check_log, cursor};
+use bk_record::{RecRef, cursor};
 use std::alloc::Global;
 use std::collections::BTreeMap;
 
@@ -29,21 +25,23 @@ pub(crate) struct CellWrite<'a> {
     pub lsn: Lsn,
 }
 
-// What a record sets, if its number is in this range and the cell's page is among the places.
-fn write_of<'a>(
-    index: &BTreeMap<PageAt, usize>,
-    places: &[PageAt],
-    logged: RecRef<'a>,
-    from: Lsn,
-    to: Lsn,
-) -> Option<CellWrite<'a>>
-    requires indexed { IsIndex places.now (length places.now) index.now.entries }
-    requires different { AllPairs (λ a b. a ≢ b) places.now }
+// Which cells are listed: those of the pages of these places, by the records of a range. The places' frames are told.
+#[derive(Clone, Copy)]
+pub(crate) struct Wanted<'a> {
+    pub places: &'a [PageAt],
+    pub index: &'a BTreeMap<PageAt, usize>,
+    pub from: Lsn,
+    pub to: Lsn,
+}
+
+// The cell that a record sets, if it is wanted.
+fn write_of<'a>(wanted: Wanted<'_>, logged: RecRef<'a>) -> Option<CellWrite<'a>>
+    requires wanted { IsWanted wanted }
     requires is_record { IsRecord (record_of logged) }
-    ensures { IsListOf places.now (records_between from to (record_of logged.entry ∷ [])) (option_to_list result) }
+    ensures { IsListOf wanted.entry.places.now (records_between wanted.entry.from wanted.entry.to (record_of logged.entry ∷ [])) (option_to_list result) }
 {
-    let (place, image) = cell_of(logged, from, to)?;
-    let frame = frame_of(index, places, place)?;
+    let (place, image) = cell_of(logged, wanted.from, wanted.to)?;
+    let frame = frame_of(wanted.index, wanted.places, place)?;
     Some(CellWrite {
         frame,
         slot: place.slot,
@@ -52,40 +50,27 @@ fn write_of<'a>(
     })
 }
 
-// The answer where memory ran out, at which a log that breaks off comes first.
-fn no_memory(log: &[u8]) -> RedoError
-    ensures { (at : ℕ) → (result ≡ RedoError.BadRecord at) ↔ ((records : List Rec) × IsLog log.now records (Some at)) }
-{
-    match check_log(log) {
-        Ok(()) => RedoError::NoMemory,
-        Err(bad) => RedoError::BadRecord { at: bad.at },
-    }
-}
-
-// What the records of a log set, one after the other, if their numbers are in this range and the pages are among the places.
-pub(crate) fn list_writes<'a>(
+// The wanted cells that the records of these bytes set, one after the other; none where the bytes aren't whole records, or
+// memory ran out.
+pub(crate) fn list_part<'a>(
     alloc: Global,
-    places: &[PageAt],
+    wanted: Wanted<'_>,
     log: &'a [u8],
-    from: Lsn,
-    to: Lsn,
-) -> Result<Vec<CellWrite<'a>>, RedoError>
-    requires { AllPairs (λ a b. a ≢ b) places.now }
-    ensures listed { IfOk result (λ writes. (records : List Rec) × IsLog log.now records None × IsListOf places.now (records_between from to records) writes.items) }
-    ensures bad { (at : ℕ) → (result ≡ Err (RedoError.BadRecord at)) ↔ ((records : List Rec) × IsLog log.now records (Some at)) }
+) -> Option<Vec<CellWrite<'a>>>
+    requires { IsWanted wanted }
+    ensures { IfSome result (λ writes. IsListed wanted.entry log.now writes.items) }
 {
-    let Ok(index) = index_of(alloc, places) else {
-        return Err(no_memory(log));
-    };
     let mut writes = Vec::new(alloc);
     for record in cursor(log) {
-        let logged = record?;
-        let Some(write) = write_of(&index, places, logged, from, to) else {
+        let Ok(logged) = record else {
+            return None;
+        };
+        let Some(write) = write_of(wanted, logged) else {
             continue;
         };
         let Ok(()) = writes.push(write) else {
-            return Err(no_memory(log));
+            return None;
         };
     }
-    Ok(writes)
+    Some(writes)
 }

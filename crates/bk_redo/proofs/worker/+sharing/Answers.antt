@@ -1,4 +1,4 @@
-use Rattle.std.proofs.Common.{List, ℕ, ◌++◌, ◌-◌, arith}
+use Rattle.std.proofs.Common.{◌++◌, ◌-◌, arith}
 use Rattle.bk_redo.specs.Tasks.{IsDone}
 use Rattle.bk_redo.proofs.Parts.{done_joined}
 use Rattle.bk_redo.proofs.worker.+sharing.Goals as goal

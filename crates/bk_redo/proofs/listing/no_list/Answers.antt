@@ -1,7 +1,7 @@
 use Rattle.std.proofs.Common.{◌≡◌, ℕ, refl}
 use Rattle.bk_redo.specs.declared.error.RedoError.TheVariants.{BadRecord, NoMemory}
 use Rattle.bk_redo.proofs.Whole.{bad_there, never_bad}
-use Rattle.bk_redo.proofs.writes.no_memory.Goals as goal
+use Rattle.bk_redo.proofs.listing.no_list.Goals as goal
 
 pub returns-in-Ok : goal.returns-in-Ok
 returns-in-Ok c = never_bad c.args.log.now c.in-Ok.ensures.0 (λ (at : ℕ). NoMemory ≡ BadRecord at) (λ at bad. cc) c.in-Ok.ensures.1
