@@ -3,7 +3,6 @@ pub mod Fresh
 pub mod Halves
 pub mod Indexes
 pub mod Listed
-pub mod OneRecord
 pub mod PageLaws
 pub mod Parts
 pub mod Whole
