@@ -1,5 +1,5 @@
 -- Maps from places to frames.
-use Rattle.std.proofs.Common.{◌≡◌, ◌≢◌, ◌≤◌, ◌<◌, ℕ, ◌+◌, ◌-◌, true, false, cond, List, [], length, get_or, Option, Some, None, refl, ap, ap₂, subst, ◌∙◌, sym, ⊎_elim, arith}
+use Rattle.std.proofs.Common.{◌≡◌, ◌≢◌, ◌≤◌, ◌<◌, ℕ, ◌+◌, true, false, cond, List, [], length, get_or, Option, Some, None, refl, ap, ap₂, subst, ◌∙◌, sym, ⊎_elim, arith}
 use Rattle.std.specs.Prelude.{◌==◌}
 use Rattle.std.specs.Ordering.{nat_cmp, ordering_then, is_eq}
 use Rattle.std.specs.Cmp.{nat_cmp_is}
@@ -14,7 +14,7 @@ use Rattle.std.proofs.lemmas.Map.Lookups.{exact_pairs, exact_unsigned}
 use Rattle.bk_ids.specs.declared.record.Place.{Place}
 use Rattle.bk_redo.specs.declared.place.PageAt.{PageAt}
 use Rattle.bk_redo.specs.Effects.{is_on}
-use Rattle.bk_redo.specs.Frames.{page_cmp, IsFrameOf, IsIndex}
+use Rattle.bk_redo.specs.Frames.{page_cmp, IsFrameOf, IsIndex, is_frame}
 
 -- ---- pages that compare as equal
 
@@ -82,11 +82,6 @@ not_on_other place at apart = false_from_ne_true (is_on place at) (λ on.
     let parts = and_parts (place.file == at.file) (place.page == at.page) on in
     apart (ap₂ (λ (f p : ℕ). let page : PageAt = record { file = f; page = p } in page) (sym (eqb-true place.file at.file parts.0)) (sym (eqb-true place.page at.page parts.1))))
 
--- no place is the cell's page
-pub on_none : (places : List PageAt) (place : Place) (first count k : ℕ) (nowhere : PageAt) → IsFrameOf places (length places) (page_at place) None → first + count ≤ length places → k < count
-    → is_on place (get_or places (first + k) nowhere) ≡ false
-on_none places place first count k nowhere none within low = not_on_other place (get_or places (first + k) nowhere) (none (first + k) nowhere (omega arith))
-
 -- places differ
 apart_at : (places : List PageAt) (i j : ℕ) (nowhere : PageAt) → AllPairs (λ a b. a ≢ b) places → i < length places → j < length places → i ≢ j → get_or places i nowhere ≢ get_or places j nowhere
 apart_at places i j nowhere different i_in j_in apart e = ⊎_elim
@@ -94,27 +89,13 @@ apart_at places i j nowhere different i_in j_in apart e = ⊎_elim
     (⊎_elim (λ (less : i < j). different i j nowhere less j_in e) (λ (more : j < i). different j i nowhere more i_in (sym e)))
     (cases_order i j)
 
--- one place is, and the k-th from the first is that one or isn't
-pub on_frame : (places : List PageAt) (place : Place) (first k frame : ℕ) (nowhere : PageAt) → AllPairs (λ a b. a ≢ b) places → IsFrameOf places (length places) (page_at place) (Some frame) → first + k < length places
-    → is_on place (get_or places (first + k) nowhere) ≡ (first + k == frame)
-on_frame places place first k frame nowhere different is within = ⊎_elim
-    (λ (same : first + k ≡ frame). on_same place (get_or places (first + k) nowhere) (ap (λ (j : ℕ). get_or places j nowhere) same ∙ is.1 nowhere) ∙ sym (eq-eqb (first + k) frame same))
-    (λ (apart : first + k ≢ frame).
-    not_on_other place (get_or places (first + k) nowhere) (λ e. apart_at places (first + k) frame nowhere different within is.0 apart (e ∙ sym (is.1 nowhere)))
-    ∙ sym (ne_eqb (first + k) frame apart))
-    (cases_eq (first + k) frame)
-
--- it is another one
-pub on_other : (places : List PageAt) (place : Place) (first k frame : ℕ) (nowhere : PageAt) → AllPairs (λ a b. a ≢ b) places → IsFrameOf places (length places) (page_at place) (Some frame) → first + k < length places → first + k ≢ frame
-    → is_on place (get_or places (first + k) nowhere) ≡ false
-on_other places place first k frame nowhere different is within apart = on_frame places place first k frame nowhere different is within ∙ ne_eqb (first + k) frame apart
-
--- it is counted from the first
-pub on_counted : (places : List PageAt) (place : Place) (first k frame : ℕ) (nowhere : PageAt) → AllPairs (λ a b. a ≢ b) places → IsFrameOf places (length places) (page_at place) (Some frame) → first + k < length places → first ≤ frame
-    → is_on place (get_or places (first + k) nowhere) ≡ (k == frame - first)
-on_counted places place first k frame nowhere different is within since =
-    on_frame places place first k frame nowhere different is within
-    ∙ ⊎_elim
-    (λ (same : first + k ≡ frame). eq-eqb (first + k) frame same ∙ sym (eq-eqb k (frame - first) (omega arith)))
-    (λ (apart : first + k ≢ frame). ne_eqb (first + k) frame apart ∙ sym (ne_eqb k (frame - first) (λ e. apart (omega arith))))
-    (cases_eq (first + k) frame)
+-- the cell's page is that of its frame alone
+pub on_frame : (places : List PageAt) (place : Place) (found : Option ℕ) → AllPairs (λ a b. a ≢ b) places → IsFrameOf places (length places) (page_at place) found
+    → (k : ℕ) (nowhere : PageAt) → k < length places → is_on place (get_or places k nowhere) ≡ is_frame found k
+on_frame places place None different none k nowhere low = not_on_other place (get_or places k nowhere) (none k nowhere low)
+on_frame places place (Some frame) different is k nowhere low = ⊎_elim
+    (λ (same : k ≡ frame). on_same place (get_or places k nowhere) (ap (λ (j : ℕ). get_or places j nowhere) same ∙ is.1 nowhere) ∙ sym (eq-eqb k frame same))
+    (λ (apart : k ≢ frame).
+    not_on_other place (get_or places k nowhere) (λ e. apart_at places k frame nowhere different low is.0 apart (e ∙ sym (is.1 nowhere)))
+    ∙ sym (ne_eqb k frame apart))
+    (cases_eq k frame)

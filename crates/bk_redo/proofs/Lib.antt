@@ -2,7 +2,7 @@ pub mod Between
 pub mod Fresh
 pub mod Halves
 pub mod Indexes
-pub mod OneRecord
+pub mod Listed
 pub mod PageLaws
 pub mod Parts
 pub mod Whole

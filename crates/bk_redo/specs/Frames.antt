@@ -1,5 +1,5 @@
 -- What redo does to frames.
-use Rattle.std.specs.Prelude.{◌≡◌, ◌≢◌, ℕ, ◌+◌, ◌<◌, ◌≤◌, Bool, false, List, [], ◌++◌, length, Option, Some, None, nat_lt, ◌==◌, if◌then◌else◌, slice_set, slice_index_or}
+use Rattle.std.specs.Prelude.{◌≡◌, ◌≢◌, ℕ, ◌<◌, ◌≤◌, Bool, false, List, [], ◌++◌, length, Option, Some, None, nat_lt, ◌==◌, if◌then◌else◌, slice_set, slice_index_or}
 use Rattle.std.specs.Ordering.{nat_cmp, ordering_then}
 use Rattle.std.specs.declared.cmp.Ordering.{Ordering}
 use Rattle.std.specs.BTreeMap.{is_at}
@@ -30,12 +30,6 @@ pub record FramesRedone (places : List PageAt) (records : List Rec) (old new : L
   pub pages : (i : ℕ) (nowhere : PageAt) → i < length places
       → (let page = slice_index_or old i [] in Becomes page (redone_by (slice_index_or places i nowhere) records (page_of page)) (slice_index_or new i []))
   pub others : (i : ℕ) → length places ≤ i → slice_index_or new i [] ≡ slice_index_or old i []
-
--- a part of frames is redone by records; its pages are those of the places from the first on
-pub record PartRedone (places : List PageAt) (first : ℕ) (records : List Rec) (old new : List (List ℕ)) : Type 0 where
-  pub size : length new ≡ length old
-  pub pages : (i : ℕ) (nowhere : PageAt) → i < length old
-      → (let page = slice_index_or old i [] in Becomes page (redone_by (slice_index_or places (first + i) nowhere) records (page_of page)) (slice_index_or new i []))
 
 -- a page whose cell is set by redo
 abbrev pub cell_redone : ℕ → List ℕ → ℕ → PageState → PageState

@@ -3,5 +3,7 @@ pub mod Frames
 pub mod PageStates
 pub mod Redo
 pub mod Shares
-pub mod Tasks
+pub mod CellWrites
+pub mod Listing
 pub mod Chains
+pub mod Tasks

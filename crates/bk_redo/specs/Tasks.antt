@@ -1,17 +1,13 @@
 -- What workers read, and what they do.
-use Rattle.std.specs.Prelude.{◌≢◌, ℕ, List, None, length}
-use Rattle.std.specs.List.{AllPairs}
-use Rattle.bk_ids.specs.declared.record.Rec.{Rec}
-use Rattle.bk_record.specs.Log.{IsLog}
+use Rattle.std.specs.Prelude.{ℕ, ◌<◌, List}
+use Rattle.std.specs.List.{All}
 use Rattle.bk_redo.specs.declared.worker.Task.{Task}
-use Rattle.bk_redo.specs.Redo.{records_between}
-use Rattle.bk_redo.specs.Frames.{IsIndex, PartRedone}
+use Rattle.bk_redo.specs.CellWrites.{PartWritten}
 
--- the places of a task are all different, and its map has their frames
+-- the slots of a task's writes are those of cells
 pub record IsTask (task : Task) : Type 0 where
-  pub different : AllPairs (λ a b. a ≢ b) task.places.now
-  pub indexed : IsIndex task.places.now (length task.places.now) task.index.now.entries
+  pub slots : All (λ write. write.slot < 63) task.writes.now
 
--- a part is redone by the records of a task's log in its range, if the log is whole
+-- the writes of a task are made to a part of the frames, which begins with this one
 pub record IsDone (task : Task) (first : ℕ) (old new : List (List ℕ)) : Type 0 where
-  pub redone : (records : List Rec) → IsLog task.log.now records None → PartRedone task.places.now first (records_between task.from task.to records) old new
+  pub made : PartWritten first task.writes.now old new

@@ -5,11 +5,13 @@ mod cell;
 mod error;
 mod index;
 mod law;
+mod listing;
 mod place;
 mod redoing;
 mod share;
 mod turn;
 mod worker;
+mod writes;
 
 pub use error::RedoError;
 pub use law::{chain_law, page_law};

@@ -8,14 +8,13 @@ ghost use Rattle.bk_redo.specs.Redo.{records_between};
 ghost use Rattle.bk_redo.specs.Frames.{FramesRedone};
 
 use crate::error::RedoError;
-use crate::index::index_of;
+use crate::listing::list_log;
 use crate::place::PageAt;
 use crate::share::Share;
 use crate::turn::{Turn, Untold};
 use crate::worker::{Task, redo_share};
 use bk_frames::Frames;
 use bk_ids::Lsn;
-use bk_record::check_log;
 use std::alloc::Global;
 use std::thread::Threads;
 
@@ -64,17 +63,10 @@ pub fn redo_with<R: Threads + Sync, G: Turn>(
     ensures bad { (at : ℕ) → (result ≡ Err (RedoError.BadRecord at)) ↔ ((records : List Rec) × IsLog log.now records (Some at)) }
     ensures unchanged { OnErr result (frames.new ≡ frames.old) }
 {
-    check_log(log)?;
-    let index = index_of(alloc, pages)?;
-    let task = Task {
-        places: pages,
-        index: &index,
-        log,
-        from,
-        to,
-    };
     let share = Share::whole(pages.len(), workers);
+    let writes = list_log(rt, alloc, pages, log, from, to, share.workers)?;
     let (front, _) = frames.as_mut_slice().split_at_mut(pages.len());
+    let task = Task { writes: &writes };
     redo_share(rt, gate, task, share, front);
     Ok(())
 }

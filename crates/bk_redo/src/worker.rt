@@ -1,70 +1,53 @@
 //! Workers, of which each redoes the pages of its part.
 
-ghost use Rattle.std.specs.Prelude.{◌+◌, ◌≤◌, [], ◌∷◌, length};
+ghost use Rattle.std.specs.Prelude.{◌+◌, ◌^◌, ◌<◌, ◌≤◌, [], ◌∷◌, length};
 ghost use Rattle.std.specs.Thread.{IsSync};
-ghost use Rattle.bk_record.specs.Spelling.{IsRecord};
-ghost use Rattle.bk_record.specs.View.{record_of};
-ghost use Rattle.bk_redo.specs.Redo.{records_between};
-ghost use Rattle.bk_redo.specs.Frames.{PartRedone};
+ghost use Rattle.bk_redo.specs.CellWrites.{PartWritten};
 ghost use Rattle.bk_redo.specs.Tasks.{IsTask, IsDone};
 ghost use Rattle.bk_redo.specs.Shares.{IsShare};
 
-use crate::cell::{cell_of, redo_cell};
-use crate::index::frame_among;
-use crate::place::PageAt;
+use crate::cell::redo_cell;
 use crate::share::Share;
 use crate::turn::Turn;
-use bk_ids::Lsn;
+use crate::writes::CellWrite;
 use bk_page::Page;
-use bk_record::{RecRef, cursor};
-use std::collections::BTreeMap;
 use std::thread::{Threads, join_mut};
 
-// What all workers read: the places of the pages and their frames, the log, and the range of numbers in it.
+// What all workers read: the cells that the log sets, one after the other.
 #[derive(Clone, Copy)]
 pub(crate) struct Task<'a> {
-    pub places: &'a [PageAt],
-    pub index: &'a BTreeMap<PageAt, usize>,
-    pub log: &'a [u8],
-    pub from: Lsn,
-    pub to: Lsn,
+    pub writes: &'a [CellWrite<'a>],
 }
 
-// Redoes a part of the pages, which begins with the first page given, by one record.
-fn redo_record(task: Task<'_>, first: usize, pages: &mut [Page], logged: RecRef<'_>)
-    requires task { IsTask task }
-    requires within { first + length pages.old ≤ length task.places.now }
-    requires is_record { IsRecord (record_of logged) }
-    ensures { PartRedone task.entry.places.now first (records_between task.entry.from task.entry.to (record_of logged.entry ∷ [])) pages.old pages.new }
+// Makes a write to a part of the pages, which begins with the first frame given, if its page is one of them.
+fn redo_write(first: usize, pages: &mut [Page], write: &CellWrite<'_>)
+    requires { write.now.slot < 63 }
+    ensures { PartWritten first (write.now ∷ []) pages.old pages.new }
 {
-    let Some((place, image)) = cell_of(logged, task.from, task.to) else {
+    if write.frame < first || write.frame - first >= pages.len() {
         return;
-    };
-    let Some(i) = frame_among(task.index, task.places, place, first, pages.len()) else {
-        return;
-    };
-    redo_cell(&mut pages[i], place.slot, image, logged.lsn);
+    }
+    redo_cell(
+        &mut pages[write.frame - first],
+        write.slot,
+        write.image,
+        write.lsn,
+    );
 }
 
-// Redoes a part of the pages, which begins with the first page given, by the whole log. A log that breaks off is redone up
-// to there.
-pub(crate) fn redo_part(task: Task<'_>, first: usize, pages: &mut [Page])
-    requires task { IsTask task }
-    requires within { first + length pages.old ≤ length task.places.now }
+// Makes the writes of a task to a part of the pages, which begins with the first frame given.
+fn redo_part(task: Task<'_>, first: usize, pages: &mut [Page])
+    requires { IsTask task }
     ensures { IsDone task.entry first pages.old pages.new }
 {
-    for record in cursor(task.log) {
-        let Ok(logged) = record else {
-            return;
-        };
-        redo_record(task, first, pages, logged);
+    for write in task.writes {
+        redo_write(first, pages, write);
     }
 }
 
 // Tells the gate that a worker begins, and redoes its pages, where it has any: the least number of its share, or one more.
 fn work<G: Turn>(gate: &G, task: Task<'_>, share: Share, pages: &mut [Page])
     requires task { IsTask task }
-    requires within { share.first + length pages.old ≤ length task.places.now }
     requires even { (share.least ≤ length pages.old) × (length pages.old ≤ share.least + 1) }
     ensures { IsDone task.entry share.first pages.old pages.new }
 {
@@ -85,7 +68,7 @@ pub(crate) fn redo_share<R: Threads + Sync, G: Turn>(
     pages: &mut [Page],
 )
     requires task { IsTask task }
-    requires within { share.first + length pages.old ≤ length task.places.now }
+    requires room { share.first + length pages.old < 2 ^ 64 }
     requires share { IsShare share (length pages.old) }
     ensures { IsDone task.entry share.first pages.old pages.new }
 {
@@ -98,11 +81,11 @@ pub(crate) fn redo_share<R: Threads + Sync, G: Turn>(
     join_mut(
         rt,
         &mut ||
-            requires { IsSync R.row × IsSync G.row × IsTask task × (ahead.first + length front.now ≤ length task.places.now) × IsShare ahead (length front.now) }
+            requires { IsSync R.row × IsSync G.row × IsTask task × (ahead.first + length front.now < 2 ^ 64) × IsShare ahead (length front.now) }
             ensures { IsDone task.entry ahead.first front.entry.now front.exit.now }
         { redo_share(rt, gate, task, ahead, front) },
         &mut ||
-            requires { IsSync R.row × IsSync G.row × IsTask task × (behind.first + length back.now ≤ length task.places.now) × IsShare behind (length back.now) }
+            requires { IsSync R.row × IsSync G.row × IsTask task × (behind.first + length back.now < 2 ^ 64) × IsShare behind (length back.now) }
             ensures { IsDone task.entry behind.first back.entry.now back.exit.now }
         { redo_share(rt, gate, task, behind, back) },
     );
