@@ -1,0 +1,1 @@
+-- What the layers above may take of a home.
