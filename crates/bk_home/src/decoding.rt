@@ -1,6 +1,7 @@
 //! Reading a record.
 
-ghost use Rattle.bk_home.specs.Spelling.{path_form, record_form, read_record};
+ghost use Rattle.std.specs.Prelude.{IfOk};
+ghost use Rattle.bk_home.specs.Spelling.{IsShort, path_form, record_form, read_record};
 ghost use Rattle.bk_home.specs.Decoding.{Reads};
 
 use crate::record::Record;
@@ -45,7 +46,8 @@ fn read_front(alloc: Global, bytes: &[u8]) -> Result<(Record, &[u8]), Unread>
 /// The record that all of these bytes spell.
 #[tactic(auto, unfolding(crate::specs::Spelling::read_record))]
 pub fn read_record(alloc: Global, bytes: &[u8]) -> Result<Record, Unread>
-    ensures { Reads (λ r. r) result (read_record bytes.now) }
+    ensures read { Reads (λ r. r) result (read_record bytes.now) }
+    ensures path { IfOk result (λ r. IsShort r.making) }
 {
     let (record, rest) = read_front(alloc, bytes)?;
     if !rest.is_empty() {

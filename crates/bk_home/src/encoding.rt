@@ -5,7 +5,7 @@ ghost use Rattle.bk_home.specs.Spelling.{IsShort, HasPath, IsRecord, path_bytes,
 ghost use Rattle.bk_bytes.specs.Field.{bytes_of};
 
 use crate::record::Record;
-use bk_bytes::{append_text, append_u16, append_u64};
+use bk_bytes::{append_text, append_u64};
 use bk_ids::Text;
 use std::alloc::{AllocError, Global};
 
@@ -23,15 +23,16 @@ fn append_path(out: &mut Vec<u8>, making: &Option<Text>) -> Result<(), AllocErro
 
 /// The bytes of a record.
 #[tactic(auto, unfolding(crate::specs::Spelling::record_bytes))]
-pub fn encode(alloc: Global, record: &Record) -> Result<Vec<u8>, AllocError>
-    requires { IsShort record.now.making }
-    ensures bytes { IfOk result (λ bytes. bytes.items ≡ record_bytes record.now) }
-    ensures is_record { OnOk result (IsRecord record.now) }
+pub fn encode(alloc: Global, kept: &Record) -> Result<Vec<u8>, AllocError>
+    requires { IsShort kept.now.making }
+    ensures bytes { IfOk result (λ bytes. bytes.items ≡ record_bytes kept.now) }
+    ensures is_record { OnOk result (IsRecord kept.now) }
+    ensures read { IfOk result (λ bytes. read_record bytes.items ≡ Some kept.now) }
     ensures short { IfOk result (λ bytes. vec_len bytes ≤ 65536) }
 {
     let mut bytes = Vec::new(alloc);
-    append_u64(&mut bytes, record.number)?;
-    append_u64(&mut bytes, record.counter)?;
-    append_path(&mut bytes, &record.making)?;
+    append_u64(&mut bytes, kept.number)?;
+    append_u64(&mut bytes, kept.counter)?;
+    append_path(&mut bytes, &kept.making)?;
     Ok(bytes)
 }

@@ -16,3 +16,6 @@ mod unread;
 pub use error::HomeError;
 pub use home::Home;
 pub use record::Record;
+
+#[cfg(test)]
+mod tests;

@@ -1,5 +1,5 @@
 // Making the three files.
-ghost use Rattle.std.specs.Prelude.{◌≡◌, ◌≤◌, ◌⊎◌, [], ◌∷◌, List, ℕ, None, Unit, length, true, false, IfOk, OnOk, OnErr, IsErrOf};
+ghost use Rattle.std.specs.Prelude.{◌≡◌, ◌≤◌, ◌⊎◌, [], ◌∷◌, List, ℕ, None, length, true, false, IfOk, OnOk, OnErr, IsErrOf};
 ghost use Rattle.bk_control.specs.Control.{IsControl};
 ghost use Rattle.bk_device.specs.Calls.{ChangesNothing};
 ghost use Rattle.bk_device.specs.Counts.{HasRisen};
