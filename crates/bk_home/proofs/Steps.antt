@@ -1,11 +1,11 @@
 -- What making an instance, putting its record and adding a blob did to the device.
 use Rattle.std.proofs.Common.{◌≡◌, ◌≢◌, ◌⊎◌, ◌+◌, ℕ, Bool, true, false, List, [], ◌∷◌, ◌++◌, length, map, take, Option, Some, None, refl, inl, inr, sym, ap, subst, ◌∙◌, arith, get_or}
-use Rattle.std.specs.Prelude.{◌||◌, is_some, option_map, unwrap_or}
+use Rattle.std.specs.Prelude.{is_some, option_map, Result, Err, IsErrOf}
 use Rattle.bk_control.specs.Control.{IsControl, control_value, control_durable, control_kept} 
 use Rattle.bk_control.specs.Control.{Kept as KeptControl}
 use Rattle.bk_control.specs.Slots.{control_of}
 use Rattle.bk_device.specs.Calls.{contents, ChangesNothing}
-use Rattle.bk_device.specs.Compose.{effect_then, effect_weaken, effect_widen, effect_none, keeps_by_effect, durable_kept}
+use Rattle.bk_device.specs.Compose.{effect_then, effect_weaken, effect_widen, effect_none, effect_of_nothing, keeps_by_effect, keeps_by_nothing, durable_kept}
 use Rattle.bk_device.specs.Disk.{Files, Disk, IsDurable, IsLawful}
 use Rattle.bk_device.specs.Effects.{Effect, IsName, KeepsFiles, MayLeaveOwn}
 use Rattle.bk_gate.specs.Blobs.{sealed, part_of}
@@ -348,3 +348,32 @@ broken_record a content made held none = record {
   control = λ nothing. absurd cc;
   why = inl (record_none a.files content held none);
 }
+
+-- ---- opening or making
+
+pub made_moved : {a b : Disk} → ChangesNothing a b → IsMade a.files → IsMade b.files
+made_moved call made none = made (sym (call.files made_file) ∙ none)
+
+pub no_instance_moved : {a b : Disk} → ChangesNothing a b → IsNoInstance a.files → IsNoInstance b.files
+no_instance_moved call is = (made_moved call is.0, ap control_of (call.files control_file) ∙ is.1)
+
+pub broken_moved : {a b : Disk} → ChangesNothing a b → IsBroken b.files → IsBroken a.files
+broken_moved {a = a} {b = b} call is = record {
+  made = λ none. is.made (call.files made_file ∙ none);
+  control = λ none. is.control (ap control_of (call.files control_file) ∙ none);
+  why = elim is.why [
+    | inl none ↦ inl (sym (record_same a.files b.files (call.files control_file)) ∙ none)
+    | inr none ↦ inr (ap (λ (file : Option (List ℕ)). rows_in (sealed file)) (sym (call.files rows_file)) ∙ none)
+  ];
+}
+
+-- it was seen that the instance isn't made, and then it was made
+pub load_crash : (number : ℕ) (a b c : Disk) → ChangesNothing a b → IsNotMade a.files → IsDurable a made_file → (IsDurable b made_file → Effect IsOwn (λ image. IsNotMade image ⊎ HomeIs image (fresh number) []) b c)
+    → Effect IsOwn (λ image. IsNotMade image ⊎ HomeIs image (fresh number) []) a c
+load_crash number a b c call none durable next =
+    effect_then (effect_of_nothing (λ image mine. inl (durable (image made_file) (mine made_file own_made) ∙ none)) call)
+    (next (durable_kept {names = IsName made_file} made_file refl (keeps_by_nothing call) durable))
+
+-- the same error of another result
+pub same_error : {T U E : Type 0} (e d : E) → IsErrOf {T = T} (Err e) d → IsErrOf {T = U} (Err e) d
+same_error {T} {U} {E} e d is = let same : e ≡ d = cc in ap (λ (x : E). let r : Result U E = Err x in r) same

@@ -154,6 +154,8 @@ impl Home {
         ensures never_falls { D.disk_faults dev.old ≤ D.disk_faults dev.new }
         ensures tell_faults { D.tell_faults dev.new ≡ D.tell_faults dev.old }
     {
+        let count = self.count();
+        prove!(i < count);
         let bytes = read_blob(alloc, dev, &self.gate, i + 1)?;
         Ok(bytes)
     }

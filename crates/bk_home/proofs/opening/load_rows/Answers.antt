@@ -7,7 +7,7 @@ use Rattle.bk_home.proofs.opening.load_rows.Goals as goal
 
 pub returns-in_err-gate-clause-broken : goal.returns-in_err-gate-clause-broken
 returns-in_err-gate-clause-broken g c t =
-    let p = err_from_is_err_and c.from_residual-in_err-gate.result c.from_residual-in_err-gate.ensures.1 in
+    let p = err_from_is_err_and c.from_residual.result c.from_residual.ensures.1 in
     rw (p.1, p.2) (λ is. foreign_rows (contents ((g.D.Device.disk c.args.dev.now).files rows_file)) (c.in_err-gate.ensures.broken t is))
 
 pub returns-then-begins_empty-clause-rows : goal.returns-then-begins_empty-clause-rows
