@@ -1,7 +1,7 @@
 -- What making an instance, putting its record and adding a blob did to the device.
 use Rattle.std.proofs.Common.{◌≡◌, ◌≢◌, ◌⊎◌, ◌+◌, ℕ, Bool, true, false, List, [], ◌∷◌, ◌++◌, length, map, take, Option, Some, None, refl, inl, inr, sym, ap, subst, ◌∙◌, arith, get_or}
 use Rattle.std.specs.Prelude.{is_some, option_map, Result, Err, IsErrOf}
-use Rattle.bk_control.specs.Control.{IsControl, control_value, control_durable, control_kept} 
+use Rattle.bk_control.specs.Control.{IsControl, control_value, control_durable, control_kept}
 use Rattle.bk_control.specs.Control.{Kept as KeptControl}
 use Rattle.bk_control.specs.Slots.{control_of}
 use Rattle.bk_device.specs.Calls.{contents, ChangesNothing}

@@ -143,7 +143,12 @@ impl Home {
     }
 
     /// The bytes of the blob of this number, from 0, oldest first. Changes nothing.
-    pub fn blob<D: Device>(&self, alloc: Global, dev: &mut D, i: usize) -> Result<Vec<u8>, HomeError>
+    pub fn blob<D: Device>(
+        &self,
+        alloc: Global,
+        dev: &mut D,
+        i: usize,
+    ) -> Result<Vec<u8>, HomeError>
         requires fit { self.now.failed ≡ false }
         requires there { i < count_of self.now }
         requires stands { D.tells → IsHome (D.disk dev.old) self.now }
@@ -164,7 +169,12 @@ impl Home {
     /// or the new one.
     ///
     /// `NoMemory` leaves the device and the value as they were; only `Fault` and `NoMemory` are answered.
-    pub fn put<D: Device>(&mut self, alloc: Global, dev: &mut D, next: Record) -> Result<(), HomeError>
+    pub fn put<D: Device>(
+        &mut self,
+        alloc: Global,
+        dev: &mut D,
+        next: Record,
+    ) -> Result<(), HomeError>
         requires fit { self.old.failed ≡ false }
         requires path { IsShort next.making }
         requires stands { D.tells → IsHome (D.disk dev.old) self.old }
