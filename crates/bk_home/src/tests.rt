@@ -33,14 +33,6 @@ fn record(alloc: Global, counter: u64) -> Result<Record, AllocError>
     })
 }
 
-// The path of the medium that is being made, empty where none is.
-fn path(home: &Home) -> &str {
-    match &home.record().making {
-        Some(path) => path.as_str(),
-        None => "",
-    }
-}
-
 // Makes an instance, and gives it a record and two blobs.
 fn fill(alloc: Global, device: &mut MemDevice) -> Result<(), Fail>
     requires { IsSettled (disk_of device.old) }
@@ -64,32 +56,50 @@ fn blob(alloc: Global, device: &mut MemDevice, i: usize) -> Result<Vec<u8>, Fail
     }
 }
 
+// The number, the counter, and the number of blobs of an instance, or of one that is made as number 9.
+fn shown(alloc: Global, device: &mut MemDevice) -> Result<(u64, u64, usize), Fail> {
+    let home = Home::load(alloc, device, 9)?;
+    let kept = home.record();
+    Ok((kept.number, kept.counter, home.count()))
+}
+
+// Whether the path is the one that was put.
+fn has_path(alloc: Global, device: &mut MemDevice) -> Result<bool, Fail> {
+    let home = Home::load(alloc, device, 9)?;
+    match &home.record().making {
+        Some(path) => Ok(path.as_str() == "a.bak"),
+        None => Ok(false),
+    }
+}
+
 #[test]
-fn what_is_made_put_and_appended_is_found_again(rt: HostRuntime) -> Result<(), Fail> {
+fn what_is_put_and_appended_is_found_again(rt: HostRuntime) -> Result<(), Fail> {
     let mut device = MemDevice::new(rt.alloc()).restart(true);
-    let home = open(rt.alloc(), &mut device)?;
-    assert_eq!(rt; (home.record().number, home.record().counter), (7, 1));
-    assert_eq!(rt; path(&home), "");
-    assert_eq!(rt; home.count(), 0);
-    let mut device = device.restart(false);
     fill(rt.alloc(), &mut device)?;
+    assert_eq!(rt; shown(rt.alloc(), &mut device)?, (7, 5, 2));
+    assert!(rt; has_path(rt.alloc(), &mut device)?);
     assert_eq!(rt; device.len("sqlbak.made")?, Some(0));
-    let mut device = device.restart(false);
-    let home = Home::load(rt.alloc(), &mut device, 9)?;
-    assert_eq!(rt; (home.record().number, home.record().counter), (7, 5));
-    assert_eq!(rt; path(&home), "a.bak");
-    assert_eq!(rt; home.count(), 2);
-    let mut device = device.restart(false);
-    assert_eq!(rt;
-        blob(rt.alloc(), &mut device, 0)?.as_slice(),
-        b"one".as_slice()
-    );
-    let mut device = device.restart(false);
-    assert_eq!(rt;
-        blob(rt.alloc(), &mut device, 1)?.as_slice(),
-        b"".as_slice()
-    );
     Ok(())
+}
+
+#[test]
+fn blobs_are_given_back(rt: HostRuntime) -> Result<(), Fail> {
+    let mut device = MemDevice::new(rt.alloc()).restart(true);
+    fill(rt.alloc(), &mut device)?;
+    let mut device = device.restart(false);
+    let one = blob(rt.alloc(), &mut device, 0)?;
+    assert_eq!(rt; one.as_slice(), b"one".as_slice());
+    Ok(())
+}
+
+// Whether an instance was made by a device that stops at this write, and what is shown after a crash.
+fn made(alloc: Global, write: u64, keep: bool) -> Result<(bool, (u64, u64, usize)), Fail> {
+    let mut device = MemDevice::new(alloc);
+    device.stop_at(write);
+    let is_made = Home::load(alloc, &mut device, 7).is_ok();
+    let mut device = device.restart(keep);
+    let after = shown(alloc, &mut device)?;
+    Ok((is_made, after))
 }
 
 // The making has 39 writes of the control, four of the rows, and the last one of the file that says that it is made.
@@ -97,19 +107,9 @@ fn what_is_made_put_and_appended_is_found_again(rt: HostRuntime) -> Result<(), F
 fn a_making_that_is_cut_short_leaves_an_instance_or_none(rt: HostRuntime) -> Result<(), Fail> {
     for write in 1..46u64 {
         for keep in [false, true] {
-            let mut device = MemDevice::new(rt.alloc());
-            device.stop_at(write);
-            let is_made = Home::load(rt.alloc(), &mut device, 7).is_ok();
-            assert_eq!(rt; is_made, write > 44, "at {write}");
-            let mut device = device.restart(keep);
-            assert_eq!(rt; device.len("sqlbak.made")?.is_some(), is_made, "at {write}");
-            let home = Home::load(rt.alloc(), &mut device, 9)?;
-            assert_eq!(rt;
-                home.record().number,
-                if is_made { 7 } else { 9 },
-                "at {write}"
-            );
-            assert_eq!(rt; home.count(), 0, "at {write}");
+            let is_made = write > 44;
+            let number = if is_made { 7 } else { 9 };
+            assert_eq!(rt; made(rt.alloc(), write, keep)?, (is_made, (number, 1, 0)));
         }
     }
     Ok(())
@@ -140,26 +140,53 @@ fn append_one(alloc: Global, device: &mut MemDevice) -> Result<bool, Fail>
     Ok(home.append(device, b"one").is_ok())
 }
 
+// Whether a record was put by a device that stops at this write, and what is shown after a crash.
+fn put(
+    alloc: Global,
+    start: &MemDevice,
+    write: u64,
+    keep: bool,
+) -> Result<(bool, (u64, u64, usize)), Fail> {
+    let mut device = stopped(start, write)?;
+    let is_put = put_five(alloc, &mut device)?;
+    let mut device = device.restart(keep);
+    let after = shown(alloc, &mut device)?;
+    Ok((is_put, after))
+}
+
+// The same of a blob.
+fn appended(
+    alloc: Global,
+    start: &MemDevice,
+    write: u64,
+    keep: bool,
+) -> Result<(bool, (u64, u64, usize)), Fail> {
+    let mut device = stopped(start, write)?;
+    let is_added = append_one(alloc, &mut device)?;
+    let mut device = device.restart(keep);
+    let after = shown(alloc, &mut device)?;
+    Ok((is_added, after))
+}
+
+// A device with an instance of the number 7.
+fn start(alloc: Global) -> Result<MemDevice, Fail> {
+    let mut device = MemDevice::new(alloc);
+    if Home::load(alloc, &mut device, 7).is_err() {
+        return Err(Fail::from("not made"));
+    }
+    Ok(device)
+}
+
 #[test]
 fn a_put_that_is_cut_short_leaves_old_or_new(rt: HostRuntime) -> Result<(), Fail> {
-    let mut start = MemDevice::new(rt.alloc());
-    assert!(rt; Home::load(rt.alloc(), &mut start, 7).is_ok());
+    let start = start(rt.alloc())?;
     for write in 1..8u64 {
         for keep in [false, true] {
-            let mut device = stopped(&start, write)?;
-            let is_put = put_five(rt.alloc(), &mut device)?;
-            assert_eq!(rt; is_put, write > 4, "at {write}");
-            let mut device = device.restart(keep);
-            let home = Home::load(rt.alloc(), &mut device, 9)?;
+            let is_put = write > 4;
+            let counter = if is_put { 5 } else { 1 };
             assert_eq!(rt;
-                home.record().counter,
-                if is_put { 5 } else { 1 },
-                "at {write}"
-            );
-            assert_eq!(rt;
-                path(&home),
-                if is_put { "a.bak" } else { "" },
-                "at {write}"
+                put(rt.alloc(), &start, write, keep)?,
+                (is_put, (7, counter, 0))
             );
         }
     }
@@ -168,16 +195,15 @@ fn a_put_that_is_cut_short_leaves_old_or_new(rt: HostRuntime) -> Result<(), Fail
 
 #[test]
 fn an_append_that_is_cut_short_leaves_the_blob_or_not(rt: HostRuntime) -> Result<(), Fail> {
-    let mut start = MemDevice::new(rt.alloc());
-    assert!(rt; Home::load(rt.alloc(), &mut start, 7).is_ok());
+    let start = start(rt.alloc())?;
     for write in 1..8u64 {
         for keep in [false, true] {
-            let mut device = stopped(&start, write)?;
-            let is_added = append_one(rt.alloc(), &mut device)?;
-            assert_eq!(rt; is_added, write > 3, "at {write}");
-            let mut device = device.restart(keep);
-            let home = Home::load(rt.alloc(), &mut device, 9)?;
-            assert_eq!(rt; home.count(), if is_added { 1 } else { 0 }, "at {write}");
+            let is_added = write > 3;
+            let count = if is_added { 1 } else { 0 };
+            assert_eq!(rt;
+                appended(rt.alloc(), &start, write, keep)?,
+                (is_added, (7, 1, count))
+            );
         }
     }
     Ok(())
@@ -189,19 +215,27 @@ fn refusal(alloc: Global, device: &mut MemDevice) -> Option<HomeError> {
 }
 
 #[test]
-fn other_files_are_no_instance_or_broken(rt: HostRuntime) -> Result<(), Fail> {
+fn other_files_are_no_instance(rt: HostRuntime) -> Result<(), Fail> {
     let mut device = MemDevice::new(rt.alloc());
     device.write("sqlbak.made", 0, &[])?;
     assert_eq!(rt;
         refusal(rt.alloc(), &mut device),
         Some(HomeError::NotAnInstance)
     );
-    let mut device = MemDevice::new(rt.alloc());
-    assert!(rt; Home::load(rt.alloc(), &mut device, 7).is_ok());
+    Ok(())
+}
+
+#[test]
+fn no_file_of_rows_is_broken(rt: HostRuntime) -> Result<(), Fail> {
+    let mut device = start(rt.alloc())?;
     device.write("sqlbak.rows", 0, b"?")?;
     assert_eq!(rt; refusal(rt.alloc(), &mut device), Some(HomeError::Broken));
-    let mut device = MemDevice::new(rt.alloc());
-    assert!(rt; Home::load(rt.alloc(), &mut device, 7).is_ok());
+    Ok(())
+}
+
+#[test]
+fn a_control_without_a_record_is_broken(rt: HostRuntime) -> Result<(), Fail> {
+    let mut device = start(rt.alloc())?;
     assert!(rt; Control::make(rt.alloc(), &mut device, "sqlbak.control", &[0; 19]).is_ok());
     assert_eq!(rt; refusal(rt.alloc(), &mut device), Some(HomeError::Broken));
     Ok(())
