@@ -1,11 +1,11 @@
 -- A record that is spelled is read back, and what is read has a path of 1 to 100 bytes, if it has one.
-use Rattle.std.proofs.Common.{◌≡◌, ◌≤◌, ◌+◌, ℕ, Bool, true, eqb, cond, List, [], ◌∷◌, ◌++◌, length, Option, Some, None, refl, sym, ap, subst, ◌∙◌, arith, lit<, length-append}
+use Rattle.std.proofs.Common.{◌≡◌, ◌≤◌, ◌+◌, ℕ, eqb, cond, List, [], ◌∷◌, ◌++◌, length, Option, Some, None, refl, sym, ap, subst, ◌∙◌, arith, lit<, length-append}
 use Rattle.std.proofs.lemmas.List.{append-nil}
 use Rattle.std.proofs.lemmas.Str.{IsUtf8-nil}
 use Rattle.bk_bytes.specs.Field.{AreBytes, bytes_of}
 use Rattle.bk_bytes.proofs.Fields.{length-bytes_of}
 use Rattle.bk_bytes.specs.Codec.{IsCodec, IsString}
-use Rattle.bk_bytes.proofs.Codecs.{number-IsCodec, string-IsCodec, followed-IsCodec, converted-IsCodec, bind_some, guard_true, some, some_is}
+use Rattle.bk_bytes.proofs.Codecs.{number-IsCodec, string-IsCodec, followed-IsCodec, converted-IsCodec, bind_some, guard_true, some_is}
 use Rattle.bk_home.specs.declared.record.Record.{Record}
 use Rattle.bk_home.specs.Spelling.{IsShort, HasPath, IsRecord, path_bytes, path_in, record_bytes, path_form, record_form, read_record}
 

@@ -1,5 +1,5 @@
 -- What making an instance, putting its record and adding a blob did to the device.
-use Rattle.std.proofs.Common.{◌≡◌, ◌≢◌, ◌⊎◌, ◌+◌, ℕ, Bool, true, false, List, [], ◌∷◌, ◌++◌, length, map, take, Option, Some, None, refl, inl, inr, sym, ap, subst, ◌∙◌, arith, get_or}
+use Rattle.std.proofs.Common.{◌≡◌, ◌⊎◌, ℕ, Bool, true, false, List, [], ◌∷◌, ◌++◌, length, map, Option, Some, None, refl, inl, inr, sym, ap, subst, ◌∙◌, arith, get_or}
 use Rattle.std.specs.Prelude.{is_some, option_map, Result, Err, IsErrOf}
 use Rattle.bk_control.specs.Control.{IsControl, control_value, control_durable, control_kept}
 use Rattle.bk_control.specs.Control.{Kept as KeptControl}
@@ -7,7 +7,7 @@ use Rattle.bk_control.specs.Slots.{control_of}
 use Rattle.bk_device.specs.Calls.{contents, ChangesNothing}
 use Rattle.bk_device.specs.Compose.{effect_then, effect_weaken, effect_widen, effect_none, effect_of_nothing, keeps_by_effect, keeps_by_nothing, durable_kept}
 use Rattle.bk_device.specs.Disk.{Files, Disk, IsDurable, IsLawful}
-use Rattle.bk_device.specs.Effects.{Effect, IsName, KeepsFiles, MayLeaveOwn}
+use Rattle.bk_device.specs.Effects.{Effect, IsName, KeepsFiles}
 use Rattle.bk_gate.specs.Blobs.{sealed, part_of}
 use Rattle.bk_gate.specs.Gate.{IsGate, begun_of}
 use Rattle.bk_gate.specs.Gate.{Kept as KeptGate}

@@ -1,5 +1,5 @@
 -- What the layers above may take of a home.
-use Rattle.std.proofs.Common.{◌≡◌, ◌≢◌, ◌⊎◌, ◌≤◌, ◌+◌, ◌-◌, ℕ, List, [], ◌∷◌, ◌++◌, length, map, take, Option, Some, None, refl, inl, inr, sym, ap, subst, ◌∙◌, arith, get_or}
+use Rattle.std.proofs.Common.{◌≡◌, ℕ, List, [], ◌∷◌, length, map, take, Option, Some, None, refl, inl, inr, sym, ap, subst, ◌∙◌, arith}
 use Rattle.std.specs.Prelude.{unwrap_or, codes}
 use Rattle.std.proofs.lemmas.List.{length-map}
 use Rattle.bk_bytes.specs.Codec.{◌>>=◌}
@@ -13,7 +13,7 @@ use Rattle.bk_gate.specs.Blobs.{sealed, part_of}
 use Rattle.bk_gate.specs.Laws.{gate_kept, gate_sealed}
 use Rattle.bk_home.specs.declared.record.Record.{Record}
 use Rattle.bk_home.specs.Spelling.{read_record}
-use Rattle.bk_home.specs.Home.{made_file, control_file, rows_file, IsOwn, IsNotMade, IsMade, record_of, rows_in, blobs_of, HomeIs, IsHome, IsNoInstance, IsBroken, AreDurable, Kept, count_of}
+use Rattle.bk_home.specs.Home.{made_file, control_file, rows_file, IsOwn, record_of, rows_in, blobs_of, HomeIs, IsHome, IsNoInstance, IsBroken, AreDurable, Kept, count_of}
 
 -- the three names
 

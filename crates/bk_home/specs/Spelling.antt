@@ -1,7 +1,7 @@
 -- How an instance's record is spelled: its number and the counter of GUIDs in eight bytes each, and behind them a length of
 -- two bytes, 0 where no medium is being made, and so many bytes of the path. All numbers have the lowest byte first, and
 -- nothing stands behind the path.
-use Rattle.std.specs.Prelude.{◌≡◌, ◌≤◌, ◌<◌, ◌^◌, ◌==◌, ℕ, List, [], ◌∷◌, ◌++◌, length, Option, Some, None, unwrap_or, if◌then◌else◌}
+use Rattle.std.specs.Prelude.{◌≤◌, ◌<◌, ◌^◌, ◌==◌, ℕ, List, [], ◌∷◌, ◌++◌, length, Option, Some, None, unwrap_or, if◌then◌else◌}
 use Rattle.bk_bytes.specs.Field.{bytes_of}
 use Rattle.bk_bytes.specs.Codec.{◌>>=◌, Codec, IsString, number, string, followed, converted}
 use Rattle.bk_home.specs.declared.record.Record.{Record}

@@ -1,4 +1,4 @@
-use Rattle.std.proofs.Common.{◌≡◌, Some, refl, sym, ◌∙◌, arith}
+use Rattle.std.proofs.Common.{refl, sym, ◌∙◌, arith}
 use Rattle.bk_bytes.specs.Field.{AreBytes}
 use Rattle.bk_home.specs.Spelling.{read_record}
 use Rattle.bk_home.proofs.Forms.{read_short}

@@ -1,4 +1,4 @@
-use Rattle.std.proofs.Common.{◌≡◌, Some, sym, ap, subst, ◌∙◌}
+use Rattle.std.proofs.Common.{Some, sym, ap, subst, ◌∙◌}
 use Rattle.bk_gate.specs.Gate.{Kept, IsGate}
 use Rattle.bk_gate.specs.Laws.{gate_begun, gate_reserved}
 use Rattle.bk_home.specs.Home.{rows_file}

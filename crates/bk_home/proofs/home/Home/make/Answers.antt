@@ -1,4 +1,4 @@
-use Rattle.std.proofs.Common.{◌≡◌, ap, ◌∙◌}
+use Rattle.std.proofs.Common.{ap, ◌∙◌}
 use Rattle.bk_home.specs.Spelling.{read_record}
 use Rattle.bk_home.proofs.Steps.{ready, make_third, made_none, made_home}
 use Rattle.bk_home.proofs.home.Home.make.Goals as goal

@@ -1,4 +1,3 @@
-use Rattle.std.proofs.Common.{◌≡◌, sym, ap, ◌∙◌}
 use Rattle.std.proofs.lemmas.Result.{err_from_is_err_and}
 use Rattle.bk_home.proofs.Steps.{nothing_then, opened_files, broken_record, same_error}
 use Rattle.bk_home.specs.declared.error.HomeError.TheVariants.{Broken}
