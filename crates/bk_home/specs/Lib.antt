@@ -1,0 +1,4 @@
+pub mod Spelling
+pub mod Decoding
+pub mod Home
+pub mod Laws
