@@ -1,5 +1,5 @@
 -- What a path shows stays where a history grows elsewhere: on a new branch, or on a branch that the path isn't on there.
-use Rattle.std.proofs.Common.{◌≡◌, ◌≢◌, ◌<◌, ◌≤◌, ◌⊎◌, inl, inr, ℕ, zero, suc, ◌+◌, ◌-◌, Bool, true, false, cond, List, [], ◌∷◌, ◌++◌, Option, None, Some, refl, sym, ◌∙◌, ap, subst, leb, eqb, filter, arith, add-zero, add-suc}
+use Rattle.std.proofs.Common.{◌≡◌, ◌<◌, ◌≤◌, ◌⊎◌, inl, inr, ℕ, zero, suc, ◌+◌, Bool, true, false, cond, List, [], ◌∷◌, ◌++◌, Option, None, Some, refl, sym, ◌∙◌, ap, subst, leb, eqb, filter, arith, add-zero, add-suc}
 use Rattle.std.specs.List.{AllByRecursion}
 use Rattle.std.proofs.lemmas.List.{append-nil}
 use Rattle.std.proofs.lemmas.Bool.{le-leb}
@@ -11,7 +11,7 @@ use Rattle.bk_world.specs.Changes.{appended_to}
 use Rattle.bk_world.specs.Entry.{Entry}
 use Rattle.bk_world.specs.History.{Touch, Line, History, is_guid, line_of, longer, appended, at_branch, along, entry_on, entries}
 use Rattle.bk_world.specs.Restore.{forked, new_line}
-use Rattle.bk_world.proofs.Histories.{entry_on-appended, branch_at-last}
+use Rattle.bk_world.proofs.Histories.{entry_on-appended}
 use Rattle.bk_world.proofs.Worlds.{is_guid-refl}
 
 -- The branches of a path.

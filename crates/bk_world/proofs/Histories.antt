@@ -7,11 +7,12 @@ use Rattle.std.proofs.lemmas.Bool.{le-leb}
 use Rattle.std.proofs.lemmas.Bool.Decides.{nat_tests}
 use Rattle.bk_ids.specs.declared.guid.Guid.{Guid}
 use Rattle.bk_ids.specs.declared.path.Branch.{Branch}
+use Rattle.bk_ids.specs.declared.record.Rec.{Rec}
 use Rattle.bk_ids.specs.Path.{started, last_branch, branch_at}
 use Rattle.bk_world.specs.Entry.{Entry}
 use Rattle.bk_world.specs.History.{Touch, Line, History, is_guid, line_of, longer, appended, at_branch, along, entry_on, entries}
 use Rattle.bk_world.specs.Changes.{appended_to}
-use Rattle.bk_world.specs.Sound.{has_line, GoesOn}
+use Rattle.bk_world.specs.Sound.{has_line, IsBelow, GoesOn}
 
 -- Paths.
 
@@ -103,6 +104,21 @@ pub entries-appended : (h : History) (b : Guid) (es : List Entry) (ts : List Tou
 unfolding entries
 entries-appended h b es ts path n above = along-same (entry_on (appended h b es ts)) (entry_on h) path n (entry_on-appended h b es ts n above)
 
+-- Lines below a number.
+
+all-below : {A : Type 0} (of : A → ℕ) (n later : ℕ) (xs ys : List A) → n ≤ later → AllByRecursion (λ x. of x < n) xs → AllByRecursion (λ x. of x < later) ys → AllByRecursion (λ x. of x < later) (xs ++ ys)
+all-below of n later [] ys le all more = more
+all-below of n later (x ∷ xs) ys le all more = (omega (arith, all.0), all-below of n later xs ys le all.1 more)
+
+-- a longer line lies below a later number
+pub longer-below : (line : Line) (n later : ℕ) (es : List Entry) (ts : List Touch) → n ≤ later → IsBelow line n → AllByRecursion (λ e. e.lsn < later) es → AllByRecursion (λ t. t.lsn < later) ts
+    → IsBelow (longer line es ts) later
+longer-below line n later es ts le is entries touches = record {
+  entries = all-below (λ (e : Entry). e.lsn) n later line.entries es le is.entries entries;
+  touches = all-below (λ (t : Touch). t.lsn) n later line.touches ts le is.touches touches;
+  records = subst (λ rs. AllByRecursion (λ (r : Rec). r.lsn < later) rs) (append-nil line.records) (all-below (λ (r : Rec). r.lsn) n later line.records [] le is.records tt);
+}
+
 -- One entry more at the end of a path.
 
 -- the entry where the test holds
@@ -133,7 +149,7 @@ module _ (h : History) (path : List Branch) (end : ℕ) (on : GoesOn h path end)
       ap (λ b. at_branch (entry_on (appended h on.branch (entry ∷ []) ts)) b k) last
       ∙ ap (λ (line : Line). filter (λ e. eqb e.lsn k) line.entries) (line_of-appended h on.branch (entry ∷ []) ts on.there)
       ∙ filter-append (λ e. eqb e.lsn k) (line_of h on.branch).entries (entry ∷ [])
-      ∙ ap (λ front. front ++ filter (λ e. eqb e.lsn k) (entry ∷ [])) (filter-below (line_of h on.branch).entries end k on.below le)
+      ∙ ap (λ front. front ++ filter (λ e. eqb e.lsn k) (entry ∷ [])) (filter-below (line_of h on.branch).entries end k on.below.entries le)
 
   grown : (d : ℕ) → along (entry_on (appended h on.branch (entry ∷ []) ts)) path (end + d) ≡ along (entry_on h) path end ++ one_if (ltb entry.lsn (end + d)) entry
   unfolding one_if
@@ -157,22 +173,18 @@ module _ (h : History) (path : List Branch) (end : ℕ) (on : GoesOn h path end)
       ap (λ b. along (entry_on (appended_to h b (entry ∷ []) ts)) path later) on.last
       ∙ same ∙ ap (λ t. along (entry_on h) path end ++ cond t (entry ∷ []) []) yes
 
-  below-more : (es : List Entry) (later : ℕ) → end ≤ later → entry.lsn < later → AllByRecursion (λ e. e.lsn < end) es → AllByRecursion (λ e. e.lsn < later) (es ++ entry ∷ [])
-  below-more [] later le lt all = (lt, tt)
-  below-more (e ∷ es) later le lt all = (omega (arith, all.0), below-more es later le lt all.1)
-
   starts-more : (bs : List Branch) (later : ℕ) → end ≤ later → AllByRecursion (λ b. b.start ≤ end) bs → AllByRecursion (λ b. b.start ≤ later) bs
   starts-more [] later le all = tt
   starts-more (b ∷ bs) later le all = (omega (arith, all.0), starts-more bs later le all.1)
 
   -- and the path goes on from the later end
-  pub GoesOn-logged : (later : ℕ) → entry.lsn < later → GoesOn (appended_to h (last_branch path) (entry ∷ []) ts) path later
-  GoesOn-logged later lt = record {
+  pub GoesOn-logged : (later : ℕ) → entry.lsn < later → AllByRecursion (λ t. t.lsn < later) ts → GoesOn (appended_to h (last_branch path) (entry ∷ []) ts) path later
+  GoesOn-logged later lt touched = record {
     branch = on.branch;
     last = on.last;
     there = ap (λ b. has_line (appended_to h b (entry ∷ []) ts) on.branch) on.last ∙ has_line-appended h on.branch (entry ∷ []) ts on.branch on.there;
     starts = starts-more path later (omega arith) on.starts;
-    below = subst (λ es. AllByRecursion (λ e. e.lsn < later) es)
-        (sym (ap (λ b. (line_of (appended_to h b (entry ∷ []) ts) on.branch).entries) on.last ∙ ap (λ (line : Line). line.entries) (line_of-appended h on.branch (entry ∷ []) ts on.there)))
-        (below-more (line_of h on.branch).entries later (omega arith) lt on.below);
+    below = subst (λ line. IsBelow line later)
+        (sym (ap (λ b. line_of (appended_to h b (entry ∷ []) ts) on.branch) on.last ∙ line_of-appended h on.branch (entry ∷ []) ts on.there))
+        (longer-below (line_of h on.branch) end later (entry ∷ []) ts (omega arith) on.below (lt, tt) touched);
   }

@@ -6,12 +6,11 @@ use Rattle.bk_ids.specs.declared.record.RecoveryModel.{RecoveryModel}
 use Rattle.bk_ids.specs.declared.record.RecoveryModel.TheVariants.{Simple, Full, BulkLogged}
 use Rattle.bk_world.specs.declared.database.Base.{Base}
 use Rattle.bk_world.specs.declared.header.Header.{Header}
-use Rattle.bk_world.specs.declared.header.HeaderFile.{HeaderFile}
 use Rattle.bk_world.specs.declared.header.SetKind.TheVariants as kind
-use Rattle.bk_world.specs.Entry.{Entry, nothing}
-use Rattle.bk_world.specs.Medium.{Reading, readable, medium, with_medium}
+use Rattle.bk_world.specs.Entry.{nothing}
+use Rattle.bk_world.specs.Medium.{readable, medium, with_medium}
 use Rattle.bk_world.specs.Rows.{model_below}
-use Rattle.bk_world.specs.World.{World, Database, Job, Open, least_begin, with_database}
+use Rattle.bk_world.specs.World.{World, Database, Job, least_begin, with_database}
 use Rattle.bk_world.specs.Changes.{drawn, entry_time, plain_entry, logged, logged_with}
 
 -- the log isn't kept for backups

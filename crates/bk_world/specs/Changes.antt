@@ -1,20 +1,22 @@
 -- What accepted statements change.
--- SQL Server: CREATE DATABASE, USE, CREATE TABLE, INSERT (Transact-SQL).
-use Rattle.std.specs.Prelude.{ℕ, ◌+◌, nat_le, max, min, take, codes, false, List, [], ◌∷◌, ◌++◌, length, Option, Some, None, if◌then◌else◌}
+-- SQL Server: CREATE DATABASE, DROP DATABASE, USE, CREATE TABLE, INSERT (Transact-SQL).
+use Rattle.std.specs.Prelude.{ℕ, ◌+◌, nat_le, max, min, take, codes, not, filter, false, List, [], ◌∷◌, ◌++◌, length, Option, Some, None, if◌then◌else◌}
 use Rattle.std.specs.Fmt.Cut.{floor_char_boundary}
+use Rattle.std.specs.Str.{bytes_eq}
 use Rattle.bk_ids.specs.declared.guid.Guid.{Guid}
 use Rattle.bk_ids.specs.declared.record.RecoveryModel.TheVariants.{Full}
 use Rattle.bk_ids.specs.declared.unit.UnitId.TheVariants.{File}
 use Rattle.bk_ids.specs.Path.{last_branch}
 use Rattle.bk_world.specs.declared.database.FileSpec.{FileSpec}
 use Rattle.bk_world.specs.declared.database.TableSpec.{TableSpec}
+use Rattle.bk_world.specs.declared.database.Status.{Status}
 use Rattle.bk_world.specs.declared.database.Status.TheVariants as status
 use Rattle.bk_world.specs.declared.database.State.TheVariants as state
 use Rattle.bk_world.specs.Entry.{Entry, Change, RowChange, rows_set, table_made, model_set}
 use Rattle.bk_world.specs.History.{History, Touch, Line, appended}
 use Rattle.bk_world.specs.Rows.{time_below}
 use Rattle.bk_world.specs.Seen.{tables}
-use Rattle.bk_world.specs.World.{World, Database, with_database, with_session, session_numbered}
+use Rattle.bk_world.specs.World.{World, Database, with_database, without_database, with_session, session_numbered}
 
 -- the last millisecond of the year 9999, which no time is above
 abbrev pub latest : ℕ
@@ -81,9 +83,19 @@ created w name now =
       databases = w.databases ++ new_database name (drawn w w.counter) branch ∷ [];
     }
 
--- the current session's current database is set
-unfoldable pub with_current : World → List ℕ → World
-with_current w name = record w { sessions = with_session w.sessions (record (session_numbered w.sessions w.session) { current = Some name }) }
+-- the standby files without that of a database, if it has one
+abbrev pub without_standby : Status → List (List ℕ) → List (List ℕ)
+without_standby (status.Standby file) standbys = filter (λ s. not (bytes_eq s file)) standbys
+without_standby status.Online standbys = standbys
+without_standby status.Down standbys = standbys
+
+-- a database is gone, with its standby file; media stay, and what is known of its branches
+unfoldable pub dropped : World → Database → World
+dropped w db = record w { databases = without_database w.databases db.name; standbys = without_standby db.status w.standbys }
+
+-- the current session's current database is set, or it has none
+unfoldable pub with_current : World → Option (List ℕ) → World
+with_current w name = record w { sessions = with_session w.sessions (record (session_numbered w.sessions w.session) { current = name }) }
 
 -- the history with more at the end of a branch, if there is one
 abbrev pub appended_to : History → Option Guid → List Entry → List Touch → History

@@ -13,6 +13,7 @@ use Rattle.bk_world.specs.declared.database.Status.TheVariants as status
 use Rattle.bk_world.specs.declared.database.Unit.{Unit as RestoreUnit}
 use Rattle.bk_world.specs.Medium.{Slot, Reading, readable, damaged, no_set, not_media, medium, medium_at, without_medium, with_medium}
 use Rattle.bk_world.specs.History.{History, line_of}
+use Rattle.bk_world.specs.Sound.{IsOnce}
 use Rattle.bk_world.specs.World.{World, Database, database_named, with_database}
 
 -- Data files.
@@ -109,8 +110,9 @@ pub record MediumChanged (old new : World) : Type 0 where
 abbrev pub IsLonger : {A : Type 0} → List A → List A → List A → Type 0
 IsLonger {A} here there joined = ((more : List A) × (here ++ more ≡ there) × (joined ≡ there)) ⊎ ((more : List A) × (there ++ more ≡ here) × (joined ≡ here))
 
--- two histories are joined, branch by branch
+-- two histories are joined, branch by branch, each branch once
 pub record Joins (here there joined : History) : Type 0 where
+  pub once : IsOnce joined
   pub entries : (branch : Guid) → IsLonger (line_of here branch).entries (line_of there branch).entries (line_of joined branch).entries
   pub touches : (branch : Guid) → IsLonger (line_of here branch).touches (line_of there branch).touches (line_of joined branch).touches
   pub records : (branch : Guid) → IsLonger (line_of here branch).records (line_of there branch).records (line_of joined branch).records

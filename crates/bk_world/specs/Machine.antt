@@ -1,6 +1,6 @@
 -- The machine: which rule a statement breaks first, what it changes in its parts, and what it replies.
--- SQL Server: CREATE DATABASE, USE, CREATE TABLE, INSERT, SELECT, BACKUP, RESTORE (Transact-SQL).
-use Rattle.std.specs.Prelude.{◌≡◌, ℕ, ◌+◌, Bool, ◌||◌, List, [], ◌∷◌, length, Option, Some, None, is_some, nat_lt, nat_le}
+-- SQL Server: CREATE DATABASE, DROP DATABASE, USE, CREATE TABLE, INSERT, SELECT, BACKUP, RESTORE (Transact-SQL).
+use Rattle.std.specs.Prelude.{◌≡◌, ℕ, ◌+◌, Bool, ◌||◌, List, [], ◌∷◌, length, Option, Some, None, is_some, nat_lt, nat_le, if◌then◌else◌}
 use Rattle.bk_ids.specs.declared.record.Place.{Place}
 use Rattle.bk_world.specs.declared.header.Header.{Header}
 use Rattle.bk_world.specs.declared.item.Item.{Item}
@@ -8,15 +8,16 @@ use Rattle.bk_world.specs.declared.item.Item.TheVariants as item
 use Rattle.bk_world.specs.declared.item.Statement.{Statement}
 use Rattle.bk_world.specs.declared.reply.Reply.{Reply}
 use Rattle.bk_world.specs.declared.reply.Reply.TheVariants.{Done, Counted, Selected, SetMade, Recovered, Refused}
+use Rattle.bk_world.specs.declared.rule.Limit.TheVariants.{Databases}
 use Rattle.bk_world.specs.declared.rule.Rule.{Rule}
-use Rattle.bk_world.specs.declared.rule.Rule.TheVariants.{NoSuchDatabase, NoSuchTable, DuplicateKey, NotBuilt}
+use Rattle.bk_world.specs.declared.rule.Rule.TheVariants.{NoSuchDatabase, DatabaseExists, NoSuchTable, DuplicateKey, LimitReached, NotBuilt}
 use Rattle.bk_world.specs.Medium.{Slot, Reading, readable, damaged, no_set, not_media, medium, medium_at}
 use Rattle.bk_world.specs.World.{World, least_begin, current_database, database_named}
-use Rattle.bk_world.specs.Checks.{when, or_else, found, used_up, limited}
+use Rattle.bk_world.specs.Checks.{when, or_else, found, used_up, limited, is_system, most_databases, offline, paths_of, in_use}
 use Rattle.bk_world.specs.Seen.{table_named, tables, visible, has_key, most_rows}
-use Rattle.bk_world.specs.Changes.{created, with_current, table_added, row_added}
+use Rattle.bk_world.specs.Changes.{created, dropped, with_current, table_added, row_added}
 use Rattle.bk_world.specs.Backup.{full_backup}
-use Rattle.bk_world.specs.Restore.{set_broken, whole_broken, has_other, whole_restore, MayTake}
+use Rattle.bk_world.specs.Restore.{set_broken, whole_broken, whole_restore, MayTake}
 
 -- What a step may choose.
 pub record Choice : Type 0 where
@@ -47,27 +48,36 @@ is_no_row key value = nat_lt greatest_key key || nat_lt most_value_bytes (length
 -- the first rule that a row breaks which is added to a table of the current database
 unfoldable pub row_broken : World → ℕ → List ℕ → ℕ → Option Rule
 row_broken w line table key = found (current_database w) NoSuchDatabase (λ db.
-    found (table_named (tables w db) table) NoSuchTable (λ t.
+    or_else (offline db)
+    (found (table_named (tables w db) table) NoSuchTable (λ t.
     or_else (when (nat_le most_rows (length (visible w db t))) (NotBuilt line))
     (or_else (when (has_key (visible w db t) key) (DuplicateKey key))
-    (limited (used_up db.end)))))
+    (limited (used_up db.end))))))
 
 -- the first rule that a backup breaks by its database
 unfoldable pub source_broken : World → List ℕ → Option Rule
-source_broken w name = found (database_named w.databases name) NoSuchDatabase (λ db. limited (used_up db.end || used_up w.counter))
+source_broken w name = found (database_named w.databases name) NoSuchDatabase (λ db. or_else (offline db) (limited (used_up db.end || used_up w.counter)))
+
+-- the first rule that a new database breaks by its name
+unfoldable pub name_broken : World → List ℕ → Option Rule
+name_broken w name =
+    or_else (when (is_system name || is_some (database_named w.databases name)) DatabaseExists)
+    (or_else (when (nat_le most_databases (length w.databases)) (LimitReached Databases))
+    (or_else (in_use (paths_of w.databases) (name ∷ []))
+    (limited (used_up w.counter))))
 
 -- the first rule that an item on this line breaks
 unfoldable pub broken : World → ℕ → Item → Option Rule
-broken w line (item.CreateDatabase name) = or_else (when (nat_lt 0 (length w.databases)) (NotBuilt line)) (limited (used_up w.counter))
-broken w line (item.Use name) = found (database_named w.databases name) NoSuchDatabase (λ db. None)
+broken w line (item.CreateDatabase name) = name_broken w name
+broken w line (item.DropDatabase name) = found (database_named w.databases name) NoSuchDatabase (λ db. None)
+broken w line (item.Use name) = if is_system name then None else found (database_named w.databases name) NoSuchDatabase (λ db. None)
 broken w line (item.CreateTable name) = found (current_database w) NoSuchDatabase (λ db.
-    or_else (when (nat_lt 0 (length (tables w db))) (NotBuilt line)) (limited (used_up db.end)))
+    or_else (offline db) (or_else (when (nat_lt 0 (length (tables w db))) (NotBuilt line)) (limited (used_up db.end))))
 broken w line (item.Insert table key value) = or_else (when (is_no_row key value) (NotBuilt line)) (row_broken w line table key)
 broken w line (item.Select table) = found (current_database w) NoSuchDatabase (λ db.
-    found (table_named (tables w db) table) NoSuchTable (λ t. None))
+    or_else (offline db) (found (table_named (tables w db) table) NoSuchTable (λ t. None)))
 broken w line (item.Backup name path) = or_else (when (is_some (medium_at w.media path)) (NotBuilt line)) (source_broken w name)
-broken w line (item.Restore name path replace) = or_else (when (has_other w.databases name) (NotBuilt line))
-    (set_broken (medium_at w.media path) (whole_broken w name replace))
+broken w line (item.Restore name path replace) = set_broken (medium_at w.media path) (whole_broken w name replace)
 broken w line item.NotBuilt = Some (NotBuilt line)
 
 -- an outcome of one part
@@ -98,7 +108,8 @@ header_at (Some (medium (slot ∷ slots))) = slot_header slot
 -- the outcome of an item that breaks no rule
 unfoldable pub accepted : World → Choice → Item → ℕ → Outcome
 accepted w choice (item.CreateDatabase name) now = in_one (created w name now) Done
-accepted w choice (item.Use name) now = in_one (with_current w name) Done
+accepted w choice (item.DropDatabase name) now = with_found (database_named w.databases name) (λ db. in_one (dropped w db) Done)
+accepted w choice (item.Use name) now = in_one (with_current w (if is_system name then None else Some name)) Done
 accepted w choice (item.CreateTable name) now = with_found (current_database w) (λ db. in_one (table_added w db name now) Done)
 accepted w choice (item.Insert table key value) now = with_found (current_database w) (λ db.
     with_found (table_named (tables w db) table) (λ t. in_one (row_added w db t key value now) (Counted 1)))

@@ -1,8 +1,6 @@
 -- A whole restore from the first set of a medium, with recovery: which rule it breaks first, and its parts.
 -- SQL Server: RESTORE (Transact-SQL); "Complete Database Restores"; "Tail-Log Backups"; "Recovery Paths".
-use Rattle.std.specs.Prelude.{◌≡◌, ◌≤◌, ℕ, ◌+◌, min, Bool, true, false, not, ◌&&◌, ◌||◌, List, [], ◌∷◌, ◌++◌, length, map, filter, Option, Some, None, nat_le, nat_lt, if◌then◌else◌}
-use Rattle.std.specs.List.{list_any}
-use Rattle.bk_ids.specs.declared.digest.Digest.{Digest}
+use Rattle.std.specs.Prelude.{◌≤◌, ℕ, ◌+◌, min, Bool, true, false, not, ◌&&◌, ◌||◌, List, [], ◌∷◌, ◌++◌, length, map, filter, Option, Some, None, nat_le, nat_lt, if◌then◌else◌}
 use Rattle.bk_ids.specs.declared.guid.Guid.{Guid}
 use Rattle.bk_ids.specs.declared.path.Branch.{Branch}
 use Rattle.bk_ids.specs.declared.unit.UnitId.TheVariants.{File}
@@ -16,12 +14,13 @@ use Rattle.bk_world.specs.declared.database.Unit.{Unit as RestoreUnit}
 use Rattle.bk_world.specs.declared.header.Header.{Header}
 use Rattle.bk_world.specs.declared.header.HeaderFile.{HeaderFile}
 use Rattle.bk_world.specs.declared.rule.Rule.{Rule}
-use Rattle.bk_world.specs.declared.rule.Rule.TheVariants.{MediaMissing, NotMedia, NoSuchSet, SetDamaged, OtherFamily, TailNotBackedUp, PathFull}
-use Rattle.bk_world.specs.History.{History, Line, is_guid}
+use Rattle.bk_world.specs.declared.rule.Limit.TheVariants.{Databases}
+use Rattle.bk_world.specs.declared.rule.Rule.TheVariants.{MediaMissing, NotMedia, NoSuchSet, SetDamaged, OtherFamily, TailNotBackedUp, PathFull, LimitReached}
+use Rattle.bk_world.specs.History.{Line, is_guid}
 use Rattle.bk_world.specs.Medium.{Slot, Reading, readable, damaged, no_set, not_media, medium}
 use Rattle.bk_world.specs.Rows.{model_below}
 use Rattle.bk_world.specs.World.{World, Database, database_named, with_new_database}
-use Rattle.bk_world.specs.Checks.{when, or_else, used_up, limited}
+use Rattle.bk_world.specs.Checks.{when, or_else, used_up, limited, most_databases, paths_of, in_use, twice}
 use Rattle.bk_world.specs.Changes.{drawn}
 use Rattle.bk_world.specs.Backup.{is_simple}
 
@@ -58,17 +57,31 @@ abbrev pub tail_broken : World → Option Database → Bool → Option Rule
 tail_broken w None replace = None
 tail_broken w (Some db) replace = when (has_tail w db && not replace) (TailNotBackedUp db.archive db.end)
 
+-- one database more than there may be
+abbrev pub number_broken : List Database → Option Database → Option Rule
+number_broken databases None = when (nat_le most_databases (length databases)) (LimitReached Databases)
+number_broken databases (Some db) = None
+
+-- the databases of other names
+abbrev pub others : List Database → List ℕ → List Database
+others databases name = filter (λ db. not (same_name db.name name)) databases
+
+-- the paths of a set's data files, in which no file of another database may lie, and no two of its own
+abbrev pub set_paths : Header → List (List ℕ)
+set_paths header = map (λ file. file.spec.path) header.files
+
+abbrev pub files_broken : List Database → List ℕ → Header → Option Rule
+files_broken databases name header = or_else (in_use (paths_of (others databases name)) (set_paths header)) (twice [] (set_paths header))
+
 -- the rules of a whole restore that is recovered, by the set's header
 abbrev pub whole_broken : World → List ℕ → Bool → Header → Option Rule
 whole_broken w name replace header =
     or_else (family_broken (database_named w.databases name) replace header)
     (or_else (tail_broken w (database_named w.databases name) replace)
+    (or_else (number_broken w.databases (database_named w.databases name))
+    (or_else (files_broken w.databases name header)
     (or_else (when (nat_le 64 (length header.path)) PathFull)
-    (limited (used_up header.last || used_up w.counter))))
-
--- there is a database of another name
-abbrev pub has_other : List Database → List ℕ → Bool
-has_other databases name = list_any (λ db. not (same_name db.name name)) databases
+    (limited (used_up header.last || used_up w.counter))))))
 
 -- Parts.
 

@@ -1,20 +1,56 @@
--- What every reachable world keeps of a database's place in the history.
-use Rattle.std.specs.Prelude.{◌≡◌, ◌<◌, ◌≤◌, ℕ, Bool, true, false, List, [], ◌∷◌, Some, if◌then◌else◌}
+-- What every reachable world keeps of databases and of their places in the history.
+use Rattle.std.specs.Prelude.{◌≡◌, ◌≢◌, ◌<◌, ◌≤◌, ℕ, Bool, true, false, List, [], ◌∷◌, Option, Some, if◌then◌else◌}
 use Rattle.std.specs.List.{AllByRecursion}
 use Rattle.bk_ids.specs.declared.guid.Guid.{Guid}
 use Rattle.bk_ids.specs.declared.path.Branch.{Branch}
-use Rattle.bk_ids.specs.Path.{last_branch}
-use Rattle.bk_world.specs.History.{History, is_guid, line_of}
+use Rattle.bk_ids.specs.Name.{lowered}
+use Rattle.bk_ids.specs.Path.{last_branch, branch_at}
+use Rattle.bk_world.specs.declared.database.Status.TheVariants.{Online}
+use Rattle.bk_world.specs.History.{History, Line, is_guid, line_of}
+use Rattle.bk_world.specs.World.{Database}
 
 -- the history has a line for this branch
 abbrev pub has_line : History → Guid → Bool
 has_line [] branch = false
 has_line (line ∷ history) branch = if is_guid line.branch branch then true else has_line history branch
 
--- A path up to an end may go on: its last branch is in the history, and nothing starts or was entered at the end or above.
+-- each branch has one line
+abbrev pub IsOnce : History → Type 0
+IsOnce [] = Unit {0}
+IsOnce (line ∷ history) = (has_line history line.branch ≡ false) × IsOnce history
+
+-- everything on a line lies below a number
+pub record IsBelow (line : Line) (n : ℕ) : Type 0 where
+  pub entries : AllByRecursion (λ e. e.lsn < n) line.entries
+  pub touches : AllByRecursion (λ t. t.lsn < n) line.touches
+  pub records : AllByRecursion (λ r. r.lsn < n) line.records
+
+-- A path up to an end may go on: its last branch is in the history, and nothing starts or lies on it at the end or above.
 pub record GoesOn (history : History) (path : List Branch) (end : ℕ) : Type 0 where
   pub branch : Guid
   pub last : last_branch path ≡ Some branch
   pub there : has_line history branch ≡ true
   pub starts : AllByRecursion (λ b. b.start ≤ end) path
-  pub below : AllByRecursion (λ e. e.lsn < end) (line_of history branch).entries
+  pub below : IsBelow (line_of history branch) end
+
+-- a path up to n is never on a branch from this number on
+abbrev pub IsOff : List Branch → ℕ → Option Guid → ℕ → Type 0
+IsOff path n branch end = (k : ℕ) → end ≤ k → k < n → branch_at path k ≢ branch
+
+-- a database that is online writes nothing that a path shows below n
+abbrev pub IsOffOf : List Branch → ℕ → Database → Type 0
+IsOffOf path n db = db.status ≡ Online → IsOff path n (last_branch db.path) db.end
+
+-- and none of some databases does
+abbrev pub IsUnwritten : List Database → List Branch → ℕ → Type 0
+IsUnwritten databases path n = AllByRecursion (IsOffOf path n) databases
+
+-- two databases have different names, and where both are online they write on different branches
+pub record Differ (a b : Database) : Type 0 where
+  pub names : lowered a.name ≢ lowered b.name
+  pub branches : a.status ≡ Online → b.status ≡ Online → last_branch a.path ≢ last_branch b.path
+
+-- each of some databases differs from all behind it
+abbrev pub AreDifferent : List Database → Type 0
+AreDifferent [] = Unit {0}
+AreDifferent (db ∷ databases) = AllByRecursion (Differ db) databases × AreDifferent databases

@@ -1,5 +1,5 @@
 -- The world: one instance with its databases, media, standby files, tables of msdb and sessions.
-use Rattle.std.specs.Prelude.{ℕ, Bool, false, min, List, [], ◌∷◌, Option, Some, None, ◌==◌, if◌then◌else◌}
+use Rattle.std.specs.Prelude.{ℕ, Bool, true, false, min, List, [], ◌∷◌, Option, Some, None, ◌==◌, if◌then◌else◌}
 use Rattle.bk_ids.specs.declared.guid.Guid.{Guid}
 use Rattle.bk_ids.specs.declared.path.Branch.{Branch}
 use Rattle.bk_ids.specs.declared.record.Mark.{Mark}
@@ -118,6 +118,10 @@ empty_world instance = record {
 unfoldable pub opened : World → World
 opened w = record w { session = 1; sessions = []; closed = false }
 
+-- a run has ended: no session is there any more (there is no job yet, and no open transaction)
+unfoldable pub ended : World → World
+ended w = record w { session = 1; sessions = []; closed = true }
+
 -- the least begin of some transactions, at most this end
 abbrev pub least_begin : List Open → ℕ → ℕ
 least_begin [] end = end
@@ -132,6 +136,11 @@ database_named (database ∷ databases) name = if same_name database.name name t
 abbrev pub with_database : List Database → List ℕ → (Database → Database) → List Database
 with_database [] name change = []
 with_database (database ∷ databases) name change = if same_name database.name name then change database ∷ databases else database ∷ with_database databases name change
+
+-- the databases without the one of this name
+abbrev pub without_database : List Database → List ℕ → List Database
+without_database [] name = []
+without_database (database ∷ databases) name = if same_name database.name name then databases else database ∷ without_database databases name
 
 -- the databases with this one in the place of that with its name, or else behind the others
 abbrev pub with_new_database : List Database → Database → List Database

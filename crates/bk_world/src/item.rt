@@ -7,6 +7,10 @@ pub enum Item {
     CreateDatabase {
         name: Name,
     },
+    /// `DROP DATABASE name`
+    DropDatabase {
+        name: Name,
+    },
     /// `USE name`
     Use {
         name: Name,

@@ -21,6 +21,6 @@ pub fn one_entry_more_is_shown_last()
         → end ≤ entry.lsn → entry.lsn < later
         → entries (appended_to history (last_branch path) (entry ∷ []) touched) path later ≡ entries history path end ++ entry ∷ [] }
     ensures goes_on { (history : History) (path : List Branch) (end : ℕ) → GoesOn history path end → (entry : Entry) (touched : List Touch) (later : ℕ)
-        → end ≤ entry.lsn → entry.lsn < later
+        → end ≤ entry.lsn → entry.lsn < later → AllByRecursion (λ t. t.lsn < later) touched
         → GoesOn (appended_to history (last_branch path) (entry ∷ []) touched) path later }
 {}

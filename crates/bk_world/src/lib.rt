@@ -16,4 +16,4 @@ pub use item::{Item, Statement};
 pub use laws::{one_entry_more_is_shown_last, what_is_below_stays};
 pub use msdb::{BackupRow, MarkRow, RestoreKind, RestoreRow};
 pub use reply::Reply;
-pub use rule::{Limit, Rule};
+pub use rule::{Limit, Rule, StatusWord};

@@ -1,23 +1,65 @@
 ghost use Rattle.std.specs.Prelude.{◌≡◌, IfOk};
 ghost use Rattle.std.specs.String.{string_bytes};
 ghost use Rattle.bk_world.specs.declared.rule.Rule.TheVariants.{SetDamaged, OtherFamily};
-ghost use Rattle.bk_world.specs.Text.{rule_text};
+ghost use Rattle.bk_world.specs.Text.{limit_text, rule_text, status_text};
 
-use bk_ids::{Digest, Guid, Lsn};
+use bk_ids::{Digest, Guid, Lsn, Text};
 use std::alloc::{AllocError, Global};
 
 /// A limit that a statement would pass.
 #[derive(Clone, Copy, Debug, PartialEq, Eq)]
 pub enum Limit {
+    /// There are 16 databases.
+    Databases,
     /// Log records or GUIDs are used up, but for those that what is never refused may need.
     Lsn,
 }
 
-/// Why a statement was refused: the first rule that it breaks, with the values that were compared.
+impl Limit {
+    /// Its word in a refusal.
+    pub fn text(self) -> &'static str
+        ensures { result.now ≡ limit_text self }
+    {
+        match self {
+            Limit::Databases => "DATABASES",
+            Limit::Lsn => "LSN",
+        }
+    }
+}
+
+/// The status of a database that isn't online, as a refusal says it.
 #[derive(Clone, Copy, Debug, PartialEq, Eq)]
+pub enum StatusWord {
+    /// Some of it was restored, and it waits for more or for its recovery.
+    Restoring,
+    /// It can be read alone.
+    Standby,
+    /// A restore of it was cut short.
+    Interrupted,
+}
+
+impl StatusWord {
+    /// The word itself.
+    pub fn text(self) -> &'static str
+        ensures { result.now ≡ status_text self }
+    {
+        match self {
+            StatusWord::Restoring => "RESTORING",
+            StatusWord::Standby => "STANDBY",
+            StatusWord::Interrupted => "INTERRUPTED",
+        }
+    }
+}
+
+/// Why a statement was refused: the first rule that it breaks, with the values that were compared.
+#[derive(Debug, Drop)]
 pub enum Rule {
     /// The name is no database's, or the session has no current database.
     NoSuchDatabase,
+    /// There is a database of this name, or the name is one that the server keeps for itself.
+    DatabaseExists,
+    /// The database can't be used.
+    NotOnline { status: StatusWord },
     /// The current database has no table of this name.
     NoSuchTable,
     /// The table has a row with this key.
@@ -36,6 +78,8 @@ pub enum Rule {
     TailNotBackedUp { archive: Lsn, end: Lsn },
     /// The recovery path has 64 branches, and can take no more.
     PathFull,
+    /// A data file of another database has this path, or two files would have it.
+    FileInUse { path: Text },
     /// The statement would pass a limit.
     LimitReached { which: Limit },
     /// This program doesn't know the statement on this line yet.
@@ -49,6 +93,11 @@ impl Rule {
     {
         match self {
             Rule::NoSuchDatabase => String::from_str(alloc, "3 NoSuchDatabase"),
+            Rule::DatabaseExists => String::from_str(alloc, "4 DatabaseExists"),
+            Rule::NotOnline { status } => {
+                let status = status.text();
+                format!(in alloc; "5 NotOnline {status}")
+            }
             Rule::NoSuchTable => String::from_str(alloc, "7 NoSuchTable"),
             Rule::DuplicateKey { key } => format!(in alloc; "10 DuplicateKey {key}"),
             Rule::MediaMissing => String::from_str(alloc, "30 MediaMissing"),
@@ -62,8 +111,13 @@ impl Rule {
                 format!(in alloc; "37 TailNotBackedUp {archive} {end}")
             }
             Rule::PathFull => String::from_str(alloc, "52 PathFull 64"),
-            Rule::LimitReached { which: Limit::Lsn } => {
-                String::from_str(alloc, "54 LimitReached LSN")
+            Rule::FileInUse { path } => {
+                let path = path.as_str();
+                format!(in alloc; "53 FileInUse {path}")
+            }
+            Rule::LimitReached { which } => {
+                let which = which.text();
+                format!(in alloc; "54 LimitReached {which}")
             }
             Rule::NotBuilt { line } => format!(in alloc; "99 NotBuilt {line}"),
         }
