@@ -1,0 +1,16 @@
+pub mod OfDatabases
+pub mod Lines
+pub mod Lists
+pub mod Reading
+pub mod Changing
+pub mod Logging
+pub mod Making
+pub mod RestoreParts
+pub mod Saving
+pub mod Grown
+pub mod Left
+pub mod Related
+pub mod Tables
+pub mod Restores
+pub mod Fits
+pub mod Selects
