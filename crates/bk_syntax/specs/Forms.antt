@@ -1,6 +1,5 @@
 -- The statements that are read so far, as a grammar over tokens. What is read is a value and the tokens behind it.
-use Rattle.std.specs.Prelude.{ℕ, ◌^◌, Bool, true, false, ◌&&◌, ◌||◌, ◌==◌, nat_lt, nat_le, if◌then◌else◌, List, [], ◌∷◌, length, codes, Option, Some, None, unwrap_or}
-use Rattle.bk_ids.specs.Name.{same_name}
+use Rattle.std.specs.Prelude.{ℕ, ◌^◌, Bool, true, false, ◌&&◌, ◌==◌, nat_lt, nat_le, if◌then◌else◌, List, [], ◌∷◌, length, codes, Option, Some, None, unwrap_or}
 use Rattle.bk_token.specs.Bytes.{begins}
 use Rattle.bk_token.specs.Contents.{is_word_kind, is_word, text_of, name_of, is_plain}
 use Rattle.bk_token.specs.Tokens.{bytes_of}
@@ -8,7 +7,7 @@ use Rattle.bk_token.specs.declared.token.Kind.{Kind}
 use Rattle.bk_token.specs.declared.token.Kind.TheVariants.{Number, Sign}
 use Rattle.bk_token.specs.declared.token.Token.{Token}
 use Rattle.bk_world.specs.declared.item.Item.{Item}
-use Rattle.bk_world.specs.declared.item.Item.TheVariants.{CreateDatabase, Use, CreateTable, Insert, Select, Backup, Restore, NotBuilt}
+use Rattle.bk_world.specs.declared.item.Item.TheVariants.{CreateDatabase, DropDatabase, Use, CreateTable, Insert, Select, Backup, Restore, NotBuilt}
 
 infixl 10 ◌>>=◌
 -- the first thing, and then the next, which may look at it
@@ -58,16 +57,6 @@ name src (t ∷ ts) = do
   text ← name_of src t
   if is_word_kind t.kind && nat_lt 0 (length text) && nat_le (length text) 64 then Some (text, ts) else None
 
--- the names of the databases that the server keeps for itself
-abbrev pub is_system : List ℕ → Bool
-is_system text = same_name text (codes "master") || same_name text (codes "msdb") || same_name text (codes "tempdb")
-
--- the name of a database of the user
-unfoldable pub database : List ℕ → List Token → Option (List ℕ × List Token)
-database src ts = do
-  n ← name src ts
-  if is_system n.0 then None else Some n
-
 -- a text without an N
 unfoldable pub plain_text : List ℕ → List Token → Option (List ℕ × List Token)
 plain_text src [] = None
@@ -95,8 +84,15 @@ finished (t ∷ ts) item = None
 -- .. name
 unfoldable pub create_database : List ℕ → List Token → Option Item
 create_database src ts = do
-  made ← database src ts
+  made ← name src ts
   finished made.1 (CreateDatabase made.0)
+
+-- DATABASE name
+unfoldable pub drop_database : List ℕ → List Token → Option Item
+drop_database src ts = do
+  word ← keyword src (codes "DATABASE") ts
+  dropped ← name src word
+  finished dropped.1 (DropDatabase dropped.0)
 
 -- k BIGINT PRIMARY KEY
 unfoldable pub key_column : List ℕ → List Token → Option (List Token)
@@ -142,7 +138,7 @@ create src (t ∷ ts) =
 -- .. name
 unfoldable pub use_database : List ℕ → List Token → Option Item
 use_database src ts = do
-  used ← database src ts
+  used ← name src ts
   finished used.1 (Use used.0)
 
 -- ( n , text )
@@ -227,17 +223,18 @@ restore src ts = do
   replace ← options src medium.1
   finished replace.1 (Restore target.0 medium.0 replace.0)
 
--- CREATE .. | USE .. | INSERT .. | SELECT .. | BACKUP .. | RESTORE ..
+-- CREATE .. | DROP .. | USE .. | INSERT .. | SELECT .. | BACKUP .. | RESTORE ..
 unfoldable pub form : List ℕ → List Token → Option Item
 form src [] = None
 form src (t ∷ ts) =
     if is_word src t (codes "CREATE") then create src ts
+    else (if is_word src t (codes "DROP") then drop_database src ts
     else (if is_word src t (codes "USE") then use_database src ts
     else (if is_word src t (codes "INSERT") then insert src ts
     else (if is_word src t (codes "SELECT") then select src ts
     else (if is_word src t (codes "BACKUP") then backup src ts
     else (if is_word src t (codes "RESTORE") then restore src ts
-    else None)))))
+    else None))))))
 
 -- the item that a piece of the script is, by its tokens: one of the forms without a comment, or not built
 unfoldable pub item_by : List ℕ → List Token → Item

@@ -1,7 +1,6 @@
 //! The statements that are read so far, over tokens.
 
 ghost use Rattle.std.specs.Prelude.{◌≡◌, ◌==◌};
-ghost use Rattle.bk_ids.specs.Name.{same_name};
 ghost use Rattle.bk_token.specs.Bytes.{begins};
 ghost use Rattle.bk_syntax.specs.Forms as spec;
 ghost use Rattle.bk_syntax.specs.Reading.{Gives};
@@ -85,33 +84,6 @@ fn name<'t>(alloc: Global, src: &[u8], tokens: &'t [Token]) -> Result<(Name, &'t
     }
 }
 
-fn is_system(text: &str) -> bool
-    ensures { result ≡ spec.is_system text.now }
-{
-    same_text(text, "master") || same_text(text, "msdb") || same_text(text, "tempdb")
-}
-
-fn same_text(a: &str, b: &str) -> bool
-    ensures { result ≡ same_name a.now b.now }
-{
-    a.eq_ignore_ascii_case(b)
-}
-
-#[tactic(auto, unfolding(crate::specs::Forms::database))]
-fn database<'t>(
-    alloc: Global,
-    src: &[u8],
-    tokens: &'t [Token],
-) -> Result<(Name, &'t [Token]), Stuck>
-    ensures { Gives (λ x. (x.0, x.1.now)) result (spec.database src.now tokens.now) }
-{
-    let (name, rest) = name(alloc, src, tokens)?;
-    if is_system(name.as_str()) {
-        return Err(Stuck::Form);
-    }
-    Ok((name, rest))
-}
-
 fn begins_with_quote(bytes: &[u8]) -> bool
     ensures { result ≡ begins (λ b. b == 39) bytes.now }
 {
@@ -180,8 +152,17 @@ fn finished(tokens: &[Token], item: Item) -> Result<Item, Stuck>
 fn create_database(alloc: Global, src: &[u8], tokens: &[Token]) -> Result<Item, Stuck>
     ensures { Gives (λ i. i) result (spec.create_database src.now tokens.now) }
 {
-    let (name, rest) = database(alloc, src, tokens)?;
+    let (name, rest) = name(alloc, src, tokens)?;
     finished(rest, Item::CreateDatabase { name })
+}
+
+#[tactic(auto, unfolding(crate::specs::Forms::drop_database))]
+fn drop_database(alloc: Global, src: &[u8], tokens: &[Token]) -> Result<Item, Stuck>
+    ensures { Gives (λ i. i) result (spec.drop_database src.now tokens.now) }
+{
+    let rest = keyword(src, b"DATABASE", tokens)?;
+    let (name, rest) = name(alloc, src, rest)?;
+    finished(rest, Item::DropDatabase { name })
 }
 
 #[tactic(auto, unfolding(crate::specs::Forms::key_column))]
@@ -240,7 +221,7 @@ fn create(alloc: Global, src: &[u8], tokens: &[Token]) -> Result<Item, Stuck>
 fn use_database(alloc: Global, src: &[u8], tokens: &[Token]) -> Result<Item, Stuck>
     ensures { Gives (λ i. i) result (spec.use_database src.now tokens.now) }
 {
-    let (name, rest) = database(alloc, src, tokens)?;
+    let (name, rest) = name(alloc, src, tokens)?;
     finished(rest, Item::Use { name })
 }
 
@@ -375,6 +356,7 @@ pub fn form(alloc: Global, src: &[u8], tokens: &[Token]) -> Result<Item, Stuck>
 {
     match tokens {
         [token, rest @ ..] if is_word(src, token, b"CREATE") => create(alloc, src, rest),
+        [token, rest @ ..] if is_word(src, token, b"DROP") => drop_database(alloc, src, rest),
         [token, rest @ ..] if is_word(src, token, b"USE") => use_database(alloc, src, rest),
         [token, rest @ ..] if is_word(src, token, b"INSERT") => insert(alloc, src, rest),
         [token, rest @ ..] if is_word(src, token, b"SELECT") => select(alloc, src, rest),

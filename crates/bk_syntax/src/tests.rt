@@ -9,6 +9,10 @@ fn shown(alloc: std::alloc::Global, item: &Item) -> Result<String, AllocError> {
             let name = name.as_str();
             format!(in alloc; "create database {name}")
         }
+        Item::DropDatabase { name } => {
+            let name = name.as_str();
+            format!(in alloc; "drop database {name}")
+        }
         Item::Use { name } => {
             let name = name.as_str();
             format!(in alloc; "use {name}")
@@ -66,7 +70,7 @@ fn the_first_script_is_read(rt: HostRuntime) -> Result<(), Fail> {
 }
 
 // Each script with its statements.
-const SCRIPTS: [(&str, &str); 26] = [
+const SCRIPTS: [(&str, &str); 27] = [
     ("", ""),
     (" ;\n;", ""),
     ("use a", "1 use a; "),
@@ -97,7 +101,11 @@ const SCRIPTS: [(&str, &str); 26] = [
     ("USE select", "1 not built; "),
     (
         "USE MASTER; CREATE DATABASE msdb; use TempDb",
-        "1 not built; 1 not built; 1 not built; ",
+        "1 use MASTER; 1 create database msdb; 1 use TempDb; ",
+    ),
+    (
+        "DROP DATABASE S; drop database master; DROP S; DROP DATABASE 'S'; DROP DATABASE S T",
+        "1 drop database S; 1 drop database master; 1 not built; 1 not built; 1 not built; ",
     ),
     (
         "CREATE TABLE master (K bigint primary key, V varchar(112))",
