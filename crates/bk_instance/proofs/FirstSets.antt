@@ -14,7 +14,7 @@ use Rattle.bk_world.specs.declared.rule.Rule.{Rule}
 use Rattle.bk_world.specs.declared.rule.Rule.TheVariants.{MediaMissing, NotMedia, NoSuchSet}
 use Rattle.bk_world.specs.Medium.{Slot, not_media, medium}
 use Rattle.bk_world.specs.Restore.{set_broken, slot_broken}
-use Rattle.bk_instance.specs.Standing.{IsFirst}
+use Rattle.bk_instance.specs.Media.{IsFirst}
 
 -- a file without sets
 first-none : (disk : Disk) (kept : Kept) → ShowsMedium disk kept → HasNoSet kept 1 → sets_of (disk.files kept.name) ≡ []

@@ -1,10 +1,30 @@
--- What the errors of media come to.
+-- What the errors of the layers below come to.
+use Rattle.bk_changes.specs.declared.error.ApplyError.{ApplyError}
+use Rattle.bk_changes.specs.declared.error.ApplyError.TheVariants as apply
+use Rattle.bk_changes.specs.declared.unread.Unread.{Unread}
+use Rattle.bk_changes.specs.declared.unread.Unread.TheVariants as unread
+use Rattle.bk_home.specs.declared.error.HomeError.{HomeError}
+use Rattle.bk_home.specs.declared.error.HomeError.TheVariants as home
 use Rattle.bk_media.specs.declared.error.AddError.{AddError}
 use Rattle.bk_media.specs.declared.error.AddError.TheVariants as add
 use Rattle.bk_media.specs.declared.error.MakeError.{MakeError}
 use Rattle.bk_media.specs.declared.error.MakeError.TheVariants as make
 use Rattle.bk_instance.specs.declared.error.ExecuteError.{ExecuteError}
-use Rattle.bk_instance.specs.declared.error.ExecuteError.TheVariants.{Fault, NoMemory}
+use Rattle.bk_instance.specs.declared.error.ExecuteError.TheVariants.{Fault, NoMemory, Broken}
+use Rattle.bk_instance.specs.declared.error.LoadError.{LoadError}
+use Rattle.bk_instance.specs.declared.error.LoadError.TheVariants as load
+
+-- where a statement is executed
+
+abbrev pub home_error : HomeError → ExecuteError
+home_error home.NotAnInstance = Broken
+home_error home.Broken = Broken
+home_error home.Fault = Fault
+home_error home.NoMemory = NoMemory
+
+abbrev pub apply_error : ApplyError → ExecuteError
+apply_error apply.Unfit = Broken
+apply_error apply.NoMemory = NoMemory
 
 abbrev pub made_error : MakeError → ExecuteError
 made_error make.Fault = Fault
@@ -13,3 +33,19 @@ made_error make.NoMemory = NoMemory
 abbrev pub added_error : AddError → ExecuteError
 added_error add.Fault = Fault
 added_error add.NoMemory = NoMemory
+
+-- where an instance is loaded
+
+abbrev pub opened_error : HomeError → LoadError
+opened_error home.NotAnInstance = load.NotAnInstance
+opened_error home.Broken = load.Broken
+opened_error home.Fault = load.Fault
+opened_error home.NoMemory = load.NoMemory
+
+abbrev pub unread_error : Unread → LoadError
+unread_error unread.NoChange = load.Broken
+unread_error unread.NoMemory = load.NoMemory
+
+abbrev pub unfit_error : ApplyError → LoadError
+unfit_error apply.Unfit = load.Broken
+unfit_error apply.NoMemory = load.NoMemory

@@ -1,10 +1,6 @@
-pub mod Begins
-pub mod Carried
-pub mod Changed
+pub mod Media
+pub mod Stands
+pub mod Steps
+pub mod Loading
 pub mod Errors
-pub mod Kept
-pub mod Laws
-pub mod Making
-pub mod Restoring
-pub mod Sets
-pub mod Standing
+pub mod Plans

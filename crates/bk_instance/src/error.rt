@@ -1,9 +1,12 @@
-// Why a statement wasn't executed.
+// Why an instance wasn't loaded, or a statement not executed.
 ghost use Rattle.std.specs.Prelude.{◌≡◌};
 ghost use Rattle.bk_instance.specs.declared.error.ExecuteError.TheVariants as execute;
-ghost use Rattle.bk_instance.specs.Errors.{made_error, added_error};
+ghost use Rattle.bk_instance.specs.declared.error.LoadError.TheVariants as load;
+ghost use Rattle.bk_instance.specs.Errors as errors;
 
+use bk_changes::{ApplyError, Unread};
 use bk_device::Failed;
+use bk_home::HomeError;
 use bk_media::{AddError, MakeError};
 use std::alloc::AllocError;
 use thiserror::Error;
@@ -11,6 +14,26 @@ use thiserror::Error;
 /// Why a statement wasn't executed.
 #[derive(Clone, Copy, Debug, PartialEq, Eq, Error)]
 pub enum ExecuteError {
+    /// The device failed.
+    #[error("the device has failed")]
+    Fault,
+    /// Memory was wanting.
+    #[error("out of memory")]
+    NoMemory,
+    /// A change didn't fit the databases.
+    #[error("the change doesn't fit the databases")]
+    Broken,
+}
+
+/// Why an instance wasn't loaded.
+#[derive(Clone, Copy, Debug, PartialEq, Eq, Error)]
+pub enum LoadError {
+    /// The directory is made as an instance, and its control file holds no control.
+    #[error("the directory is no instance")]
+    NotAnInstance,
+    /// The files hold what no instance writes.
+    #[error("the instance is broken")]
+    Broken,
     /// The device failed.
     #[error("the device has failed")]
     Fault,
@@ -35,8 +58,31 @@ impl From<AllocError> for ExecuteError {
     }
 }
 
+impl From<HomeError> for ExecuteError {
+    ghost from_gives = { λ error e. e ≡ errors.home_error error };
+
+    fn from(error: HomeError) -> Self {
+        match error {
+            HomeError::Fault => ExecuteError::Fault,
+            HomeError::NoMemory => ExecuteError::NoMemory,
+            HomeError::NotAnInstance | HomeError::Broken => ExecuteError::Broken,
+        }
+    }
+}
+
+impl From<ApplyError> for ExecuteError {
+    ghost from_gives = { λ error e. e ≡ errors.apply_error error };
+
+    fn from(error: ApplyError) -> Self {
+        match error {
+            ApplyError::Unfit => ExecuteError::Broken,
+            ApplyError::NoMemory => ExecuteError::NoMemory,
+        }
+    }
+}
+
 impl From<MakeError> for ExecuteError {
-    ghost from_gives = { λ error e. e ≡ made_error error };
+    ghost from_gives = { λ error e. e ≡ errors.made_error error };
 
     fn from(error: MakeError) -> Self {
         match error {
@@ -47,12 +93,63 @@ impl From<MakeError> for ExecuteError {
 }
 
 impl From<AddError> for ExecuteError {
-    ghost from_gives = { λ error e. e ≡ added_error error };
+    ghost from_gives = { λ error e. e ≡ errors.added_error error };
 
     fn from(error: AddError) -> Self {
         match error {
             AddError::Fault => ExecuteError::Fault,
             AddError::NoMemory => ExecuteError::NoMemory,
+        }
+    }
+}
+
+impl From<Failed> for LoadError {
+    ghost from_gives = { λ _ e. e ≡ load.Fault };
+
+    fn from(_: Failed) -> Self {
+        LoadError::Fault
+    }
+}
+
+impl From<AllocError> for LoadError {
+    ghost from_gives = { λ _ e. e ≡ load.NoMemory };
+
+    fn from(_: AllocError) -> Self {
+        LoadError::NoMemory
+    }
+}
+
+impl From<HomeError> for LoadError {
+    ghost from_gives = { λ error e. e ≡ errors.opened_error error };
+
+    fn from(error: HomeError) -> Self {
+        match error {
+            HomeError::NotAnInstance => LoadError::NotAnInstance,
+            HomeError::Broken => LoadError::Broken,
+            HomeError::Fault => LoadError::Fault,
+            HomeError::NoMemory => LoadError::NoMemory,
+        }
+    }
+}
+
+impl From<Unread> for LoadError {
+    ghost from_gives = { λ error e. e ≡ errors.unread_error error };
+
+    fn from(error: Unread) -> Self {
+        match error {
+            Unread::NoChange => LoadError::Broken,
+            Unread::NoMemory => LoadError::NoMemory,
+        }
+    }
+}
+
+impl From<ApplyError> for LoadError {
+    ghost from_gives = { λ error e. e ≡ errors.unfit_error error };
+
+    fn from(error: ApplyError) -> Self {
+        match error {
+            ApplyError::Unfit => LoadError::Broken,
+            ApplyError::NoMemory => LoadError::NoMemory,
         }
     }
 }

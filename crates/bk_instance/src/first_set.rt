@@ -6,7 +6,7 @@ ghost use Rattle.bk_device.specs.Counts.{HasRisen};
 ghost use Rattle.bk_media.specs.Media.{ShowsMedium};
 ghost use Rattle.bk_media.specs.Names.{medium_file};
 ghost use Rattle.bk_set.specs.Conditions.{IsBody};
-ghost use Rattle.bk_instance.specs.Standing.{IsFirst};
+ghost use Rattle.bk_instance.specs.Media.{IsFirst};
 ghost use Rattle.bk_instance.specs.declared.error.ExecuteError.TheVariants.{Fault};
 
 use crate::error::ExecuteError;

@@ -1,19 +1,21 @@
-//! The databases of an instance: each statement makes one step of the written machine.
+//! An instance with its databases and media on a device: each statement makes one step of the written machine, and each
+//! crash leaves what a crash of the machine leaves.
 #![tactic(auto)]
 
-mod backup;
-mod copies;
+mod backing_up;
+mod closing;
+mod databases;
 mod error;
 mod first_set;
 mod instance;
-mod limits;
-mod log_name;
-mod restore;
+mod loading;
+mod making;
+mod planning;
+mod replaying;
 mod restoring;
-mod state;
+mod storing;
+mod tables;
+mod unfinished;
 
-pub use error::ExecuteError;
+pub use error::{ExecuteError, LoadError};
 pub use instance::Instance;
-
-#[cfg(test)]
-mod tests;

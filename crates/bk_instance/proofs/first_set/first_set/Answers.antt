@@ -1,7 +1,7 @@
 use Rattle.std.proofs.Common.{List, ℕ, Option, IfOk, refl, subst, ap, ◌∙◌}
 use Rattle.bk_media.specs.Laws.{nothing_then}
 use Rattle.bk_media.specs.Names.{medium_file}
-use Rattle.bk_instance.specs.Standing.{IsFirst}
+use Rattle.bk_instance.specs.Media.{IsFirst}
 use Rattle.bk_instance.proofs.FirstSets.{first-missing, first-no_medium}
 use Rattle.bk_instance.proofs.first_set.first_set.Goals as goal
 

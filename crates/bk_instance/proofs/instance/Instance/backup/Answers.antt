@@ -1,38 +1,20 @@
-use Rattle.std.proofs.Common.{◌<◌, ◌+◌, ◌∙◌, IfNone, refl, sym, subst, arith}
-use Rattle.bk_world.specs.declared.item.Item.TheVariants.{Backup}
-use Rattle.bk_world.specs.Checks.{kept_numbers}
-use Rattle.bk_instance.specs.Changed.{end_of}
-use Rattle.bk_instance.specs.declared.instance.Instance.{Instance}
-use Rattle.bk_instance.proofs.BackupSteps.{backup-goes, backup-sound}
+use Rattle.bk_instance.proofs.BackupCuts.{backup, taken-answers, ok-through}
 use Rattle.bk_instance.proofs.Paths.{text-bytes}
-use Rattle.bk_instance.proofs.Standings.{same-media}
-use Rattle.bk_instance.proofs.Steps.{stepped-refused}
+use Rattle.bk_instance.proofs.Restores.{cuts-nothing, cuts-through}
 use Rattle.bk_instance.proofs.instance.Instance.backup.Goals as goal
+use Rattle.std.proofs.Common.{◌∙◌, sym}
 
-pub returns-in-Some-clause-answers : goal.returns-in-Some-clause-answers
-returns-in-Some-clause-answers g c = λ tells w kept media. (
-  w,
-  stepped-refused w c.args.line (Backup c.args.name.now c.args.path.now) c.args.now c.in-Some.rule (sym c.in-Some.is ∙ c.in_ok-rule.ensures.broken tells w kept media),
-  kept,
-  same-media w w (g.D.Device.disk c.args.dev.now) (g.D.Device.disk c.broken_backup.new.dev) media (c.broken_backup.ensures.effect tells) refl (λ body is. is),
-)
+pub returns-in_err-is_taken-clause-crash : goal.returns-in_err-is_taken-clause-crash
+returns-in_err-is_taken-clause-crash g c tells = cuts-nothing c.args.self.now (g.D.Device.disk c.args.dev.now) (g.D.Device.disk c.is_taken.new.dev) (backup c.args.line c.args.name.now c.args.path.now) c.args.now c.requires.ready (c.requires.stored tells) (c.is_taken.ensures.effect tells)
 
-pub overflow_add-result : goal.overflow_add-result
-overflow_add-result g c =
-    let room : end_of c.args.self.now.database < kept_numbers = subst (λ o. IfNone o (end_of c.args.self.now.database < kept_numbers)) c.in_default.is c.in_ok-rule.ensures.room in
-    omega (arith, c.in_ok-end.ensures.end, room)
+pub returns-then-branch-clause-answers : goal.returns-then-branch-clause-answers
+returns-then-branch-clause-answers g c tells = taken-answers c.args.self.now (g.D.Device.disk c.args.dev.now) (g.D.Device.disk c.is_taken.new.dev) c.args.line c.args.name.now c.args.path.now c.args.now (text-bytes c.args.path.now c.utf8.path) (c.is_taken.ensures.effect tells) (sym (c.in_ok-is_taken.ensures.taken tells) ∙ c.if-branch.true)
+
+pub returns-then-branch-clause-crash : goal.returns-then-branch-clause-crash
+returns-then-branch-clause-crash g c tells = cuts-nothing c.args.self.now (g.D.Device.disk c.args.dev.now) (g.D.Device.disk c.is_taken.new.dev) (backup c.args.line c.args.name.now c.args.path.now) c.args.now c.requires.ready (c.requires.stored tells) (c.is_taken.ensures.effect tells)
 
 pub returns-clause-answers : goal.returns-clause-answers
-returns-clause-answers g c = λ tells w kept media.
-    let before = g.D.Device.disk c.args.dev.now in
-    let mid = g.D.Device.disk c.broken_backup.new.dev in
-    let after = g.D.Device.disk c.back_up.new.dev in
-    let old : Instance = c.args.self.now in
-    let new : Instance = record old { counter = old.counter + 1; database = c.back_up.new.database } in
-    backup-goes w old new mid after c.args.line c.args.name.now c.args.path.now c.args.now c.in_ok-end.end kept
-    (same-media w w before mid media (c.broken_backup.ensures.effect tells) refl (λ body is. is)) (λ other bytes. c.name_law.ensures.different c.args.path.now other (text-bytes c.args.path.now c.utf8.path) bytes)
-    (sym c.in_default.is ∙ c.in_ok-rule.ensures.broken tells w kept media) refl refl refl
-    c.in_ok-end.ensures.end c.in_ok-end.ensures.database (c.in_ok-end.ensures.added tells) (c.in_ok-end.ensures.durable tells) (c.back_up.ensures.others tells)
+returns-clause-answers g c tells = ok-through c.args.self.now c.backup_new.new.self (g.D.Device.disk c.args.dev.now) (g.D.Device.disk c.is_taken.new.dev) (g.D.Device.disk c.backup_new.new.dev) (backup c.args.line c.args.name.now c.args.path.now) c.args.now c.backup_new.result (c.is_taken.ensures.effect tells) (c.backup_new.ensures.answers tells)
 
-pub returns-clause-sound : goal.returns-clause-sound
-returns-clause-sound g c = backup-sound c.args.self.now.database c.back_up.new.database _ c.args.now c.in_ok-end.ensures.database c.requires.sound
+pub returns-clause-crash : goal.returns-clause-crash
+returns-clause-crash g c tells = cuts-through c.args.self.now (g.D.Device.disk c.args.dev.now) (g.D.Device.disk c.is_taken.new.dev) (g.D.Device.disk c.backup_new.new.dev) (backup c.args.line c.args.name.now c.args.path.now) c.args.now c.requires.ready (c.requires.stored tells) (c.is_taken.ensures.effect tells) (c.backup_new.ensures.crash tells)

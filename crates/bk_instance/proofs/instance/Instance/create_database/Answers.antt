@@ -1,40 +1,33 @@
-use Rattle.std.proofs.Common.{◌≡◌, ◌+◌, Some, refl, sym, ◌∙◌, ap, subst}
+use Rattle.std.proofs.Common.{◌∙◌, sym, subst}
 use Rattle.bk_world.specs.declared.item.Item.TheVariants.{CreateDatabase}
 use Rattle.bk_world.specs.declared.reply.Reply.TheVariants.{Done}
-use Rattle.bk_world.specs.Changes.{created}
-use Rattle.bk_world.specs.Machine.{accepted}
-use Rattle.bk_world.specs.Changes.{drawn}
-use Rattle.bk_instance.specs.Changed.{made_database}
-use Rattle.bk_instance.specs.Kept.{KeepsDatabases}
-use Rattle.bk_instance.specs.Kept.{IsSound}
-use Rattle.bk_instance.proofs.Steps.{made-sound, some_choice, stepped-by, stepped-refused, none-there, created-keeps}
+use Rattle.bk_instance.proofs.OneParts.{cuts-none, refused-answers, logged-cuts, logged-answers, ByChange}
+use Rattle.bk_instance.proofs.Statements.{create-law}
 use Rattle.bk_instance.proofs.instance.Instance.create_database.Goals as goal
 
-pub returns-in-Some-clause-goes : goal.returns-in-Some-clause-goes
-returns-in-Some-clause-goes c = λ w kept. (w, stepped-refused w c.args.line (CreateDatabase c.args.name.now) c.args.now c.in-Some.rule (c.in-Some.ensures.broken w kept), kept)
+pub returns-in_err-rule-clause-crash : goal.returns-in_err-rule-clause-crash
+returns-in_err-rule-clause-crash g c tells = cuts-none c.args.self.now (g.D.Device.disk c.args.dev.now) (record { item = CreateDatabase c.args.name.now; line = c.args.line }) c.args.now c.requires.ready (c.requires.stored tells)
 
-pub returns-clause-goes : goal.returns-clause-goes
-unfolding accepted created
-returns-clause-goes c = λ w kept.
-    let e = c.in_default.ensures.broken w kept in
-    let none = none-there w c.args.self.now.database c.args.line c.args.name.now kept.databases e in (
-      created w c.args.name.now c.args.now,
-      stepped-by w c.args.line (CreateDatabase c.args.name.now) some_choice c.args.now Done _ e tt refl refl,
-      record {
-        number = kept.number;
-        counter = ap (λ n. n + 2) kept.counter;
-        current = kept.current;
-        databases =
-            let name = c.args.name.now in
-            let now = c.args.now in
-            let is : made_database name (drawn w w.counter) (drawn w (w.counter + 1)) now ≡ c.in_ok-database.database =
-            ap (λ n. made_database name (record { high = n; low = w.counter }) (record { high = n; low = w.counter + 1 }) now) kept.number
-            ∙ ap (λ n. made_database name (record { high = c.args.self.now.number; low = n }) (record { high = c.args.self.now.number; low = n + 1 }) now) kept.counter
-            ∙ sym c.in_ok-database.ensures.made in
-            subst (λ d. KeepsDatabases (created w name now) (Some d)) is (created-keeps w name now c.in_ok-database.ensures.some c.in_ok-database.ensures.short none);
-      },
-    )
+pub returns-in_err-change-clause-crash : goal.returns-in_err-change-clause-crash
+returns-in_err-change-clause-crash g c tells = cuts-none c.args.self.now (g.D.Device.disk c.args.dev.now) (record { item = CreateDatabase c.args.name.now; line = c.args.line }) c.args.now c.requires.ready (c.requires.stored tells)
 
-pub returns-clause-sound : goal.returns-clause-sound
-returns-clause-sound c = λ sound.
-    subst IsSound (sym c.in_ok-database.ensures.made) (made-sound c.args.name.now _ _ c.args.now c.in_ok-database.ensures.some c.in_ok-database.ensures.short)
+pub returns-in-Some-clause-answers : goal.returns-in-Some-clause-answers
+returns-in-Some-clause-answers g c tells = refused-answers c.args.self.now (g.D.Device.disk c.args.dev.now) c.args.line (CreateDatabase c.args.name.now) c.args.now c.in-Some.rule (λ w keeps. sym c.in-Some.is ∙ c.in_ok-rule.ensures.broken w keeps c.args.line)
+
+pub returns-in-Some-clause-crash : goal.returns-in-Some-clause-crash
+returns-in-Some-clause-crash g c tells = cuts-none c.args.self.now (g.D.Device.disk c.args.dev.now) (record { item = CreateDatabase c.args.name.now; line = c.args.line }) c.args.now c.requires.ready (c.requires.stored tells)
+
+pub returns-in_err-log_change-clause-crash : goal.returns-in_err-log_change-clause-crash
+returns-in_err-log_change-clause-crash g c tells =
+    logged-cuts c.args.self.now (g.D.Device.disk c.args.dev.now) (g.D.Device.disk c.log_change.new.dev) (record { item = CreateDatabase c.args.name.now; line = c.args.line }) c.args.now (Done) 2 c.in_ok-change.change c.requires.ready (c.requires.stored tells)
+    (subst (λ x. ByChange c.args.self.now (record { item = CreateDatabase c.args.name.now; line = c.args.line }) c.args.now Done 2 x) (sym c.in_ok-change.ensures.is) (create-law c.args.self.now c.args.line c.args.name.now c.args.now (λ w keeps. sym c.in_default.is ∙ c.in_ok-rule.ensures.broken w keeps c.args.line))) (c.log_change.ensures.crash tells)
+
+pub returns-clause-crash : goal.returns-clause-crash
+returns-clause-crash g c tells =
+    logged-cuts c.args.self.now (g.D.Device.disk c.args.dev.now) (g.D.Device.disk c.log_change.new.dev) (record { item = CreateDatabase c.args.name.now; line = c.args.line }) c.args.now (Done) 2 c.in_ok-change.change c.requires.ready (c.requires.stored tells)
+    (subst (λ x. ByChange c.args.self.now (record { item = CreateDatabase c.args.name.now; line = c.args.line }) c.args.now Done 2 x) (sym c.in_ok-change.ensures.is) (create-law c.args.self.now c.args.line c.args.name.now c.args.now (λ w keeps. sym c.in_default.is ∙ c.in_ok-rule.ensures.broken w keeps c.args.line))) (c.log_change.ensures.crash tells)
+
+pub returns-clause-answers : goal.returns-clause-answers
+returns-clause-answers g c tells =
+    logged-answers c.args.self.now c.log_change.new.self (g.D.Device.disk c.args.dev.now) (g.D.Device.disk c.log_change.new.dev) (record { item = CreateDatabase c.args.name.now; line = c.args.line }) c.args.now (Done) 2 c.in_ok-change.change
+    (subst (λ x. ByChange c.args.self.now (record { item = CreateDatabase c.args.name.now; line = c.args.line }) c.args.now Done 2 x) (sym c.in_ok-change.ensures.is) (create-law c.args.self.now c.args.line c.args.name.now c.args.now (λ w keeps. sym c.in_default.is ∙ c.in_ok-rule.ensures.broken w keeps c.args.line))) c.in_ok-log_change.ensures.done (c.log_change.ensures.crash tells)

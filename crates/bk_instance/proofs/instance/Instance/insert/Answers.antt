@@ -1,22 +1,29 @@
-use Rattle.std.proofs.Common.{◌∙◌}
 use Rattle.bk_world.specs.declared.item.Item.TheVariants.{Insert}
 use Rattle.bk_world.specs.declared.reply.Reply.TheVariants.{Counted}
-use Rattle.bk_instance.proofs.Steps.{adds_row-sound, some_choice, stepped-by, stepped-refused, row-leads}
+use Rattle.bk_instance.proofs.OneParts.{cuts-none, refused-answers, logged-cuts, logged-answers}
+use Rattle.bk_instance.proofs.Statements.{row-law}
 use Rattle.bk_instance.proofs.instance.Instance.insert.Goals as goal
 
-pub returns-in-Some-clause-goes : goal.returns-in-Some-clause-goes
-returns-in-Some-clause-goes c = λ w kept.
-    (w, stepped-refused w c.args.line (Insert c.args.table.now c.args.key c.args.value.now) c.args.now c.in-Some.rule (c.in-Some.ensures.broken w kept), kept)
+pub returns-in_err-change-clause-crash : goal.returns-in_err-change-clause-crash
+returns-in_err-change-clause-crash g c tells = cuts-none c.args.self.now (g.D.Device.disk c.args.dev.now) (record { item = Insert c.args.table.now c.args.key c.args.value.now; line = c.args.line }) c.args.now c.requires.ready (c.requires.stored tells)
 
-pub returns-clause-goes : goal.returns-clause-goes
-returns-clause-goes c = λ w kept.
-    let e = c.in_default.ensures.broken w kept in
-    let to = row-leads w c.args.self.now.database c.args.line c.args.table.now c.args.key c.args.value.now kept.databases e c.args.now c.add_row.new.database c.in_ok-add_row.ensures in (
-      to.next,
-      stepped-by w c.args.line (Insert c.args.table.now c.args.key c.args.value.now) some_choice c.args.now (Counted 1) to.next e tt to.replied to.becomes,
-      record { number = to.instance ∙ kept.number; counter = to.counter ∙ kept.counter; current = to.current ∙ kept.current; databases = to.databases },
-    )
+pub returns-in-Some-clause-answers : goal.returns-in-Some-clause-answers
+returns-in-Some-clause-answers g c tells = refused-answers c.args.self.now (g.D.Device.disk c.args.dev.now) c.args.line (Insert c.args.table.now c.args.key c.args.value.now) c.args.now c.in-Some.rule (λ w keeps. c.in-Some.ensures.broken w keeps)
 
-pub returns-clause-sound : goal.returns-clause-sound
-returns-clause-sound c = λ sound.
-    adds_row-sound c.args.self.now.database c.args.key c.args.value.now c.args.now c.add_row.new.database c.in_ok-add_row.ensures c.in_default.ensures.row c.in_default.ensures.few sound
+pub returns-in-Some-clause-crash : goal.returns-in-Some-clause-crash
+returns-in-Some-clause-crash g c tells = cuts-none c.args.self.now (g.D.Device.disk c.args.dev.now) (record { item = Insert c.args.table.now c.args.key c.args.value.now; line = c.args.line }) c.args.now c.requires.ready (c.requires.stored tells)
+
+pub returns-in_err-log_change-clause-crash : goal.returns-in_err-log_change-clause-crash
+returns-in_err-log_change-clause-crash g c tells =
+    logged-cuts c.args.self.now (g.D.Device.disk c.args.dev.now) (g.D.Device.disk c.log_change.new.dev) (record { item = Insert c.args.table.now c.args.key c.args.value.now; line = c.args.line }) c.args.now (Counted 1) 0 c.in_ok-change.change c.requires.ready (c.requires.stored tells)
+    (row-law c.args.self.now c.args.line c.args.table.now c.args.key c.args.value.now c.args.now c.in_ok-change.change c.requires.ready.sound (λ w keeps. c.in_default.ensures.broken w keeps) c.in_default.ensures.takes c.in_ok-change.ensures.plans) (c.log_change.ensures.crash tells)
+
+pub returns-clause-crash : goal.returns-clause-crash
+returns-clause-crash g c tells =
+    logged-cuts c.args.self.now (g.D.Device.disk c.args.dev.now) (g.D.Device.disk c.log_change.new.dev) (record { item = Insert c.args.table.now c.args.key c.args.value.now; line = c.args.line }) c.args.now (Counted 1) 0 c.in_ok-change.change c.requires.ready (c.requires.stored tells)
+    (row-law c.args.self.now c.args.line c.args.table.now c.args.key c.args.value.now c.args.now c.in_ok-change.change c.requires.ready.sound (λ w keeps. c.in_default.ensures.broken w keeps) c.in_default.ensures.takes c.in_ok-change.ensures.plans) (c.log_change.ensures.crash tells)
+
+pub returns-clause-answers : goal.returns-clause-answers
+returns-clause-answers g c tells =
+    logged-answers c.args.self.now c.log_change.new.self (g.D.Device.disk c.args.dev.now) (g.D.Device.disk c.log_change.new.dev) (record { item = Insert c.args.table.now c.args.key c.args.value.now; line = c.args.line }) c.args.now (Counted 1) 0 c.in_ok-change.change
+    (row-law c.args.self.now c.args.line c.args.table.now c.args.key c.args.value.now c.args.now c.in_ok-change.change c.requires.ready.sound (λ w keeps. c.in_default.ensures.broken w keeps) c.in_default.ensures.takes c.in_ok-change.ensures.plans) c.in_ok-log_change.ensures.done (c.log_change.ensures.crash tells)

@@ -1,0 +1,560 @@
+-- How an instance is loaded: its changes are replayed, and a medium that was being made is let go.
+use Rattle.std.proofs.Common.{◌≡◌, ◌≢◌, ◌≤◌, ◌⊎◌, inl, inr, ℕ, zero, suc, ◌+◌, true, false, nat_eq, List, [], ◌∷◌, length, take, map, Option, None, Some, refl, sym, ◌∙◌, ap, subst, arith, add-one}
+use Rattle.std.specs.Prelude.{slice_get, option_map}
+use Rattle.std.specs.Str.{bytes_eq}
+use Rattle.std.proofs.lemmas.Bool.Decides.{nat_tests}
+use Rattle.std.proofs.lemmas.Slice.Eq.{bytes_eq-Decides}
+use Rattle.bk_bytes.specs.Codec.{◌>>=◌}
+use Rattle.bk_bytes.specs.Field.{AreBytes}
+use Rattle.bk_bytes.proofs.Codecs.{bind_some, some_is}
+use Rattle.bk_changes.specs.declared.state.Database.{Database as KeptDatabase}
+use Rattle.bk_changes.specs.Replayed.{replayed, replayed_from, step_of}
+use Rattle.bk_device.specs.Calls.{contents, LeavesSame, CallsOn, ChangesNothing}
+use Rattle.bk_device.specs.Compose.{effect_none, effect_weaken, effect_widen, effect_then, effect_of_nothing, effect_of_sync, keeps_by_nothing, keeps_by_effect}
+use Rattle.bk_device.specs.Disk.{Files, Disk, IsDurable, IsSettled, IsLawful}
+use Rattle.bk_device.specs.Effects.{Effect, MayLeaveOwn, IsName}
+use Rattle.bk_device.specs.Names.{same_or_other, true_or_false}
+use Rattle.bk_gate.specs.Blobs.{sealed, spans_of, part_of, IsGateFile}
+use Rattle.bk_gate.specs.BlobLaws.{foreign_blobs, gate_blobs}
+use Rattle.bk_home.specs.declared.record.Record.{Record}
+use Rattle.bk_home.specs.Home.{Kept as KeptHome, IsNotMade, IsMade, HomeIs, IsHome, IsOwn, AreDurable, blobs_of, fresh, made_file, control_file, rows_file}
+use Rattle.bk_home.specs.Laws.{home_files, home_blobs, home_left, home_kept, home_durable, own_made, own_rows, blobs_same}
+use Rattle.bk_kept.specs.Goes.{LeadsTo}
+use Rattle.bk_kept.specs.Kept.{KeepsDatabases}
+use Rattle.bk_kept.proofs.Changing.{keeps-same}
+use Rattle.bk_media.specs.Laws.{nothing_sealed, none_read}
+use Rattle.bk_media.specs.Media.{read_medium, found_at}
+use Rattle.bk_media.specs.Names.{medium_file}
+use Rattle.bk_set.specs.declared.body.SetBody.{SetBody}
+use Rattle.bk_set.specs.declared.found.Found.TheVariants as was
+use Rattle.bk_set.specs.Found.{found}
+use Rattle.bk_world.specs.World.{World, opened}
+use Rattle.bk_kept.specs.Carried.{IsCarried}
+use Rattle.bk_instance.specs.declared.instance.Instance.{Instance}
+use Rattle.bk_instance.specs.Loading.{MediaAreDurable, IsCleared, LeavesCleared, LetsGo}
+use Rattle.bk_instance.specs.Media.{KeepsMedia, shown_medium, is_making, is_begun}
+use Rattle.bk_instance.specs.Stands.{Holds, Stands, Covers, StandsFor, IsOurs}
+use Rattle.bk_instance.proofs.Covering.{SameMedia, media-in, media-on, holds-same, stands-covers, covers-same, settled-covers}
+use Rattle.bk_instance.proofs.Stores.{not-own, media-kept}
+
+-- Replaying.
+
+-- one blob more
+pub one-more : (first ds new : List KeptDatabase) (blobs : List (List ℕ)) (i : ℕ) (blob : List ℕ) → replayed_from first (take i blobs) ≡ Some ds → slice_get blobs i ≡ Some blob → step_of blob ds ≡ Some new
+    → replayed_from first (take (i + 1) blobs) ≡ Some new
+one-more first ds new blobs i blob before is steps = rw add-one (by first blobs i before is)
+  where
+    by : (first : List KeptDatabase) (blobs : List (List ℕ)) (i : ℕ) → replayed_from first (take i blobs) ≡ Some ds → slice_get blobs i ≡ Some blob → replayed_from first (take (suc i) blobs) ≡ Some new
+    by first [] i before is = absurd cc
+    by first (b ∷ bs) zero before is =
+        let same : step_of b first ≡ Some new = ap (λ d. step_of b d) (some_is first ds before) ∙ ap (λ x. step_of x ds) (some_is b blob is) ∙ steps in
+        ap (λ (o : Option (List KeptDatabase)). o >>= λ next. Some next) same
+    by first (b ∷ bs) (suc i) before is =
+        let on = bind_some (step_of b first) (λ next. replayed_from next (take i bs)) ds before in
+        ap (λ (o : Option (List KeptDatabase)). o >>= λ next. replayed_from next (take (suc i) bs)) on.1 ∙ by on.0 bs i on.2 is
+
+-- a blob that doesn't fit
+pub stuck : (first ds : List KeptDatabase) (blobs : List (List ℕ)) (i : ℕ) (blob : List ℕ) → replayed_from first (take i blobs) ≡ Some ds → slice_get blobs i ≡ Some blob → step_of blob ds ≡ None
+    → replayed_from first blobs ≡ None
+stuck first ds [] i blob before is none = absurd cc
+stuck first ds (b ∷ bs) zero blob before is none =
+    let same : step_of b first ≡ None = ap (λ d. step_of b d) (some_is first ds before) ∙ ap (λ x. step_of x ds) (some_is b blob is) ∙ none in
+    ap (λ (o : Option (List KeptDatabase)). o >>= λ next. replayed_from next bs) same
+stuck first ds (b ∷ bs) (suc i) blob before is none =
+    let on = bind_some (step_of b first) (λ next. replayed_from next (take i bs)) ds before in
+    ap (λ (o : Option (List KeptDatabase)). o >>= λ next. replayed_from next bs) on.1 ∙ stuck on.0 ds bs i blob on.2 is none
+
+-- all of them
+pub whole : (blobs : List (List ℕ)) (ds : List KeptDatabase) (n : ℕ) → length blobs ≤ n → replayed (take n blobs) ≡ Some ds → replayed blobs ≡ Some ds
+whole blobs ds n all is = ap replayed (sym (take-all blobs n all)) ∙ is
+  where
+    take-all : (bs : List (List ℕ)) (k : ℕ) → length bs ≤ k → take k bs ≡ bs
+    take-all [] zero le = refl
+    take-all [] (suc k) le = refl
+    take-all (b ∷ bs) zero le = absurd (omega (arith, le))
+    take-all (b ∷ bs) (suc k) le = ap (λ rest. b ∷ rest) (take-all bs k (omega (arith, le)))
+
+-- Devices.
+
+-- nothing was done
+pub nothing-none : (a : Disk) → ChangesNothing a a
+nothing-none a = record {
+  files = λ _. refl;
+  nothing_more = λ _ _ may. may;
+  told = refl;
+  time = record { later = omega arith; nothing_else = λ _ _ _ _ left. inl left; nothing_forgotten = λ _ _ _ _ left. left };
+}
+
+-- a file is synced
+pub sync-nothing : {name : List ℕ} {a b : Disk} → CallsOn name LeavesSame a b → b.files name ≡ a.files name → ChangesNothing a b
+sync-nothing {name = name} {a = a} {b = b} call same = record {
+  files = λ other.
+      elim (same_or_other name other) [
+        | inl is ↦ ap b.files is ∙ same ∙ ap a.files (sym is)
+        | inr off ↦ call.others other off
+      ];
+  nothing_more = λ other content may.
+      elim (same_or_other name other) [
+        | inl is ↦
+            let At : List ℕ → Type 0 = λ n. a.may n content in
+            let There : List ℕ → Type 0 = λ n. b.may n content in
+            let one = call.left content (subst There is may) in
+            let Left : Option (List ℕ) → Type 0 = λ file. a.may name file in
+            subst At (sym is) (subst Left (sym one.2) one.1)
+        | inr off ↦ call.others_left other content off may
+      ];
+  told = call.told;
+  time = call.time;
+}
+
+-- and another one
+pub synced-then : {name : List ℕ} {P : Files → Type 0} {a b c : Disk} → IsOwn name → Effect IsOwn P a b → CallsOn name LeavesSame b c → Effect IsOwn P a c
+synced-then own first call = effect_then first (effect_of_sync own (λ image mine. first.now image mine) call)
+
+pub durable-on : {a b : Disk} (name : List ℕ) → ChangesNothing a b → IsDurable a name → IsDurable b name
+durable-on name nothing durable content may = durable content (nothing.nothing_more name content may) ∙ sym (nothing.files name)
+
+pub own-durable : (disk : Disk) → IsDurable disk made_file → IsDurable disk control_file → IsDurable disk rows_file → AreDurable disk
+own-durable disk made control rows name own =
+    let Durable : List ℕ → Type 0 = λ n. IsDurable disk n in
+    elim own [
+      | inl is ↦ subst Durable (sym is) made
+      | inr next ↦ elim next [
+        | inl is ↦ subst Durable (sym is) control
+        | inr is ↦ subst Durable (sym is) rows
+      ]
+    ]
+
+-- nothing is pending in an instance's own files and in media
+pub ours-durable : (disk : Disk) (home : KeptHome) → IsHome disk home → MediaAreDurable disk → (name : List ℕ) → IsOurs name → IsDurable disk name
+ours-durable disk home is media name ours =
+    let Durable : List ℕ → Type 0 = λ n. IsDurable disk n in
+    elim ours [
+      | inl own ↦ home_durable is name own
+      | inr path ↦ subst Durable (sym path.2) (media path.0 path.1)
+    ]
+
+pub settled-on : {a b : Disk} → ChangesNothing a b → IsSettled a → IsSettled b
+settled-on nothing settled name = durable-on name nothing (settled name)
+
+pub blobs-on : {a b : Disk} → ChangesNothing a b → blobs_of b.files ≡ blobs_of a.files
+blobs-on {a = a} {b = b} nothing = blobs_same a.files b.files (nothing.files rows_file)
+
+pub media-on-nothing : {a b : Disk} → ChangesNothing a b → MediaAreDurable a → MediaAreDurable b
+media-on-nothing nothing durable path bytes = durable-on (medium_file path) nothing (durable path bytes)
+
+-- Files that stand for a world.
+
+-- they stand for it where nothing is changed
+pub stands-on : {a b : Disk} (number : ℕ) (w : World) → ChangesNothing a b → Stands number a.files w → Stands number b.files w
+stands-on {a = a} {b = b} number w nothing stands = record {
+  «record» = stands.«record»;
+  kept = stands.kept;
+  holds = holds-same number a.files b.files stands.«record» stands.kept (λ name own. nothing.files name) stands.holds;
+  instance = stands.instance;
+  counter = stands.counter;
+  databases = stands.databases;
+  media = media-in w stands.«record».making a.files b.files (λ path bytes. nothing.files (medium_file path)) stands.media;
+}
+
+-- an instance that isn't made is made, or not yet
+fresh-holds : (number : ℕ) (image : Files) (r : Record) (kept : List KeptDatabase) → IsNotMade image ⊎ HomeIs image (fresh number) [] → r ≡ fresh number → kept ≡ [] → Holds number image r kept
+fresh-holds number image r kept here is none =
+    elim here [
+      | inl not ↦ inl (not, is, none)
+      | inr home ↦
+          let Home : Record → Type 0 = λ x. HomeIs image x [] in
+          inr (record { blobs = []; home = subst Home (sym is) home; rows = ap (λ (k : List KeptDatabase). Some k) (sym none) })
+    ]
+
+pub fresh-stands : (number : ℕ) (files image : Files) (w : World) → IsNotMade files → IsNotMade image ⊎ HomeIs image (fresh number) [] → SameMedia files image → Stands number files w → Stands number image w
+fresh-stands number files image w not here same stands =
+    let holds : Holds number image stands.«record» stands.kept = elim stands.holds [
+      | inl new ↦ fresh-holds number image stands.«record» stands.kept here new.1 new.2
+      | inr made ↦ absurd (made.home.made not)
+    ] in
+    record {
+      «record» = stands.«record»;
+      kept = stands.kept;
+      holds = holds;
+      instance = stands.instance;
+      counter = stands.counter;
+      databases = stands.databases;
+      media = media-in w stands.«record».making files image same stands.media;
+    }
+
+-- the record of a made instance, and its databases
+pub record Made (number : ℕ) (files : Files) (w : World) (r : Record) : Type 0 where
+  pub kept : List KeptDatabase
+  pub rows : replayed (blobs_of files) ≡ Some kept
+  pub instance : w.instance ≡ r.number
+  pub counter : w.counter ≡ r.counter
+  pub databases : KeepsDatabases w kept
+  pub media : KeepsMedia w r.making files
+
+pub stands-made : (number : ℕ) (files : Files) (w : World) (r : Record) → HomeIs files r (blobs_of files) → Stands number files w → Made number files w r
+stands-made number files w r home stands =
+    elim stands.holds [
+      | inl new ↦ absurd (home.made new.0)
+      | inr made ↦
+          let same : stands.«record» ≡ r = some_is stands.«record» r (sym made.home.is ∙ home.is) in
+          let Media : Record → Type 0 = λ x. KeepsMedia w x.making files in
+          record {
+            kept = stands.kept;
+            rows = ap replayed (home_blobs made.home) ∙ made.rows;
+            instance = stands.instance ∙ ap (λ (x : Record). x.number) same;
+            counter = stands.counter ∙ ap (λ (x : Record). x.counter) same;
+            databases = stands.databases;
+            media = subst Media same stands.media;
+          }
+    ]
+
+-- and the world stands so with another record, whose media are those
+pub made-stands : (number : ℕ) (files image : Files) (w : World) (r next : Record) (made : Made number files w r) → HomeIs image next (blobs_of files) → next.number ≡ r.number → next.counter ≡ r.counter
+    → KeepsMedia w next.making image → Stands number image w
+made-stands number files image w r next made home n counter media = record {
+  «record» = next;
+  kept = made.kept;
+  holds = inr (record { blobs = blobs_of files; home = home; rows = made.rows });
+  instance = made.instance ∙ sym n;
+  counter = made.counter ∙ sym counter;
+  databases = made.databases;
+  media = media;
+}
+
+pub lets-go-stands : (number : ℕ) (files image : Files) (w : World) (r : Record) → HomeIs files r (blobs_of files) → LetsGo r files image → Stands number files w → Stands number image w
+lets-go-stands number files image w r home here stands =
+    let made = stands-made number files w r home stands in
+    made-stands number files image w r here.«record» made here.home here.number here.counter (here.media w made.media)
+
+-- Opening an instance's own files.
+
+-- made or not
+pub made-or-not : (files : Files) → IsNotMade files ⊎ IsMade files
+made-or-not files = by (files made_file) refl
+  where
+    by : (o : Option (List ℕ)) → files made_file ≡ o → IsNotMade files ⊎ IsMade files
+    by None is = inl is
+    by (Some file) is = inr (λ none. absurd cc)
+
+-- what a crash may leave of a world
+abbrev pub LeavesWorlds : ℕ → Files → Files → Type 0
+LeavesWorlds number files image = (w : World) → Stands number files w → Covers number image (opened w)
+
+-- they are synced
+pub sync-crash : (number : ℕ) (a b : Disk) → IsSettled a → Effect IsOwn (MayLeaveOwn IsOwn a) a b → Effect IsOurs (LeavesWorlds number a.files) a b
+sync-crash number a b settled effect =
+    effect_widen (λ name own. inl own) (λ image here others w stands.
+    covers-same number a.files image (opened w) (λ name ours.
+    elim ours [
+      | inl own ↦ settled name (image name) (here name own)
+      | inr path ↦
+          let Same : List ℕ → Type 0 = λ n. image n ≡ a.files n in
+          subst Same (sym path.2) (settled (medium_file path.0) (image (medium_file path.0)) (others (medium_file path.0) (not-own path.0) (inr (path.0, path.1, refl))))
+    ]) (stands-covers number a.files w stands)) effect
+
+-- and opened
+pub open-crash : (number : ℕ) (a b c : Disk) → IsSettled a → ChangesNothing a b → Effect IsOurs (LeavesWorlds number a.files) a b → (IsMade b.files → ChangesNothing b c)
+    → (IsNotMade b.files → IsDurable b made_file → Effect IsOwn (λ image. IsNotMade image ⊎ HomeIs image (fresh number) []) b c) → Effect IsOurs (LeavesWorlds number a.files) a c
+open-crash number a b c settled nothing first made new =
+    let calm : IsSettled b = settled-on nothing settled in
+    effect_then first (
+    elim (made-or-not b.files) [
+      | inl not ↦ effect_widen (λ name own. inl own) (λ image here others w stands.
+          stands-covers number image w (fresh-stands number b.files image w not here
+          (λ path bytes. calm (medium_file path) (image (medium_file path)) (others (medium_file path) (not-own path) (inr (path, bytes, refl))))
+          (stands-on number w nothing stands))) (new not (calm made_file))
+      | inr is ↦ effect_of_nothing (λ image left w stands. settled-covers number b w image calm left (stands-on number w nothing stands)) (made is)
+    ])
+
+pub open-stands : (number : ℕ) (a b c : Disk) (home : KeptHome) (w : World) → AreDurable b → ChangesNothing a b → IsHome c home → (IsNotMade b.files → home.«record» ≡ fresh number)
+    → (IsNotMade b.files → blobs_of c.files ≡ []) → (IsMade b.files → ChangesNothing b c)
+    → (IsNotMade b.files → IsDurable b made_file → Effect IsOwn (λ image. IsNotMade image ⊎ HomeIs image (fresh number) []) b c) → Stands number a.files w → Stands number c.files w
+open-stands number a b c home w durable nothing is record_is none made new stands =
+    let before : Stands number b.files w = stands-on number w nothing stands in
+    elim (made-or-not b.files) [
+      | inl not ↦
+          let Home : Record → List (List ℕ) → Type 0 = HomeIs c.files in
+          let One : Record → Type 0 = λ r. Home r (blobs_of c.files) in
+          let Two : List (List ℕ) → Type 0 = λ blobs. Home (fresh number) blobs in
+          let effect = new not (durable made_file own_made) in
+          fresh-stands number b.files c.files w not (inr (subst Two (none not) (subst One (record_is not) (home_files is)))) (λ path bytes. effect.others (medium_file path) (not-own path)) before
+      | inr is ↦ stands-on number w (made is) before
+    ]
+
+pub open-media : (number : ℕ) (a b c : Disk) → IsSettled a → ChangesNothing a b → (IsMade b.files → ChangesNothing b c)
+    → {P : Files → Type 0} → (IsNotMade b.files → IsDurable b made_file → Effect IsOwn P b c) → MediaAreDurable c
+open-media number a b c settled nothing made new path bytes =
+    let calm : IsSettled b = settled-on nothing settled in
+    elim (made-or-not b.files) [
+      | inl not ↦ media-kept b c path (new not (calm made_file)) (calm (medium_file path))
+      | inr is ↦ durable-on (medium_file path) (made is) (calm (medium_file path))
+    ]
+
+-- The medium that was being made.
+
+some_spans : (n : ℕ) → nat_eq (suc n) 0 ≡ false
+some_spans n = grind (arith, nat_tests)
+
+-- no blob of a gate file is sealed where there are no spans
+pub begun-count : (file : Option (List ℕ)) (spans : List (ℕ × ℕ)) → IsGateFile (contents file) → spans ≡ spans_of (contents file) → nat_eq (length spans) 0 ≡ is_begun (sealed file)
+begun-count file spans is same = by spans ∙ ap is_begun (ap (map (part_of (contents file))) same ∙ sym (gate_blobs (contents file) is))
+  where
+    by : (all : List (ℕ × ℕ)) → nat_eq (length all) 0 ≡ is_begun (map (part_of (contents file)) all)
+    by [] = refl
+    by (span ∷ all) = some_spans (length all)
+
+-- nor where it is none
+pub begun-foreign : (file : Option (List ℕ)) → (IsGateFile (contents file) → ⊥) → true ≡ is_begun (sealed file)
+begun-foreign file foreign = sym (ap is_begun (foreign_blobs (contents file) foreign))
+
+-- in the file that is gone no set is found
+none-found : (p : ℕ) → found_at None p ≡ None
+unfolding found_at
+none-found zero = refl
+none-found (suc before) = ap (λ (sets : List (List ℕ)). option_map found (slice_get sets before)) (none_read None nothing_sealed).0
+
+gone-begun : (file : Option (List ℕ)) → file ≡ None → is_begun (sealed file) ≡ true
+gone-begun file gone = ap (λ (f : Option (List ℕ)). is_begun (sealed f)) gone ∙ ap is_begun nothing_sealed
+
+gone-read : (file : Option (List ℕ)) → file ≡ None → read_medium file ≡ None
+unfolding read_medium
+gone-read file gone = ap read_medium gone
+
+-- how the medium that is being made is shown, and how another one
+
+making-itself : (making : List ℕ) → is_making (Some making) making ≡ true
+making-itself making = (bytes_eq-Decides making making).1 refl
+
+begun-shown : (making : List ℕ) (file : Option (List ℕ)) → is_begun (sealed file) ≡ true → shown_medium (Some making) making file ≡ None
+begun-shown making file begun = rw (making-itself making, begun) refl
+
+sealed-shown : (making : List ℕ) (file : Option (List ℕ)) → is_begun (sealed file) ≡ false → shown_medium (Some making) making file ≡ read_medium file
+sealed-shown making file begun = rw (making-itself making, begun) refl
+
+other-shown : (making path : List ℕ) (file : Option (List ℕ)) → path ≢ making → shown_medium (Some making) path file ≡ read_medium file
+other-shown making path file differ =
+    let test : bytes_eq making path ≡ false = elim (true_or_false (bytes_eq making path)) [
+      | inl is ↦ absurd (differ (sym ((bytes_eq-Decides making path).0 is)))
+      | inr is ↦ is
+    ] in
+    rw test refl
+
+-- media at other paths are as they were
+abbrev pub OtherMedia : List ℕ → Files → Files → Type 0
+OtherMedia making files image = (path : List ℕ) → AreBytes path → path ≢ making → image (medium_file path) ≡ files (medium_file path)
+
+-- what sets hold stays so where no more files than the one medium are gone
+carried-cleared : (w : World) (making : List ℕ) (files image : Files) → (image (medium_file making) ≡ files (medium_file making)) ⊎ (image (medium_file making) ≡ None) → OtherMedia making files image
+    → ((path : List ℕ) (p : ℕ) (body : SetBody) → AreBytes path → found_at (files (medium_file path)) p ≡ Some (was.Holds body) → IsCarried w body)
+    → (path : List ℕ) (p : ℕ) (body : SetBody) → AreBytes path → found_at (image (medium_file path)) p ≡ Some (was.Holds body) → IsCarried w body
+carried-cleared w making files image cleared others carried path p body bytes is =
+    elim (same_or_other making path) [
+      | inr differ ↦ on path bytes (others path bytes differ) is
+      | inl same ↦ elim cleared [
+        | inl kept ↦
+            let Same : List ℕ → Type 0 = λ n. image (medium_file n) ≡ files (medium_file n) in
+            on path bytes (subst Same (sym same) kept) is
+        | inr gone ↦
+            let none : found_at (image (medium_file path)) p ≡ None = ap (λ (n : List ℕ). found_at (image (medium_file n)) p) same ∙ ap (λ (f : Option (List ℕ)). found_at f p) gone ∙ none-found p in
+            absurd cc
+      ]
+    ]
+  where
+    on : (path : List ℕ) → AreBytes path → image (medium_file path) ≡ files (medium_file path) → found_at (image (medium_file path)) p ≡ Some (was.Holds body) → IsCarried w body
+    on path bytes same is = carried path p body bytes (ap (λ (f : Option (List ℕ)). found_at f p) (sym same) ∙ is)
+
+-- while a record names it, the medium is shown as before
+pub media-clearing : (w : World) (making : List ℕ) (files image : Files) → (image (medium_file making) ≡ files (medium_file making)) ⊎ ((is_begun (sealed (files (medium_file making))) ≡ true) × (image (medium_file making) ≡ None))
+    → OtherMedia making files image → KeepsMedia w (Some making) files → KeepsMedia w (Some making) image
+media-clearing w making files image cleared others media = record {
+  read = λ path bytes.
+      media.read path bytes ∙
+      elim (same_or_other making path) [
+        | inr differ ↦ ap (shown_medium (Some making) path) (sym (others path bytes differ))
+        | inl same ↦
+            let Shown : List ℕ → Type 0 = λ n. shown_medium (Some making) n (files (medium_file n)) ≡ shown_medium (Some making) n (image (medium_file n)) in
+            subst Shown (sym same) (elim cleared [
+              | inl kept ↦ ap (shown_medium (Some making) making) (sym kept)
+              | inr gone ↦ begun-shown making (files (medium_file making)) gone.0 ∙ sym (begun-shown making (image (medium_file making)) (gone-begun (image (medium_file making)) gone.1))
+            ])
+      ];
+  carried = carried-cleared w making files image (elim cleared [ inl kept ↦ inl kept | inr gone ↦ inr gone.1 ]) others media.carried;
+}
+
+-- and once it is cleared, no record need name it
+pub media-cleared : (w : World) (making : List ℕ) (files image : Files) → IsCleared (files (medium_file making)) (image (medium_file making)) → OtherMedia making files image → KeepsMedia w (Some making) files → KeepsMedia w None image
+media-cleared w making files image cleared others media = record {
+  read = λ path bytes.
+      media.read path bytes ∙
+      elim (same_or_other making path) [
+        | inr differ ↦ other-shown making path (files (medium_file path)) differ ∙ ap read_medium (sym (others path bytes differ))
+        | inl same ↦
+            let Shown : List ℕ → Type 0 = λ n. shown_medium (Some making) n (files (medium_file n)) ≡ read_medium (image (medium_file n)) in
+            subst Shown (sym same) (elim cleared [
+              | inl gone ↦ begun-shown making (files (medium_file making)) gone.0 ∙ sym (gone-read (image (medium_file making)) gone.1)
+              | inr kept ↦ sealed-shown making (files (medium_file making)) kept.0 ∙ ap read_medium (sym kept.1)
+            ])
+      ];
+  carried = carried-cleared w making files image (elim cleared [ inl gone ↦ inr gone.1 | inr kept ↦ inl kept.1 ]) others media.carried;
+}
+
+-- Letting go of it on a device.
+
+-- the file of the medium at a path is removed where no blob of it is sealed, or not yet
+abbrev pub Clears : List ℕ → Disk → Disk → Type 0
+Clears path a b = Effect (IsName (medium_file path)) (λ image. LeavesCleared (a.may (medium_file path)) (a.files (medium_file path)) (image (medium_file path))) a b
+
+-- different paths have different names
+abbrev pub NamesDiffer : Type 0
+NamesDiffer = (path other : List ℕ) → AreBytes path → AreBytes other → medium_file path ≡ medium_file other → path ≡ other
+
+-- nothing was done
+pub let-go-none : (disk : Disk) (home : KeptHome) → IsHome disk home → MediaAreDurable disk → Effect IsOurs (LetsGo home.«record» disk.files) disk disk
+let-go-none disk home is durable = effect_none disk (λ image left. record {
+  «record» = home.«record»;
+  home = home_left image is (λ name own. left name (inl own));
+  number = refl;
+  counter = refl;
+  media = λ w media. media-in w home.«record».making disk.files image (λ path bytes. durable path bytes (image (medium_file path)) (left (medium_file path) (inr (path, bytes, refl)))) media;
+})
+
+off-own : (path : List ℕ) (name : List ℕ) → IsOwn name → IsName (medium_file path) name → ⊥
+off-own path name own at = not-own path (subst IsOwn at own)
+
+-- what is done to a medium leaves the home and its blobs
+pub home-cleared : (path : List ℕ) (a b : Disk) (home : KeptHome) → Clears path a b → IsHome a home → IsHome b home
+home-cleared path a b home effect is = home_kept (keeps_by_effect (λ name own at. off-own path name own at) effect) is
+
+pub blobs-cleared : (path : List ℕ) (a b : Disk) → Clears path a b → blobs_of b.files ≡ blobs_of a.files
+blobs-cleared path a b effect = blobs_same a.files b.files (effect.others rows_file (off-own path rows_file own_rows))
+
+-- and the other media
+pub media-left-durable : (path : List ℕ) (a b : Disk) → Clears path a b → MediaAreDurable a → IsDurable b (medium_file path) → MediaAreDurable b
+media-left-durable path a b effect durable cleared other bytes =
+    elim (same_or_other (medium_file path) (medium_file other)) [
+      | inl same ↦
+          let Durable : List ℕ → Type 0 = λ n. IsDurable b n in
+          subst Durable (sym same) cleared
+      | inr differ ↦ λ content may. durable other bytes content (effect.others_left (medium_file other) differ content may) ∙ sym (effect.others (medium_file other) differ)
+    ]
+
+-- its file is removed, or not
+pub let-go-clear : (path : List ℕ) (a b : Disk) (home : KeptHome) → NamesDiffer → IsHome a home → MediaAreDurable a → AreBytes path → home.«record».making ≡ Some path
+    → Clears path a b → Effect IsOurs (LetsGo home.«record» a.files) a b
+let-go-clear path a b home names is durable bytes making effect =
+    effect_widen (λ name at. inr (path, bytes, at)) (λ image here others.
+    let other : OtherMedia path a.files image = λ p are differ. durable p are (image (medium_file p)) (others (medium_file p) (λ at. differ (names p path are bytes at)) (inr (p, are, refl))) in
+    record {
+      «record» = home.«record»;
+      home = home_left image is (λ name own. others name (off-own path name own) (inl own));
+      number = refl;
+      counter = refl;
+      media = λ w media.
+          let Before : Option (List ℕ) → Type 0 = λ m. KeepsMedia w m a.files in
+          let After : Option (List ℕ) → Type 0 = λ m. KeepsMedia w m image in
+          subst After (sym making) (media-clearing w path a.files image
+          (elim here [ inl may ↦ inl (durable path bytes (image (medium_file path)) may) | inr gone ↦ inr gone ])
+          other (subst Before making media));
+    }) effect
+
+-- and then the record names it no longer
+let-go-put : (path : List ℕ) (a b c : Disk) (home : KeptHome) (next : Record) → NamesDiffer → MediaAreDurable a → AreBytes path → home.«record».making ≡ Some path
+    → Clears path a b
+    → IsCleared (a.files (medium_file path)) (b.files (medium_file path)) → IsDurable b (medium_file path)
+    → next.number ≡ home.«record».number → next.counter ≡ home.«record».counter → next.making ≡ None
+    → Effect IsOwn (λ image. HomeIs image home.«record» (blobs_of b.files) ⊎ HomeIs image next (blobs_of b.files)) b c → Effect IsOurs (LetsGo home.«record» a.files) b c
+let-go-put path a b c home next names durable bytes making first cleared calm number counter none effect =
+    effect_widen (λ name own. inl own) (λ image here others.
+    let there : SameMedia b.files image = λ p are. media-left-durable path a b first durable calm p are (image (medium_file p)) (others (medium_file p) (not-own p) (inr (p, are, refl))) in
+    let other : OtherMedia path a.files image = λ p are differ. there p are ∙ first.others (medium_file p) (λ at. differ (names p path are bytes at)) in
+    let Blobs : Record → List (List ℕ) → Type 0 = HomeIs image in
+    let Is : Option (List ℕ) → Type 0 = λ file. IsCleared (a.files (medium_file path)) file in
+    let now : IsCleared (a.files (medium_file path)) (image (medium_file path)) = subst Is (sym (there path bytes)) cleared in
+    elim here [
+      | inl old ↦
+          record {
+            «record» = home.«record»;
+            home = let Old : List (List ℕ) → Type 0 = Blobs home.«record» in subst Old (blobs-cleared path a b first) old;
+            number = refl;
+            counter = refl;
+            media = λ w media.
+                let Before : Option (List ℕ) → Type 0 = λ m. KeepsMedia w m a.files in
+                let After : Option (List ℕ) → Type 0 = λ m. KeepsMedia w m image in
+                subst After (sym making) (media-clearing w path a.files image (elim now [ inl gone ↦ inr gone | inr kept ↦ inl kept.1 ]) other (subst Before making media));
+          }
+      | inr new ↦
+          record {
+            «record» = next;
+            home = let New : List (List ℕ) → Type 0 = Blobs next in subst New (blobs-cleared path a b first) new;
+            number = number;
+            counter = counter;
+            media = λ w media.
+                let Before : Option (List ℕ) → Type 0 = λ m. KeepsMedia w m a.files in
+                let After : Option (List ℕ) → Type 0 = λ m. KeepsMedia w m image in
+                subst After (sym none) (media-cleared w path a.files image now other (subst Before making media));
+          }
+    ]) effect
+
+pub let-go-then : (path : List ℕ) (a b c : Disk) (home : KeptHome) (next : Record) → NamesDiffer → IsHome a home → MediaAreDurable a → AreBytes path → home.«record».making ≡ Some path
+    → Clears path a b
+    → IsCleared (a.files (medium_file path)) (b.files (medium_file path)) → IsDurable b (medium_file path)
+    → next.number ≡ home.«record».number → next.counter ≡ home.«record».counter → next.making ≡ None
+    → Effect IsOwn (λ image. HomeIs image home.«record» (blobs_of b.files) ⊎ HomeIs image next (blobs_of b.files)) b c → Effect IsOurs (LetsGo home.«record» a.files) a c
+let-go-then path a b c home next names is durable bytes making first cleared calm number counter none second =
+    effect_then (let-go-clear path a b home names is durable bytes making first) (let-go-put path a b c home next names durable bytes making first cleared calm number counter none second)
+
+-- All of it.
+
+-- the changes are read
+pub read-crash : (number : ℕ) (a b c : Disk) (home : KeptHome) → Effect IsOurs (LeavesWorlds number a.files) a b → ((w : World) → Stands number a.files w → Stands number b.files w)
+    → IsHome b home → MediaAreDurable b → ChangesNothing b c → Effect IsOurs (LeavesWorlds number a.files) a c
+read-crash number a b c home first same is media nothing =
+    effect_then first (effect_of_nothing (λ image left w stands.
+    covers-same number b.files image (opened w) (λ name ours. ours-durable b home is media name ours (image name) (left name ours)) (stands-covers number b.files w (same w stands))) nothing)
+
+-- then the medium is let go
+pub load-crash : (number : ℕ) (a b c d : Disk) (home : KeptHome) → Effect IsOurs (LeavesWorlds number a.files) a b → ((w : World) → Stands number a.files w → Stands number b.files w)
+    → IsHome b home → MediaAreDurable b → ChangesNothing b c → Effect IsOurs (LetsGo home.«record» c.files) c d → Effect IsOurs (LeavesWorlds number a.files) a d
+load-crash number a b c d home first same is media nothing second =
+    effect_then (read-crash number a b c home first same is media nothing) (effect_weaken (λ image here w stands.
+    stands-covers number image w (lets-go-stands number c.files image w home.«record» (home_files (home_kept (keeps_by_nothing nothing) is)) here (stands-on number w nothing (same w stands)))) second)
+
+-- and the files stand for the same worlds
+pub load-stands : (number : ℕ) (a b c d : Disk) (home : KeptHome) (w : World) → IsLawful d → ((w : World) → Stands number a.files w → Stands number b.files w) → IsHome b home → ChangesNothing b c
+    → Effect IsOurs (LetsGo home.«record» c.files) c d → Stands number a.files w → Stands number d.files w
+load-stands number a b c d home w lawful same is nothing second stands =
+    lets-go-stands number c.files d.files w home.«record» (home_files (home_kept (keeps_by_nothing nothing) is)) (second.now d.files (λ name ours. lawful.reads name)) (stands-on number w nothing (same w stands))
+
+-- where the changes don't fit there is no such world
+pub broken-rows : (number : ℕ) (b : Disk) (home : KeptHome) (w : World) → IsHome b home → replayed (blobs_of b.files) ≡ None → Stands number b.files w → ⊥
+broken-rows number b home w is none stands =
+    let made = stands-made number b.files w home.«record» (home_files is) stands in
+    let some = made.rows in
+    absurd cc
+
+-- the number is that of the world
+pub load-number : (number : ℕ) (b : Disk) (home : KeptHome) (w : World) → IsHome b home → Stands number b.files w → w.instance ≡ home.«record».number
+load-number number b home w is stands =
+    let made = stands-made number b.files w home.«record» (home_files is) stands in
+    made.instance
+
+-- the instance stands for the world in which a run begins
+pub instance-stands : (number : ℕ) (i : Instance) (disk : Disk) (w : World) → IsHome disk i.home → i.kept.number ≡ i.home.«record».number → i.kept.counter ≡ i.home.«record».counter → i.kept.current ≡ None
+    → i.home.«record».making ≡ None → replayed (blobs_of disk.files) ≡ Some i.kept.databases.items → Stands number disk.files w → StandsFor i disk (opened w)
+unfolding opened
+instance-stands number i disk w is n counter current none rows stands =
+    let made : Made number disk.files w i.home.«record» = stands-made number disk.files w i.home.«record» (home_files is) stands in
+    let same : made.kept ≡ i.kept.databases.items = some_is made.kept i.kept.databases.items (sym made.rows ∙ rows) in
+    let Kept : List KeptDatabase → Type 0 = λ kept. KeepsDatabases w kept in
+    let Media : Option (List ℕ) → Type 0 = λ making. KeepsMedia w making disk.files in
+    let to : LeadsTo w (opened w) i.kept.databases.items = keeps-same w (opened w) i.kept.databases.items refl (omega arith) refl refl (subst Kept same made.databases) in
+    record {
+      keeps = record {
+        number = made.instance ∙ sym n;
+        counter = made.counter ∙ sym counter;
+        current = sym current;
+        databases = to.keeps;
+      };
+      media = media-on w (opened w) None disk.files to.goes refl (subst Media none made.media);
+    }

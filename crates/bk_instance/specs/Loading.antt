@@ -1,0 +1,30 @@
+-- What loading an instance does with a medium that was being made.
+use Rattle.std.specs.Prelude.{◌≡◌, ◌⊎◌, ℕ, true, false, List, Option, None}
+use Rattle.bk_bytes.specs.Field.{AreBytes}
+use Rattle.bk_device.specs.Disk.{Files, Disk, IsDurable}
+use Rattle.bk_gate.specs.Blobs.{sealed}
+use Rattle.bk_home.specs.declared.record.Record.{Record}
+use Rattle.bk_home.specs.Home.{HomeIs, blobs_of}
+use Rattle.bk_media.specs.Names.{medium_file}
+use Rattle.bk_world.specs.World.{World}
+use Rattle.bk_instance.specs.Media.{KeepsMedia, is_begun}
+
+-- nothing is pending in any medium
+abbrev pub MediaAreDurable : Disk → Type 0
+MediaAreDurable disk = (path : List ℕ) → AreBytes path → IsDurable disk (medium_file path)
+
+-- the file of a medium is gone where no blob of it was sealed, and else it is as it was
+abbrev pub IsCleared : Option (List ℕ) → Option (List ℕ) → Type 0
+IsCleared before after = ((is_begun (sealed before) ≡ true) × (after ≡ None)) ⊎ ((is_begun (sealed before) ≡ false) × (after ≡ before))
+
+-- on the way a crash leaves of it what it might have left before, or nothing where no blob was sealed
+abbrev pub LeavesCleared : (Option (List ℕ) → Type 0) → Option (List ℕ) → Option (List ℕ) → Type 0
+LeavesCleared may before after = may after ⊎ ((is_begun (sealed before) ≡ true) × (after ≡ None))
+
+-- The medium that a record names is let go, or not yet: own files hold that record, or the same that names no medium, and a world that kept its media keeps them.
+pub record LetsGo (r : Record) (before image : Files) : Type 0 where
+  pub «record» : Record
+  pub home : HomeIs image «record» (blobs_of before)
+  pub number : «record».number ≡ r.number
+  pub counter : «record».counter ≡ r.counter
+  pub media : (w : World) → KeepsMedia w r.making before → KeepsMedia w «record».making image

@@ -1,0 +1,40 @@
+-- The media of a world as files.
+use Rattle.std.specs.Prelude.{◌≡◌, ℕ, Bool, true, false, List, [], ◌∷◌, Option, Some, None, Result, Ok, Err, if◌then◌else◌, ◌&&◌}
+use Rattle.std.specs.Str.{bytes_eq}
+use Rattle.bk_bytes.specs.Field.{AreBytes}
+use Rattle.bk_device.specs.Disk.{Files}
+use Rattle.bk_gate.specs.Blobs.{sealed}
+use Rattle.bk_media.specs.Media.{read_medium, found_at}
+use Rattle.bk_media.specs.Names.{medium_file}
+use Rattle.bk_set.specs.declared.body.SetBody.{SetBody}
+use Rattle.bk_set.specs.declared.found.Found.TheVariants.{Holds}
+use Rattle.bk_world.specs.declared.header.Header.{Header}
+use Rattle.bk_world.specs.declared.rule.Rule.{Rule}
+use Rattle.bk_world.specs.Medium.{Slot, Reading, readable, medium, medium_at}
+use Rattle.bk_world.specs.Restore.{set_broken}
+use Rattle.bk_world.specs.World.{World}
+use Rattle.bk_kept.specs.Carried.{IsCarried}
+
+-- the medium at this path is the one that is being made
+abbrev pub is_making : Option (List ℕ) → List ℕ → Bool
+is_making None path = false
+is_making (Some making) path = bytes_eq making path
+
+-- no blob of it is sealed yet
+abbrev pub is_begun : List (List ℕ) → Bool
+is_begun [] = true
+is_begun (blob ∷ blobs) = false
+
+-- the reading of a file at a path: none while its medium is only being made
+abbrev pub shown_medium : Option (List ℕ) → List ℕ → Option (List ℕ) → Option Reading
+shown_medium making path file = if is_making making path && is_begun (sealed file) then None else read_medium file
+
+-- the media of the world are those in the files, and their sets hold what their paths show
+pub record KeepsMedia (w : World) (making : Option (List ℕ)) (files : Files) : Type 0 where
+  pub read : (path : List ℕ) → AreBytes path → medium_at w.media path ≡ shown_medium making path (files (medium_file path))
+  pub carried : (path : List ℕ) (p : ℕ) (body : SetBody) → AreBytes path → found_at (files (medium_file path)) p ≡ Some (Holds body) → IsCarried w body
+
+-- what the first set of a file is: the body that it holds, or the rule by which it is refused
+abbrev pub IsFirst : Option (List ℕ) → Result SetBody Rule → Type 0
+IsFirst file (Ok body) = (slots : List Slot) × (read_medium file ≡ Some (medium (readable body.header ∷ slots))) × (found_at file 1 ≡ Some (Holds body))
+IsFirst file (Err rule) = (next : Header → Option Rule) → set_broken (read_medium file) next ≡ Some rule

@@ -1,0 +1,36 @@
+// How an instance ends its run.
+ghost use Rattle.std.specs.Prelude.{◌≡◌, ◌≤◌, OnOk, IsErrOf};
+ghost use Rattle.bk_device.specs.Counts.{HasRisen};
+ghost use Rattle.bk_device.specs.Effects.{Effect};
+ghost use Rattle.bk_instance.specs.Stands.{Stands, Covers, IsReady, IsStored, StandsFor, IsOurs};
+ghost use Rattle.bk_instance.specs.declared.error.ExecuteError.TheVariants as execute;
+ghost use Rattle.bk_world.specs.World.{World, ended};
+
+use crate::error::ExecuteError;
+use crate::instance::Instance;
+use bk_device::Device;
+use bk_home::Record;
+
+impl Instance {
+    /// Ends the run: its sessions are closed, and no GUID stays reserved. After an error the instance isn't used again.
+    pub fn close<D: Device>(&mut self, dev: &mut D) -> Result<(), ExecuteError>
+        requires ready { IsReady self.old }
+        requires stored { D.tells → IsStored (D.disk dev.old) self.old }
+        ensures stored { D.tells → OnOk result (IsStored (D.disk dev.new) self.new) }
+        ensures stands { D.tells → OnOk result ((w : World) → StandsFor self.old (D.disk dev.old) w → Stands self.old.kept.number (D.disk dev.new).files (ended w)) }
+        ensures crash { D.tells → Effect IsOurs (λ image. (w : World) → StandsFor self.old (D.disk dev.old) w → Covers self.old.kept.number image w) (D.disk dev.old) (D.disk dev.new) }
+        ensures cause { IsErrOf result execute.Fault → HasRisen (D.disk_faults dev.old) (D.disk_faults dev.new) }
+        ensures never_falls { D.disk_faults dev.old ≤ D.disk_faults dev.new }
+        ensures tell_faults { D.tell_faults dev.new ≡ D.tell_faults dev.old }
+    {
+        if self.home.record().counter != self.kept.counter {
+            let exact = Record {
+                number: self.kept.number,
+                counter: self.kept.counter,
+                making: None,
+            };
+            self.home.put(self.alloc, dev, exact)?;
+        }
+        Ok(())
+    }
+}

@@ -1,0 +1,90 @@
+// How an instance is opened.
+ghost use Rattle.std.specs.Prelude.{◌≡◌, ◌≢◌, ◌≤◌, false, IfOk, OnOk, OnErr, IsErrOf, MatchResult};
+ghost use Rattle.bk_device.specs.Calls.{ChangesNothing};
+ghost use Rattle.bk_device.specs.Counts.{HasRisen};
+ghost use Rattle.bk_device.specs.Disk.{IsSettled};
+ghost use Rattle.bk_device.specs.Effects.{Effect, MayLeaveOwn};
+ghost use Rattle.bk_home.specs.Home.{AreDurable, IsHome, IsNoInstance, IsOwn};
+ghost use Rattle.bk_instance.specs.Loading.{MediaAreDurable};
+ghost use Rattle.bk_instance.specs.Stands.{Stands, Covers, IsReady, IsStored, StandsFor, IsOurs};
+ghost use Rattle.bk_instance.specs.declared.error.LoadError.TheVariants as load;
+ghost use Rattle.bk_world.specs.World.{World, opened};
+
+use crate::error::LoadError;
+use crate::instance::Instance;
+use crate::replaying::replay;
+use crate::unfinished::let_go;
+use bk_device::{Device, Failed};
+use bk_home::Home;
+use bk_kept::Kept;
+use std::alloc::Global;
+
+// Makes durable what a read shows of an instance's own files: a process that was stopped may have left writes there
+// that are still pending.
+fn sync_own<D: Device>(dev: &mut D) -> Result<(), Failed>
+    ensures durable { D.tells → OnOk result (AreDurable (D.disk dev.new)) }
+    ensures effect { D.tells → OnOk result (ChangesNothing (D.disk dev.old) (D.disk dev.new)) }
+    ensures crash { D.tells → Effect IsOwn (MayLeaveOwn IsOwn (D.disk dev.old)) (D.disk dev.old) (D.disk dev.new) }
+    ensures cause { OnErr result (HasRisen (D.disk_faults dev.old) (D.disk_faults dev.new)) }
+    ensures never_falls { D.disk_faults dev.old ≤ D.disk_faults dev.new }
+    ensures tell_faults { D.tell_faults dev.new ≡ D.tell_faults dev.old }
+{
+    dev.sync("sqlbak.made")?;
+    dev.sync("sqlbak.control")?;
+    dev.sync("sqlbak.rows")?;
+    Ok(())
+}
+
+// Opens an instance's own files, or makes them with this number.
+fn open_home<D: Device>(alloc: Global, dev: &mut D, number: u64) -> Result<Home, LoadError>
+    ensures fit { IfOk result (λ home. home.failed ≡ false) }
+    ensures stands { D.tells → IfOk result (λ home. IsHome (D.disk dev.new) home) }
+    ensures same { D.tells → OnOk result ((w : World) → Stands number (D.disk dev.old).files w → Stands number (D.disk dev.new).files w) }
+    ensures media { D.tells → IsSettled (D.disk dev.old) → OnOk result (MediaAreDurable (D.disk dev.new)) }
+    ensures crash { D.tells → IsSettled (D.disk dev.old) → Effect IsOurs (λ image. (w : World) → Stands number (D.disk dev.old).files w → Covers number image (opened w)) (D.disk dev.old) (D.disk dev.new) }
+    ensures not_an_instance { D.tells → IsErrOf result load.NotAnInstance → IsNoInstance (D.disk dev.old).files }
+    ensures no_instance { D.tells → IsNoInstance (D.disk dev.old).files → MatchResult result (λ _. ⊥) (λ e. e ≢ load.Broken) }
+    ensures untouched { D.tells → IsErrOf result load.NotAnInstance → ChangesNothing (D.disk dev.old) (D.disk dev.new) }
+    ensures broken { D.tells → IsErrOf result load.Broken → (w : World) → Stands number (D.disk dev.old).files w → ⊥ }
+    ensures cause { IsErrOf result load.Fault → HasRisen (D.disk_faults dev.old) (D.disk_faults dev.new) }
+    ensures never_falls { D.disk_faults dev.old ≤ D.disk_faults dev.new }
+    ensures tell_faults { D.tell_faults dev.new ≡ D.tell_faults dev.old }
+{
+    sync_own(dev)?;
+    let home = Home::load(alloc, dev, number)?;
+    Ok(home)
+}
+
+impl Instance {
+    /// Opens the instance on a device, or makes it with this number where it isn't made; session 1 is current, with no
+    /// current database. A medium that was being made is removed, and a crash meanwhile leaves the same instance.
+    ///
+    /// `NotAnInstance` is answered exactly where the instance is made and its control file holds no control, and then
+    /// nothing is changed; `Broken` only where the files stand for no world.
+    pub fn load<D: Device>(alloc: Global, dev: &mut D, number: u64) -> Result<Instance, LoadError>
+        ensures ready { IfOk result IsReady }
+        ensures stored { D.tells → IsSettled (D.disk dev.old) → IfOk result (IsStored (D.disk dev.new)) }
+        ensures stands { D.tells → IsSettled (D.disk dev.old) → IfOk result (λ i. (w : World) → Stands number (D.disk dev.old).files w → StandsFor i (D.disk dev.new) (opened w)) }
+        ensures number { D.tells → IfOk result (λ i. (w : World) → Stands number (D.disk dev.old).files w → i.kept.number ≡ w.instance) }
+        ensures crash { D.tells → IsSettled (D.disk dev.old) → Effect IsOurs (λ image. (w : World) → Stands number (D.disk dev.old).files w → Covers number image (opened w)) (D.disk dev.old) (D.disk dev.new) }
+        ensures not_an_instance { D.tells → IsErrOf result load.NotAnInstance → IsNoInstance (D.disk dev.old).files }
+        ensures no_instance { D.tells → IsNoInstance (D.disk dev.old).files → MatchResult result (λ _. ⊥) (λ e. e ≢ load.Broken) }
+        ensures untouched { D.tells → IsErrOf result load.NotAnInstance → ChangesNothing (D.disk dev.old) (D.disk dev.new) }
+        ensures broken { D.tells → IsErrOf result load.Broken → (w : World) → Stands number (D.disk dev.old).files w → ⊥ }
+        ensures cause { IsErrOf result load.Fault → HasRisen (D.disk_faults dev.old) (D.disk_faults dev.new) }
+        ensures never_falls { D.disk_faults dev.old ≤ D.disk_faults dev.new }
+        ensures tell_faults { D.tell_faults dev.new ≡ D.tell_faults dev.old }
+    {
+        let mut home = open_home(alloc, dev, number)?;
+        let databases = replay(alloc, dev, &home)?;
+        let_go(alloc, dev, &mut home)?;
+        let record = home.record();
+        let kept = Kept {
+            number: record.number,
+            counter: record.counter,
+            current: None,
+            databases,
+        };
+        Ok(Instance { alloc, home, kept })
+    }
+}
