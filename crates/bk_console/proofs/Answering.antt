@@ -6,18 +6,21 @@ use Rattle.std.proofs.lemmas.List.{append-nil, get_or_append_left, take-append-d
 use Rattle.std.proofs.lemmas.List.Folds.{list_any-append}
 use Rattle.std.proofs.lemmas.Bool.{cases_lt}
 use Rattle.std.proofs.lemmas.Grind.{flat_map-append}
-use Rattle.std.proofs.Math.Seq.{get_or-append_seam, take-append-add, take-append_seam, take-length}
-use Rattle.bk_device.specs.Calls.{TellsFront}
-use Rattle.bk_device.specs.Disk.{Disk}
+use Rattle.std.proofs.Math.Seq.{get_or-append_seam, take-append-add, take-append_seam, take-length, drop-append_seam}
+use Rattle.bk_device.specs.Calls.{Elapses, TellsFront}
+use Rattle.bk_device.specs.Disk.{Files, Disk}
 use Rattle.bk_instance.specs.declared.instance.Instance.{Instance}
-use Rattle.bk_instance.specs.Standing.{IsOffMedia}
+use Rattle.bk_instance.specs.Stands.{Covers, CutIn, StandsFor}
 use Rattle.bk_world.specs.declared.item.Statement.{Statement}
 use Rattle.bk_world.specs.declared.reply.Reply.{Reply}
 use Rattle.bk_world.specs.declared.reply.Reply.TheVariants.{Done, Counted, Selected, SetMade, Recovered, Refused}
 use Rattle.bk_world.specs.Text.{reply_text, replies_text}
 use Rattle.bk_world.specs.Run.{IsRun}
+use Rattle.bk_world.specs.World.{World}
 use Rattle.bk_world.proofs.Runs.{IsRun-more}
-use Rattle.bk_console.specs.Answers.{is_refusal, NoneRefused, EndsRefused, GoesOnAccepted, Asked, MayReply, Runs, Answered, CutShort, AnsweredAll, Stopped, CutAll, AreOffMedia, StepsOn, MayStep, MayStepOn}
+use Rattle.bk_console.specs.Answers.{is_refusal, NoneRefused, EndsRefused, GoesOnAccepted, Asked, LeavesOf, CrashLeaves, CutBefore, CutWithin, Runs, Answered, CutTelling, CutExecuting, CutShort, AnsweredFront, Stopped, CutAll}
+use Rattle.bk_console.proofs.Asking.{elapses-none, elapses-then}
+use Rattle.bk_console.proofs.Leaving.{LeavesOf-done, LeavesOf-within, LeavesOf-more}
 
 -- Refusals.
 
@@ -57,27 +60,22 @@ pub not-stopped : (stop refused : Bool) → ((refused ≡ true) × (stop ≡ fal
 not-stopped stop refused (inl on) asked = let no : true ≡ false = sym asked ∙ on.1 in absurd cc
 not-stopped stop refused (inr accepted) asked = accepted
 
--- each of some statements looks at no medium, and the last
-off-parts : (ss : List Statement) (s : Statement) → AreOffMedia (ss ++ s ∷ []) → AreOffMedia ss × IsOffMedia s.item
-off-parts [] s off = (tt, off.0)
-off-parts (t ∷ ss) s off = let rest = off-parts ss s off.1 in ((off.0, rest.0), rest.1)
-
 -- one moment more
-asked_more : (tells : Type 0) (before middle after : ℕ → ℕ) (moments : List ℕ) (n now : ℕ) → length moments ≡ n → Asked tells before middle moments n → Asked tells middle after (now ∷ []) 1
-    → Asked tells before after (moments ++ now ∷ []) (n + 1)
-asked_more tells before middle after moments n now all first last = record {
-  shown = λ t i lt. one t i (omega (arith, length-append moments (now ∷ [])));
-  moved = λ t i. last.moved t i ∙ first.moved t (1 + i) ∙ ap before (omega arith);
+asked_more : (tells : Type 0) (before middle after : ℕ → ℕ) (moments : List ℕ) (now : ℕ) → Asked tells before middle moments → Asked tells middle after (now ∷ [])
+    → Asked tells before after (moments ++ now ∷ [])
+asked_more tells before middle after moments now first last = record {
+  shown = λ t i lt. one t i (omega (arith, lt, length-append moments (now ∷ [])));
+  moved = λ t i. last.moved t i ∙ first.moved t (1 + i) ∙ ap before (omega (arith, length-append moments (now ∷ [])));
 }
   where
-    at : tells → now ≡ before n
+    at : tells → now ≡ before (length moments)
     at t = last.shown t 0 (omega arith) ∙ first.moved t 0 ∙ ap before (omega arith)
 
     later : tells → (i : ℕ) → i < length moments + 1 → (i < length moments) ⊎ (length moments ≤ i) → get_or (moments ++ now ∷ []) i 0 ≡ before i
     later t i lt (inl below) = get_or_append_left moments (now ∷ []) 0 i below ∙ first.shown t i below
     later t i lt (inr above) =
         let last_one : i ≡ length moments = omega arith in
-        ap (λ k. get_or (moments ++ now ∷ []) k 0) last_one ∙ get_or-append_seam moments now [] 0 ∙ at t ∙ ap before (omega arith)
+        ap (λ k. get_or (moments ++ now ∷ []) k 0) last_one ∙ get_or-append_seam moments now [] 0 ∙ at t ∙ ap before (sym last_one)
 
     one : tells → (i : ℕ) → i < length moments + 1 → get_or (moments ++ now ∷ []) i 0 ≡ before i
     one t i lt = later t i lt (cases_lt i (length moments))
@@ -105,48 +103,113 @@ front_same : (told told1 told2 : List ℕ) (replies : List Reply) → told1 ≡ 
 front_same told told1 told2 replies before same =
     (length (replies_text replies), same ∙ before ∙ ap (λ texts. told ++ texts) (sym (take-length (replies_text replies))))
 
-module _ (stop : Bool) (old mid : Instance) (ss : List Statement) (s : Statement) (ct : Type 0) (before middle after : ℕ → ℕ) (dt : Type 0) (disk disk1 disk2 : Disk)
-    (so_far : AnsweredAll stop old mid ss ct before middle dt disk disk1) where
-  module _ (new : Instance) (refused : Bool) (one : Answered mid new s ct middle after dt disk1 disk2 refused) where
-    runs-more : dt → Runs old disk (ss ++ s ∷ []) (so_far.moments ++ one.now ∷ []) (so_far.replies ++ one.reply ∷ []) new disk2
-    runs-more t w kept media =
-        let to = so_far.runs t w kept media in
-        let next = one.moves t to.0 to.2 to.3 in
-        (next.0, IsRun-more w to.0 next.0 ss so_far.moments so_far.replies s one.now one.reply to.1 next.1, next.2, next.3)
+module _ (stop : Bool) (old mid : Instance) (script ss : List Statement) (s : Statement) (ct : Type 0) (before middle after : ℕ → ℕ) (dt : Type 0) (disk disk1 disk2 : Disk)
+    (so_far : AnsweredFront stop old mid script ss ct before middle dt disk disk1) (front : take (length ss) script ≡ ss) (more : take (length ss + 1) script ≡ ss ++ s ∷ []) where
+  next-is : drop (length so_far.replies) script ≡ s ∷ drop (length ss + 1) script
+  next-is = ap (λ k. drop k script) so_far.each_reply
+      ∙ ap (drop (length ss)) (sym (take-append-drop (length ss + 1) script) ∙ ap (λ f. f ++ drop (length ss + 1) script) more ∙ append_assoc ss (s ∷ []) (drop (length ss + 1) script))
+      ∙ drop-append_seam ss (s ∷ drop (length ss + 1) script)
 
-    steps-more : AreOffMedia (ss ++ s ∷ []) → StepsOn old (ss ++ s ∷ []) (so_far.moments ++ one.now ∷ []) (so_far.replies ++ one.reply ∷ []) new
-    steps-more off w kept =
-        let parts = off-parts ss s off in
-        let to = so_far.alone parts.0 w kept in
-        let next = one.alone parts.1 to.0 to.2 in
+  front-is : take (length so_far.replies) script ≡ ss
+  front-is = ap (λ k. take k script) so_far.each_reply ∙ front
+
+  each : length so_far.moments ≡ length so_far.replies
+  each = so_far.each_moment ∙ sym so_far.each_reply
+
+  one-more : (reply : Reply) → length (so_far.replies ++ reply ∷ []) ≡ length ss + 1
+  one-more reply = omega (arith, length-append so_far.replies (reply ∷ []), so_far.each_reply)
+
+  each-more : (now : ℕ) (reply : Reply) → length (so_far.moments ++ now ∷ []) ≡ length (so_far.replies ++ reply ∷ [])
+  each-more now reply = omega (arith, length-append so_far.replies (reply ∷ []), length-append so_far.moments (now ∷ []), each)
+
+  more-is : (reply : Reply) → take (length (so_far.replies ++ reply ∷ [])) script ≡ ss ++ s ∷ []
+  more-is reply = ap (λ k. take k script) (one-more reply) ∙ more
+
+  -- Crashes.
+
+  -- before the reply is told
+  cut-at : dt → (now : ℕ) (image : Files) (heard : List ℕ) → CutBefore mid disk1 s now image heard → CrashLeaves old disk script (so_far.moments ++ now ∷ []) so_far.replies image heard
+  cut-at t now image heard cut w stands = by (cut.0 to.0 to.2)
+    where
+      to : (next : World) × IsRun w ss so_far.moments so_far.replies next × StandsFor mid disk1 next
+      to = so_far.runs t w stands
+
+      run : IsRun w (take (length so_far.replies) script) so_far.moments so_far.replies to.0
+      run = subst (λ xs. IsRun w xs so_far.moments so_far.replies to.0) (sym front-is) to.1
+
+      by : Covers mid.kept.number image to.0 ⊎ CutIn mid.kept.number to.0 s now image → LeavesOf old.kept.number w script (so_far.moments ++ now ∷ []) so_far.replies disk.told image heard
+      by (inl covers) =
+          subst (λ n. LeavesOf n w script (so_far.moments ++ now ∷ []) so_far.replies disk.told image heard) so_far.number
+          (subst (λ xs. LeavesOf mid.kept.number w script (so_far.moments ++ now ∷ []) xs disk.told image heard) (append-nil so_far.replies)
+          (LeavesOf-more mid.kept.number w script so_far.moments (now ∷ []) so_far.replies [] disk.told image heard
+          (LeavesOf-done mid.kept.number w to.0 script so_far.moments so_far.replies disk.told image heard each run covers (front_same disk.told disk1.told heard so_far.replies (so_far.text t) cut.1))))
+      by (inr within) =
+          subst (λ n. LeavesOf n w script (so_far.moments ++ now ∷ []) so_far.replies disk.told image heard) so_far.number
+          (LeavesOf-within mid.kept.number w to.0 script (drop (length ss + 1) script) s so_far.moments now so_far.replies disk.told image heard mid.kept.databases.items
+          each run next-is to.2.keeps.databases within (cut.1 ∙ so_far.text t))
+
+  -- while it is told, or behind it
+  cut-telling : dt → (now : ℕ) (reply : Reply) (image : Files) (heard : List ℕ) → CutWithin mid disk1 s now reply image heard
+      → CrashLeaves old disk script (so_far.moments ++ now ∷ []) (so_far.replies ++ reply ∷ []) image heard
+  cut-telling t now reply image heard (inl cut) w stands =
+      subst (λ xs. LeavesOf old.kept.number w script xs (so_far.replies ++ reply ∷ []) disk.told image heard) (append-nil (so_far.moments ++ now ∷ []))
+      (LeavesOf-more old.kept.number w script (so_far.moments ++ now ∷ []) [] so_far.replies (reply ∷ []) disk.told image heard (cut-at t now image heard cut w stands))
+  cut-telling t now reply image heard (inr done) w stands =
+      let to : (next : World) × IsRun w ss so_far.moments so_far.replies next × StandsFor mid disk1 next = so_far.runs t w stands in
+      let next = done.0 to.0 to.2 in
+      subst (λ n. LeavesOf n w script (so_far.moments ++ now ∷ []) (so_far.replies ++ reply ∷ []) disk.told image heard) so_far.number
+      (LeavesOf-done mid.kept.number w next.0 script (so_far.moments ++ now ∷ []) (so_far.replies ++ reply ∷ []) disk.told image heard (each-more now reply)
+      (subst (λ xs. IsRun w xs (so_far.moments ++ now ∷ []) (so_far.replies ++ reply ∷ []) next.0) (sym (more-is reply)) (IsRun-more w to.0 next.0 ss so_far.moments so_far.replies s now reply to.1 next.1))
+      next.2 (front_more disk.told disk1.told heard so_far.replies reply (so_far.text t) done.1))
+
+  crashes-executing : dt → (now : ℕ) → Elapses disk1 disk2 (CutBefore mid disk1 s now) → Elapses disk disk2 (CrashLeaves old disk script (so_far.moments ++ now ∷ []) so_far.replies)
+  crashes-executing t now one = elapses-then _ _ _ disk disk1 disk2
+      (λ image heard leaves w stands.
+      subst (λ xs. LeavesOf old.kept.number w script (so_far.moments ++ now ∷ []) xs disk.told image heard) (append-nil so_far.replies)
+      (LeavesOf-more old.kept.number w script so_far.moments (now ∷ []) so_far.replies [] disk.told image heard (leaves w stands)))
+      (λ image heard here. cut-at t now image heard here) (so_far.crashes t) one
+
+  crashes-telling : dt → (now : ℕ) (reply : Reply) → Elapses disk1 disk2 (CutWithin mid disk1 s now reply)
+      → Elapses disk disk2 (CrashLeaves old disk script (so_far.moments ++ now ∷ []) (so_far.replies ++ reply ∷ []))
+  crashes-telling t now reply one = elapses-then _ _ _ disk disk1 disk2
+      (λ image heard leaves w stands. LeavesOf-more old.kept.number w script so_far.moments (now ∷ []) so_far.replies (reply ∷ []) disk.told image heard (leaves w stands))
+      (λ image heard here. cut-telling t now reply image heard here) (so_far.crashes t) one
+
+  module _ (new : Instance) (refused : Bool) (one : Answered mid new s ct middle after dt disk1 disk2 refused) (number : new.kept.number ≡ mid.kept.number) where
+    runs-more : dt → Runs old disk (ss ++ s ∷ []) (so_far.moments ++ one.now ∷ []) (so_far.replies ++ one.reply ∷ []) new disk2
+    runs-more t w stands =
+        let to = so_far.runs t w stands in
+        let next = one.moves t to.0 to.2 in
         (next.0, IsRun-more w to.0 next.0 ss so_far.moments so_far.replies s one.now one.reply to.1 next.1, next.2)
 
-    pub AnsweredAll-more : (stop ≡ true → refused ≡ false) → AnsweredAll stop old new (ss ++ s ∷ []) ct before after dt disk disk2
-    AnsweredAll-more accepted = record {
+    pub front-more : (stop ≡ true → refused ≡ false) → AnsweredFront stop old new script (ss ++ s ∷ []) ct before after dt disk disk2
+    front-more accepted = record {
       moments = so_far.moments ++ one.now ∷ [];
       replies = so_far.replies ++ one.reply ∷ [];
       each_moment = omega (arith, length-append so_far.moments (one.now ∷ []), length-append ss (s ∷ []), so_far.each_moment);
       each_reply = omega (arith, length-append so_far.replies (one.reply ∷ []), length-append ss (s ∷ []), so_far.each_reply);
-      asked = subst (λ n. Asked ct before after (so_far.moments ++ one.now ∷ []) n) (sym (length-append ss (s ∷ []))) (asked_more ct before middle after so_far.moments (length ss) one.now so_far.each_moment so_far.asked one.asked);
+      number = number ∙ so_far.number;
+      asked = asked_more ct before middle after so_far.moments one.now so_far.asked one.asked;
       runs = runs-more;
-      alone = steps-more;
+      crashes = λ t. crashes-telling t one.now one.reply (one.crashes t);
       text = λ t. texts_more disk.told disk1.told disk2.told so_far.replies one.reply (so_far.text t) (one.text t);
       accepted = λ on. none-more so_far.replies one.reply (so_far.accepted on) (sym one.which ∙ accepted on);
     }
 
     -- the statement was refused, and stops it
-    pub Stopped-from : (all : List Statement) → take (length ss + 1) all ≡ ss ++ s ∷ [] → length ss < length all → refused ≡ true → stop ≡ true → Stopped stop old new all ct before after dt disk disk2
-    Stopped-from all more room is on =
+    pub Stopped-from : length ss < length script → refused ≡ true → stop ≡ true → Stopped stop old new script ct before after dt disk disk2
+    Stopped-from room is on =
         let replies = so_far.replies ++ one.reply ∷ [] in
-        let n : length replies ≡ length ss + 1 = omega (arith, length-append so_far.replies (one.reply ∷ []), so_far.each_reply) in
+        let n : length replies ≡ length ss + 1 = one-more one.reply in
         record {
           moments = so_far.moments ++ one.now ∷ [];
           replies = replies;
-          each_moment = omega (arith, length-append so_far.moments (one.now ∷ []), so_far.each_moment);
+          each_moment = each-more one.now one.reply;
           within = omega arith;
-          asked = subst (λ k. Asked ct before after (so_far.moments ++ one.now ∷ []) k) (sym n) (asked_more ct before middle after so_far.moments (length ss) one.now so_far.each_moment so_far.asked one.asked);
-          runs = λ t. subst (λ xs. Runs old disk xs (so_far.moments ++ one.now ∷ []) replies new disk2) (sym (ap (λ k. take k all) n ∙ more)) (runs-more t);
-          alone = subst (λ xs. AreOffMedia xs → StepsOn old xs (so_far.moments ++ one.now ∷ []) replies new) (sym (ap (λ k. take k all) n ∙ more)) steps-more;
+          number = number ∙ so_far.number;
+          asked = asked_more ct before middle after so_far.moments one.now so_far.asked one.asked;
+          runs = λ t. subst (λ xs. Runs old disk xs (so_far.moments ++ one.now ∷ []) replies new disk2) (sym (more-is one.reply)) (runs-more t);
+          crashes = λ t. crashes-telling t one.now one.reply (one.crashes t);
           text = λ t. texts_more disk.told disk1.told disk2.told so_far.replies one.reply (so_far.text t) (one.text t);
           stops = on;
           accepted = subst (λ k. GoesOnAccepted k replies) (sym n) (goes-on so_far.replies (one.reply ∷ []) (length ss) so_far.each_reply (so_far.accepted on));
@@ -154,72 +217,67 @@ module _ (stop : Bool) (old mid : Instance) (ss : List Statement) (s : Statement
         }
 
   -- the last statement has its reply, or has none
-  cut-by : (all : List Statement) → take (length ss) all ≡ ss → take (length ss + 1) all ≡ ss ++ s ∷ [] → length ss < length all → (has_reply asks : Type 0) → (asks → has_reply) → (now : ℕ) → Asked ct middle after (now ∷ []) 1
-      → ((reply : Reply) × (dt → MayReply mid disk1 s now reply) × (IsOffMedia s.item → MayStep mid s now reply) × (dt → TellsFront (reply_text reply) disk1.told disk2.told)) ⊎ ((has_reply → ⊥) × (dt → disk2.told ≡ disk1.told))
-      → CutAll stop old all ct before after dt disk disk2 asks
-  cut-by all front more room has_reply asks weaker now asked (inl last) =
-      let replies = so_far.replies ++ last.0 ∷ [] in
-      let n : length replies ≡ length ss + 1 = omega (arith, length-append so_far.replies (last.0 ∷ []), so_far.each_reply) in
+  cut-by : length ss < length script → (has_reply asks : Type 0) → (asks → has_reply) → (now : ℕ) → Asked ct middle after (now ∷ [])
+      → CutTelling mid s now dt disk1 disk2 ⊎ ((has_reply → ⊥) × CutExecuting mid s now dt disk1 disk2) → CutAll stop old script ct before after dt disk disk2 asks
+  cut-by room has_reply asks weaker now asked (inl last) =
+      let replies = so_far.replies ++ last.reply ∷ [] in
+      let moments = so_far.moments ++ now ∷ [] in
+      let n : length replies ≡ length ss + 1 = one-more last.reply in
+      let same : length moments ≡ length replies = each-more now last.reply in
       record {
-        moments = so_far.moments ++ now ∷ [];
+        moments = moments;
         replies = replies;
-        times = length ss + 1;
         asked_each = (omega arith, omega arith);
-        each_moment = omega (arith, length-append so_far.moments (now ∷ []), so_far.each_moment);
         within = omega arith;
-        asked = asked_more ct before middle after so_far.moments (length ss) now so_far.each_moment so_far.asked asked;
-        runs = λ t w kept media.
-            let to = so_far.runs t w kept media in
-            let next = last.1 t to.0 to.2 to.3 in (
+        asked = asked_more ct before middle after so_far.moments now so_far.asked asked;
+        runs = λ t w stands.
+            let to = so_far.runs t w stands in
+            let next = last.moves t to.0 to.2 in (
               next.0,
-              subst (λ xs. IsRun w xs (so_far.moments ++ now ∷ []) replies next.0) (sym (ap (λ k. take k all) n ∙ more))
-                  (IsRun-more w to.0 next.0 ss so_far.moments so_far.replies s now last.0 to.1 next.1),
+              subst (λ xs. IsRun w xs (take (length replies) moments) replies next.0) (sym (more-is last.reply))
+                  (subst (λ xs. IsRun w (ss ++ s ∷ []) xs replies next.0) (sym (ap (λ k. take k moments) (sym same) ∙ take-length moments))
+                  (IsRun-more w to.0 next.0 ss so_far.moments so_far.replies s now last.reply to.1 next.1)),
             );
-        alone = subst (λ xs. AreOffMedia xs → MayStepOn old xs (so_far.moments ++ now ∷ []) replies) (sym (ap (λ k. take k all) n ∙ more))
-            (λ off w kept.
-            let parts = off-parts ss s off in
-            let to = so_far.alone parts.0 w kept in
-            let next = last.2 parts.1 to.0 to.2 in
-            (next.0, IsRun-more w to.0 next.0 ss so_far.moments so_far.replies s now last.0 to.1 next.1));
-        front = λ t. front_more disk.told disk1.told disk2.told so_far.replies last.0 (so_far.text t) (last.3 t);
+        crashes = λ t. crashes-telling t now last.reply (last.crashes t);
+        front = λ t. front_more disk.told disk1.told disk2.told so_far.replies last.reply (so_far.text t) (last.front t);
         some = λ h. omega arith;
-        accepted = λ on. goes-on so_far.replies (last.0 ∷ []) (length ss) so_far.each_reply (so_far.accepted on);
+        accepted = λ on. subst (λ k. GoesOnAccepted k replies) (sym (same ∙ n)) (goes-on so_far.replies (last.reply ∷ []) (length ss) so_far.each_reply (so_far.accepted on));
       }
-  cut-by all front more room has_reply asks weaker now asked (inr none) = record {
-    moments = so_far.moments;
-    replies = so_far.replies;
-    times = length ss + 1;
-    asked_each = (omega (arith, so_far.each_reply), omega (arith, so_far.each_reply));
-    each_moment = so_far.each_moment ∙ sym so_far.each_reply;
-    within = omega (arith, so_far.each_reply);
-    asked = record {
-      shown = so_far.asked.shown;
-      moved = λ t i. asked.moved t i ∙ so_far.asked.moved t (1 + i) ∙ ap before (omega arith);
-    };
-    runs = λ t w kept media.
-        let to = so_far.runs t w kept media in
-        (to.0, subst (λ xs. IsRun w xs so_far.moments so_far.replies to.0) (sym (ap (λ k. take k all) so_far.each_reply ∙ front)) to.1);
-    alone = subst (λ xs. AreOffMedia xs → MayStepOn old xs so_far.moments so_far.replies) (sym (ap (λ k. take k all) so_far.each_reply ∙ front))
-        (λ off w kept. let to = so_far.alone off w kept in (to.0, to.1));
-    front = λ t. front_same disk.told disk1.told disk2.told so_far.replies (so_far.text t) (none.1 t);
-    some = λ h. absurd (none.0 (weaker h));
-    accepted = λ on. goes-on-all so_far.replies (length ss) so_far.each_reply (so_far.accepted on);
-  }
+  cut-by room has_reply asks weaker now asked (inr none) =
+      let moments = so_far.moments ++ now ∷ [] in
+      let n : length moments ≡ length ss + 1 = omega (arith, length-append so_far.moments (now ∷ []), so_far.each_moment) in
+      record {
+        moments = moments;
+        replies = so_far.replies;
+        asked_each = (omega (arith, so_far.each_reply), omega (arith, so_far.each_reply));
+        within = omega (arith, so_far.each_reply);
+        asked = asked_more ct before middle after so_far.moments now so_far.asked asked;
+        runs = λ t w stands.
+            let to = so_far.runs t w stands in (
+              to.0,
+              subst (λ xs. IsRun w xs (take (length so_far.replies) moments) so_far.replies to.0) (sym front-is)
+                  (subst (λ xs. IsRun w ss xs so_far.replies to.0) (sym (ap (λ k. take k moments) (sym each) ∙ take-append_seam so_far.moments (now ∷ []))) to.1),
+            );
+        crashes = λ t. crashes-executing t now (none.1.crashes t);
+        front = λ t. front_same disk.told disk1.told disk2.told so_far.replies (so_far.text t) (none.1.silent t);
+        some = λ h. absurd (none.0 (weaker h));
+        accepted = λ on. subst (λ k. GoesOnAccepted k so_far.replies) (sym n) (goes-on-all so_far.replies (length ss) so_far.each_reply (so_far.accepted on));
+      }
 
-  pub CutAll-from : (all : List Statement) → take (length ss) all ≡ ss → take (length ss + 1) all ≡ ss ++ s ∷ [] → length ss < length all → (has_reply asks : Type 0) → (asks → has_reply)
-      → CutShort mid s ct middle after dt disk1 disk2 has_reply → CutAll stop old all ct before after dt disk disk2 asks
-  CutAll-from all front more room has_reply asks weaker cut = cut-by all front more room has_reply asks weaker cut.now cut.asked cut.front
+  pub CutAll-from : length ss < length script → (has_reply asks : Type 0) → (asks → has_reply) → CutShort mid s ct middle after dt disk1 disk2 has_reply → CutAll stop old script ct before after dt disk disk2 asks
+  CutAll-from room has_reply asks weaker cut = cut-by room has_reply asks weaker cut.now cut.asked cut.front
 
 -- nothing is answered yet
-pub AnsweredAll-none : (stop : Bool) (old : Instance) (ct : Type 0) (before : ℕ → ℕ) (dt : Type 0) (disk : Disk) → AnsweredAll stop old old [] ct before before dt disk disk
-AnsweredAll-none stop old ct before dt disk = record {
+pub front-none : (stop : Bool) (old : Instance) (script : List Statement) (ct : Type 0) (before : ℕ → ℕ) (dt : Type 0) (disk : Disk) → AnsweredFront stop old old script [] ct before before dt disk disk
+front-none stop old script ct before dt disk = record {
   moments = [];
   replies = [];
   each_moment = refl;
   each_reply = refl;
+  number = refl;
   asked = record { shown = λ t i lt. absurd (omega (arith, lt)); moved = λ t i. ap before (omega arith) };
-  runs = λ t w kept media. (w, refl, kept, media);
-  alone = λ off w kept. (w, refl, kept);
+  runs = λ t w stands. (w, refl, stands);
+  crashes = λ t. elapses-none _ disk;
   text = λ t. sym (append-nil disk.told);
   accepted = λ on. refl;
 }

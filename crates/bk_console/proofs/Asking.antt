@@ -1,23 +1,34 @@
--- Asking the clock, telling, and answers that are cut short.
-use Rattle.std.proofs.Common.{inl, ◌≡◌, ◌<◌, ℕ, zero, suc, ◌+◌, List, [], ◌∷◌, length, get_or, Result, Ok, Err, sym, ◌∙◌, ap, arith, add_comm}
+-- Asking the clock, telling, and what both leave.
+use Rattle.std.proofs.Common.{◌≡◌, ◌≢◌, ◌⊎◌, ◌<◌, inl, inr, ℕ, zero, suc, ◌+◌, List, [], ◌∷◌, length, get_or, Option, Some, None, Result, Ok, Err, refl, sym, ◌∙◌, ap, subst, arith, add_comm}
 use Rattle.std.specs.Result.{OnErr}
-use Rattle.bk_device.specs.Calls.{TellsFront, TellsBytes}
-use Rattle.bk_device.specs.Disk.{Disk}
+use Rattle.std.proofs.lemmas.List.{append-nil}
+use Rattle.bk_changes.specs.Replayed.{replayed}
+use Rattle.bk_device.specs.Calls.{Elapses, TellsFront, TellsBytes}
+use Rattle.bk_device.specs.Compose.{durable_kept, keeps_by_telling, keeps_by_effect}
+use Rattle.bk_device.specs.Disk.{Files, Disk, MayLeave, IsSettled}
+use Rattle.bk_device.specs.Effects.{Effect, KeepsFiles, LeavesSince}
+use Rattle.bk_device.specs.Names.{same_or_other}
+use Rattle.bk_home.specs.declared.record.Record.{Record}
+use Rattle.bk_home.specs.Home.{IsOwn, IsMade, fresh, rows_file}
+use Rattle.bk_home.specs.Laws.{home_kept, home_durable, blobs_same}
+use Rattle.bk_instance.specs.declared.error.ExecuteError.{ExecuteError}
+use Rattle.bk_instance.specs.declared.error.ExecuteError.TheVariants as execute
 use Rattle.bk_instance.specs.declared.instance.Instance.{Instance}
-use Rattle.bk_instance.specs.Standing.{KeepsMedia, IsOffMedia}
-use Rattle.bk_media.specs.Media.{read_medium, found_at}
+use Rattle.bk_instance.specs.Stands.{Holds, Stands, Covers, IsReady, IsStored, StandsFor, IsOurs, Answers, Cuts}
+use Rattle.bk_instance.proofs.Covering.{media-in, now-covers}
 use Rattle.bk_media.specs.Names.{medium_file}
 use Rattle.bk_world.specs.declared.item.Statement.{Statement}
 use Rattle.bk_world.specs.declared.reply.Reply.{Reply}
 use Rattle.bk_world.specs.World.{World}
 use Rattle.bk_world.specs.Text.{reply_text}
-use Rattle.bk_console.specs.Answers.{Asked, MayReply, MayStep, CutShort}
+use Rattle.bk_console.specs.declared.answers.AnswerError.TheVariants.{Console}
+use Rattle.bk_console.specs.Answers.{Asked, NotOurs, CutBefore, CutWithin, HoldsNext, MayReply, CutShort, executed_error}
 
 pub OnErr-from : {T E : Type 0} {P : Type 0} → (r : Result T E) → P → OnErr r P
 OnErr-from (Ok x) p = tt
 OnErr-from (Err e) p = p
 
-pub asked_once : (tells : Type 0) (before after : ℕ → ℕ) (now : ℕ) → (tells → now ≡ before 0) → (tells → (i : ℕ) → after i ≡ before (i + 1)) → Asked tells before after (now ∷ []) 1
+pub asked_once : (tells : Type 0) (before after : ℕ → ℕ) (now : ℕ) → (tells → now ≡ before 0) → (tells → (i : ℕ) → after i ≡ before (i + 1)) → Asked tells before after (now ∷ [])
 asked_once tells before after now first next = record {
   shown = λ t i lt. one i lt (first t);
   moved = λ t i. next t i ∙ ap before (add_comm i 1);
@@ -27,17 +38,179 @@ asked_once tells before after now first next = record {
     one zero lt e = e
     one (suc i) lt e = absurd (omega (arith, lt))
 
--- what is told changes no medium
-pub told-media : (w : World) (before after : Disk) (bytes : List ℕ) → TellsBytes bytes before after → KeepsMedia w before → KeepsMedia w after
-told-media w before after bytes tells keeps = record {
-  read = λ path are. keeps.read path are ∙ sym (ap read_medium (tells.files (medium_file path)));
-  durable = λ path are content may. keeps.durable path are content (tells.nothing_more (medium_file path) content may) ∙ sym (tells.files (medium_file path));
-  carried = λ path p body are is. keeps.carried path p body are (ap (λ f. found_at f p) (sym (tells.files (medium_file path))) ∙ is);
+-- Crashes since some moment.
+
+pub elapses-none : (Now : Files → List ℕ → Type 0) (a : Disk) → Elapses a a Now
+elapses-none Now a = record {
+  later = omega arith;
+  nothing_else = λ since image heard early left. inl left;
+  nothing_forgotten = λ since image heard early left. left;
 }
 
+pub elapses-then : (First Second Both : Files → List ℕ → Type 0) (a b c : Disk) → ((image : Files) (heard : List ℕ) → First image heard → Both image heard)
+    → ((image : Files) (heard : List ℕ) → Second image heard → Both image heard) → Elapses a b First → Elapses b c Second → Elapses a c Both
+elapses-then First Second Both a b c one two first second = record {
+  later = omega (arith, first.later, second.later);
+  nothing_else = λ since image heard early left.
+      elim (second.nothing_else since image heard (omega (arith, early, first.later)) left) [
+        | inl before ↦ elim (first.nothing_else since image heard early before) [ inl there ↦ inl there | inr here ↦ inr (one image heard here) ]
+        | inr here ↦ inr (two image heard here)
+      ];
+  nothing_forgotten = λ since image heard early left.
+      second.nothing_forgotten since image heard (omega (arith, early, first.later)) (first.nothing_forgotten since image heard early left);
+}
+
+pub elapses-weaken : (Now Weaker : Files → List ℕ → Type 0) (a b : Disk) → ((image : Files) (heard : List ℕ) → Now image heard → Weaker image heard) → Elapses a b Now → Elapses a b Weaker
+elapses-weaken Now Weaker a b weaker one = record {
+  later = one.later;
+  nothing_else = λ since image heard early left.
+      elim (one.nothing_else since image heard early left) [ inl there ↦ inl there | inr here ↦ inr (weaker image heard here) ];
+  nothing_forgotten = one.nothing_forgotten;
+}
+
+-- what was left since some moment, and then of these calls
+pub left-elapses : (entry : ℕ) (Q Now : Files → List ℕ → Type 0) (a b : Disk) → LeavesSince entry Q a → ((image : Files) (heard : List ℕ) → Now image heard → Q image heard) → Elapses a b Now → LeavesSince entry Q b
+left-elapses entry Q Now a b since leads one = record {
+  later = omega (arith, since.later, one.later);
+  each = λ image heard left.
+      elim (one.nothing_else entry image heard since.later left) [ inl there ↦ since.each image heard there | inr here ↦ leads image heard here ];
+}
+
+-- Telling.
+
+-- what is told leaves the instance on its files
+pub told-stored : (i : Instance) (before after : Disk) (bytes : List ℕ) → TellsBytes bytes before after → IsStored before i → IsStored after i
+told-stored i before after bytes tells stored = record {
+  home = home_kept (keeps_by_telling {names = IsOwn} tells) stored.home;
+  rows = ap replayed (blobs_same before.files after.files (tells.files rows_file)) ∙ stored.rows;
+  media = λ path are. durable_kept {names = λ (name : List ℕ). Unit {0}} (medium_file path) tt (keeps_by_telling tells) (stored.media path are);
+}
+
+-- and on its world
+pub told-stands : (i : Instance) (before after : Disk) (w : World) (bytes : List ℕ) → TellsBytes bytes before after → StandsFor i before w → StandsFor i after w
+told-stands i before after w bytes tells stands = record {
+  keeps = stands.keeps;
+  media = media-in w None before.files after.files (λ path are. tells.files (medium_file path)) stands.media;
+}
+
+-- One statement.
+
+-- executing it
+pub executing-cut : (old : Instance) (s : Statement) (now : ℕ) (a b : Disk) → Effect IsOurs (Cuts old a s now) a b → Elapses a b (CutBefore old a s now)
+executing-cut old s now a b effect = elapses-weaken _ _ a b (λ image heard here. (here.0, here.2)) effect.time
+
+-- and telling nothing of its reply
+pub silent-cut : (old : Instance) (s : Statement) (now : ℕ) (reply : Reply) (a b : Disk) → Effect IsOurs (Cuts old a s now) a b → Elapses a b (CutWithin old a s now reply)
+silent-cut old s now reply a b effect = elapses-weaken _ _ a b (λ image heard here. inl here) (executing-cut old s now a b effect)
+
+pub silent-front : (bytes : List ℕ) (a b : Disk) → b.told ≡ a.told → TellsFront bytes a.told b.told
+silent-front bytes a b same = (0, same ∙ sym (append-nil a.told))
+
+-- no fault of the console comes from executing
+pub not-console : (e : ExecuteError) → executed_error e ≡ Console → ⊥
+not-console execute.Fault h = cc h
+not-console execute.NoMemory h = cc h
+not-console execute.Broken h = cc h
+
+-- the instance holds its world at each crash while its reply is told
+telling-holds : (old new : Instance) (s : Statement) (now : ℕ) (reply : Reply) (a b : Disk) → IsReady new → IsStored b new → new.kept.number ≡ old.kept.number → Answers old a s now reply new b
+    → (image : Files) → MayLeave b image → HoldsNext old a s now reply image
+telling-holds old new s now reply a b ready stored number answers image left w stands =
+    let next = answers w stands in
+    (next.0, next.1, subst (λ n. Covers n image next.0) number (now-covers new b next.0 image ready stored (λ name ours. left name) next.2))
+
+-- executing it, and telling some of its reply
+pub telling-cut : (old new : Instance) (s : Statement) (now : ℕ) (reply : Reply) (bytes : List ℕ) (a b c : Disk) → IsReady new → IsStored b new → new.kept.number ≡ old.kept.number
+    → Answers old a s now reply new b → b.told ≡ a.told → bytes ≡ reply_text reply → Elapses a b (CutBefore old a s now) → TellsBytes bytes b c → Elapses a c (CutWithin old a s now reply)
+telling-cut old new s now reply bytes a b c ready stored number answers told text first tells =
+    elapses-then _ _ _ a b c (λ image heard here. inl here)
+    (λ image heard here. inr (
+      telling-holds old new s now reply a b ready stored number answers image (λ name. tells.nothing_more name (image name) (here.0 name)),
+      subst (λ bs. TellsFront bs a.told heard) text (subst (λ front. TellsFront bytes front heard) told here.1),
+    )) first tells.time
+
 -- an answer that has a reply, and was told in part
-pub cut-in_reply : (old : Instance) (s : Statement) (clock_tells : Type 0) (before after : ℕ → ℕ) (device_tells : Type 0) (disk disk_after : Disk) (has_reply : Type 0)
-    (now : ℕ) → Asked clock_tells before after (now ∷ []) 1 → (reply : Reply) → (device_tells → MayReply old disk s now reply) → (IsOffMedia s.item → MayStep old s now reply)
-    → (device_tells → TellsFront (reply_text reply) disk.told disk_after.told)
-    → CutShort old s clock_tells before after device_tells disk disk_after has_reply
-cut-in_reply old s clock_tells before after device_tells disk disk_after has_reply now asked reply may alone front = record { now = now; asked = asked; front = inl (reply, may, alone, front) }
+pub cut-in_reply : (old : Instance) (s : Statement) (ct : Type 0) (before after : ℕ → ℕ) (dt : Type 0) (disk disk_after : Disk) (has_reply : Type 0) (now : ℕ)
+    → Asked ct before after (now ∷ []) → (reply : Reply) → (dt → MayReply old disk s now reply) → (dt → Elapses disk disk_after (CutWithin old disk s now reply))
+    → (dt → TellsFront (reply_text reply) disk.told disk_after.told) → CutShort old s ct before after dt disk disk_after has_reply
+cut-in_reply old s ct before after dt disk disk_after has_reply now asked reply moves crashes front =
+    record { now = now; asked = asked; front = inl (record { reply = reply; moves = moves; crashes = crashes; front = front }) }
+
+-- one that has none
+pub cut-before_reply : (old : Instance) (s : Statement) (ct : Type 0) (before after : ℕ → ℕ) (dt : Type 0) (disk disk_after : Disk) (has_reply : Type 0) (now : ℕ)
+    → Asked ct before after (now ∷ []) → (has_reply → ⊥) → (dt → Effect IsOurs (Cuts old disk s now) disk disk_after) → CutShort old s ct before after dt disk disk_after has_reply
+cut-before_reply old s ct before after dt disk disk_after has_reply now asked none effect = record {
+  now = now;
+  asked = asked;
+  front = inr (none, record { crashes = λ t. executing-cut old s now disk disk_after (effect t); silent = λ t. (effect t).told });
+}
+
+-- Files that aren't ours.
+
+pub keeps-effect : (P : Files → Type 0) (a b : Disk) → Effect IsOurs P a b → KeepsFiles NotOurs a b
+keeps-effect P a b effect = keeps_by_effect (λ name off ours. off ours) effect
+
+-- two contents are the same or not
+same-content : (a b : Option (List ℕ)) → (a ≡ b) ⊎ (a ≢ b)
+same-content None None = inl refl
+same-content None (Some b) = inr (λ e. let no : ⊥ = cc e in no)
+same-content (Some a) None = inr (λ e. let no : ⊥ = cc e in no)
+same-content (Some a) (Some b) =
+    elim (same_or_other b a) [
+      | inl same ↦ inl (ap Some same)
+      | inr other ↦ inr (λ e. other (cc e))
+    ]
+
+-- where nothing was pending, and the instance is stored, nothing is
+pub settled-again : (i : Instance) (a b : Disk) → IsSettled a → KeepsFiles NotOurs a b → IsStored b i → IsSettled b
+settled-again i a b settled others stored name content may = by (same-content content (b.files name))
+  where
+    ours : IsOurs name → content ≡ b.files name
+    ours (inl own) = home_durable stored.home name own content may
+    ours (inr medium) =
+        subst (λ n. b.may n content → content ≡ b.files n) (sym medium.2) (stored.media medium.0 medium.1 content) may
+
+    by : (content ≡ b.files name) ⊎ (content ≢ b.files name) → content ≡ b.files name
+    by (inl same) = same
+    by (inr other) =
+        let off : NotOurs name = λ is. other (ours is) in
+        settled name content (others.nothing_more name off content may) ∙ sym (others.same name off)
+
+-- Numbers of instances.
+
+-- files of an instance that is made stand for a world whatever number a new one would get
+pub stands-any : (number other : ℕ) (files : Files) (w : World) → IsMade files → Stands number files w → Stands other files w
+stands-any number other files w made stands = record {
+  «record» = stands.«record»;
+  kept = stands.kept;
+  holds = by stands.holds;
+  instance = stands.instance;
+  counter = stands.counter;
+  databases = stands.databases;
+  media = stands.media;
+}
+  where
+    by : Holds number files stands.«record» stands.kept → Holds other files stands.«record» stands.kept
+    by (inl new) = absurd (made new.0)
+    by (inr there) = inr there
+
+-- and those of the instance that a world has
+pub covers-own : (number : ℕ) (files : Files) (w : World) → Covers number files w → Covers w.instance files w
+covers-own number files w covers = record {
+  «record» = covers.«record»;
+  kept = covers.kept;
+  holds = by covers.holds;
+  instance = covers.instance;
+  no_less = covers.no_less;
+  no_more = covers.no_more;
+  databases = covers.databases;
+  media = covers.media;
+}
+  where
+    by : Holds number files covers.«record» covers.kept → Holds w.instance files covers.«record» covers.kept
+    by (inl new) = inl (new.0, new.1 ∙ ap fresh (sym (covers.instance ∙ ap (λ (r : Record). r.number) new.1)), new.2)
+    by (inr there) = inr there
+
+-- nothing was done
+pub keeps-same : (names : List ℕ → Type 0) (a : Disk) → KeepsFiles names a a
+keeps-same names a = record { same = λ name at. refl; nothing_more = λ name at content may. may }

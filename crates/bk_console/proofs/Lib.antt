@@ -1,3 +1,5 @@
+pub mod Told
+pub mod Leaving
 pub mod Asking
 pub mod Answering
 pub mod Running

@@ -1,195 +1,373 @@
 -- How a run ends, from what its parts did.
-use Rattle.std.proofs.Common.{◌≡◌, ◌⊎◌, ◌<◌, ◌≤◌, ℕ, ◌+◌, List, [], ◌++◌, length, take, Option, Some, inl, inr, refl, sym, ◌∙◌, ap, subst, arith, Err}
+use Rattle.std.proofs.Common.{◌≡◌, ◌⊎◌, ◌<◌, ◌≤◌, ℕ, ◌+◌, true, Bool, List, [], ◌++◌, length, take, Option, None, Some, inl, inr, refl, sym, ◌∙◌, ap, subst, arith, Err}
 use Rattle.std.specs.Prelude.{IsErrOf}
 use Rattle.std.proofs.lemmas.List.{append-nil}
 use Rattle.std.proofs.Math.Seq.{take-length}
-use Rattle.bk_device.specs.Disk.{Disk}
+use Rattle.bk_device.specs.Calls.{Elapses}
+use Rattle.bk_device.specs.Compose.{keeps_then, left_begins, left_effect}
+use Rattle.bk_device.specs.Disk.{Files, Disk, MayLeave, IsSettled, IsLawful}
+use Rattle.bk_device.specs.Effects.{Effect, KeepsFiles, LeavesSince}
+use Rattle.bk_instance.specs.declared.error.ExecuteError.{ExecuteError}
+use Rattle.bk_instance.specs.declared.error.ExecuteError.TheVariants as execute
+use Rattle.bk_instance.specs.declared.error.LoadError.{LoadError}
+use Rattle.bk_instance.specs.declared.error.LoadError.TheVariants as load
 use Rattle.bk_instance.specs.declared.instance.Instance.{Instance}
-use Rattle.bk_instance.specs.Begins.{IsNew}
-use Rattle.bk_instance.specs.Kept.{Keeps}
+use Rattle.bk_instance.specs.Stands.{Stands, Covers, IsStored, StandsFor, IsOurs}
+use Rattle.bk_instance.proofs.Covering.{settled-covers}
 use Rattle.bk_syntax.specs.Script.{IsScript}
 use Rattle.bk_world.specs.declared.item.Statement.{Statement}
-use Rattle.bk_world.specs.World.{World}
+use Rattle.bk_world.specs.declared.reply.Reply.{Reply}
+use Rattle.bk_world.specs.World.{World, opened, ended}
 use Rattle.bk_world.specs.Run.{IsRun}
 use Rattle.bk_world.specs.Text.{replies_text}
 use Rattle.bk_console.specs.declared.reading.ReadError.{ReadError}
 use Rattle.bk_console.specs.declared.reading.ReadError.TheVariants.{TooLong, Fault, NoMemory}
 use Rattle.bk_console.specs.declared.answers.AnswerError.{AnswerError}
-use Rattle.bk_console.specs.declared.answers.Ended.{Ended}
 use Rattle.bk_console.specs.declared.answers.AnswerError.TheVariants as answer
+use Rattle.bk_console.specs.declared.answers.Ended.{Ended}
+use Rattle.bk_console.specs.declared.answers.Ended.TheVariants.{AtTheEnd, AtARefusal}
 use Rattle.bk_console.specs.declared.command_line.WordsError.{WordsError}
 use Rattle.bk_console.specs.declared.command_line.WordsError.TheVariants as words
-use Rattle.bk_console.specs.Answers.{AreOffMedia, AnsweredAll, Stopped, CutAll}
+use Rattle.bk_console.specs.declared.status.Status.{Status}
+use Rattle.bk_console.specs.declared.status.Status.TheVariants as status
+use Rattle.bk_console.specs.Answers.{NotOurs, NoneRefused, EndsRefused, GoesOnAccepted, Asked, LeavesOf, CrashLeaves, Runs, AnsweredAll, Stopped, AnsweredBy, CutAll}
 use Rattle.bk_console.proofs.Answering.{none-front}
-use Rattle.bk_console.specs.Run.{code_of, words_status, read_status, answer_status, script_bytes, IsWhole, Ran}
+use Rattle.bk_console.proofs.Asking.{left-elapses, covers-own, stands-any, keeps-effect, settled-again}
+use Rattle.bk_console.proofs.Leaving.{LeavesOf-none, LeavesOf-done}
+use Rattle.bk_console.specs.Run.{code_of, words_status, read_status, answer_status, load_status, close_status, script_bytes, MayBegin, IsWhole, Executed, Ran}
 use Rattle.bk_console.specs.Words.{WordOptions}
 
+-- Statuses.
+
+not_ended : (n : ℕ) → 1 < n → (n ≡ 0) ⊎ (n ≡ 1) → ⊥
+not_ended n above (inl h) = omega (arith, h)
+not_ended n above (inr h) = omega (arith, h)
+
+pub answered-as : (e : AnswerError) → answer_status e ≡ status.NotAnInstance → ⊥
+answered-as answer.Console h = cc h
+answered-as answer.Device h = cc h
+answered-as answer.NoMemory h = cc h
+answered-as answer.Broken h = cc h
+
+pub closed-as : (e : ExecuteError) → close_status e ≡ status.NotAnInstance → ⊥
+closed-as execute.Fault h = cc h
+closed-as execute.NoMemory h = cc h
+closed-as execute.Broken h = cc h
+
+-- Worlds.
+
+-- a world that a run begins with is of the same instance
+opened-covers : (number : ℕ) (image : Files) (w : World) → Covers number image (opened w) → Covers w.instance image (opened w)
+unfolding opened
+opened-covers number image w covers = covers-own number image (opened w) covers
+
+opened-number : (i : Instance) (disk : Disk) (w : World) → StandsFor i disk (opened w) → i.kept.number ≡ w.instance
+unfolding opened
+opened-number i disk w stands = sym stands.keeps.number
+
+-- where nothing is pending, a crash leaves the world with which a run may begin
+begin-covers : (asks : Option WordOptions) (disk : Disk) (w : World) (image : Files) → IsSettled disk → MayLeave disk image → MayBegin asks disk.files w → Covers w.instance image (opened w)
+begin-covers None disk w image settled left may = absurd may
+begin-covers (Some options) disk w image settled left may =
+    opened-covers options.instance image w (settled-covers options.instance disk w image settled (λ name ours. left name) may)
+
 -- no statement was begun
-nothing-ran : (asks : Option WordOptions) (st : Type 0) (rest rest_after : List ℕ) (ct : Type 0) (coming : ℕ → ℕ) (dt : Type 0) (disk : Disk) (status : ℕ)
-    (bytes : List ℕ) → (st → rest ≡ bytes ++ rest_after) → length bytes ≤ script_bytes + 1 → (status ≡ 8 → script_bytes < length bytes) → (script_bytes < length bytes → (status ≡ 8) ⊎ (status ≡ 6))
-    → 1 < status → (status ≡ 4 → ⊥) → Ran asks st rest rest_after ct coming coming dt disk disk status
-nothing-ran asks st rest rest_after ct coming dt disk status bytes read few too_long long not_done not_cut = record {
-  bytes = bytes;
-  statements = [];
+pub nothing-executed : (asks : Option WordOptions) (statements : List Statement) (ct : Type 0) (coming : ℕ → ℕ) (dt : Type 0) (disk : Disk) (code : ℕ)
+    → (dt → IsLawful disk) → (dt → IsSettled disk) → 1 < code → (code ≡ 4 → ⊥) → Executed asks statements ct coming coming dt disk disk code
+nothing-executed asks statements ct coming dt disk code lawful settled above not_cut = record {
   moments = [];
   replies = [];
-  times = 0;
-  read = read;
-  few = few;
-  too_long = too_long;
-  long = long;
-  runs = λ t w may. (w, refl, λ h. absurd (not_first h));
-  alone = λ off w may. (w, refl);
   asked = record { shown = λ t i lt. absurd (omega (arith, lt)); moved = λ t i. ap coming (omega arith) };
   asked_each = (omega arith, omega arith);
-  begun = λ some. absurd (omega (arith, some));
+  runs = λ t w may. (opened w, refl, λ h. absurd (not_ended code above h));
+  settled = λ t h. absurd (not_ended code above h);
+  crashes = λ t w may. left_begins disk (lawful t) (λ image left.
+      LeavesOf-none w.instance (opened w) statements [] [] disk.told image disk.told (begin-covers asks disk w image (settled t) left may) refl);
   front = λ t. (0, sym (append-nil disk.told));
   accepted = λ asked. refl;
   done = λ h. absurd (omega (arith, h));
   stopped = λ h. absurd (omega (arith, h));
   cut = λ h. absurd (not_cut h);
 }
-  where
-    not_first : (status ≡ 0) ⊎ (status ≡ 1) → ⊥
-    not_first (inl h) = omega (arith, h)
-    not_first (inr h) = omega (arith, h)
 
--- the words were refused
-pub refused-words : (asks : Option WordOptions) (st : Type 0) (rest : List ℕ) (ct : Type 0) (coming : ℕ → ℕ) (dt : Type 0) (disk : Disk) (e : WordsError)
-    → Ran asks st rest rest ct coming coming dt disk disk (code_of (words_status e))
-refused-words asks st rest ct coming dt disk words.Usage =
-    nothing-ran asks st rest rest ct coming dt disk 2 [] (λ t. refl) (omega arith) (λ h. absurd (omega (arith, h))) (λ h. absurd (omega (arith, h))) (omega arith) (λ h. omega (arith, h))
-refused-words asks st rest ct coming dt disk words.NoMemory =
-    nothing-ran asks st rest rest ct coming dt disk 6 [] (λ t. refl) (omega arith) (λ h. absurd (omega (arith, h))) (λ h. inr refl) (omega arith) (λ h. omega (arith, h))
+-- What was answered, wherever it ended.
+pub record Came (stop : Bool) (old new : Instance) (ss : List Statement) (clock_tells : Type 0) (before after : ℕ → ℕ) (device_tells : Type 0) (disk disk_after : Disk) : Type 0 where
+  pub moments : List ℕ
+  pub replies : List Reply
+  pub each : length moments ≡ length replies
+  pub number : new.kept.number ≡ old.kept.number
+  pub asked : Asked clock_tells before after moments
+  pub runs : device_tells → Runs old disk (take (length replies) ss) moments replies new disk_after
+  pub crashes : device_tells → Elapses disk disk_after (CrashLeaves old disk ss moments replies)
+  pub text : device_tells → disk_after.told ≡ disk.told ++ replies_text replies
+  pub accepted : stop ≡ true → GoesOnAccepted (length moments) replies
 
--- the script wasn't read whole
-pub failed-reading : (asks : Option WordOptions) (st : Type 0) (rest rest_after : List ℕ) (ct : Type 0) (coming : ℕ → ℕ) (dt : Type 0) (disk : Disk) (e : ReadError)
-    (bytes : List ℕ) → (st → rest ≡ bytes ++ rest_after) → length bytes ≤ script_bytes + 1 → (e ≡ TooLong → script_bytes < length bytes) → (e ≡ Fault → length bytes ≤ script_bytes)
-    → Ran asks st rest rest_after ct coming coming dt disk disk (code_of (read_status e))
-failed-reading asks st rest rest_after ct coming dt disk TooLong bytes read few more less =
-    nothing-ran asks st rest rest_after ct coming dt disk 8 bytes read few (λ h. more refl) (λ h. inl refl) (omega arith) (λ h. omega (arith, h))
-failed-reading asks st rest rest_after ct coming dt disk Fault bytes read few more less =
-    nothing-ran asks st rest rest_after ct coming dt disk 3 bytes read few (λ h. absurd (omega (arith, h))) (λ h. absurd (omega (arith, h, less refl))) (omega arith) (λ h. omega (arith, h))
-failed-reading asks st rest rest_after ct coming dt disk NoMemory bytes read few more less =
-    nothing-ran asks st rest rest_after ct coming dt disk 6 bytes read few (λ h. absurd (omega (arith, h))) (λ h. inr refl) (omega arith) (λ h. omega (arith, h))
+abbrev pub came-all : (stop : Bool) (old new : Instance) (ss : List Statement) (ct : Type 0) (before after : ℕ → ℕ) (dt : Type 0) (disk disk1 : Disk)
+    → AnsweredAll stop old new ss ct before after dt disk disk1 → Came stop old new ss ct before after dt disk disk1
+came-all stop old new ss ct before after dt disk disk1 all = record {
+  moments = all.moments;
+  replies = all.replies;
+  each = all.each_moment ∙ sym all.each_reply;
+  number = all.number;
+  asked = all.asked;
+  runs = λ t. subst (λ xs. Runs old disk xs all.moments all.replies new disk1) (sym (ap (λ n. take n ss) all.each_reply ∙ take-length ss)) (all.runs t);
+  crashes = all.crashes;
+  text = all.text;
+  accepted = λ on. none-front _ all.replies (all.accepted on);
+}
 
--- the script was read, and no statement was begun
-pub stopped-before : (asks : Option WordOptions) (st : Type 0) (rest rest_after : List ℕ) (ct : Type 0) (coming : ℕ → ℕ) (dt : Type 0) (disk : Disk)
-    (bytes : List ℕ) → (st → (rest ≡ bytes) × (rest_after ≡ [])) → length bytes ≤ script_bytes → Ran asks st rest rest_after ct coming coming dt disk disk 6
-stopped-before asks st rest rest_after ct coming dt disk bytes whole short =
-    nothing-ran asks st rest rest_after ct coming dt disk 6 bytes (λ t. (whole t).0 ∙ sym (append-nil bytes) ∙ ap (λ r. bytes ++ r) (sym (whole t).1)) (omega arith)
-    (λ h. absurd (omega (arith, h))) (λ h. inr refl) (omega arith) (λ h. omega (arith, h))
+abbrev pub came-stopped : (stop : Bool) (old new : Instance) (ss : List Statement) (ct : Type 0) (before after : ℕ → ℕ) (dt : Type 0) (disk disk1 : Disk)
+    → Stopped stop old new ss ct before after dt disk disk1 → Came stop old new ss ct before after dt disk disk1
+came-stopped stop old new ss ct before after dt disk disk1 there = record {
+  moments = there.moments;
+  replies = there.replies;
+  each = there.each_moment;
+  number = there.number;
+  asked = there.asked;
+  runs = there.runs;
+  crashes = there.crashes;
+  text = there.text;
+  accepted = λ on. subst (λ n. GoesOnAccepted n there.replies) (sym there.each_moment) there.accepted;
+}
 
-module _ (st : Type 0) (rest rest_after : List ℕ) (ct : Type 0) (coming coming_after : ℕ → ℕ) (dt : Type 0) (disk disk_after : Disk)
-    (bytes : List ℕ) (whole : st → (rest ≡ bytes) × (rest_after ≡ [])) (short : length bytes ≤ script_bytes) (statements : List Statement) (script : IsScript bytes statements)
-    (options : WordOptions) (start : Instance) (keeps : (w : World) → IsNew options.instance w → Keeps w start) where
-  is_whole : IsWhole st bytes rest_after statements
-  is_whole = record { script = script; to_its_end = λ t. (whole t).1; short = short }
+abbrev pub came : (end : Ended) (stop : Bool) (old new : Instance) (ss : List Statement) (ct : Type 0) (before after : ℕ → ℕ) (dt : Type 0) (disk disk1 : Disk)
+    → AnsweredBy end stop old new ss ct before after dt disk disk1 → Came stop old new ss ct before after dt disk disk1
+came AtTheEnd stop old new ss ct before after dt disk disk1 all = came-all stop old new ss ct before after dt disk disk1 all
+came AtARefusal stop old new ss ct before after dt disk disk1 there = came-stopped stop old new ss ct before after dt disk disk1 there
 
-  read_all : st → rest ≡ bytes ++ rest_after
-  read_all t = (whole t).0 ∙ sym (append-nil bytes) ∙ ap (λ r. bytes ++ r) (sym (whole t).1)
+-- what loading leaves
+abbrev pub Loads : ℕ → Disk → Files → Type 0
+Loads number disk image = (w : World) → Stands number disk.files w → Covers number image (opened w)
 
-  -- every statement was answered
-  pub all-answered : (finish : Instance) → AnsweredAll options.stop start finish statements ct coming coming_after dt disk disk_after
-      → Ran (Some options) st rest rest_after ct coming coming_after dt disk disk_after 0
-  all-answered finish all = record {
-    bytes = bytes;
-    statements = statements;
-    moments = all.moments;
-    replies = all.replies;
-    times = length statements;
-    read = read_all;
-    few = omega arith;
-    too_long = λ h. absurd (omega (arith, h));
-    long = λ h. absurd (omega (arith, h));
-    runs = λ t w may.
-        let to = all.runs t w (keeps w may.0) may.1 in
-        (to.0, subst (λ ss. IsRun w ss all.moments all.replies to.0) (sym (ap (λ n. take n statements) all.each_reply ∙ take-length statements)) to.1, λ h. to.3);
-    alone = λ off w may.
-        let whole : take (length all.replies) statements ≡ statements = ap (λ n. take n statements) all.each_reply ∙ take-length statements in
-        let to = all.alone (subst AreOffMedia whole off) w (keeps w may) in
-        (to.0, subst (λ ss. IsRun w ss all.moments all.replies to.0) (sym whole) to.1);
-    asked = all.asked;
-    asked_each = (omega (arith, all.each_reply), omega (arith, all.each_reply));
-    begun = λ some. is_whole;
-    front = λ t. (length (replies_text all.replies), all.text t ∙ ap (λ texts. disk.told ++ texts) (sym (take-length (replies_text all.replies))));
-    accepted = λ asked. none-front _ all.replies (all.accepted asked);
-    done = λ h. (is_whole, all.each_reply, sym all.each_reply, all.text, all.accepted);
-    stopped = λ h. absurd (omega (arith, h));
-    cut = λ h. absurd (omega (arith, h));
-  }
+-- what closing leaves
+abbrev pub Closes : Instance → Disk → Files → Type 0
+Closes i disk image = (w : World) → StandsFor i disk w → Covers i.kept.number image w
 
-  -- a statement was refused, and the run was to stop there
-  pub stopped-there : (finish : Instance) → Stopped options.stop start finish statements ct coming coming_after dt disk disk_after
-      → Ran (Some options) st rest rest_after ct coming coming_after dt disk disk_after 1
-  stopped-there finish front = record {
-    bytes = bytes;
-    statements = statements;
-    moments = front.moments;
-    replies = front.replies;
-    times = length front.replies;
-    read = read_all;
-    few = omega arith;
-    too_long = λ h. absurd (omega (arith, h));
-    long = λ h. absurd (omega (arith, h));
-    runs = λ t w may.
-        let to = front.runs t w (keeps w may.0) may.1 in
-        (to.0, to.1, λ h. to.3);
-    alone = λ off w may.
-        let to = front.alone off w (keeps w may) in
-        (to.0, to.1);
-    asked = front.asked;
+module _ (options : WordOptions) (statements : List Statement) (ct : Type 0) (coming coming_after : ℕ → ℕ) (dt : Type 0) (disk disk1 : Disk)
+    (lawful : dt → IsLawful disk) (settled : dt → IsSettled disk) (loading : dt → Effect IsOurs (Loads options.instance disk) disk disk1) where
+  since-load : dt → (w : World) → Stands options.instance disk.files w → (moments : List ℕ) (replies : List Reply)
+      → LeavesSince disk.moment (LeavesOf w.instance (opened w) statements moments replies disk.told) disk1
+  since-load t w stands moments replies = left_effect
+      (left_begins disk (lawful t) (λ image left.
+      LeavesOf-none w.instance (opened w) statements moments replies disk.told image disk.told (begin-covers (Some options) disk w image (settled t) left stands) refl))
+      (λ image here others.
+      LeavesOf-none w.instance (opened w) statements moments replies disk.told image disk.told (opened-covers options.instance image w (here w stands)) refl)
+      (loading t)
+
+  -- the instance wasn't loaded
+  pub not-loaded : (e : LoadError) → Executed (Some options) statements ct coming coming dt disk disk1 (code_of (load_status e))
+  not-loaded e = record {
+    moments = [];
+    replies = [];
+    asked = record { shown = λ t i lt. absurd (omega (arith, lt)); moved = λ t i. ap coming (omega arith) };
     asked_each = (omega arith, omega arith);
-    begun = λ some. is_whole;
-    front = λ t. (length (replies_text front.replies), front.text t ∙ ap (λ texts. disk.told ++ texts) (sym (take-length (replies_text front.replies))));
-    accepted = λ asked. front.accepted;
-    done = λ h. absurd (omega (arith, h));
-    stopped = λ h. (is_whole, front.stops, front.refused, refl, front.text);
-    cut = λ h. absurd (omega (arith, h));
-  }
-
-  -- an answer was cut short
-  pub cut-short : (e : AnswerError) → CutAll options.stop start statements ct coming coming_after dt disk disk_after (IsErrOf {T = Ended} (Err e) answer.Console)
-      → Ran (Some options) st rest rest_after ct coming coming_after dt disk disk_after (code_of (answer_status e))
-  cut-short e cut = record {
-    bytes = bytes;
-    statements = statements;
-    moments = cut.moments;
-    replies = cut.replies;
-    times = cut.times;
-    read = read_all;
-    few = omega arith;
-    too_long = λ h. absurd (not_eight e h);
-    long = λ h. absurd (omega (arith, h));
-    runs = λ t w may.
-        let to = cut.runs t w (keeps w may.0) may.1 in
-        (to.0, to.1, λ h. absurd (not_first h));
-    alone = λ off w may. cut.alone off w (keeps w may);
-    asked = cut.asked;
-    asked_each = cut.asked_each;
-    begun = λ some. is_whole;
-    front = cut.front;
-    accepted = cut.accepted;
-    done = λ h. absurd (not_first (inl h));
-    stopped = λ h. absurd (not_first (inr h));
-    cut = λ h. cut.some (ap Err (is_console e h));
+    runs = λ t w may. (opened w, refl, λ h. absurd (not_ended _ (above e) h));
+    settled = λ t h. absurd (not_ended _ (above e) h);
+    crashes = λ t w may. since-load t w may [] [];
+    front = λ t. (0, (loading t).told ∙ sym (append-nil disk.told));
+    accepted = λ asked. refl;
+    done = λ h. absurd (not_ended _ (above e) (inl h));
+    stopped = λ h. absurd (not_ended _ (above e) (inr h));
+    cut = λ h. absurd (not_cut e h);
   }
     where
-      not_eight : (e : AnswerError) → code_of (answer_status e) ≡ 8 → ⊥
-      not_eight answer.Console h = omega (arith, h)
-      not_eight answer.Device h = omega (arith, h)
-      not_eight answer.NoMemory h = omega (arith, h)
+      above : (e : LoadError) → 1 < code_of (load_status e)
+      above load.NotAnInstance = omega arith
+      above load.Broken = omega arith
+      above load.Fault = omega arith
+      above load.NoMemory = omega arith
 
-      above : (e : AnswerError) → 1 < code_of (answer_status e)
-      above answer.Console = omega arith
-      above answer.Device = omega arith
-      above answer.NoMemory = omega arith
+      not_cut : (e : LoadError) → code_of (load_status e) ≡ 4 → ⊥
+      not_cut load.NotAnInstance h = omega (arith, h)
+      not_cut load.Broken h = omega (arith, h)
+      not_cut load.Fault h = omega (arith, h)
+      not_cut load.NoMemory h = omega (arith, h)
 
-      not_first : (code_of (answer_status e) ≡ 0) ⊎ (code_of (answer_status e) ≡ 1) → ⊥
-      not_first (inl h) = omega (arith, h, above e)
-      not_first (inr h) = omega (arith, h, above e)
+  module _ (disk2 : Disk) (start : Instance) (begins : dt → (w : World) → Stands options.instance disk.files w → StandsFor start disk1 (opened w)) where
+    since-answers : dt → (w : World) → Stands options.instance disk.files w → (moments : List ℕ) (replies : List Reply) → Elapses disk1 disk2 (CrashLeaves start disk1 statements moments replies)
+        → LeavesSince disk.moment (LeavesOf w.instance (opened w) statements moments replies disk.told) disk2
+    since-answers t w stands moments replies crashes = left-elapses disk.moment _ _ disk1 disk2 (since-load t w stands moments replies)
+        (λ image heard leaves.
+        subst (λ told. LeavesOf w.instance (opened w) statements moments replies told image heard) (loading t).told
+        (subst (λ n. LeavesOf n (opened w) statements moments replies disk1.told image heard) (opened-number start disk1 w (begins t w stands)) (leaves (opened w) (begins t w stands)))) crashes
 
-      is_console : (e : AnswerError) → code_of (answer_status e) ≡ 4 → e ≡ answer.Console
-      is_console answer.Console h = refl
-      is_console answer.Device h = absurd (omega (arith, h))
-      is_console answer.NoMemory h = absurd (omega (arith, h))
+    -- an answer was cut short
+    pub cut-short : (e : AnswerError) → CutAll options.stop start statements ct coming coming_after dt disk1 disk2 (IsErrOf {T = Ended} (Err e) answer.Console)
+        → Executed (Some options) statements ct coming coming_after dt disk disk2 (code_of (answer_status e))
+    cut-short e cut = record {
+      moments = cut.moments;
+      replies = cut.replies;
+      asked = cut.asked;
+      asked_each = cut.asked_each;
+      runs = λ t w may.
+          let to = cut.runs t (opened w) (begins t w may) in
+          (to.0, to.1, λ h. absurd (not_ended _ (above e) h));
+      settled = λ t h. absurd (not_ended _ (above e) h);
+      crashes = λ t w may. since-answers t w may cut.moments cut.replies (cut.crashes t);
+      front = λ t. let some = cut.front t in (some.0, some.1 ∙ ap (λ told. told ++ take some.0 (replies_text cut.replies)) (loading t).told);
+      accepted = cut.accepted;
+      done = λ h. absurd (not_ended _ (above e) (inl h));
+      stopped = λ h. absurd (not_ended _ (above e) (inr h));
+      cut = λ h. cut.some (ap Err (is_console e h));
+    }
+      where
+        above : (e : AnswerError) → 1 < code_of (answer_status e)
+        above answer.Console = omega arith
+        above answer.Device = omega arith
+        above answer.NoMemory = omega arith
+        above answer.Broken = omega arith
+
+        is_console : (e : AnswerError) → code_of (answer_status e) ≡ 4 → e ≡ answer.Console
+        is_console answer.Console h = refl
+        is_console answer.Device h = absurd (omega (arith, h))
+        is_console answer.NoMemory h = absurd (omega (arith, h))
+        is_console answer.Broken h = absurd (omega (arith, h))
+
+    -- no other file is touched
+    others-then : (disk3 : Disk) (finish : Instance) → (dt → Effect IsOurs (Closes finish disk2) disk2 disk3) → (dt → KeepsFiles NotOurs disk1 disk2) → dt → KeepsFiles NotOurs disk disk3
+    others-then disk3 finish closing others t =
+        keeps_then (keeps_then (keeps-effect (Loads options.instance disk) disk disk1 (loading t)) (others t)) (keeps-effect (Closes finish disk2) disk2 disk3 (closing t))
+
+    module _ (disk3 : Disk) (finish : Instance) (there : Came options.stop start finish statements ct coming coming_after dt disk1 disk2)
+        (closing : dt → Effect IsOurs (Closes finish disk2) disk2 disk3) where
+      told-then : dt → disk3.told ≡ disk.told ++ replies_text there.replies
+      told-then t = (closing t).told ∙ there.text t ∙ ap (λ told. told ++ replies_text there.replies) (loading t).told
+
+      moments-are : take (length there.replies) there.moments ≡ there.moments
+      moments-are = ap (λ n. take n there.moments) (sym there.each) ∙ take-length there.moments
+
+      since-close : dt → (w : World) → Stands options.instance disk.files w → LeavesSince disk.moment (LeavesOf w.instance (opened w) statements there.moments there.replies disk.told) disk3
+      since-close t w stands = left_effect (since-answers t w stands there.moments there.replies (there.crashes t))
+          (λ image here others.
+          let to = there.runs t (opened w) (begins t w stands) in
+          LeavesOf-done w.instance (opened w) to.0 statements there.moments there.replies disk.told image disk2.told there.each to.1
+          (subst (λ n. Covers n image to.0) (there.number ∙ opened-number start disk1 w (begins t w stands)) (here to.0 to.2))
+          (length (replies_text there.replies), there.text t ∙ ap (λ told. told ++ replies_text there.replies) (loading t).told ∙ ap (λ texts. disk.told ++ texts) (sym (take-length (replies_text there.replies)))))
+          (closing t)
+
+      -- the instance was closed, or it failed
+      pub ended-by : (code : ℕ) → (code ≡ 4 → ⊥)
+          → (dt → (code ≡ 0) ⊎ (code ≡ 1) → (w : World) → StandsFor finish disk2 w → Stands options.instance disk3.files (ended w))
+          → (dt → (code ≡ 0) ⊎ (code ≡ 1) → IsSettled disk3)
+          → (code ≡ 0 → (length there.replies ≡ length statements) × (options.stop ≡ true → NoneRefused there.replies))
+          → (code ≡ 1 → (options.stop ≡ true) × EndsRefused there.replies)
+          → Executed (Some options) statements ct coming coming_after dt disk disk3 code
+      ended-by code not_cut stood still all refused = record {
+        moments = there.moments;
+        replies = there.replies;
+        asked = there.asked;
+        asked_each = (omega (arith, there.each), omega (arith, there.each));
+        runs = λ t w may.
+            let to = there.runs t (opened w) (begins t w may) in
+            (to.0, subst (λ ms. IsRun (opened w) (take (length there.replies) statements) ms there.replies to.0) (sym moments-are) to.1, λ h. stood t h to.0 to.2);
+        settled = still;
+        crashes = since-close;
+        front = λ t. (length (replies_text there.replies), told-then t ∙ ap (λ texts. disk.told ++ texts) (sym (take-length (replies_text there.replies))));
+        accepted = there.accepted;
+        done = λ h. ((all h).0, there.each, told-then, (all h).1);
+        stopped = λ h. ((refused h).0, (refused h).1, there.each, told-then);
+        cut = λ h. absurd (not_cut h);
+      }
+
+      -- closing failed
+      pub not-closed : (e : ExecuteError) → Executed (Some options) statements ct coming coming_after dt disk disk3 (code_of (close_status e))
+      not-closed e = ended-by (code_of (close_status e)) (not_cut e) (λ t h. absurd (not_ended _ (above e) h)) (λ t h. absurd (not_ended _ (above e) h))
+          (λ h. absurd (not_ended _ (above e) (inl h))) (λ h. absurd (not_ended _ (above e) (inr h)))
+        where
+          above : (e : ExecuteError) → 1 < code_of (close_status e)
+          above execute.Fault = omega arith
+          above execute.NoMemory = omega arith
+          above execute.Broken = omega arith
+
+          not_cut : (e : ExecuteError) → code_of (close_status e) ≡ 4 → ⊥
+          not_cut execute.Fault h = omega (arith, h)
+          not_cut execute.NoMemory h = omega (arith, h)
+          not_cut execute.Broken h = omega (arith, h)
+
+    -- every statement was answered, and the instance closed
+    pub all-ended : (disk3 : Disk) (finish closed : Instance) → AnsweredAll options.stop start finish statements ct coming coming_after dt disk1 disk2
+        → (dt → Effect IsOurs (Closes finish disk2) disk2 disk3) → (dt → KeepsFiles NotOurs disk1 disk2) → (dt → IsStored disk3 closed)
+        → (dt → (w : World) → StandsFor finish disk2 w → Stands finish.kept.number disk3.files (ended w)) → Executed (Some options) statements ct coming coming_after dt disk disk3 0
+    all-ended disk3 finish closed all closing others stored stood =
+        ended-by disk3 finish (came-all options.stop start finish statements ct coming coming_after dt disk1 disk2 all) closing 0 (λ h. omega (arith, h))
+        (λ t h w stands. stands-any finish.kept.number options.instance disk3.files (ended w) (stored t).home.made (stood t w stands))
+        (λ t h. settled-again closed disk disk3 (settled t) (others-then disk3 finish closing others t) (stored t))
+        (λ h. (all.each_reply, all.accepted)) (λ h. absurd (omega (arith, h)))
+
+    -- a statement was refused where the run was to stop, and the instance closed
+    pub stopped-there : (disk3 : Disk) (finish closed : Instance) → Stopped options.stop start finish statements ct coming coming_after dt disk1 disk2
+        → (dt → Effect IsOurs (Closes finish disk2) disk2 disk3) → (dt → KeepsFiles NotOurs disk1 disk2) → (dt → IsStored disk3 closed)
+        → (dt → (w : World) → StandsFor finish disk2 w → Stands finish.kept.number disk3.files (ended w)) → Executed (Some options) statements ct coming coming_after dt disk disk3 1
+    stopped-there disk3 finish closed there closing others stored stood =
+        ended-by disk3 finish (came-stopped options.stop start finish statements ct coming coming_after dt disk1 disk2 there) closing 1 (λ h. omega (arith, h))
+        (λ t h w stands. stands-any finish.kept.number options.instance disk3.files (ended w) (stored t).home.made (stood t w stands))
+        (λ t h. settled-again closed disk disk3 (settled t) (others-then disk3 finish closing others t) (stored t))
+        (λ h. absurd (omega (arith, h))) (λ h. (there.stops, there.refused))
+
+-- Runs.
+
+module _ (asks : Option WordOptions) (st : Type 0) (rest rest_after : List ℕ) (ct : Type 0) (coming : ℕ → ℕ) (dt : Type 0) (disk : Disk)
+    (lawful : dt → IsLawful disk) (settled : dt → IsSettled disk) where
+  -- no statement was begun
+  nothing-ran : (code : ℕ) (bytes : List ℕ) → (st → rest ≡ bytes ++ rest_after) → length bytes ≤ script_bytes + 1 → (code ≡ 8 → script_bytes < length bytes)
+      → (script_bytes < length bytes → (code ≡ 8) ⊎ (code ≡ 6)) → 1 < code → (code ≡ 4 → ⊥) → Ran asks st rest rest_after ct coming coming dt disk disk code
+  unfolding nothing-executed
+  nothing-ran code bytes read few too_long long above not_cut = record {
+    bytes = bytes;
+    statements = [];
+    read = read;
+    few = few;
+    too_long = too_long;
+    long = long;
+    executed = nothing-executed asks [] ct coming dt disk code lawful settled above not_cut;
+    whole = none;
+  }
+    where
+      none : (0 < length (nothing-executed asks [] ct coming dt disk code lawful settled above not_cut).moments) ⊎ (code ≡ 0) ⊎ (code ≡ 1) → IsWhole st bytes rest_after []
+      none (inl some) = absurd (omega (arith, some))
+      none (inr h) = absurd (not_ended code above h)
+
+  -- the words were refused
+  pub refused-words : (e : WordsError) → (st → rest ≡ rest_after) → Ran asks st rest rest_after ct coming coming dt disk disk (code_of (words_status e))
+  refused-words words.Usage same = nothing-ran 2 [] same (omega arith) (λ h. absurd (omega (arith, h))) (λ h. absurd (omega (arith, h))) (omega arith) (λ h. omega (arith, h))
+  refused-words words.NoMemory same = nothing-ran 6 [] same (omega arith) (λ h. absurd (omega (arith, h))) (λ h. inr refl) (omega arith) (λ h. omega (arith, h))
+
+  -- the script wasn't read whole
+  pub failed-reading : (e : ReadError) (bytes : List ℕ) → (st → rest ≡ bytes ++ rest_after) → length bytes ≤ script_bytes + 1 → (e ≡ TooLong → script_bytes < length bytes) → (e ≡ Fault → length bytes ≤ script_bytes)
+      → Ran asks st rest rest_after ct coming coming dt disk disk (code_of (read_status e))
+  failed-reading TooLong bytes read few more less = nothing-ran 8 bytes read few (λ h. more refl) (λ h. inl refl) (omega arith) (λ h. omega (arith, h))
+  failed-reading Fault bytes read few more less = nothing-ran 3 bytes read few (λ h. absurd (omega (arith, h))) (λ h. absurd (omega (arith, h, less refl))) (omega arith) (λ h. omega (arith, h))
+  failed-reading NoMemory bytes read few more less = nothing-ran 6 bytes read few (λ h. absurd (omega (arith, h))) (λ h. inr refl) (omega arith) (λ h. omega (arith, h))
+
+  -- the script was read, and no statement was begun
+  pub stopped-before : (bytes : List ℕ) → (st → (rest ≡ bytes) × (rest_after ≡ [])) → length bytes ≤ script_bytes → Ran asks st rest rest_after ct coming coming dt disk disk 6
+  stopped-before bytes whole short =
+      nothing-ran 6 bytes (λ t. (whole t).0 ∙ sym (append-nil bytes) ∙ ap (λ r. bytes ++ r) (sym (whole t).1)) (omega arith)
+      (λ h. absurd (omega (arith, h))) (λ h. inr refl) (omega arith) (λ h. omega (arith, h))
+
+-- a status is the one of its number
+is_too_long : (s : Status) → code_of s ≡ 8 → s ≡ status.ScriptTooLong
+is_too_long status.Done h = absurd (omega (arith, h))
+is_too_long status.StoppedAtRefusal h = absurd (omega (arith, h))
+is_too_long status.Usage h = absurd (omega (arith, h))
+is_too_long status.SourceFault h = absurd (omega (arith, h))
+is_too_long status.ConsoleFault h = absurd (omega (arith, h))
+is_too_long status.DeviceFault h = absurd (omega (arith, h))
+is_too_long status.NoMemory h = absurd (omega (arith, h))
+is_too_long status.NotAnInstance h = absurd (omega (arith, h))
+is_too_long status.ScriptTooLong h = refl
+
+-- the statements of the whole script were executed
+pub ran-whole : (asks : Option WordOptions) (st : Type 0) (rest rest_after : List ℕ) (ct : Type 0) (coming coming_after : ℕ → ℕ) (dt : Type 0) (disk disk_after : Disk) (s : Status)
+    (bytes : List ℕ) (statements : List Statement) → (st → (rest ≡ bytes) × (rest_after ≡ [])) → length bytes ≤ script_bytes → IsScript bytes statements → (s ≡ status.ScriptTooLong → ⊥)
+    → Executed asks statements ct coming coming_after dt disk disk_after (code_of s) → Ran asks st rest rest_after ct coming coming_after dt disk disk_after (code_of s)
+ran-whole asks st rest rest_after ct coming coming_after dt disk disk_after s bytes statements whole short script not_long executed = record {
+  bytes = bytes;
+  statements = statements;
+  read = λ t. (whole t).0 ∙ sym (append-nil bytes) ∙ ap (λ r. bytes ++ r) (sym (whole t).1);
+  few = omega arith;
+  too_long = λ h. absurd (not_long (is_too_long s h));
+  long = λ h. absurd (omega (arith, h));
+  executed = executed;
+  whole = λ _. record { script = script; to_its_end = λ t. (whole t).1; short = short };
+}

@@ -1,24 +1,28 @@
 -- The run: what a call of the console read, told and did, and how it ended.
 use Rattle.std.specs.Prelude.{◌≡◌, ◌⊎◌, ◌<◌, ◌≤◌, ℕ, ◌+◌, true, List, [], ◌++◌, length, take, Option, None, Some, Result, Ok, Err}
 use Rattle.bk_device.specs.Calls.{TellsFront}
-use Rattle.bk_device.specs.Disk.{Disk}
-use Rattle.bk_instance.specs.Begins.{IsNew, Begins}
-use Rattle.bk_instance.specs.Standing.{KeepsMedia}
+use Rattle.bk_device.specs.Disk.{Files, Disk, IsSettled}
+use Rattle.bk_device.specs.Effects.{LeavesSince}
+use Rattle.bk_instance.specs.declared.error.ExecuteError.{ExecuteError}
+use Rattle.bk_instance.specs.declared.error.ExecuteError.TheVariants as execute
+use Rattle.bk_instance.specs.declared.error.LoadError.{LoadError}
+use Rattle.bk_instance.specs.declared.error.LoadError.TheVariants as load
+use Rattle.bk_instance.specs.Stands.{Stands}
 use Rattle.bk_syntax.specs.Script.{IsScript}
 use Rattle.bk_world.specs.declared.item.Statement.{Statement}
 use Rattle.bk_world.specs.declared.reply.Reply.{Reply}
-use Rattle.bk_world.specs.World.{World}
+use Rattle.bk_world.specs.World.{World, opened, ended}
 use Rattle.bk_world.specs.Run.{IsRun}
 use Rattle.bk_world.specs.Text.{replies_text}
 use Rattle.bk_console.specs.declared.status.Status.{Status}
-use Rattle.bk_console.specs.declared.status.Status.TheVariants.{Done, StoppedAtRefusal, Usage, SourceFault, ConsoleFault, DeviceFault, NoMemory, ScriptTooLong}
+use Rattle.bk_console.specs.declared.status.Status.TheVariants.{Done, StoppedAtRefusal, Usage, SourceFault, ConsoleFault, DeviceFault, NoMemory, NotAnInstance, ScriptTooLong}
 use Rattle.bk_console.specs.declared.reading.ReadError.{ReadError}
 use Rattle.bk_console.specs.declared.reading.ReadError.TheVariants as read
 use Rattle.bk_console.specs.declared.answers.AnswerError.{AnswerError}
 use Rattle.bk_console.specs.declared.answers.AnswerError.TheVariants as answer
 use Rattle.bk_console.specs.declared.command_line.WordsError.{WordsError}
 use Rattle.bk_console.specs.declared.command_line.WordsError.TheVariants as words
-use Rattle.bk_console.specs.Answers.{Asked, NoneRefused, EndsRefused, GoesOnAccepted, AreOffMedia}
+use Rattle.bk_console.specs.Answers.{Asked, NoneRefused, EndsRefused, GoesOnAccepted, LeavesOf}
 use Rattle.bk_console.specs.Words.{WordOptions}
 
 -- the exit status
@@ -30,9 +34,10 @@ code_of SourceFault = 3
 code_of ConsoleFault = 4
 code_of DeviceFault = 5
 code_of NoMemory = 6
+code_of NotAnInstance = 7
 code_of ScriptTooLong = 8
 
--- how a run ends where the words, the script or an answer fails
+-- how a run ends where the words, the script, an answer, or loading or closing the instance fails
 abbrev pub words_status : WordsError → Status
 words_status words.Usage = Usage
 words_status words.NoMemory = NoMemory
@@ -46,6 +51,18 @@ abbrev pub answer_status : AnswerError → Status
 answer_status answer.Console = ConsoleFault
 answer_status answer.Device = DeviceFault
 answer_status answer.NoMemory = NoMemory
+answer_status answer.Broken = NoMemory
+
+abbrev pub load_status : LoadError → Status
+load_status load.NotAnInstance = NotAnInstance
+load_status load.Broken = NoMemory
+load_status load.Fault = DeviceFault
+load_status load.NoMemory = NoMemory
+
+abbrev pub close_status : ExecuteError → Status
+close_status execute.Fault = DeviceFault
+close_status execute.NoMemory = NoMemory
+close_status execute.Broken = NoMemory
 
 -- how a run ended
 abbrev pub status_of : Result (Unit {0}) Status → Status
@@ -61,15 +78,10 @@ abbrev pub AsksStop : Option WordOptions → Type 0
 AsksStop None = ⊥
 AsksStop (Some options) = options.stop ≡ true
 
--- the run that they ask for may begin with this world on this device
-abbrev pub MayBegin : Option WordOptions → Disk → World → Type 0
-MayBegin None disk w = ⊥
-MayBegin (Some options) disk w = Begins options.instance w disk
-
--- the same but for its media
-abbrev pub IsAsked : Option WordOptions → World → Type 0
-IsAsked None w = ⊥
-IsAsked (Some options) w = IsNew options.instance w
+-- the run that they ask for may begin with this world on these files
+abbrev pub MayBegin : Option WordOptions → Files → World → Type 0
+MayBegin None files w = ⊥
+MayBegin (Some options) files w = Stands options.instance files w
 
 -- These bytes are the whole source, and the statements are their script.
 pub record IsWhole (tells : Type 0) (bytes rest_after : List ℕ) (statements : List Statement) : Type 0 where
@@ -77,39 +89,46 @@ pub record IsWhole (tells : Type 0) (bytes rest_after : List ℕ) (statements : 
   pub to_its_end : tells → rest_after ≡ []
   pub short : length bytes ≤ script_bytes
 
--- A run from each world with which it may begin: what was read, the machine's replies, and what was told of them.
+-- Executing statements, from each world with which the run may begin: the machine's replies, what was told of them, and what is left.
+pub record Executed (asks : Option WordOptions) (statements : List Statement) (clock_tells : Type 0) (coming coming_after : ℕ → ℕ)
+    (device_tells : Type 0) (disk disk_after : Disk) (status : ℕ) : Type 0 where
+  -- one moment for each time that the clock was asked
+  pub moments : List ℕ
+  pub replies : List Reply
+  pub asked : Asked clock_tells coming coming_after moments
+  pub asked_each : (length replies ≤ length moments) × (length moments ≤ length replies + 1)
+  -- the machine's run over a front of the statements; at the end the files stand for its last world
+  pub runs : device_tells → (w : World) → MayBegin asks disk.files w
+      → (last : World) × IsRun (opened w) (take (length replies) statements) (take (length replies) moments) replies last
+      × ((status ≡ 0) ⊎ (status ≡ 1) → MayBegin asks disk_after.files (ended last))
+  -- and nothing is pending
+  pub settled : device_tells → (status ≡ 0) ⊎ (status ≡ 1) → IsSettled disk_after
+  -- each crash meanwhile left what a crash of this run leaves, under the number of its instance
+  pub crashes : device_tells → (w : World) → MayBegin asks disk.files w
+      → LeavesSince disk.moment (LeavesOf w.instance (opened w) statements moments replies disk.told) disk_after
+  -- whole texts of replies, and then perhaps a front of the next
+  pub front : device_tells → TellsFront (replies_text replies) disk.told disk_after.told
+  -- where a refusal stops the run, no statement is begun behind one
+  pub accepted : AsksStop asks → GoesOnAccepted (length moments) replies
+  -- at the end every statement has its reply, and all are told whole
+  pub done : status ≡ 0 → (length replies ≡ length statements) × (length moments ≡ length replies)
+      × (device_tells → disk_after.told ≡ disk.told ++ replies_text replies) × (AsksStop asks → NoneRefused replies)
+  -- it was asked to stop at a refusal, and the last reply is one; all replies are told whole
+  pub stopped : status ≡ 1 → AsksStop asks × EndsRefused replies × (length moments ≡ length replies)
+      × (device_tells → disk_after.told ≡ disk.told ++ replies_text replies)
+  -- a fault of the console comes where a reply is told
+  pub cut : status ≡ 4 → 0 < length replies
+
+-- A run: what was read, and what was executed of it.
 pub record Ran (asks : Option WordOptions) (source_tells : Type 0) (rest rest_after : List ℕ) (clock_tells : Type 0) (coming coming_after : ℕ → ℕ)
     (device_tells : Type 0) (disk disk_after : Disk) (status : ℕ) : Type 0 where
   pub bytes : List ℕ
   pub statements : List Statement
-  -- one moment for each reply
-  pub moments : List ℕ
-  pub replies : List Reply
-  -- how often the clock was asked
-  pub times : ℕ
   -- the bytes that were read, at most one above the limit, which is exactly where the script is too long
   pub read : source_tells → rest ≡ bytes ++ rest_after
   pub few : length bytes ≤ script_bytes + 1
   pub too_long : status ≡ 8 → script_bytes < length bytes
   pub long : script_bytes < length bytes → (status ≡ 8) ⊎ (status ≡ 6)
-  -- the machine's run over a front of the script, at the moments that the clock showed; at the end the device holds the media of its last world
-  pub runs : device_tells → (w : World) → MayBegin asks disk w
-      → (last : World) × IsRun w (take (length replies) statements) moments replies last × ((status ≡ 0) ⊎ (status ≡ 1) → KeepsMedia last disk_after)
-  -- on any device, so long as no statement looks at media
-  pub alone : AreOffMedia (take (length replies) statements) → (w : World) → IsAsked asks w → (last : World) × IsRun w (take (length replies) statements) moments replies last
-  pub asked : Asked clock_tells coming coming_after moments times
-  pub asked_each : (length replies ≤ times) × (times ≤ length replies + 1)
-  pub begun : 0 < length replies → IsWhole source_tells bytes rest_after statements
-  -- whole texts of replies, and then perhaps a front of the next
-  pub front : device_tells → TellsFront (replies_text replies) disk.told disk_after.told
-  -- where a refusal stops the run, no statement is begun behind one
-  pub accepted : AsksStop asks → GoesOnAccepted times replies
-  -- at the end every statement has its reply, and all are told whole
-  pub done : status ≡ 0 → IsWhole source_tells bytes rest_after statements
-      × (length replies ≡ length statements) × (times ≡ length replies) × (device_tells → disk_after.told ≡ disk.told ++ replies_text replies)
-      × (AsksStop asks → NoneRefused replies)
-  -- it was asked to stop at a refusal, and the last reply is one; all replies are told whole
-  pub stopped : status ≡ 1 → IsWhole source_tells bytes rest_after statements
-      × AsksStop asks × EndsRefused replies × (times ≡ length replies) × (device_tells → disk_after.told ≡ disk.told ++ replies_text replies)
-  -- a fault of the console comes where a reply is told
-  pub cut : status ≡ 4 → 0 < length replies
+  pub executed : Executed asks statements clock_tells coming coming_after device_tells disk disk_after status
+  -- where a statement was begun, and at the end, they are those of the whole script
+  pub whole : (0 < length executed.moments) ⊎ (status ≡ 0) ⊎ (status ≡ 1) → IsWhole source_tells bytes rest_after statements

@@ -1,10 +1,10 @@
 // Answering statements, one after the other.
 ghost use Rattle.std.specs.Prelude.{◌≡◌, ◌≤◌, IfOk, OnOk, OnErr, IsErrOf};
 ghost use Rattle.bk_device.specs.Counts.{HasRisen};
-ghost use Rattle.bk_instance.specs.Kept.{SoundDatabase};
-ghost use Rattle.bk_instance.specs.Standing.{KeepsOthers};
+ghost use Rattle.bk_device.specs.Effects.{KeepsFiles};
+ghost use Rattle.bk_instance.specs.Stands.{IsReady, IsStored};
 ghost use Rattle.bk_console.specs.Answers as spec;
-ghost use Rattle.bk_console.specs.Answers.{Answered, CutShort, AnsweredBy, CutAll, executed_error};
+ghost use Rattle.bk_console.specs.Answers.{NotOurs, Answered, CutShort, AnsweredBy, CutAll, executed_error};
 ghost use Rattle.bk_console.specs.declared.answers.AnswerError.TheVariants as answer_error;
 
 use crate::report;
@@ -26,6 +26,9 @@ pub enum AnswerError {
     /// Memory was wanting.
     #[error("out of memory")]
     NoMemory,
+    /// A change didn't fit the databases.
+    #[error("the instance is broken")]
+    Broken,
 }
 
 impl From<Failed> for AnswerError {
@@ -43,6 +46,7 @@ impl From<ExecuteError> for AnswerError {
         match error {
             ExecuteError::Fault => AnswerError::Device,
             ExecuteError::NoMemory => AnswerError::NoMemory,
+            ExecuteError::Broken => AnswerError::Broken,
         }
     }
 }
@@ -78,13 +82,16 @@ pub fn answer<D: Device, C: Clock>(
     device: &mut D,
     clock: &mut C,
 ) -> Result<bool, AnswerError>
-    requires sound { SoundDatabase instance.old.database }
+    requires ready { IsReady instance.old }
+    requires stored { D.tells → IsStored (D.disk device.old) instance.old }
     ensures answered { IfOk result (λ refused. Answered instance.old instance.new statement.now C.tells (C.coming clock.old) (C.coming clock.new)
         D.tells (D.disk device.old) (D.disk device.new) refused) }
     ensures cut_short { OnErr result (CutShort instance.old statement.now C.tells (C.coming clock.old) (C.coming clock.new)
         D.tells (D.disk device.old) (D.disk device.new) (IsErrOf result answer_error.Console)) }
-    ensures sound { OnOk result (SoundDatabase instance.new.database) }
-    ensures others { D.tells → KeepsOthers (D.disk device.old) (D.disk device.new) }
+    ensures ready { OnOk result (IsReady instance.new) }
+    ensures stored { D.tells → OnOk result (IsStored (D.disk device.new) instance.new) }
+    ensures number { OnOk result (instance.new.kept.number ≡ instance.old.kept.number) }
+    ensures others { D.tells → KeepsFiles NotOurs (D.disk device.old) (D.disk device.new) }
     ensures device_fault { IsErrOf result answer_error.Device → HasRisen (D.disk_faults device.old) (D.disk_faults device.new) }
     ensures console_fault { IsErrOf result answer_error.Console → HasRisen (D.tell_faults device.old) (D.tell_faults device.new) }
     ensures disk_faults { D.disk_faults device.old ≤ D.disk_faults device.new }
@@ -98,7 +105,8 @@ pub fn answer<D: Device, C: Clock>(
 }
 
 /// Answers the statements in their order: all of them, or up to the first that is refused, where `stop` asks for that.
-/// At an error the rest isn't begun.
+/// At an error the rest isn't begun. A crash leaves what it may leave of the machine's run, after at least the statements
+/// whose replies were told whole.
 pub fn answer_all<D: Device, C: Clock>(
     alloc: Global,
     instance: &mut Instance,
@@ -107,12 +115,15 @@ pub fn answer_all<D: Device, C: Clock>(
     device: &mut D,
     clock: &mut C,
 ) -> Result<Ended, AnswerError>
-    requires sound { SoundDatabase instance.old.database }
+    requires ready { IsReady instance.old }
+    requires stored { D.tells → IsStored (D.disk device.old) instance.old }
     ensures answered { IfOk result (λ ended. AnsweredBy ended stop instance.old instance.new statements.now C.tells (C.coming clock.old) (C.coming clock.new)
         D.tells (D.disk device.old) (D.disk device.new)) }
     ensures cut_short { OnErr result (CutAll stop instance.old statements.now C.tells (C.coming clock.old) (C.coming clock.new)
         D.tells (D.disk device.old) (D.disk device.new) (IsErrOf result answer_error.Console)) }
-    ensures others { D.tells → KeepsOthers (D.disk device.old) (D.disk device.new) }
+    ensures ready { OnOk result (IsReady instance.new) }
+    ensures stored { D.tells → OnOk result (IsStored (D.disk device.new) instance.new) }
+    ensures others { D.tells → KeepsFiles NotOurs (D.disk device.old) (D.disk device.new) }
     ensures device_fault { IsErrOf result answer_error.Device → HasRisen (D.disk_faults device.old) (D.disk_faults device.new) }
     ensures console_fault { IsErrOf result answer_error.Console → HasRisen (D.tell_faults device.old) (D.tell_faults device.new) }
     ensures disk_faults { D.disk_faults device.old ≤ D.disk_faults device.new }

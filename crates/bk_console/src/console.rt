@@ -1,26 +1,33 @@
 // The top call.
-ghost use Rattle.std.specs.Prelude.{◌≡◌, ◌⊎◌, ◌≤◌, ◌↔◌, None, map};
+ghost use Rattle.std.specs.Prelude.{◌≡◌, ◌⊎◌, ◌≤◌, ◌↔◌, None, Some, map};
 ghost use Rattle.std.specs.String.{string_bytes};
+ghost use Rattle.bk_device.specs.Calls.{ChangesNothing};
 ghost use Rattle.bk_device.specs.Counts.{HasRisen};
-ghost use Rattle.bk_instance.specs.Standing.{KeepsOthers};
-ghost use Rattle.bk_console.specs.Words.{options_of};
-ghost use Rattle.bk_console.specs.Run.{code_of, status_of, Ran};
+ghost use Rattle.bk_device.specs.Disk.{IsSettled};
+ghost use Rattle.bk_device.specs.Effects.{KeepsFiles};
+ghost use Rattle.bk_home.specs.Home.{IsNoInstance};
+ghost use Rattle.bk_console.specs.Answers.{NotOurs};
+ghost use Rattle.bk_console.specs.Words.{options_of, as_asked};
+ghost use Rattle.bk_console.specs.Run.{code_of, status_of, Executed, Ran};
 
 use crate::answers::{Ended, answer_all};
-use crate::command_line;
+use crate::command_line::{self, Options};
 use crate::reading::read_script;
 use crate::status::Status;
 use bk_device::{Clock, Device, Source};
 use bk_instance::Instance;
 use bk_syntax::statements;
+use bk_world::Statement;
 use std::alloc::Global;
 use std::thread::Threads;
 
-/// Runs the script that the source gives: reads it to its end, executes its statements in order, and tells each reply
-/// before the next statement begins. With `-b` it stops at the first refusal. Answers the exit status.
+/// Runs the script that the source gives over the instance on the device: reads it to its end, executes its statements
+/// in order, and tells each reply before the next statement begins. With `-b` it stops at the first refusal. Answers the
+/// exit status.
 ///
-/// Rows are kept in memory, and each run begins with no database and with the media that lie on the device, on which
-/// nothing may be pending. No other file is touched. At statuses 2, 3 and 8 nothing was told.
+/// The instance is made where the device holds none. What a statement changed is on the device before its reply is told,
+/// and a crash at any moment leaves what a crash of the machine leaves. No other file is touched. At statuses 2, 3, 7 and
+/// 8 nothing was told, and no file is changed.
 pub fn run<R: Threads + Sync, D: Device, S: Source, C: Clock>(
     _rt: &R,
     alloc: Global,
@@ -29,6 +36,9 @@ pub fn run<R: Threads + Sync, D: Device, S: Source, C: Clock>(
     device: &mut D,
     clock: &mut C,
 ) -> u8
+    // Nothing is pending on the device.
+    requires settled { D.tells → IsSettled (D.disk device.old) }
+
     // The replies are the machine's, over the script of the bytes read, and are what was told.
     ensures run { Ran (options_of (map string_bytes words.now)) S.tells (S.rest source.old) (S.rest source.new) C.tells (C.coming clock.old) (C.coming clock.new)
         D.tells (D.disk device.old) (D.disk device.new) result }
@@ -39,11 +49,14 @@ pub fn run<R: Threads + Sync, D: Device, S: Source, C: Clock>(
     ensures source_fault { result ≡ 3 → HasRisen (S.read_faults source.old) (S.read_faults source.new) }
     ensures console_fault { result ≡ 4 → HasRisen (D.tell_faults device.old) (D.tell_faults device.new) }
     ensures device_fault { result ≡ 5 → HasRisen (D.disk_faults device.old) (D.disk_faults device.new) }
+    ensures not_an_instance { D.tells → result ≡ 7 → IsNoInstance (D.disk device.old).files }
+    ensures no_instance { D.tells → IsNoInstance (D.disk device.old).files → (result ≡ 0) ⊎ (result ≡ 1) ⊎ (result ≡ 4) → ⊥ }
 
     // What is left alone.
     ensures unread { result ≡ 2 → source.new ≡ source.old }
     ensures untouched { (result ≡ 2) ⊎ (result ≡ 3) ⊎ (result ≡ 8) → device.new ≡ device.old }
-    ensures others { D.tells → KeepsOthers (D.disk device.old) (D.disk device.new) }
+    ensures unchanged { D.tells → result ≡ 7 → ChangesNothing (D.disk device.old) (D.disk device.new) }
+    ensures others { D.tells → KeepsFiles NotOurs (D.disk device.old) (D.disk device.new) }
     ensures disk_faults { D.disk_faults device.old ≤ D.disk_faults device.new }
     ensures tell_faults { D.tell_faults device.old ≤ D.tell_faults device.new }
     ensures read_faults { S.read_faults source.old ≤ S.read_faults source.new }
@@ -62,15 +75,19 @@ fn console<D: Device, S: Source, C: Clock>(
     device: &mut D,
     clock: &mut C,
 ) -> Result<(), Status>
+    requires settled { D.tells → IsSettled (D.disk device.old) }
     ensures run { Ran (options_of (map string_bytes words.now)) S.tells (S.rest source.old) (S.rest source.new) C.tells (C.coming clock.old) (C.coming clock.new)
         D.tells (D.disk device.old) (D.disk device.new) (code_of (status_of result)) }
     ensures usage { (status_of result ≡ Status.Usage) ↔ (options_of (map string_bytes words.now) ≡ None) }
     ensures source_fault { status_of result ≡ Status.SourceFault → HasRisen (S.read_faults source.old) (S.read_faults source.new) }
     ensures console_fault { status_of result ≡ Status.ConsoleFault → HasRisen (D.tell_faults device.old) (D.tell_faults device.new) }
     ensures device_fault { status_of result ≡ Status.DeviceFault → HasRisen (D.disk_faults device.old) (D.disk_faults device.new) }
+    ensures not_an_instance { D.tells → status_of result ≡ Status.NotAnInstance → IsNoInstance (D.disk device.old).files }
+    ensures no_instance { D.tells → IsNoInstance (D.disk device.old).files → (status_of result ≡ Status.Done) ⊎ (status_of result ≡ Status.StoppedAtRefusal) ⊎ (status_of result ≡ Status.ConsoleFault) → ⊥ }
     ensures unread { status_of result ≡ Status.Usage → source.new ≡ source.old }
     ensures untouched { (status_of result ≡ Status.Usage) ⊎ (status_of result ≡ Status.SourceFault) ⊎ (status_of result ≡ Status.ScriptTooLong) → device.new ≡ device.old }
-    ensures others { D.tells → KeepsOthers (D.disk device.old) (D.disk device.new) }
+    ensures unchanged { D.tells → status_of result ≡ Status.NotAnInstance → ChangesNothing (D.disk device.old) (D.disk device.new) }
+    ensures others { D.tells → KeepsFiles NotOurs (D.disk device.old) (D.disk device.new) }
     ensures disk_faults { D.disk_faults device.old ≤ D.disk_faults device.new }
     ensures tell_faults { D.tell_faults device.old ≤ D.tell_faults device.new }
     ensures read_faults { S.read_faults source.old ≤ S.read_faults source.new }
@@ -78,15 +95,40 @@ fn console<D: Device, S: Source, C: Clock>(
     let options = command_line::words(alloc, words)?;
     let script = read_script(alloc, source)?;
     let statements = statements(alloc, &script)?;
-    let mut instance = Instance::new(alloc, options.instance);
+    over_instance(alloc, &options, &statements, device, clock)
+}
+
+// Executes statements over the instance on the device.
+fn over_instance<D: Device, C: Clock>(
+    alloc: Global,
+    options: &Options,
+    statements: &[Statement],
+    device: &mut D,
+    clock: &mut C,
+) -> Result<(), Status>
+    requires settled { D.tells → IsSettled (D.disk device.old) }
+    ensures executed { Executed (Some (as_asked options.now)) statements.now C.tells (C.coming clock.old) (C.coming clock.new)
+        D.tells (D.disk device.old) (D.disk device.new) (code_of (status_of result)) }
+    ensures begun { (status_of result ≡ Status.Usage) ⊎ (status_of result ≡ Status.SourceFault) ⊎ (status_of result ≡ Status.ScriptTooLong) → ⊥ }
+    ensures console_fault { status_of result ≡ Status.ConsoleFault → HasRisen (D.tell_faults device.old) (D.tell_faults device.new) }
+    ensures device_fault { status_of result ≡ Status.DeviceFault → HasRisen (D.disk_faults device.old) (D.disk_faults device.new) }
+    ensures not_an_instance { D.tells → status_of result ≡ Status.NotAnInstance → IsNoInstance (D.disk device.old).files }
+    ensures no_instance { D.tells → IsNoInstance (D.disk device.old).files → (status_of result ≡ Status.Done) ⊎ (status_of result ≡ Status.StoppedAtRefusal) ⊎ (status_of result ≡ Status.ConsoleFault) → ⊥ }
+    ensures unchanged { D.tells → status_of result ≡ Status.NotAnInstance → ChangesNothing (D.disk device.old) (D.disk device.new) }
+    ensures others { D.tells → KeepsFiles NotOurs (D.disk device.old) (D.disk device.new) }
+    ensures disk_faults { D.disk_faults device.old ≤ D.disk_faults device.new }
+    ensures tell_faults { D.tell_faults device.old ≤ D.tell_faults device.new }
+{
+    let mut instance = Instance::load(alloc, device, options.instance)?;
     let ended = answer_all(
         alloc,
         &mut instance,
-        &statements,
+        statements,
         options.stop,
         device,
         clock,
     )?;
+    instance.close(device)?;
     match ended {
         Ended::AtTheEnd => Ok(()),
         Ended::AtARefusal => Err(Status::StoppedAtRefusal),

@@ -1,10 +1,11 @@
 ghost use Rattle.std.specs.Prelude.{◌≡◌};
-ghost use Rattle.bk_console.specs.Run.{code_of, words_status, read_status, answer_status};
+ghost use Rattle.bk_console.specs.Run.{code_of, words_status, read_status, answer_status, load_status, close_status};
 ghost use Rattle.bk_console.specs.declared.status.Status.TheVariants.{NoMemory};
 
 use crate::answers::AnswerError;
 use crate::command_line::WordsError;
 use crate::reading::ReadError;
+use bk_instance::{ExecuteError, LoadError};
 use std::alloc::AllocError;
 
 /// How a call of `run` ended: the program's exit status.
@@ -22,8 +23,10 @@ pub enum Status {
     ConsoleFault = 4,
     /// A file call of the device failed.
     DeviceFault = 5,
-    /// Memory was wanting.
+    /// Memory was wanting, or the files hold what no instance writes.
     NoMemory = 6,
+    /// The directory is made as an instance, and its control file holds no control.
+    NotAnInstance = 7,
     /// The script has more than 16,777,216 bytes.
     ScriptTooLong = 8,
 }
@@ -67,7 +70,30 @@ impl From<AnswerError> for Status {
         match error {
             AnswerError::Console => Status::ConsoleFault,
             AnswerError::Device => Status::DeviceFault,
-            AnswerError::NoMemory => Status::NoMemory,
+            AnswerError::NoMemory | AnswerError::Broken => Status::NoMemory,
+        }
+    }
+}
+
+impl From<LoadError> for Status {
+    ghost from_gives = { λ error status. status ≡ load_status error };
+
+    fn from(error: LoadError) -> Self {
+        match error {
+            LoadError::NotAnInstance => Status::NotAnInstance,
+            LoadError::Fault => Status::DeviceFault,
+            LoadError::NoMemory | LoadError::Broken => Status::NoMemory,
+        }
+    }
+}
+
+impl From<ExecuteError> for Status {
+    ghost from_gives = { λ error status. status ≡ close_status error };
+
+    fn from(error: ExecuteError) -> Self {
+        match error {
+            ExecuteError::Fault => Status::DeviceFault,
+            ExecuteError::NoMemory | ExecuteError::Broken => Status::NoMemory,
         }
     }
 }

@@ -1,3 +1,7 @@
+ghost use Rattle.std.specs.Prelude.{IfOk};
+ghost use Rattle.bk_device.specs.Disk.{IsSettled};
+ghost use Rattle.bk_device.specs.Replay.{disk_of};
+
 use crate::run;
 use bk_device::{Device, FileDevice, FixedClock, MemDevice, MemSource};
 use std::alloc::{AllocError, Global};
@@ -22,13 +26,31 @@ fn words(alloc: Global, all: &[&str]) -> Result<Vec<String>, AllocError> {
     Ok(words)
 }
 
-// The status of a script over a device.
+// A device with no file.
+fn empty(alloc: Global) -> MemDevice
+    ensures { IsSettled (disk_of result) }
+{
+    MemDevice::new(alloc).restart(true)
+}
+
+// One whose call of this number fails.
+fn failing_at(alloc: Global, call: u64) -> Result<MemDevice, AllocError>
+    ensures { IfOk result (λ device. IsSettled (disk_of device)) }
+{
+    let mut device = empty(alloc);
+    device.fail_at(call)?;
+    Ok(device)
+}
+
+// The status of a script over a device on which nothing is pending.
 fn answers_on<R: AllocGlobal + Threads + Sync>(
     rt: &R,
     line: &[&str],
     script: &[u8],
     device: &mut MemDevice,
-) -> Result<u8, Fail> {
+) -> Result<u8, Fail>
+    requires { IsSettled (disk_of device.old) }
+{
     let alloc = rt.alloc();
     let line = words(alloc, line)?;
     let mut source = MemSource::new(alloc, script)?;
@@ -42,7 +64,7 @@ fn answers<R: AllocGlobal + Threads + Sync>(
     line: &[&str],
     script: &[u8],
 ) -> Result<(u8, MemDevice), Fail> {
-    let mut device = MemDevice::new(rt.alloc());
+    let mut device = empty(rt.alloc());
     let status = answers_on(rt, line, script, &mut device)?;
     Ok((status, device))
 }
@@ -98,25 +120,12 @@ fn exit_status_of_a_source_that_fails(rt: HostRuntime) -> Result<(), Fail> {
     let alloc = rt.alloc();
     let mut source = MemSource::new(alloc, FIRST_SCRIPT.as_bytes())?;
     source.fail_at(1)?;
-    let mut device = MemDevice::new(alloc);
+    let mut device = empty(alloc);
     let mut clock = FixedClock::new(START, 1000);
     let line = words(alloc, &["d"])?;
     let status = run(&rt, alloc, &line, &mut source, &mut device, &mut clock);
     assert_eq!(rt; status, 3);
     assert_eq!(rt; device.told(), b"".as_slice());
-    Ok(())
-}
-
-#[test]
-fn exit_status_of_a_console_that_fails(rt: HostRuntime) -> Result<(), Fail> {
-    let alloc = rt.alloc();
-    let mut source = MemSource::new(alloc, FIRST_SCRIPT.as_bytes())?;
-    let mut device = MemDevice::new(alloc);
-    device.fail_at(1)?;
-    let mut clock = FixedClock::new(START, 1000);
-    let line = words(alloc, &["d"])?;
-    let status = run(&rt, alloc, &line, &mut source, &mut device, &mut clock);
-    assert_eq!(rt; status, 4);
     Ok(())
 }
 
@@ -192,7 +201,7 @@ RESTORE DATABASE s FROM DISK = 'f.bak' WITH RECOVERY, REPLACE; SELECT * FROM t;\
 BACKUP DATABASE S TO DISK = 'f.bak'; RESTORE DATABASE T FROM DISK = 'f.bak'; BACKUP DATABASE T TO DISK = 'h.bak';";
     let told = "Recovered at 8.\n(1 rows)\nSet 1: first 12, checkpoint 12, last 14.\n(1 rows)\n\
 Refused 37 TailNotBackedUp 8 17\nRecovered at 14.\n1\ta\n2\tb\n(2 rows)\nRecovered at 8.\n1\ta\n(1 rows)\n\
-Refused 99 NotBuilt 1\nRefused 99 NotBuilt 1\nRefused 3 NoSuchDatabase\n";
+Refused 99 NotBuilt 1\nRefused 53 FileInUse S\nRefused 3 NoSuchDatabase\n";
     tells_behind_a_backup(&rt, script, told)?;
     Ok(())
 }
@@ -207,7 +216,7 @@ fn told_over<R: AllocGlobal + Threads + Sync + Abort>(
 ) -> Result<(), Fail> {
     let mut device = MemDevice::new(rt.alloc());
     device.write(MEDIUM_NAME, 0, medium)?;
-    device.sync(MEDIUM_NAME)?;
+    let mut device = device.restart(true);
     let status = answers_on(
         rt,
         &["--instance", instance, "d"],
@@ -225,7 +234,7 @@ fn another_instance_reads_a_medium(rt: HostRuntime) -> Result<(), Fail> {
         "RESTORE DATABASE S FROM DISK = 'f.bak'; USE S; SELECT * FROM t; CREATE DATABASE U;\
 BACKUP DATABASE S TO DISK = 'g.bak';";
     let told =
-        "Recovered at 8.\nDone.\n1\ta\n(1 rows)\nRefused 99 NotBuilt 1\nSet 1: first 9, checkpoint 9, last 11.\n";
+        "Recovered at 8.\nDone.\n1\ta\n(1 rows)\nDone.\nSet 1: first 9, checkpoint 9, last 11.\n";
     told_over(&rt, "2", &MEDIUM, script, told)
 }
 
@@ -244,7 +253,7 @@ fn status_in<R: AllocGlobal + Files + Print + Threads + Sync>(
     Ok(run(rt, alloc, &line, &mut source, &mut device, &mut clock))
 }
 
-// The first run makes a medium in a directory, which others read. A run is done only where nothing was refused.
+// The first run makes an instance in a directory, which the others find there. A run is done only where nothing was refused.
 #[test]
 fn runs_over_a_directory(rt: HostRuntime) -> Result<(), Fail> {
     let id = std::process::id(rt.process());
@@ -253,11 +262,11 @@ fn runs_over_a_directory(rt: HostRuntime) -> Result<(), Fail> {
     fs::create_dir(&rt, dir.as_str())?;
     let made = "CREATE DATABASE S; USE S; CREATE TABLE t (k BIGINT PRIMARY KEY, v VARCHAR(112)); \
 INSERT INTO t VALUES (1, 'a'); BACKUP DATABASE S TO DISK = 'f.bak';";
-    let restored = "RESTORE DATABASE S FROM DISK = 'f.bak'; USE S; INSERT INTO t VALUES (2, 'b'); \
-BACKUP DATABASE S TO DISK = 'g.bak';";
-    let refused = "RESTORE DATABASE S FROM DISK = 'g.bak'; USE S; INSERT INTO t VALUES (2, 'x');";
+    let found = "USE S; INSERT INTO t VALUES (2, 'b'); BACKUP DATABASE S TO DISK = 'g.bak';";
+    let refused =
+        "RESTORE DATABASE S FROM DISK = 'g.bak' WITH REPLACE; USE S; INSERT INTO t VALUES (2, 'x');";
     assert_eq!(rt; status_in(&rt, dir.as_str(), "1", made)?, 0);
-    assert_eq!(rt; status_in(&rt, dir.as_str(), "2", restored)?, 0);
+    assert_eq!(rt; status_in(&rt, dir.as_str(), "1", found)?, 0);
     assert_eq!(rt; status_in(&rt, dir.as_str(), "3", refused)?, 1);
     fs::remove_dir_all(&rt, dir.as_str())?;
     Ok(())
@@ -303,23 +312,24 @@ fn exit_status_of_a_refusal(rt: HostRuntime) -> Result<(), Fail> {
 #[test]
 fn exit_status_of_a_device_that_fails(rt: HostRuntime) -> Result<(), Fail> {
     let script = b"BACKUP DATABASE S TO DISK = 'f.bak';";
-    let mut device = MemDevice::new(rt.alloc());
-    device.fail_at(1)?;
+    let mut device = failing_at(rt.alloc(), 1)?;
     let status = answers_on(&rt, &["d"], script, &mut device)?;
     assert_eq!(rt; status, 5);
     assert_eq!(rt; device.told(), b"".as_slice());
     Ok(())
 }
 
-// Five calls tell replies; all others are on the medium's file.
+// Five calls tell replies; all others are on files.
 #[test]
 fn each_call_of_a_backup_fails(rt: HostRuntime) -> Result<(), Fail> {
     let (mut console_faults, mut device_faults) = (0u32, 0u32);
-    for call in 1..60 {
-        let mut device = MemDevice::new(rt.alloc());
-        device.fail_at(call)?;
+    for call in 1..2000 {
+        let mut device = failing_at(rt.alloc(), call)?;
         match answers_on(&rt, &["d"], BACKUP.as_bytes(), &mut device)? {
-            0 => assert_eq!(rt; device.told(), BACKUP_TOLD.as_bytes()),
+            0 => {
+                assert_eq!(rt; device.told(), BACKUP_TOLD.as_bytes());
+                break;
+            }
             4 => console_faults = console_faults.saturating_add(1),
             5 => device_faults = device_faults.saturating_add(1),
             _ => return Err(Fail::from("another status")),
@@ -328,5 +338,117 @@ fn each_call_of_a_backup_fails(rt: HostRuntime) -> Result<(), Fail> {
     }
     assert_eq!(rt; console_faults, 5);
     assert!(rt; device_faults > 5);
+    Ok(())
+}
+
+// A script over an empty device, and then, once it was restarted, another, tell this.
+fn tell_after_a_restart<R: AllocGlobal + Threads + Sync + Abort>(
+    rt: &R,
+    keep: bool,
+    first: &str,
+    second: &str,
+    told: &str,
+) -> Result<(), Fail> {
+    let (status, device) = answers(rt, &["d"], first.as_bytes())?;
+    assert_eq!(rt; status, 0);
+    let mut device = device.restart(keep);
+    let status = answers_on(rt, &["d"], second.as_bytes(), &mut device)?;
+    assert_eq!(rt; status, 0);
+    assert_eq!(rt; device.told(), told.as_bytes());
+    Ok(())
+}
+
+#[test]
+fn a_database_outlives_its_run(rt: HostRuntime) -> Result<(), Fail> {
+    let second =
+        "SELECT * FROM t; USE s; SELECT * FROM t; INSERT INTO t VALUES (2, 'b'); SELECT * FROM t; \
+BACKUP DATABASE S TO DISK = 'f.bak'; BACKUP DATABASE S TO DISK = 'g.bak';";
+    let told = "Refused 3 NoSuchDatabase\nDone.\n1\ta\n(1 rows)\n(1 rows)\n1\ta\n2\tb\n(2 rows)\n\
+Refused 99 NotBuilt 1\nSet 1: first 11, checkpoint 11, last 13.\n";
+    let told = format!(in rt.alloc(); "{BACKUP_TOLD}{told}")?;
+    for keep in [false, true] {
+        tell_after_a_restart(&rt, keep, BACKUP, second, told.as_str())?;
+    }
+    Ok(())
+}
+
+#[test]
+fn a_database_that_was_dropped_stays_gone(rt: HostRuntime) -> Result<(), Fail> {
+    let first = "CREATE DATABASE S; CREATE DATABASE T; DROP DATABASE s; DROP DATABASE S; USE S;";
+    let second = "USE S; USE T; CREATE DATABASE S; DROP DATABASE T; USE T;";
+    let told = "Done.\nDone.\nDone.\nRefused 3 NoSuchDatabase\nRefused 3 NoSuchDatabase\n\
+Refused 3 NoSuchDatabase\nDone.\nDone.\nDone.\nRefused 3 NoSuchDatabase\n";
+    tell_after_a_restart(&rt, false, first, second, told)
+}
+
+// A script over an empty device tells this.
+fn tells<R: AllocGlobal + Threads + Sync + Abort>(
+    rt: &R,
+    script: &str,
+    told: &str,
+) -> Result<(), Fail> {
+    let (status, device) = answers(rt, &["d"], script.as_bytes())?;
+    assert_eq!(rt; status, 0);
+    assert_eq!(rt; device.told(), told.as_bytes());
+    Ok(())
+}
+
+#[test]
+fn a_17th_database(rt: HostRuntime) -> Result<(), Fail> {
+    let mut script = String::new(rt.alloc());
+    let mut told = String::new(rt.alloc());
+    for number in 1..18u32 {
+        let statement = format!(in rt.alloc(); "CREATE DATABASE D{number};")?;
+        script.push_str(statement.as_str())?;
+        told.push_str(if number < 17 {
+            "Done.\n"
+        } else {
+            "Refused 54 LimitReached DATABASES\n"
+        })?;
+    }
+    tells(&rt, script.as_str(), told.as_str())
+}
+
+#[test]
+fn a_second_database_has_its_own_rows(rt: HostRuntime) -> Result<(), Fail> {
+    let script = "CREATE DATABASE S; CREATE DATABASE T; \
+USE S; CREATE TABLE t (k BIGINT PRIMARY KEY, v VARCHAR(112)); INSERT INTO t VALUES (1, 'a'); \
+USE T; CREATE TABLE t (k BIGINT PRIMARY KEY, v VARCHAR(112)); INSERT INTO t VALUES (1, 'b'); \
+SELECT * FROM t; USE S; SELECT * FROM t;";
+    let told = "Done.\nDone.\nDone.\nDone.\n(1 rows)\nDone.\nDone.\n(1 rows)\n\
+1\tb\n(1 rows)\nDone.\n1\ta\n(1 rows)\n";
+    tells(&rt, script, told)
+}
+
+#[test]
+fn names_that_are_taken(rt: HostRuntime) -> Result<(), Fail> {
+    let script =
+        "CREATE DATABASE S; CREATE DATABASE s; USE master; CREATE DATABASE master; CREATE DATABASE TempDB; \
+DROP DATABASE master;";
+    let told =
+        "Done.\nRefused 4 DatabaseExists\nDone.\nRefused 4 DatabaseExists\nRefused 4 DatabaseExists\n\
+Refused 3 NoSuchDatabase\n";
+    tells(&rt, script, told)
+}
+
+// The restored database keeps the file of the one that was backed up.
+#[test]
+fn a_file_that_is_in_use(rt: HostRuntime) -> Result<(), Fail> {
+    let script = "CREATE DATABASE A; BACKUP DATABASE A TO DISK = 'a.bak'; DROP DATABASE A; \
+RESTORE DATABASE B FROM DISK = 'a.bak'; CREATE DATABASE A;";
+    let told =
+        "Done.\nSet 1: first 2, checkpoint 2, last 4.\nDone.\nRecovered at 4.\nRefused 53 FileInUse A\n";
+    tells(&rt, script, told)
+}
+
+#[test]
+fn exit_status_of_a_directory_that_is_no_instance(rt: HostRuntime) -> Result<(), Fail> {
+    let mut device = MemDevice::new(rt.alloc());
+    device.write("sqlbak.made", 0, b"")?;
+    device.write("sqlbak.control", 0, &[0; 100])?;
+    let mut device = device.restart(true);
+    let status = answers_on(&rt, &["d"], FIRST_SCRIPT.as_bytes(), &mut device)?;
+    assert_eq!(rt; status, 7);
+    assert_eq!(rt; device.told(), b"".as_slice());
     Ok(())
 }
