@@ -1,3 +1,7 @@
-RESTORE DATABASE Sales FROM DISK = 'sales.bak';
 USE Sales;
 SELECT * FROM orders;
+RESTORE DATABASE Sales FROM DISK = 'sales.bak';
+RESTORE DATABASE Sales FROM DISK = 'sales.bak' WITH REPLACE;
+SELECT * FROM orders;
+DROP DATABASE Sales;
+USE Sales;

@@ -14,4 +14,4 @@ RESTORE DATABASE Sales FROM DISK = 'sales.bak';
 RESTORE DATABASE Sales FROM DISK = 'sales.bak' WITH REPLACE;
 SELECT * FROM orders;
 RESTORE DATABASE Sales FROM DISK = 'none.bak';
-DROP DATABASE Sales;
+INSERT INTO orders VALUES (32, 'a third lamp');
