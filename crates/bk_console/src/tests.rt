@@ -372,6 +372,66 @@ Refused 99 NotBuilt 1\nSet 1: first 11, checkpoint 11, last 13.\n";
     Ok(())
 }
 
+// One whose write of this number fails, and all calls from then on.
+fn stopping_at(alloc: Global, write: u64) -> MemDevice
+    ensures { IsSettled (disk_of result) }
+{
+    let mut device = empty(alloc);
+    device.stop_at(write);
+    device
+}
+
+// What a second run shows of two rows that a first one wrote, from no database to both.
+const SHOWN: [&str; 5] = [
+    "Refused 3 NoSuchDatabase\nRefused 3 NoSuchDatabase\n",
+    "Done.\nRefused 7 NoSuchTable\n",
+    "Done.\n(0 rows)\n",
+    "Done.\n1\ta\n(1 rows)\n",
+    "Done.\n1\ta\n2\tb\n(2 rows)\n",
+];
+
+// How much of it at least and at most, by how many replies the first run told.
+const LEAST: [usize; 7] = [0, 1, 1, 2, 3, 3, 4];
+
+const MOST: [usize; 7] = [1, 1, 2, 3, 3, 4, 4];
+
+// Which of them a run over the files of a device shows.
+fn shown<R: AllocGlobal + Threads + Sync>(
+    rt: &R,
+    device: &MemDevice,
+) -> Result<(Option<usize>, MemDevice), Fail> {
+    let mut device = device.copy()?;
+    answers_on(rt, &["d"], b"USE S; SELECT * FROM t;", &mut device)?;
+    let told = device.told();
+    let place = SHOWN.iter().position(|shown| shown.as_bytes() == told);
+    Ok((place, device))
+}
+
+#[test]
+fn an_instance_outlives_a_run_that_stops_at_each_write(rt: HostRuntime) -> Result<(), Fail> {
+    let script = format!(in rt.alloc(); "{BACKUP} INSERT INTO t VALUES (2, 'b');")?;
+    let mut stops = 0u32;
+    for write in 1..400 {
+        for keep in [false, true] {
+            let mut device = stopping_at(rt.alloc(), write);
+            let status = answers_on(&rt, &["d"], script.as_bytes(), &mut device)?;
+            if status != 0 {
+                stops = stops.saturating_add(1);
+            }
+            let replies = device.told().iter().filter(|byte| **byte == b'\n').count();
+            let (first, device) = shown(&rt, &device.restart(keep))?;
+            let (second, _) = shown(&rt, &device)?;
+            let Some(place) = first else {
+                return Err(Fail::from("shows something else"));
+            };
+            assert!(rt; first == second);
+            assert!(rt; replies < 7 && LEAST[replies] <= place && place <= MOST[replies]);
+        }
+    }
+    assert!(rt; stops > 20 && stops < 700);
+    Ok(())
+}
+
 #[test]
 fn a_database_that_was_dropped_stays_gone(rt: HostRuntime) -> Result<(), Fail> {
     let first = "CREATE DATABASE S; CREATE DATABASE T; DROP DATABASE s; DROP DATABASE S; USE S;";
