@@ -19,3 +19,6 @@ mod unfinished;
 
 pub use error::{ExecuteError, LoadError};
 pub use instance::Instance;
+
+#[cfg(test)]
+mod tests;
