@@ -20,7 +20,8 @@ pub enum ExecuteError {
     /// Memory was wanting.
     #[error("out of memory")]
     NoMemory,
-    /// A change didn't fit the databases.
+    /// A change didn't fit the databases, or no medium can have the path of a backup, which is empty or above 100 bytes.
+    /// Nothing of that change is in the files.
     #[error("the change doesn't fit the databases")]
     Broken,
 }

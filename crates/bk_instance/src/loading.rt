@@ -57,7 +57,8 @@ fn open_home<D: Device>(alloc: Global, dev: &mut D, number: u64) -> Result<Home,
 
 impl Instance {
     /// Opens the instance on a device, or makes it with this number where it isn't made; session 1 is current, with no
-    /// current database. A medium that was being made is removed, and a crash meanwhile leaves the same instance.
+    /// current database. A medium that was begun is removed where no blob of it is
+    /// sealed, and a crash meanwhile leaves the same instance.
     ///
     /// `NotAnInstance` is answered exactly where the instance is made and its control file holds no control, and then
     /// nothing is changed; `Broken` only where the files stand for no world.
