@@ -129,7 +129,7 @@ module _ (stop : Bool) (old mid : Instance) (script ss : List Statement) (s : St
 
   -- before the reply is told
   cut-at : dt → (now : ℕ) (image : Files) (heard : List ℕ) → CutBefore mid disk1 s now image heard → CrashLeaves old disk script (so_far.moments ++ now ∷ []) so_far.replies image heard
-  cut-at t now image heard cut w stands = by (cut.0 to.0 to.2)
+  cut-at t now image heard cut durable number w stands = by (cut.0 (so_far.media t durable) number to.0 to.2)
     where
       to : (next : World) × IsRun w ss so_far.moments so_far.replies next × StandsFor mid disk1 next
       to = so_far.runs t w stands
@@ -137,45 +137,42 @@ module _ (stop : Bool) (old mid : Instance) (script ss : List Statement) (s : St
       run : IsRun w (take (length so_far.replies) script) so_far.moments so_far.replies to.0
       run = subst (λ xs. IsRun w xs so_far.moments so_far.replies to.0) (sym front-is) to.1
 
-      by : Covers mid.kept.number image to.0 ⊎ CutIn mid.kept.number to.0 s now image → LeavesOf old.kept.number w script (so_far.moments ++ now ∷ []) so_far.replies disk.told image heard
+      by : Covers number image to.0 ⊎ CutIn number to.0 s now image → LeavesOf number w script (so_far.moments ++ now ∷ []) so_far.replies disk.told image heard
       by (inl covers) =
-          subst (λ n. LeavesOf n w script (so_far.moments ++ now ∷ []) so_far.replies disk.told image heard) so_far.number
-          (subst (λ xs. LeavesOf mid.kept.number w script (so_far.moments ++ now ∷ []) xs disk.told image heard) (append-nil so_far.replies)
-          (LeavesOf-more mid.kept.number w script so_far.moments (now ∷ []) so_far.replies [] disk.told image heard
-          (LeavesOf-done mid.kept.number w to.0 script so_far.moments so_far.replies disk.told image heard each run covers (front_same disk.told disk1.told heard so_far.replies (so_far.text t) cut.1))))
+          subst (λ xs. LeavesOf number w script (so_far.moments ++ now ∷ []) xs disk.told image heard) (append-nil so_far.replies)
+          (LeavesOf-more number w script so_far.moments (now ∷ []) so_far.replies [] disk.told image heard
+          (LeavesOf-done number w to.0 script so_far.moments so_far.replies disk.told image heard each run covers (front_same disk.told disk1.told heard so_far.replies (so_far.text t) cut.1)))
       by (inr within) =
-          subst (λ n. LeavesOf n w script (so_far.moments ++ now ∷ []) so_far.replies disk.told image heard) so_far.number
-          (LeavesOf-within mid.kept.number w to.0 script (drop (length ss + 1) script) s so_far.moments now so_far.replies disk.told image heard mid.kept.databases.items
-          each run next-is to.2.keeps.databases within (cut.1 ∙ so_far.text t))
+          LeavesOf-within number w to.0 script (drop (length ss + 1) script) s so_far.moments now so_far.replies disk.told image heard mid.kept.databases.items
+          each run next-is to.2.keeps.databases within (cut.1 ∙ so_far.text t)
 
   -- while it is told, or behind it
   cut-telling : dt → (now : ℕ) (reply : Reply) (image : Files) (heard : List ℕ) → CutWithin mid disk1 s now reply image heard
       → CrashLeaves old disk script (so_far.moments ++ now ∷ []) (so_far.replies ++ reply ∷ []) image heard
-  cut-telling t now reply image heard (inl cut) w stands =
-      subst (λ xs. LeavesOf old.kept.number w script xs (so_far.replies ++ reply ∷ []) disk.told image heard) (append-nil (so_far.moments ++ now ∷ []))
-      (LeavesOf-more old.kept.number w script (so_far.moments ++ now ∷ []) [] so_far.replies (reply ∷ []) disk.told image heard (cut-at t now image heard cut w stands))
-  cut-telling t now reply image heard (inr done) w stands =
+  cut-telling t now reply image heard (inl cut) durable number w stands =
+      subst (λ xs. LeavesOf number w script xs (so_far.replies ++ reply ∷ []) disk.told image heard) (append-nil (so_far.moments ++ now ∷ []))
+      (LeavesOf-more number w script (so_far.moments ++ now ∷ []) [] so_far.replies (reply ∷ []) disk.told image heard (cut-at t now image heard cut durable number w stands))
+  cut-telling t now reply image heard (inr done) durable number w stands =
       let to : (next : World) × IsRun w ss so_far.moments so_far.replies next × StandsFor mid disk1 next = so_far.runs t w stands in
-      let next = done.0 to.0 to.2 in
-      subst (λ n. LeavesOf n w script (so_far.moments ++ now ∷ []) (so_far.replies ++ reply ∷ []) disk.told image heard) so_far.number
-      (LeavesOf-done mid.kept.number w next.0 script (so_far.moments ++ now ∷ []) (so_far.replies ++ reply ∷ []) disk.told image heard (each-more now reply)
+      let next = done.0 (so_far.media t durable) number to.0 to.2 in
+      LeavesOf-done number w next.0 script (so_far.moments ++ now ∷ []) (so_far.replies ++ reply ∷ []) disk.told image heard (each-more now reply)
       (subst (λ xs. IsRun w xs (so_far.moments ++ now ∷ []) (so_far.replies ++ reply ∷ []) next.0) (sym (more-is reply)) (IsRun-more w to.0 next.0 ss so_far.moments so_far.replies s now reply to.1 next.1))
-      next.2 (front_more disk.told disk1.told heard so_far.replies reply (so_far.text t) done.1))
+      next.2 (front_more disk.told disk1.told heard so_far.replies reply (so_far.text t) done.1)
 
   crashes-executing : dt → (now : ℕ) → Elapses disk1 disk2 (CutBefore mid disk1 s now) → Elapses disk disk2 (CrashLeaves old disk script (so_far.moments ++ now ∷ []) so_far.replies)
   crashes-executing t now one = elapses-then _ _ _ disk disk1 disk2
-      (λ image heard leaves w stands.
-      subst (λ xs. LeavesOf old.kept.number w script (so_far.moments ++ now ∷ []) xs disk.told image heard) (append-nil so_far.replies)
-      (LeavesOf-more old.kept.number w script so_far.moments (now ∷ []) so_far.replies [] disk.told image heard (leaves w stands)))
+      (λ image heard leaves durable number w stands.
+      subst (λ xs. LeavesOf number w script (so_far.moments ++ now ∷ []) xs disk.told image heard) (append-nil so_far.replies)
+      (LeavesOf-more number w script so_far.moments (now ∷ []) so_far.replies [] disk.told image heard (leaves durable number w stands)))
       (λ image heard here. cut-at t now image heard here) (so_far.crashes t) one
 
   crashes-telling : dt → (now : ℕ) (reply : Reply) → Elapses disk1 disk2 (CutWithin mid disk1 s now reply)
       → Elapses disk disk2 (CrashLeaves old disk script (so_far.moments ++ now ∷ []) (so_far.replies ++ reply ∷ []))
   crashes-telling t now reply one = elapses-then _ _ _ disk disk1 disk2
-      (λ image heard leaves w stands. LeavesOf-more old.kept.number w script so_far.moments (now ∷ []) so_far.replies (reply ∷ []) disk.told image heard (leaves w stands))
+      (λ image heard leaves durable number w stands. LeavesOf-more number w script so_far.moments (now ∷ []) so_far.replies (reply ∷ []) disk.told image heard (leaves durable number w stands))
       (λ image heard here. cut-telling t now reply image heard here) (so_far.crashes t) one
 
-  module _ (new : Instance) (refused : Bool) (one : Answered mid new s ct middle after dt disk1 disk2 refused) (number : new.kept.number ≡ mid.kept.number) where
+  module _ (new : Instance) (refused : Bool) (one : Answered mid new s ct middle after dt disk1 disk2 refused) where
     runs-more : dt → Runs old disk (ss ++ s ∷ []) (so_far.moments ++ one.now ∷ []) (so_far.replies ++ one.reply ∷ []) new disk2
     runs-more t w stands =
         let to = so_far.runs t w stands in
@@ -188,9 +185,9 @@ module _ (stop : Bool) (old mid : Instance) (script ss : List Statement) (s : St
       replies = so_far.replies ++ one.reply ∷ [];
       each_moment = omega (arith, length-append so_far.moments (one.now ∷ []), length-append ss (s ∷ []), so_far.each_moment);
       each_reply = omega (arith, length-append so_far.replies (one.reply ∷ []), length-append ss (s ∷ []), so_far.each_reply);
-      number = number ∙ so_far.number;
       asked = asked_more ct before middle after so_far.moments one.now so_far.asked one.asked;
       runs = runs-more;
+      media = λ t durable. one.media t (so_far.media t durable);
       crashes = λ t. crashes-telling t one.now one.reply (one.crashes t);
       text = λ t. texts_more disk.told disk1.told disk2.told so_far.replies one.reply (so_far.text t) (one.text t);
       accepted = λ on. none-more so_far.replies one.reply (so_far.accepted on) (sym one.which ∙ accepted on);
@@ -206,9 +203,9 @@ module _ (stop : Bool) (old mid : Instance) (script ss : List Statement) (s : St
           replies = replies;
           each_moment = each-more one.now one.reply;
           within = omega arith;
-          number = number ∙ so_far.number;
           asked = asked_more ct before middle after so_far.moments one.now so_far.asked one.asked;
           runs = λ t. subst (λ xs. Runs old disk xs (so_far.moments ++ one.now ∷ []) replies new disk2) (sym (more-is one.reply)) (runs-more t);
+          media = λ t durable. one.media t (so_far.media t durable);
           crashes = λ t. crashes-telling t one.now one.reply (one.crashes t);
           text = λ t. texts_more disk.told disk1.told disk2.told so_far.replies one.reply (so_far.text t) (one.text t);
           stops = on;
@@ -274,9 +271,9 @@ front-none stop old script ct before dt disk = record {
   replies = [];
   each_moment = refl;
   each_reply = refl;
-  number = refl;
   asked = record { shown = λ t i lt. absurd (omega (arith, lt)); moved = λ t i. ap before (omega arith) };
   runs = λ t w stands. (w, refl, stands);
+  media = λ t durable. durable;
   crashes = λ t. elapses-none _ disk;
   text = λ t. sym (append-nil disk.told);
   accepted = λ on. refl;

@@ -8,13 +8,13 @@ use Rattle.bk_device.specs.Compose.{durable_kept, keeps_by_telling, keeps_by_eff
 use Rattle.bk_device.specs.Disk.{Files, Disk, MayLeave, IsSettled}
 use Rattle.bk_device.specs.Effects.{Effect, KeepsFiles, LeavesSince}
 use Rattle.bk_device.specs.Names.{same_or_other}
-use Rattle.bk_home.specs.declared.record.Record.{Record}
-use Rattle.bk_home.specs.Home.{IsOwn, IsMade, fresh, rows_file}
+use Rattle.bk_home.specs.Home.{IsOwn, rows_file}
 use Rattle.bk_home.specs.Laws.{home_kept, home_durable, blobs_same}
 use Rattle.bk_instance.specs.declared.error.ExecuteError.{ExecuteError}
 use Rattle.bk_instance.specs.declared.error.ExecuteError.TheVariants as execute
 use Rattle.bk_instance.specs.declared.instance.Instance.{Instance}
-use Rattle.bk_instance.specs.Stands.{Holds, Stands, Covers, IsReady, IsStored, StandsFor, IsOurs, Answers, Cuts}
+use Rattle.bk_instance.specs.Media.{MediaAreDurable, IfDurable}
+use Rattle.bk_instance.specs.Stands.{IsReady, IsStored, StandsFor, IsOurs, Answers, Cuts}
 use Rattle.bk_instance.proofs.Covering.{media-in, now-covers}
 use Rattle.bk_media.specs.Names.{medium_file}
 use Rattle.bk_world.specs.declared.item.Statement.{Statement}
@@ -83,8 +83,12 @@ pub told-stored : (i : Instance) (before after : Disk) (bytes : List ℕ) → Te
 told-stored i before after bytes tells stored = record {
   home = home_kept (keeps_by_telling {names = IsOwn} tells) stored.home;
   rows = ap replayed (blobs_same before.files after.files (tells.files rows_file)) ∙ stored.rows;
-  media = λ path are. durable_kept {names = λ (name : List ℕ). Unit {0}} (medium_file path) tt (keeps_by_telling tells) (stored.media path are);
 }
+
+-- and nothing more pending in media
+pub told-media : (before after : Disk) (bytes : List ℕ) → TellsBytes bytes before after → MediaAreDurable before → MediaAreDurable after
+told-media before after bytes tells durable path are =
+    durable_kept {names = λ (name : List ℕ). Unit {0}} (medium_file path) tt (keeps_by_telling tells) (durable path are)
 
 -- and on its world
 pub told-stands : (i : Instance) (before after : Disk) (w : World) (bytes : List ℕ) → TellsBytes bytes before after → StandsFor i before w → StandsFor i after w
@@ -96,11 +100,11 @@ told-stands i before after w bytes tells stands = record {
 -- One statement.
 
 -- executing it
-pub executing-cut : (old : Instance) (s : Statement) (now : ℕ) (a b : Disk) → Effect IsOurs (Cuts old a s now) a b → Elapses a b (CutBefore old a s now)
+pub executing-cut : (old : Instance) (s : Statement) (now : ℕ) (a b : Disk) → Effect IsOurs (IfDurable a (Cuts old a s now)) a b → Elapses a b (CutBefore old a s now)
 executing-cut old s now a b effect = elapses-weaken _ _ a b (λ image heard here. (here.0, here.2)) effect.time
 
 -- and telling nothing of its reply
-pub silent-cut : (old : Instance) (s : Statement) (now : ℕ) (reply : Reply) (a b : Disk) → Effect IsOurs (Cuts old a s now) a b → Elapses a b (CutWithin old a s now reply)
+pub silent-cut : (old : Instance) (s : Statement) (now : ℕ) (reply : Reply) (a b : Disk) → Effect IsOurs (IfDurable a (Cuts old a s now)) a b → Elapses a b (CutWithin old a s now reply)
 silent-cut old s now reply a b effect = elapses-weaken _ _ a b (λ image heard here. inl here) (executing-cut old s now a b effect)
 
 pub silent-front : (bytes : List ℕ) (a b : Disk) → b.told ≡ a.told → TellsFront bytes a.told b.told
@@ -113,19 +117,19 @@ not-console execute.NoMemory h = cc h
 not-console execute.Broken h = cc h
 
 -- the instance holds its world at each crash while its reply is told
-telling-holds : (old new : Instance) (s : Statement) (now : ℕ) (reply : Reply) (a b : Disk) → IsReady new → IsStored b new → new.kept.number ≡ old.kept.number → Answers old a s now reply new b
+telling-holds : (old new : Instance) (s : Statement) (now : ℕ) (reply : Reply) (a b : Disk) → IsReady new → IsStored b new → (MediaAreDurable a → MediaAreDurable b) → Answers old a s now reply new b
     → (image : Files) → MayLeave b image → HoldsNext old a s now reply image
-telling-holds old new s now reply a b ready stored number answers image left w stands =
+telling-holds old new s now reply a b ready stored calm answers image left durable number w stands =
     let next = answers w stands in
-    (next.0, next.1, subst (λ n. Covers n image next.0) number (now-covers new b next.0 image ready stored (λ name ours. left name) next.2))
+    (next.0, next.1, now-covers number new b next.0 image ready stored (calm durable) (λ name ours. left name) next.2)
 
 -- executing it, and telling some of its reply
-pub telling-cut : (old new : Instance) (s : Statement) (now : ℕ) (reply : Reply) (bytes : List ℕ) (a b c : Disk) → IsReady new → IsStored b new → new.kept.number ≡ old.kept.number
+pub telling-cut : (old new : Instance) (s : Statement) (now : ℕ) (reply : Reply) (bytes : List ℕ) (a b c : Disk) → IsReady new → IsStored b new → (MediaAreDurable a → MediaAreDurable b)
     → Answers old a s now reply new b → b.told ≡ a.told → bytes ≡ reply_text reply → Elapses a b (CutBefore old a s now) → TellsBytes bytes b c → Elapses a c (CutWithin old a s now reply)
-telling-cut old new s now reply bytes a b c ready stored number answers told text first tells =
+telling-cut old new s now reply bytes a b c ready stored calm answers told text first tells =
     elapses-then _ _ _ a b c (λ image heard here. inl here)
     (λ image heard here. inr (
-      telling-holds old new s now reply a b ready stored number answers image (λ name. tells.nothing_more name (image name) (here.0 name)),
+      telling-holds old new s now reply a b ready stored calm answers image (λ name. tells.nothing_more name (image name) (here.0 name)),
       subst (λ bs. TellsFront bs a.told heard) text (subst (λ front. TellsFront bytes front heard) told here.1),
     )) first tells.time
 
@@ -138,7 +142,7 @@ cut-in_reply old s ct before after dt disk disk_after has_reply now asked reply 
 
 -- one that has none
 pub cut-before_reply : (old : Instance) (s : Statement) (ct : Type 0) (before after : ℕ → ℕ) (dt : Type 0) (disk disk_after : Disk) (has_reply : Type 0) (now : ℕ)
-    → Asked ct before after (now ∷ []) → (has_reply → ⊥) → (dt → Effect IsOurs (Cuts old disk s now) disk disk_after) → CutShort old s ct before after dt disk disk_after has_reply
+    → Asked ct before after (now ∷ []) → (has_reply → ⊥) → (dt → Effect IsOurs (IfDurable disk (Cuts old disk s now)) disk disk_after) → CutShort old s ct before after dt disk disk_after has_reply
 cut-before_reply old s ct before after dt disk disk_after has_reply now asked none effect = record {
   now = now;
   asked = asked;
@@ -162,54 +166,19 @@ same-content (Some a) (Some b) =
     ]
 
 -- where nothing was pending, and the instance is stored, nothing is
-pub settled-again : (i : Instance) (a b : Disk) → IsSettled a → KeepsFiles NotOurs a b → IsStored b i → IsSettled b
-settled-again i a b settled others stored name content may = by (same-content content (b.files name))
+pub settled-again : (i : Instance) (a b : Disk) → IsSettled a → KeepsFiles NotOurs a b → IsStored b i → MediaAreDurable b → IsSettled b
+settled-again i a b settled others stored durable name content may = by (same-content content (b.files name))
   where
     ours : IsOurs name → content ≡ b.files name
     ours (inl own) = home_durable stored.home name own content may
     ours (inr medium) =
-        subst (λ n. b.may n content → content ≡ b.files n) (sym medium.2) (stored.media medium.0 medium.1 content) may
+        subst (λ n. b.may n content → content ≡ b.files n) (sym medium.2) (durable medium.0 medium.1 content) may
 
     by : (content ≡ b.files name) ⊎ (content ≢ b.files name) → content ≡ b.files name
     by (inl same) = same
     by (inr other) =
         let off : NotOurs name = λ is. other (ours is) in
         settled name content (others.nothing_more name off content may) ∙ sym (others.same name off)
-
--- Numbers of instances.
-
--- files of an instance that is made stand for a world whatever number a new one would get
-pub stands-any : (number other : ℕ) (files : Files) (w : World) → IsMade files → Stands number files w → Stands other files w
-stands-any number other files w made stands = record {
-  «record» = stands.«record»;
-  kept = stands.kept;
-  holds = by stands.holds;
-  instance = stands.instance;
-  counter = stands.counter;
-  databases = stands.databases;
-  media = stands.media;
-}
-  where
-    by : Holds number files stands.«record» stands.kept → Holds other files stands.«record» stands.kept
-    by (inl new) = absurd (made new.0)
-    by (inr there) = inr there
-
--- and those of the instance that a world has
-pub covers-own : (number : ℕ) (files : Files) (w : World) → Covers number files w → Covers w.instance files w
-covers-own number files w covers = record {
-  «record» = covers.«record»;
-  kept = covers.kept;
-  holds = by covers.holds;
-  instance = covers.instance;
-  no_less = covers.no_less;
-  no_more = covers.no_more;
-  databases = covers.databases;
-  media = covers.media;
-}
-  where
-    by : Holds number files covers.«record» covers.kept → Holds w.instance files covers.«record» covers.kept
-    by (inl new) = inl (new.0, new.1 ∙ ap fresh (sym (covers.instance ∙ ap (λ (r : Record). r.number) new.1)), new.2)
-    by (inr there) = inr there
 
 -- nothing was done
 pub keeps-same : (names : List ℕ → Type 0) (a : Disk) → KeepsFiles names a a

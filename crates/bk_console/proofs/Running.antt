@@ -12,7 +12,9 @@ use Rattle.bk_instance.specs.declared.error.ExecuteError.TheVariants as execute
 use Rattle.bk_instance.specs.declared.error.LoadError.{LoadError}
 use Rattle.bk_instance.specs.declared.error.LoadError.TheVariants as load
 use Rattle.bk_instance.specs.declared.instance.Instance.{Instance}
-use Rattle.bk_instance.specs.Stands.{Stands, Covers, IsStored, StandsFor, IsOurs}
+use Rattle.bk_instance.specs.Loading.{LeavesOpened}
+use Rattle.bk_instance.specs.Media.{MediaAreDurable, IfDurable}
+use Rattle.bk_instance.specs.Stands.{Stands, Covers, CutsEnd, StandsEnded, IsStored, StandsFor, IsOurs}
 use Rattle.bk_instance.proofs.Covering.{settled-covers}
 use Rattle.bk_syntax.specs.Script.{IsScript}
 use Rattle.bk_world.specs.declared.item.Statement.{Statement}
@@ -32,9 +34,9 @@ use Rattle.bk_console.specs.declared.status.Status.{Status}
 use Rattle.bk_console.specs.declared.status.Status.TheVariants as status
 use Rattle.bk_console.specs.Answers.{NotOurs, NoneRefused, EndsRefused, GoesOnAccepted, Asked, LeavesOf, CrashLeaves, Runs, AnsweredAll, Stopped, AnsweredBy, CutAll}
 use Rattle.bk_console.proofs.Answering.{none-front}
-use Rattle.bk_console.proofs.Asking.{left-elapses, covers-own, stands-any, keeps-effect, settled-again}
+use Rattle.bk_console.proofs.Asking.{left-elapses, keeps-effect, settled-again}
 use Rattle.bk_console.proofs.Leaving.{LeavesOf-none, LeavesOf-done}
-use Rattle.bk_console.specs.Run.{code_of, words_status, read_status, answer_status, load_status, close_status, script_bytes, MayBegin, IsWhole, Executed, Ran}
+use Rattle.bk_console.specs.Run.{code_of, words_status, read_status, answer_status, load_status, close_status, script_bytes, MayBegin, number_of, IsWhole, Executed, Ran}
 use Rattle.bk_console.specs.Words.{WordOptions}
 
 -- Statuses.
@@ -56,33 +58,23 @@ closed-as execute.Broken h = cc h
 
 -- Worlds.
 
--- a world that a run begins with is of the same instance
-opened-covers : (number : ℕ) (image : Files) (w : World) → Covers number image (opened w) → Covers w.instance image (opened w)
-unfolding opened
-opened-covers number image w covers = covers-own number image (opened w) covers
-
-opened-number : (i : Instance) (disk : Disk) (w : World) → StandsFor i disk (opened w) → i.kept.number ≡ w.instance
-unfolding opened
-opened-number i disk w stands = sym stands.keeps.number
-
 -- where nothing is pending, a crash leaves the world with which a run may begin
-begin-covers : (asks : Option WordOptions) (disk : Disk) (w : World) (image : Files) → IsSettled disk → MayLeave disk image → MayBegin asks disk.files w → Covers w.instance image (opened w)
+begin-covers : (asks : Option WordOptions) (disk : Disk) (w : World) (image : Files) → IsSettled disk → MayLeave disk image → MayBegin asks disk.files w → Covers (number_of asks) image (opened w)
 begin-covers None disk w image settled left may = absurd may
-begin-covers (Some options) disk w image settled left may =
-    opened-covers options.instance image w (settled-covers options.instance disk w image settled (λ name ours. left name) may)
+begin-covers (Some options) disk w image settled left may = settled-covers options.instance disk w image settled (λ name ours. left name) may
 
 -- no statement was begun
 pub nothing-executed : (asks : Option WordOptions) (statements : List Statement) (ct : Type 0) (coming : ℕ → ℕ) (dt : Type 0) (disk : Disk) (code : ℕ)
-    → (dt → IsLawful disk) → (dt → IsSettled disk) → 1 < code → (code ≡ 4 → ⊥) → Executed asks statements ct coming coming dt disk disk code
-nothing-executed asks statements ct coming dt disk code lawful settled above not_cut = record {
+    → (dt → IsLawful disk) → 1 < code → (code ≡ 4 → ⊥) → Executed asks statements ct coming coming dt disk disk code
+nothing-executed asks statements ct coming dt disk code lawful above not_cut = record {
   moments = [];
   replies = [];
   asked = record { shown = λ t i lt. absurd (omega (arith, lt)); moved = λ t i. ap coming (omega arith) };
   asked_each = (omega arith, omega arith);
-  runs = λ t w may. (opened w, refl, λ h. absurd (not_ended code above h));
-  settled = λ t h. absurd (not_ended code above h);
-  crashes = λ t w may. left_begins disk (lawful t) (λ image left.
-      LeavesOf-none w.instance (opened w) statements [] [] disk.told image disk.told (begin-covers asks disk w image (settled t) left may) refl);
+  runs = λ t settled w may. (opened w, refl, λ h. absurd (not_ended code above h));
+  settled = λ t settled h. absurd (not_ended code above h);
+  crashes = λ t settled w may. left_begins disk (lawful t) (λ image left.
+      LeavesOf-none (number_of asks) (opened w) statements [] [] disk.told image disk.told (begin-covers asks disk w image settled left may) refl);
   front = λ t. (0, sym (append-nil disk.told));
   accepted = λ asked. refl;
   done = λ h. absurd (omega (arith, h));
@@ -95,9 +87,9 @@ pub record Came (stop : Bool) (old new : Instance) (ss : List Statement) (clock_
   pub moments : List ℕ
   pub replies : List Reply
   pub each : length moments ≡ length replies
-  pub number : new.kept.number ≡ old.kept.number
   pub asked : Asked clock_tells before after moments
   pub runs : device_tells → Runs old disk (take (length replies) ss) moments replies new disk_after
+  pub media : device_tells → MediaAreDurable disk → MediaAreDurable disk_after
   pub crashes : device_tells → Elapses disk disk_after (CrashLeaves old disk ss moments replies)
   pub text : device_tells → disk_after.told ≡ disk.told ++ replies_text replies
   pub accepted : stop ≡ true → GoesOnAccepted (length moments) replies
@@ -108,9 +100,9 @@ came-all stop old new ss ct before after dt disk disk1 all = record {
   moments = all.moments;
   replies = all.replies;
   each = all.each_moment ∙ sym all.each_reply;
-  number = all.number;
   asked = all.asked;
   runs = λ t. subst (λ xs. Runs old disk xs all.moments all.replies new disk1) (sym (ap (λ n. take n ss) all.each_reply ∙ take-length ss)) (all.runs t);
+  media = all.media;
   crashes = all.crashes;
   text = all.text;
   accepted = λ on. none-front _ all.replies (all.accepted on);
@@ -122,9 +114,9 @@ came-stopped stop old new ss ct before after dt disk disk1 there = record {
   moments = there.moments;
   replies = there.replies;
   each = there.each_moment;
-  number = there.number;
   asked = there.asked;
   runs = there.runs;
+  media = there.media;
   crashes = there.crashes;
   text = there.text;
   accepted = λ on. subst (λ n. GoesOnAccepted n there.replies) (sym there.each_moment) there.accepted;
@@ -135,23 +127,19 @@ abbrev pub came : (end : Ended) (stop : Bool) (old new : Instance) (ss : List St
 came AtTheEnd stop old new ss ct before after dt disk disk1 all = came-all stop old new ss ct before after dt disk disk1 all
 came AtARefusal stop old new ss ct before after dt disk disk1 there = came-stopped stop old new ss ct before after dt disk disk1 there
 
--- what loading leaves
-abbrev pub Loads : ℕ → Disk → Files → Type 0
-Loads number disk image = (w : World) → Stands number disk.files w → Covers number image (opened w)
-
 -- what closing leaves
 abbrev pub Closes : Instance → Disk → Files → Type 0
-Closes i disk image = (w : World) → StandsFor i disk w → Covers i.kept.number image w
+Closes finish disk = IfDurable disk (CutsEnd finish disk)
 
 module _ (options : WordOptions) (statements : List Statement) (ct : Type 0) (coming coming_after : ℕ → ℕ) (dt : Type 0) (disk disk1 : Disk)
-    (lawful : dt → IsLawful disk) (settled : dt → IsSettled disk) (loading : dt → Effect IsOurs (Loads options.instance disk) disk disk1) where
-  since-load : dt → (w : World) → Stands options.instance disk.files w → (moments : List ℕ) (replies : List Reply)
-      → LeavesSince disk.moment (LeavesOf w.instance (opened w) statements moments replies disk.told) disk1
-  since-load t w stands moments replies = left_effect
+    (lawful : dt → IsLawful disk) (loading : dt → Effect IsOurs (LeavesOpened options.instance disk) disk disk1) where
+  since-load : dt → IsSettled disk → (w : World) → Stands options.instance disk.files w → (moments : List ℕ) (replies : List Reply)
+      → LeavesSince disk.moment (LeavesOf options.instance (opened w) statements moments replies disk.told) disk1
+  since-load t settled w stands moments replies = left_effect
       (left_begins disk (lawful t) (λ image left.
-      LeavesOf-none w.instance (opened w) statements moments replies disk.told image disk.told (begin-covers (Some options) disk w image (settled t) left stands) refl))
+      LeavesOf-none options.instance (opened w) statements moments replies disk.told image disk.told (begin-covers (Some options) disk w image settled left stands) refl))
       (λ image here others.
-      LeavesOf-none w.instance (opened w) statements moments replies disk.told image disk.told (opened-covers options.instance image w (here w stands)) refl)
+      LeavesOf-none options.instance (opened w) statements moments replies disk.told image disk.told (here settled w stands) refl)
       (loading t)
 
   -- the instance wasn't loaded
@@ -161,9 +149,9 @@ module _ (options : WordOptions) (statements : List Statement) (ct : Type 0) (co
     replies = [];
     asked = record { shown = λ t i lt. absurd (omega (arith, lt)); moved = λ t i. ap coming (omega arith) };
     asked_each = (omega arith, omega arith);
-    runs = λ t w may. (opened w, refl, λ h. absurd (not_ended _ (above e) h));
-    settled = λ t h. absurd (not_ended _ (above e) h);
-    crashes = λ t w may. since-load t w may [] [];
+    runs = λ t settled w may. (opened w, refl, λ h. absurd (not_ended _ (above e) h));
+    settled = λ t settled h. absurd (not_ended _ (above e) h);
+    crashes = λ t settled w may. since-load t settled w may [] [];
     front = λ t. (0, (loading t).told ∙ sym (append-nil disk.told));
     accepted = λ asked. refl;
     done = λ h. absurd (not_ended _ (above e) (inl h));
@@ -183,13 +171,13 @@ module _ (options : WordOptions) (statements : List Statement) (ct : Type 0) (co
       not_cut load.Fault h = omega (arith, h)
       not_cut load.NoMemory h = omega (arith, h)
 
-  module _ (disk2 : Disk) (start : Instance) (begins : dt → (w : World) → Stands options.instance disk.files w → StandsFor start disk1 (opened w)) where
-    since-answers : dt → (w : World) → Stands options.instance disk.files w → (moments : List ℕ) (replies : List Reply) → Elapses disk1 disk2 (CrashLeaves start disk1 statements moments replies)
-        → LeavesSince disk.moment (LeavesOf w.instance (opened w) statements moments replies disk.told) disk2
-    since-answers t w stands moments replies crashes = left-elapses disk.moment _ _ disk1 disk2 (since-load t w stands moments replies)
+  module _ (disk2 : Disk) (start : Instance) (calm : dt → IsSettled disk → MediaAreDurable disk1)
+      (begins : dt → IsSettled disk → (w : World) → Stands options.instance disk.files w → StandsFor start disk1 (opened w)) where
+    since-answers : dt → IsSettled disk → (w : World) → Stands options.instance disk.files w → (moments : List ℕ) (replies : List Reply) → Elapses disk1 disk2 (CrashLeaves start disk1 statements moments replies)
+        → LeavesSince disk.moment (LeavesOf options.instance (opened w) statements moments replies disk.told) disk2
+    since-answers t settled w stands moments replies crashes = left-elapses disk.moment _ _ disk1 disk2 (since-load t settled w stands moments replies)
         (λ image heard leaves.
-        subst (λ told. LeavesOf w.instance (opened w) statements moments replies told image heard) (loading t).told
-        (subst (λ n. LeavesOf n (opened w) statements moments replies disk1.told image heard) (opened-number start disk1 w (begins t w stands)) (leaves (opened w) (begins t w stands)))) crashes
+        subst (λ told. LeavesOf options.instance (opened w) statements moments replies told image heard) (loading t).told (leaves (calm t settled) options.instance (opened w) (begins t settled w stands))) crashes
 
     -- an answer was cut short
     pub cut-short : (e : AnswerError) → CutAll options.stop start statements ct coming coming_after dt disk1 disk2 (IsErrOf {T = Ended} (Err e) answer.Console)
@@ -199,11 +187,11 @@ module _ (options : WordOptions) (statements : List Statement) (ct : Type 0) (co
       replies = cut.replies;
       asked = cut.asked;
       asked_each = cut.asked_each;
-      runs = λ t w may.
-          let to = cut.runs t (opened w) (begins t w may) in
+      runs = λ t settled w may.
+          let to = cut.runs t (opened w) (begins t settled w may) in
           (to.0, to.1, λ h. absurd (not_ended _ (above e) h));
-      settled = λ t h. absurd (not_ended _ (above e) h);
-      crashes = λ t w may. since-answers t w may cut.moments cut.replies (cut.crashes t);
+      settled = λ t settled h. absurd (not_ended _ (above e) h);
+      crashes = λ t settled w may. since-answers t settled w may cut.moments cut.replies (cut.crashes t);
       front = λ t. let some = cut.front t in (some.0, some.1 ∙ ap (λ told. told ++ take some.0 (replies_text cut.replies)) (loading t).told);
       accepted = cut.accepted;
       done = λ h. absurd (not_ended _ (above e) (inl h));
@@ -226,7 +214,7 @@ module _ (options : WordOptions) (statements : List Statement) (ct : Type 0) (co
     -- no other file is touched
     others-then : (disk3 : Disk) (finish : Instance) → (dt → Effect IsOurs (Closes finish disk2) disk2 disk3) → (dt → KeepsFiles NotOurs disk1 disk2) → dt → KeepsFiles NotOurs disk disk3
     others-then disk3 finish closing others t =
-        keeps_then (keeps_then (keeps-effect (Loads options.instance disk) disk disk1 (loading t)) (others t)) (keeps-effect (Closes finish disk2) disk2 disk3 (closing t))
+        keeps_then (keeps_then (keeps-effect (LeavesOpened options.instance disk) disk disk1 (loading t)) (others t)) (keeps-effect (Closes finish disk2) disk2 disk3 (closing t))
 
     module _ (disk3 : Disk) (finish : Instance) (there : Came options.stop start finish statements ct coming coming_after dt disk1 disk2)
         (closing : dt → Effect IsOurs (Closes finish disk2) disk2 disk3) where
@@ -236,19 +224,19 @@ module _ (options : WordOptions) (statements : List Statement) (ct : Type 0) (co
       moments-are : take (length there.replies) there.moments ≡ there.moments
       moments-are = ap (λ n. take n there.moments) (sym there.each) ∙ take-length there.moments
 
-      since-close : dt → (w : World) → Stands options.instance disk.files w → LeavesSince disk.moment (LeavesOf w.instance (opened w) statements there.moments there.replies disk.told) disk3
-      since-close t w stands = left_effect (since-answers t w stands there.moments there.replies (there.crashes t))
+      since-close : dt → IsSettled disk → (w : World) → Stands options.instance disk.files w → LeavesSince disk.moment (LeavesOf options.instance (opened w) statements there.moments there.replies disk.told) disk3
+      since-close t settled w stands = left_effect (since-answers t settled w stands there.moments there.replies (there.crashes t))
           (λ image here others.
-          let to = there.runs t (opened w) (begins t w stands) in
-          LeavesOf-done w.instance (opened w) to.0 statements there.moments there.replies disk.told image disk2.told there.each to.1
-          (subst (λ n. Covers n image to.0) (there.number ∙ opened-number start disk1 w (begins t w stands)) (here to.0 to.2))
+          let to = there.runs t (opened w) (begins t settled w stands) in
+          LeavesOf-done options.instance (opened w) to.0 statements there.moments there.replies disk.told image disk2.told there.each to.1
+          (here (there.media t (calm t settled)) options.instance to.0 to.2)
           (length (replies_text there.replies), there.text t ∙ ap (λ told. told ++ replies_text there.replies) (loading t).told ∙ ap (λ texts. disk.told ++ texts) (sym (take-length (replies_text there.replies)))))
           (closing t)
 
       -- the instance was closed, or it failed
       pub ended-by : (code : ℕ) → (code ≡ 4 → ⊥)
           → (dt → (code ≡ 0) ⊎ (code ≡ 1) → (w : World) → StandsFor finish disk2 w → Stands options.instance disk3.files (ended w))
-          → (dt → (code ≡ 0) ⊎ (code ≡ 1) → IsSettled disk3)
+          → (dt → IsSettled disk → (code ≡ 0) ⊎ (code ≡ 1) → IsSettled disk3)
           → (code ≡ 0 → (length there.replies ≡ length statements) × (options.stop ≡ true → NoneRefused there.replies))
           → (code ≡ 1 → (options.stop ≡ true) × EndsRefused there.replies)
           → Executed (Some options) statements ct coming coming_after dt disk disk3 code
@@ -257,8 +245,8 @@ module _ (options : WordOptions) (statements : List Statement) (ct : Type 0) (co
         replies = there.replies;
         asked = there.asked;
         asked_each = (omega (arith, there.each), omega (arith, there.each));
-        runs = λ t w may.
-            let to = there.runs t (opened w) (begins t w may) in
+        runs = λ t settled w may.
+            let to = there.runs t (opened w) (begins t settled w may) in
             (to.0, subst (λ ms. IsRun (opened w) (take (length there.replies) statements) ms there.replies to.0) (sym moments-are) to.1, λ h. stood t h to.0 to.2);
         settled = still;
         crashes = since-close;
@@ -271,7 +259,7 @@ module _ (options : WordOptions) (statements : List Statement) (ct : Type 0) (co
 
       -- closing failed
       pub not-closed : (e : ExecuteError) → Executed (Some options) statements ct coming coming_after dt disk disk3 (code_of (close_status e))
-      not-closed e = ended-by (code_of (close_status e)) (not_cut e) (λ t h. absurd (not_ended _ (above e) h)) (λ t h. absurd (not_ended _ (above e) h))
+      not-closed e = ended-by (code_of (close_status e)) (not_cut e) (λ t h. absurd (not_ended _ (above e) h)) (λ t settled h. absurd (not_ended _ (above e) h))
           (λ h. absurd (not_ended _ (above e) (inl h))) (λ h. absurd (not_ended _ (above e) (inr h)))
         where
           above : (e : ExecuteError) → 1 < code_of (close_status e)
@@ -286,28 +274,28 @@ module _ (options : WordOptions) (statements : List Statement) (ct : Type 0) (co
 
     -- every statement was answered, and the instance closed
     pub all-ended : (disk3 : Disk) (finish closed : Instance) → AnsweredAll options.stop start finish statements ct coming coming_after dt disk1 disk2
-        → (dt → Effect IsOurs (Closes finish disk2) disk2 disk3) → (dt → KeepsFiles NotOurs disk1 disk2) → (dt → IsStored disk3 closed)
-        → (dt → (w : World) → StandsFor finish disk2 w → Stands finish.kept.number disk3.files (ended w)) → Executed (Some options) statements ct coming coming_after dt disk disk3 0
-    all-ended disk3 finish closed all closing others stored stood =
+        → (dt → Effect IsOurs (Closes finish disk2) disk2 disk3) → (dt → KeepsFiles NotOurs disk1 disk2) → (dt → IsStored disk3 closed) → (dt → MediaAreDurable disk2 → MediaAreDurable disk3)
+        → (dt → StandsEnded finish disk2 disk3.files) → Executed (Some options) statements ct coming coming_after dt disk disk3 0
+    all-ended disk3 finish closed all closing others stored media stood =
         ended-by disk3 finish (came-all options.stop start finish statements ct coming coming_after dt disk1 disk2 all) closing 0 (λ h. omega (arith, h))
-        (λ t h w stands. stands-any finish.kept.number options.instance disk3.files (ended w) (stored t).home.made (stood t w stands))
-        (λ t h. settled-again closed disk disk3 (settled t) (others-then disk3 finish closing others t) (stored t))
+        (λ t h w stands. stood t options.instance w stands)
+        (λ t settled h. settled-again closed disk disk3 settled (others-then disk3 finish closing others t) (stored t) (media t (all.media t (calm t settled))))
         (λ h. (all.each_reply, all.accepted)) (λ h. absurd (omega (arith, h)))
 
     -- a statement was refused where the run was to stop, and the instance closed
     pub stopped-there : (disk3 : Disk) (finish closed : Instance) → Stopped options.stop start finish statements ct coming coming_after dt disk1 disk2
-        → (dt → Effect IsOurs (Closes finish disk2) disk2 disk3) → (dt → KeepsFiles NotOurs disk1 disk2) → (dt → IsStored disk3 closed)
-        → (dt → (w : World) → StandsFor finish disk2 w → Stands finish.kept.number disk3.files (ended w)) → Executed (Some options) statements ct coming coming_after dt disk disk3 1
-    stopped-there disk3 finish closed there closing others stored stood =
+        → (dt → Effect IsOurs (Closes finish disk2) disk2 disk3) → (dt → KeepsFiles NotOurs disk1 disk2) → (dt → IsStored disk3 closed) → (dt → MediaAreDurable disk2 → MediaAreDurable disk3)
+        → (dt → StandsEnded finish disk2 disk3.files) → Executed (Some options) statements ct coming coming_after dt disk disk3 1
+    stopped-there disk3 finish closed there closing others stored media stood =
         ended-by disk3 finish (came-stopped options.stop start finish statements ct coming coming_after dt disk1 disk2 there) closing 1 (λ h. omega (arith, h))
-        (λ t h w stands. stands-any finish.kept.number options.instance disk3.files (ended w) (stored t).home.made (stood t w stands))
-        (λ t h. settled-again closed disk disk3 (settled t) (others-then disk3 finish closing others t) (stored t))
+        (λ t h w stands. stood t options.instance w stands)
+        (λ t settled h. settled-again closed disk disk3 settled (others-then disk3 finish closing others t) (stored t) (media t (there.media t (calm t settled))))
         (λ h. absurd (omega (arith, h))) (λ h. (there.stops, there.refused))
 
 -- Runs.
 
 module _ (asks : Option WordOptions) (st : Type 0) (rest rest_after : List ℕ) (ct : Type 0) (coming : ℕ → ℕ) (dt : Type 0) (disk : Disk)
-    (lawful : dt → IsLawful disk) (settled : dt → IsSettled disk) where
+    (lawful : dt → IsLawful disk) where
   -- no statement was begun
   nothing-ran : (code : ℕ) (bytes : List ℕ) → (st → rest ≡ bytes ++ rest_after) → length bytes ≤ script_bytes + 1 → (code ≡ 8 → script_bytes < length bytes)
       → (script_bytes < length bytes → (code ≡ 8) ⊎ (code ≡ 6)) → 1 < code → (code ≡ 4 → ⊥) → Ran asks st rest rest_after ct coming coming dt disk disk code
@@ -319,11 +307,11 @@ module _ (asks : Option WordOptions) (st : Type 0) (rest rest_after : List ℕ) 
     few = few;
     too_long = too_long;
     long = long;
-    executed = nothing-executed asks [] ct coming dt disk code lawful settled above not_cut;
+    executed = nothing-executed asks [] ct coming dt disk code lawful above not_cut;
     whole = none;
   }
     where
-      none : (0 < length (nothing-executed asks [] ct coming dt disk code lawful settled above not_cut).moments) ⊎ (code ≡ 0) ⊎ (code ≡ 1) → IsWhole st bytes rest_after []
+      none : (0 < length (nothing-executed asks [] ct coming dt disk code lawful above not_cut).moments) ⊎ (code ≡ 0) ⊎ (code ≡ 1) → IsWhole st bytes rest_after []
       none (inl some) = absurd (omega (arith, some))
       none (inr h) = absurd (not_ended code above h)
 

@@ -6,6 +6,7 @@ use Rattle.bk_device.specs.Disk.{Files, Disk}
 use Rattle.bk_instance.specs.declared.instance.Instance.{Instance}
 use Rattle.bk_instance.specs.declared.error.ExecuteError.{ExecuteError}
 use Rattle.bk_instance.specs.declared.error.ExecuteError.TheVariants as execute
+use Rattle.bk_instance.specs.Media.{MediaAreDurable, IfDurable}
 use Rattle.bk_instance.specs.Stands.{Stands, Covers, StandsFor, IsOurs, Answers, Cuts}
 use Rattle.bk_world.specs.declared.item.Statement.{Statement}
 use Rattle.bk_world.specs.declared.reply.Reply.{Reply}
@@ -68,18 +69,18 @@ pub record LeavesOf (number : ℕ) (first : World) (statements : List Statement)
   pub leaves : Leaves first statements (take asked moments) (told_whole replies count) left
   pub stands : Stands number image left
 
--- from each world for which the instance stands
+-- where nothing was pending in media, from each world for which the instance stands, under each number that is asked for
 abbrev pub CrashLeaves : Instance → Disk → List Statement → List ℕ → List Reply → Files → List ℕ → Type 0
 CrashLeaves old disk statements moments replies image heard =
-    (w : World) → StandsFor old disk w → LeavesOf old.kept.number w statements moments replies disk.told image heard
+    MediaAreDurable disk → (number : ℕ) (w : World) → StandsFor old disk w → LeavesOf number w statements moments replies disk.told image heard
 
 -- the machine may give this reply, and the files hold what a crash leaves of the world that it goes on to
 abbrev pub HoldsNext : Instance → Disk → Statement → ℕ → Reply → Files → Type 0
-HoldsNext old disk s now reply image = (w : World) → StandsFor old disk w → (next : World) × Step w s now reply next × Covers old.kept.number image next
+HoldsNext old disk s now reply image = MediaAreDurable disk → (number : ℕ) (w : World) → StandsFor old disk w → (next : World) × Step w s now reply next × Covers number image next
 
 -- what a crash leaves before a reply is told
 abbrev pub CutBefore : Instance → Disk → Statement → ℕ → Files → List ℕ → Type 0
-CutBefore old disk s now image heard = Cuts old disk s now image × (heard ≡ disk.told)
+CutBefore old disk s now image heard = IfDurable disk (Cuts old disk s now) image × (heard ≡ disk.told)
 
 -- and what it leaves while a reply is told, or behind that
 abbrev pub CutWithin : Instance → Disk → Statement → ℕ → Reply → Files → List ℕ → Type 0
@@ -97,6 +98,7 @@ pub record Answered (old new : Instance) (s : Statement) (clock_tells : Type 0) 
   pub reply : Reply
   pub asked : Asked clock_tells before after (now ∷ [])
   pub moves : device_tells → Answers old disk s now reply new disk_after
+  pub media : device_tells → MediaAreDurable disk → MediaAreDurable disk_after
   pub crashes : device_tells → Elapses disk disk_after (CutWithin old disk s now reply)
   pub text : device_tells → disk_after.told ≡ disk.told ++ reply_text reply
   pub which : refused ≡ is_refusal reply
@@ -135,9 +137,9 @@ pub record AnsweredFront (stop : Bool) (old new : Instance) (script front : List
   pub replies : List Reply
   pub each_moment : length moments ≡ length front
   pub each_reply : length replies ≡ length front
-  pub number : new.kept.number ≡ old.kept.number
   pub asked : Asked clock_tells before after moments
   pub runs : device_tells → Runs old disk front moments replies new disk_after
+  pub media : device_tells → MediaAreDurable disk → MediaAreDurable disk_after
   pub crashes : device_tells → Elapses disk disk_after (CrashLeaves old disk script moments replies)
   pub text : device_tells → disk_after.told ≡ disk.told ++ replies_text replies
   pub accepted : stop ≡ true → NoneRefused replies
@@ -152,9 +154,9 @@ pub record Stopped (stop : Bool) (old new : Instance) (ss : List Statement) (clo
   pub replies : List Reply
   pub each_moment : length moments ≡ length replies
   pub within : length replies ≤ length ss
-  pub number : new.kept.number ≡ old.kept.number
   pub asked : Asked clock_tells before after moments
   pub runs : device_tells → Runs old disk (take (length replies) ss) moments replies new disk_after
+  pub media : device_tells → MediaAreDurable disk → MediaAreDurable disk_after
   pub crashes : device_tells → Elapses disk disk_after (CrashLeaves old disk ss moments replies)
   pub text : device_tells → disk_after.told ≡ disk.told ++ replies_text replies
   pub stops : stop ≡ true

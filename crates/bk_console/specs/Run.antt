@@ -83,6 +83,11 @@ abbrev pub MayBegin : Option WordOptions → Files → World → Type 0
 MayBegin None files w = ⊥
 MayBegin (Some options) files w = Stands options.instance files w
 
+-- the number that they give to an instance which isn't made: none matters where they ask for no run
+abbrev pub number_of : Option WordOptions → ℕ
+number_of None = 0
+number_of (Some options) = options.instance
+
 -- These bytes are the whole source, and the statements are their script.
 pub record IsWhole (tells : Type 0) (bytes rest_after : List ℕ) (statements : List Statement) : Type 0 where
   pub script : IsScript bytes statements
@@ -97,15 +102,15 @@ pub record Executed (asks : Option WordOptions) (statements : List Statement) (c
   pub replies : List Reply
   pub asked : Asked clock_tells coming coming_after moments
   pub asked_each : (length replies ≤ length moments) × (length moments ≤ length replies + 1)
-  -- the machine's run over a front of the statements; at the end the files stand for its last world
-  pub runs : device_tells → (w : World) → MayBegin asks disk.files w
+  -- where nothing was pending at entry: the machine's run over a front of the statements; at the end the files stand for its last world
+  pub runs : device_tells → IsSettled disk → (w : World) → MayBegin asks disk.files w
       → (last : World) × IsRun (opened w) (take (length replies) statements) (take (length replies) moments) replies last
       × ((status ≡ 0) ⊎ (status ≡ 1) → MayBegin asks disk_after.files (ended last))
   -- and nothing is pending
-  pub settled : device_tells → (status ≡ 0) ⊎ (status ≡ 1) → IsSettled disk_after
-  -- each crash meanwhile left what a crash of this run leaves, under the number of its instance
-  pub crashes : device_tells → (w : World) → MayBegin asks disk.files w
-      → LeavesSince disk.moment (LeavesOf w.instance (opened w) statements moments replies disk.told) disk_after
+  pub settled : device_tells → IsSettled disk → (status ≡ 0) ⊎ (status ≡ 1) → IsSettled disk_after
+  -- each crash meanwhile left what a crash of this run leaves, so that the next run with these words may begin with it
+  pub crashes : device_tells → IsSettled disk → (w : World) → MayBegin asks disk.files w
+      → LeavesSince disk.moment (LeavesOf (number_of asks) (opened w) statements moments replies disk.told) disk_after
   -- whole texts of replies, and then perhaps a front of the next
   pub front : device_tells → TellsFront (replies_text replies) disk.told disk_after.told
   -- where a refusal stops the run, no statement is begun behind one

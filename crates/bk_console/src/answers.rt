@@ -90,7 +90,6 @@ pub fn answer<D: Device, C: Clock>(
         D.tells (D.disk device.old) (D.disk device.new) (IsErrOf result answer_error.Console)) }
     ensures ready { OnOk result (IsReady instance.new) }
     ensures stored { D.tells → OnOk result (IsStored (D.disk device.new) instance.new) }
-    ensures number { OnOk result (instance.new.kept.number ≡ instance.old.kept.number) }
     ensures others { D.tells → KeepsFiles NotOurs (D.disk device.old) (D.disk device.new) }
     ensures device_fault { IsErrOf result answer_error.Device → HasRisen (D.disk_faults device.old) (D.disk_faults device.new) }
     ensures console_fault { IsErrOf result answer_error.Console → HasRisen (D.tell_faults device.old) (D.tell_faults device.new) }

@@ -3,7 +3,6 @@ ghost use Rattle.std.specs.Prelude.{◌≡◌, ◌⊎◌, ◌≤◌, ◌↔◌, 
 ghost use Rattle.std.specs.String.{string_bytes};
 ghost use Rattle.bk_device.specs.Calls.{ChangesNothing};
 ghost use Rattle.bk_device.specs.Counts.{HasRisen};
-ghost use Rattle.bk_device.specs.Disk.{IsSettled};
 ghost use Rattle.bk_device.specs.Effects.{KeepsFiles};
 ghost use Rattle.bk_home.specs.Home.{IsNoInstance};
 ghost use Rattle.bk_console.specs.Answers.{NotOurs};
@@ -36,9 +35,6 @@ pub fn run<R: Threads + Sync, D: Device, S: Source, C: Clock>(
     device: &mut D,
     clock: &mut C,
 ) -> u8
-    // Nothing is pending on the device.
-    requires settled { D.tells → IsSettled (D.disk device.old) }
-
     // The replies are the machine's, over the script of the bytes read, and are what was told.
     ensures run { Ran (options_of (map string_bytes words.now)) S.tells (S.rest source.old) (S.rest source.new) C.tells (C.coming clock.old) (C.coming clock.new)
         D.tells (D.disk device.old) (D.disk device.new) result }
@@ -75,7 +71,6 @@ fn console<D: Device, S: Source, C: Clock>(
     device: &mut D,
     clock: &mut C,
 ) -> Result<(), Status>
-    requires settled { D.tells → IsSettled (D.disk device.old) }
     ensures run { Ran (options_of (map string_bytes words.now)) S.tells (S.rest source.old) (S.rest source.new) C.tells (C.coming clock.old) (C.coming clock.new)
         D.tells (D.disk device.old) (D.disk device.new) (code_of (status_of result)) }
     ensures usage { (status_of result ≡ Status.Usage) ↔ (options_of (map string_bytes words.now) ≡ None) }
@@ -106,7 +101,6 @@ fn over_instance<D: Device, C: Clock>(
     device: &mut D,
     clock: &mut C,
 ) -> Result<(), Status>
-    requires settled { D.tells → IsSettled (D.disk device.old) }
     ensures executed { Executed (Some (as_asked options.now)) statements.now C.tells (C.coming clock.old) (C.coming clock.new)
         D.tells (D.disk device.old) (D.disk device.new) (code_of (status_of result)) }
     ensures begun { (status_of result ≡ Status.Usage) ⊎ (status_of result ≡ Status.SourceFault) ⊎ (status_of result ≡ Status.ScriptTooLong) → ⊥ }

@@ -38,7 +38,7 @@ use Rattle.bk_world.specs.Machine.{IsAllowed, step, broken, accepted, last_world
 use Rattle.bk_world.specs.Medium.{medium_at}
 use Rattle.bk_world.specs.World.{World, Database, database_named, least_begin}
 use Rattle.bk_instance.specs.declared.instance.Instance.{Instance}
-use Rattle.bk_instance.specs.Media.{KeepsMedia}
+use Rattle.bk_instance.specs.Media.{KeepsMedia, MediaAreDurable, IfDurable}
 use Rattle.bk_instance.specs.Plans.{PlansSet}
 use Rattle.bk_instance.specs.Stands.{Stored, Covers, CutAt, IsReady, StandsFor, IsOurs, Answers, Cuts}
 use Rattle.bk_instance.specs.Steps.{Making, Finishes, OnWay, IsBased, mark_of, base_of}
@@ -167,13 +167,13 @@ moved-of body d set time old kept is fits = subst (λ b. applied (base_of b) old
 
 -- What files cover.
 
-covers-at : (old : Instance) (disk : Disk) (w v : World) (image : Files) (r : Record) (kept : List KeptDatabase) → StandsFor old disk w → Stored image r kept → LeadsTo w v kept → KeepsMedia v r.making image
-    → r.number ≡ old.kept.number → v.counter ≤ r.counter → r.counter ≤ v.counter + 1024 → Covers old.kept.number image v
-covers-at old disk w v image r kept stands stored leads media number no_less no_more = record {
+covers-at : (number : ℕ) (old : Instance) (disk : Disk) (w v : World) (image : Files) (r : Record) (kept : List KeptDatabase) → StandsFor old disk w → Stored image r kept → LeadsTo w v kept → KeepsMedia v r.making image
+    → r.number ≡ old.kept.number → v.counter ≤ r.counter → r.counter ≤ v.counter + 1024 → Covers number image v
+covers-at number old disk w v image r kept stands stored leads media own no_less no_more = record {
   «record» = r;
   kept = kept;
   holds = inr stored;
-  instance = leads.goes.instance ∙ stands.keeps.number ∙ sym number;
+  instance = leads.goes.instance ∙ stands.keeps.number ∙ sym own;
   no_less = no_less;
   no_more = no_more;
   databases = leads.keeps;
@@ -192,19 +192,19 @@ after : (w : World) (k : Kept) (line : ℕ) (name path : List ℕ) (now n : ℕ)
     → last_world w (take n (step w some_choice (backup line name path) now).parts) ≡ last_world w (take n (of.backs.made ∷ of.backs.begun ∷ of.backs.finished ∷ of.backs.sealed ∷ of.backs.moved ∷ []))
 after w k line name path now n body of = ap (λ ps. last_world w (take n ps)) (of.parts ∙ of.backs.parts)
 
-cut-at : (old : Instance) (w v : World) (line : ℕ) (name path : List ℕ) (now n : ℕ) (body : SetBody) (image : Files) (of : BackupOf w old.kept line name path now body)
-    → v ≡ last_world w (take n (of.backs.made ∷ of.backs.begun ∷ of.backs.finished ∷ of.backs.sealed ∷ of.backs.moved ∷ [])) → Covers old.kept.number image v → CutAt old.kept.number w (backup line name path) now image
-cut-at old w v line name path now n body image of is covers = inr (record {
+cut-at : (number : ℕ) (old : Instance) (w v : World) (line : ℕ) (name path : List ℕ) (now n : ℕ) (body : SetBody) (image : Files) (of : BackupOf w old.kept line name path now body)
+    → v ≡ last_world w (take n (of.backs.made ∷ of.backs.begun ∷ of.backs.finished ∷ of.backs.sealed ∷ of.backs.moved ∷ [])) → Covers number image v → CutAt number w (backup line name path) now image
+cut-at number old w v line name path now n body image of is covers = inr (record {
   choice = some_choice;
   n = n;
   allowed = of.allowed;
-  covers = subst (Covers old.kept.number image) (is ∙ sym (after w old.kept line name path now n body of)) covers;
+  covers = subst (Covers number image) (is ∙ sym (after w old.kept line name path now n body of)) covers;
 })
 
 -- while its medium is made
 pub making-cuts : (i : Instance) (disk : Disk) (line : ℕ) (name path : List ℕ) (now : ℕ) (body : SetBody) (image : Files) → AreBytes path → OnePath path → disk.files (medium_file path) ≡ None
     → Backups i disk line name path now body → Making i.kept disk.files path image → Cuts i disk (backup line name path) now image
-making-cuts i disk line name path now body image bytes one absent law (inl at) w stands = inl (record {
+making-cuts i disk line name path now body image bytes one absent law (inl at) number w stands = inl (record {
   «record» = at.«record»;
   kept = i.kept.databases.items;
   holds = inr at.stored;
@@ -214,11 +214,11 @@ making-cuts i disk line name path now body image bytes one absent law (inl at) w
   databases = stands.keeps.databases;
   media = media-begun w at.«record».making disk.files image path bytes one stands.media absent at.others at.is;
 })
-making-cuts i disk line name path now body image bytes one absent law (inr at) w stands =
+making-cuts i disk line name path now body image bytes one absent law (inr at) number w stands =
     let of : BackupOf w i.kept line name path now body = law w stands in
     let b = of.backs in
-    cut-at i w b.made line name path now 1 body image of refl
-    (covers-at i disk w b.made image at.«record» i.kept.databases.items stands at.stored b.leads_made
+    cut-at number i w b.made line name path now 1 body image of refl
+    (covers-at number i disk w b.made image at.«record» i.kept.databases.items stands at.stored b.leads_made
     (media-empty w b.made at.«record».making disk.files image path one stands.media at.others b.media_made (λ x c. carried-on w b.made x b.leads_made.goes c) at.is)
     at.number (omega (arith, b.counter_made, stands.keeps.counter, at.no_less)) (omega (arith, b.counter_made, stands.keeps.counter, at.no_more)))
 
@@ -226,7 +226,7 @@ making-cuts i disk line name path now body image bytes one absent law (inr at) w
 pub finishing-cuts : (i : Instance) (disk : Disk) (line : ℕ) (name path : List ℕ) (now : ℕ) (body : SetBody) (image : Files) (r : Record) → OnePath path → Backups i disk line name path now body
     → r.number ≡ i.kept.number → r.making ≡ None → i.kept.counter + 1 ≤ r.counter → r.counter ≤ i.kept.counter + 1024
     → Finishes r i.kept.databases.items disk.files path body image → Cuts i disk (backup line name path) now image
-finishing-cuts i disk line name path now body image r one law number none no_less no_more at w stands = by at.is
+finishing-cuts i disk line name path now body image r one law own none no_less no_more at number w stands = by at.is
   where
     of : BackupOf w i.kept line name path now body
     of = law w stands
@@ -237,35 +237,35 @@ finishing-cuts i disk line name path now body image r one law number none no_les
     first : (old kept : List KeptDatabase) → applied (mark_of body) old ≡ Some kept → Once of.d of.time old kept
     first old kept fits = once-of body of.d of.set of.time old kept of.body_is fits
 
-    covered : (v : World) → LeadsTo w v at.kept → v.counter ≡ w.counter + 1 → KeepsMedia v None image → Covers i.kept.number image v
+    covered : (v : World) → LeadsTo w v at.kept → v.counter ≡ w.counter + 1 → KeepsMedia v None image → Covers number image v
     covered v leads counter media =
-        covers-at i disk w v image r at.kept stands at.stored leads (subst (λ m. KeepsMedia v m image) (sym none) media) number
+        covers-at number i disk w v image r at.kept stands at.stored leads (subst (λ m. KeepsMedia v m image) (sym none) media) own
         (omega (arith, counter, stands.keeps.counter, no_less)) (omega (arith, counter, stands.keeps.counter, no_more))
 
-    by : OnWay body items at.kept (image (medium_file path)) → CutAt i.kept.number w (backup line name path) now image
+    by : OnWay body items at.kept (image (medium_file path)) → CutAt number w (backup line name path) now image
     by (inl (inl same, empty)) =
-        cut-at i w of.backs.made line name path now 1 body image of refl
+        cut-at number i w of.backs.made line name path now 1 body image of refl
         (covered of.backs.made (subst (LeadsTo w of.backs.made) (sym same) of.backs.leads_made) of.backs.counter_made
         (media-empty w of.backs.made None disk.files image path one stands.media at.others of.backs.media_made (λ x c. carried-on w of.backs.made x of.backs.leads_made.goes c) (inl refl, empty)))
     by (inl (inr (inl once), empty)) =
         let leads : LeadsTo w of.backs.begun at.kept = of.backs.leads_begun at.kept (first items at.kept once) in
-        cut-at i w of.backs.begun line name path now 2 body image of refl
+        cut-at number i w of.backs.begun line name path now 2 body image of refl
         (covered of.backs.begun leads of.backs.counter_begun
         (media-empty w of.backs.begun None disk.files image path one stands.media at.others of.backs.media_begun (λ x c. carried-on w of.backs.begun x leads.goes c) (inl refl, empty)))
     by (inl (inr (inr twice), empty)) =
         let leads : LeadsTo w of.backs.finished at.kept = of.backs.leads_finished twice.0 at.kept (first items twice.0 twice.1) (first twice.0 at.kept twice.2) in
-        cut-at i w of.backs.finished line name path now 3 body image of refl
+        cut-at number i w of.backs.finished line name path now 3 body image of refl
         (covered of.backs.finished leads of.backs.counter_finished
         (media-empty w of.backs.finished None disk.files image path one stands.media at.others of.backs.media_finished (λ x c. carried-on w of.backs.finished x leads.goes c) (inl refl, empty)))
     by (inr (inl twice, added)) =
         let leads : LeadsTo w of.backs.sealed at.kept = of.backs.leads_sealed twice.0 at.kept (first items twice.0 twice.1) (first twice.0 at.kept twice.2) in
-        cut-at i w of.backs.sealed line name path now 4 body image of refl
+        cut-at number i w of.backs.sealed line name path now 4 body image of refl
         (covered of.backs.sealed leads of.backs.counter_sealed
         (set-media w of.backs.sealed disk image path body of.d of.set of.time at.kept one stands.media at.others of.body_is of.backs.media_sealed leads (of.backs.carried_sealed twice.0 at.kept (first items twice.0 twice.1) (first twice.0 at.kept twice.2)) added))
     by (inr (inr based, added)) =
         let leads : LeadsTo w of.backs.moved at.kept =
         of.backs.leads_moved based.1.0 based.0 at.kept (first items based.1.0 based.1.1) (first based.1.0 based.0 based.1.2) (moved-of body of.d of.set of.time based.0 at.kept of.body_is based.2) in
-        cut-at i w of.backs.moved line name path now 5 body image of refl
+        cut-at number i w of.backs.moved line name path now 5 body image of refl
         (covered of.backs.moved leads of.backs.counter_moved
         (set-media w of.backs.moved disk image path body of.d of.set of.time at.kept one stands.media at.others of.body_is of.backs.media_moved leads
         (of.backs.carried_moved based.1.0 based.0 at.kept (first items based.1.0 based.1.1) (first based.1.0 based.0 based.1.2) (moved-of body of.d of.set of.time based.0 at.kept of.body_is based.2)) added))
@@ -308,16 +308,17 @@ refit r old new f g path body image same others at = record {
 }
 
 pub finishing-effect : (i j : Instance) (first mid last : Disk) (line : ℕ) (name path : List ℕ) (now : ℕ) (body : SetBody) → IsReady j → j.kept ≡ i.kept → i.kept.counter + 1 ≤ j.home.«record».counter → OnePath path
-    → Backups i first line name path now body → SameOthers first.files path mid.files → Effect IsOurs (Finishes j.home.«record» j.kept.databases.items mid.files path body) mid last
-    → Effect IsOurs (Cuts i first (backup line name path) now) mid last
-finishing-effect i j first mid last line name path now body ready same reserved one law others effect =
-    effect_weaken (λ image at. finishing-cuts i first line name path now body image j.home.«record» one law
+    → Backups i first line name path now body → SameOthers first.files path mid.files → (MediaAreDurable first → MediaAreDurable mid)
+    → Effect IsOurs (IfDurable mid (Finishes j.home.«record» j.kept.databases.items mid.files path body)) mid last
+    → Effect IsOurs (IfDurable first (Cuts i first (backup line name path) now)) mid last
+finishing-effect i j first mid last line name path now body ready same reserved one law others calm effect =
+    effect_weaken (λ image at durable. finishing-cuts i first line name path now body image j.home.«record» one law
     (sym ready.number ∙ ap (λ (k : Kept). k.number) same) ready.none reserved (omega (arith, ready.no_more, ap (λ (k : Kept). k.counter) same))
-    (refit j.home.«record» i.kept.databases.items j.kept.databases.items first.files mid.files path body image (ap (λ (k : Kept). k.databases.items) same) others at)) effect
+    (refit j.home.«record» i.kept.databases.items j.kept.databases.items first.files mid.files path body image (ap (λ (k : Kept). k.databases.items) same) others (at (calm durable)))) effect
 
 pub making-effect : (i : Instance) (first mid : Disk) (line : ℕ) (name path : List ℕ) (now : ℕ) (body : SetBody) → AreBytes path → OnePath path → first.files (medium_file path) ≡ None → Backups i first line name path now body
-    → Effect IsOurs (Making i.kept first.files path) first mid → Effect IsOurs (Cuts i first (backup line name path) now) first mid
-making-effect i first mid line name path now body bytes one absent law effect = effect_weaken (λ image at. making-cuts i first line name path now body image bytes one absent law at) effect
+    → Effect IsOurs (IfDurable first (Making i.kept first.files path)) first mid → Effect IsOurs (IfDurable first (Cuts i first (backup line name path) now)) first mid
+making-effect i first mid line name path now body bytes one absent law effect = effect_weaken (λ image at durable. making-cuts i first line name path now body image bytes one absent law (at durable)) effect
 
 -- Where something is at the path, by a call that changes nothing.
 pub taken-answers : (i : Instance) (a b : Disk) (line : ℕ) (name path : List ℕ) (now : ℕ) → AreBytes path → ChangesNothing a b → is_some (a.files (medium_file path)) ≡ true

@@ -22,7 +22,7 @@ use Rattle.bk_instance.proofs.Makes.{SameOthers}
 
 -- A medium at a path.
 
-medium_at-other : (media : List (List ℕ × Reading)) (path other : List ℕ) → bytes_eq path other ≡ false → medium_at (without_medium media path) other ≡ medium_at media other
+pub medium_at-other : (media : List (List ℕ × Reading)) (path other : List ℕ) → bytes_eq path other ≡ false → medium_at (without_medium media path) other ≡ medium_at media other
 medium_at-other [] path other apart = refl
 medium_at-other (m ∷ media) path other apart = by (medium_at-other media path other apart) (bytes_eq m.0 path) refl
   where
@@ -82,7 +82,7 @@ media-at w v making files image path one names keeps others own beside carried h
 
 -- What is at the path.
 
-no-set : (file : Option (List ℕ)) → sets_of file ≡ [] → (p : ℕ) (body : SetBody) → found_at file p ≡ Some (Holds body) → ⊥
+pub no-set : (file : Option (List ℕ)) → sets_of file ≡ [] → (p : ℕ) (body : SetBody) → found_at file p ≡ Some (Holds body) → ⊥
 unfolding found_at
 no-set file none zero body is = cc
 no-set file none (suc p) body is = by (sym (ap (λ sets. option_map found (slice_get sets p)) none) ∙ is)

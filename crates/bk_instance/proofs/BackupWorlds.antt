@@ -2,6 +2,7 @@
 use Rattle.std.proofs.Common.{◌≡◌, ℕ, ◌+◌, List, [], ◌∷◌, Some, refl, sym, ◌∙◌, ap, subst, max, min, arith}
 use Rattle.bk_ids.specs.declared.guid.Guid.{Guid}
 use Rattle.bk_ids.specs.Name.{lowered}
+use Rattle.bk_ids.specs.Path.{last_branch}
 use Rattle.bk_changes.specs.declared.state.Database.{Database as KeptDatabase}
 use Rattle.bk_changes.specs.declared.state.Standing.TheVariants.{Online}
 use Rattle.bk_changes.specs.Applied.{changed, logged, based, database_named as find_kept}
@@ -13,13 +14,14 @@ use Rattle.bk_kept.proofs.Lists.{kept-changed, kept-named}
 use Rattle.bk_kept.proofs.Logging.{fits-where}
 use Rattle.bk_kept.proofs.Making.{medium-leads, sealed-leads, based-leads}
 use Rattle.bk_kept.proofs.Reading.{carried-on, goes-then}
-use Rattle.bk_kept.proofs.Saving.{header-is, after_checkpoint, checkpointed-leads, checkpointed-found, stamped-leads, stamped-found, own-carried}
+use Rattle.bk_kept.proofs.Saving.{header-is, after_checkpoint, checkpointed-leads, checkpointed-found, stamped-leads, stamped-found, stamped-passed, own-carried}
 use Rattle.bk_world.specs.declared.database.Status.TheVariants as in_use
 use Rattle.bk_world.specs.declared.header.Header.{Header}
 use Rattle.bk_world.specs.Backup.{full_backup, full_header, medium_made, checkpointed, stamped, set_sealed, points_moved}
 use Rattle.bk_world.specs.Changes.{drawn, latest, entry_time}
 use Rattle.bk_world.specs.Changes as changes
 use Rattle.bk_world.specs.Medium.{Reading, readable, medium, with_medium}
+use Rattle.bk_world.specs.Sound.{IsPassed}
 use Rattle.bk_world.specs.World.{World, Database, database_named, current_name}
 
 -- the media with one that has no set, and then this one
@@ -194,6 +196,7 @@ backs-own w items db path now d keeps found fit found_kept standing = record {
 
     own : (one two : List KeptDatabase) → Once d time items one → Once d time one two → IsCarried finished (kept_body d set time)
     own one two first second = own-carried finished last d (marked d time) set time (kept_last one two first second) refl refl refl refl refl
+        (subst (λ n. IsPassed finished.history (last_branch db.path) (n + 1)) fit.end (stamped-passed begun db time last.end ((kept_last one two first second).goes_on online)))
 
     model_of : (one two : List KeptDatabase) → Once d time items one → Once d time one two → (k : KeptDatabase) → KeepsDatabase sealed last k → header.model ≡ k.model
     model_of one two first second k is = ap (λ (h : Header). h.model) is_header ∙ sym (kept_last one two first second).shows.model ∙ is.shows.model

@@ -14,20 +14,21 @@ use Rattle.bk_media.specs.Media.{HasSets, HasAdded, LeavesAdded, sets_of}
 use Rattle.bk_media.specs.Names.{medium_file}
 use Rattle.bk_set.specs.declared.body.SetBody.{SetBody}
 use Rattle.bk_instance.specs.declared.instance.Instance.{Instance}
-use Rattle.bk_instance.specs.Stands.{Stored, IsStored, IsOurs}
+use Rattle.bk_instance.specs.Media.{IfDurable}
+use Rattle.bk_instance.specs.Stands.{Stored, IsOurs}
 use Rattle.bk_instance.specs.Steps.{Changed, Finishes, OnWay, IsMarked, mark_of, base_of}
-use Rattle.bk_instance.proofs.Covering.{stored-left}
+use Rattle.bk_instance.proofs.Covering.{Since, stored-left}
 use Rattle.bk_instance.proofs.Makes.{SameOthers, stored-beside}
 use Rattle.bk_instance.proofs.OneParts.{own-widens}
 use Rattle.bk_instance.proofs.Stores.{not-own}
 
 -- A change on the way: what it leaves is on the way before it and behind it.
-pub finishes-changed : (r : Record) (old : List KeptDatabase) (files : Files) (path : List ℕ) (body : SetBody) (j : Instance) (before after : Disk) (c : Change) → IsStored before j → j.home.«record» ≡ r → AreBytes path
+pub finishes-changed : {first : Disk} (r : Record) (old : List KeptDatabase) (files : Files) (path : List ℕ) (body : SetBody) (j : Instance) (before after : Disk) (c : Change) → Since first before j → j.home.«record» ≡ r → AreBytes path
     → SameOthers files path before.files → OnWay body old j.kept.databases.items (before.files (medium_file path))
     → ((new : List KeptDatabase) → applied c j.kept.databases.items ≡ Some new → OnWay body old new (before.files (medium_file path)))
-    → Effect IsOwn (Changed c j.home.«record» j.kept.databases.items) before after → Effect IsOurs (Finishes r old files path body) before after
-finishes-changed r old files path body j before after c stored held bytes others was will effect =
-    own-widens j before after stored (λ image here media.
+    → Effect IsOwn (Changed c j.home.«record» j.kept.databases.items) before after → Effect IsOurs (IfDurable first (Finishes r old files path body)) before after
+finishes-changed r old files path body j before after c since held bytes others was will effect =
+    own-widens j before after since (λ image here media.
     let there : before.files (medium_file path) ≡ image (medium_file path) = sym (media path bytes) in
     let rest : SameOthers files path image = λ other are apart. media other are ∙ others other are apart in
     elim here [
@@ -46,20 +47,20 @@ finishes-changed r old files path body j before after c stored held bytes others
     ]) effect
 
 -- The set is added.
-pub finishes-added : (r : Record) (old : List KeptDatabase) (files : Files) (path name : List ℕ) (body : SetBody) (j : Instance) (before after : Disk) → IsStored before j → j.home.«record» ≡ r → AreBytes path
+pub finishes-added : {first : Disk} (r : Record) (old : List KeptDatabase) (files : Files) (path name : List ℕ) (body : SetBody) (j : Instance) (before after : Disk) → Since first before j → j.home.«record» ≡ r → AreBytes path
     → SameOthers files path before.files → IsMarked body old j.kept.databases.items → name ≡ medium_file path → HasSets [] (before.files (medium_file path))
-    → Effect (IsName name) (λ image. LeavesAdded (sets_of (before.files name)) body (image name)) before after → Effect IsOurs (Finishes r old files path body) before after
-finishes-added r old files path name body j before after stored held bytes others marked is_name empty effect =
+    → Effect (IsName name) (λ image. LeavesAdded (sets_of (before.files name)) body (image name)) before after → Effect IsOurs (IfDurable first (Finishes r old files path body)) before after
+finishes-added r old files path name body j before after since held bytes others marked is_name empty effect =
     effect_widen (λ n is. inr (path, bytes, is ∙ is_name))
-    (λ image here rest.
+    (λ image here rest calm.
     let left : LeavesAdded [] body (image (medium_file path)) =
     subst (λ n. LeavesAdded [] body (image n)) is_name (subst (λ sets. LeavesAdded sets body (image name)) (ap (λ n. sets_of (before.files n)) is_name ∙ sets_are [] (before.files (medium_file path)) empty) here) in
-    let own : Stored image j.home.«record» j.kept.databases.items = stored-left j before image stored (λ n mine. rest n (λ is. not-own path (subst IsOwn (is ∙ is_name) mine)) (inl mine)) in
+    let own : Stored image j.home.«record» j.kept.databases.items = stored-left j before image since.stored (λ n mine. rest n (λ is. not-own path (subst IsOwn (is ∙ is_name) mine)) (inl mine)) in
     record {
       kept = j.kept.databases.items;
       stored = subst (λ x. Stored image x j.kept.databases.items) held own;
       is = elim left [ inl still ↦ inl (inr (inr marked), still) | inr added ↦ inr (inl marked, added) ];
-      others = λ other are apart. stored.media other are (image (medium_file other)) (rest (medium_file other) (λ is. apart (is ∙ is_name)) (inr (other, are, refl))) ∙ others other are apart;
+      others = λ other are apart. since.calm calm other are (image (medium_file other)) (rest (medium_file other) (λ is. apart (is ∙ is_name)) (inr (other, are, refl))) ∙ others other are apart;
     }) effect
 
 -- The stages, one for each call.
@@ -85,7 +86,7 @@ pub added-is : (before after : Files) (path name : List ℕ) (body : SetBody) �
 added-is before after path name body is_name empty added =
     subst (λ n. HasAdded [] body (after n)) is_name (subst (λ sets. HasAdded sets body (after name)) (ap (λ n. sets_of (before n)) is_name ∙ sets_are [] (before (medium_file path)) empty) added)
 
-pub stored-added : {P : Files → Type 0} (j : Instance) (before after : Disk) (path name : List ℕ) → name ≡ medium_file path → Effect (IsName name) P before after → IsStored before j
-    → ((other : List ℕ) → AreBytes other → (medium_file other ≡ medium_file path) ⊎ (medium_file other ≢ medium_file path)) → IsDurable after name → IsStored after j
-stored-added {P} j before after path name is_name effect stored tell durable =
-    stored-beside j before after path (subst (λ n. Effect (IsName n) P before after) is_name effect) stored tell (subst (IsDurable after) is_name durable)
+pub stored-added : {P : Files → Type 0} {first : Disk} (j : Instance) (before after : Disk) (path name : List ℕ) → name ≡ medium_file path → Effect (IsName name) P before after → Since first before j
+    → ((other : List ℕ) → AreBytes other → (medium_file other ≡ medium_file path) ⊎ (medium_file other ≢ medium_file path)) → IsDurable after name → Since first after j
+stored-added {P} j before after path name is_name effect since tell durable =
+    stored-beside j before after path (subst (λ n. Effect (IsName n) P before after) is_name effect) since tell (subst (IsDurable after) is_name durable)

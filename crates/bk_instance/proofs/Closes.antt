@@ -1,5 +1,5 @@
 -- What the end of a run leaves of an instance's files.
-use Rattle.std.proofs.Common.{◌≡◌, ◌≤◌, ◌⊎◌, inl, inr, ◌+◌, None, refl, sym, ◌∙◌, ap, subst, arith}
+use Rattle.std.proofs.Common.{◌≡◌, ◌≤◌, ◌⊎◌, inl, inr, ℕ, ◌+◌, None, refl, sym, ◌∙◌, ap, subst, arith}
 use Rattle.bk_changes.specs.Replayed.{replayed}
 use Rattle.bk_device.specs.Compose.{effect_none, effect_widen}
 use Rattle.bk_device.specs.Disk.{Files, Disk}
@@ -12,19 +12,19 @@ use Rattle.bk_kept.proofs.Changing.{keeps-same}
 use Rattle.bk_media.specs.Names.{medium_file}
 use Rattle.bk_world.specs.World.{World, ended}
 use Rattle.bk_instance.specs.declared.instance.Instance.{Instance}
-use Rattle.bk_instance.specs.Media.{KeepsMedia}
-use Rattle.bk_instance.specs.Stands.{Stored, Stands, Covers, IsReady, IsStored, StandsFor, IsOurs}
+use Rattle.bk_instance.specs.Media.{KeepsMedia, IfDurable}
+use Rattle.bk_instance.specs.Stands.{Stored, Stands, Covers, CutsEnd, IsReady, IsStored, StandsFor, IsOurs}
 use Rattle.bk_instance.proofs.Covering.{SameMedia, media-in, media-on, now-covers}
 use Rattle.bk_instance.proofs.Stores.{not-own}
 
 -- own files with a record that reserves enough, and not too much, hold what a crash leaves of the world
-pub covers-with : (i : Instance) (disk : Disk) (w : World) (image : Files) (r : Record) → Stored image r i.kept.databases.items → r.number ≡ i.kept.number → i.kept.counter ≤ r.counter → r.counter ≤ i.kept.counter + 1024
-    → r.making ≡ None → SameMedia disk.files image → StandsFor i disk w → Covers i.kept.number image w
-covers-with i disk w image r stored number no_less no_more none same stands = record {
+pub covers-with : (number : ℕ) (i : Instance) (disk : Disk) (w : World) (image : Files) (r : Record) → Stored image r i.kept.databases.items → r.number ≡ i.kept.number → i.kept.counter ≤ r.counter → r.counter ≤ i.kept.counter + 1024
+    → r.making ≡ None → SameMedia disk.files image → StandsFor i disk w → Covers number image w
+covers-with number i disk w image r stored own no_less no_more none same stands = record {
   «record» = r;
   kept = i.kept.databases.items;
   holds = inr stored;
-  instance = stands.keeps.number ∙ sym number;
+  instance = stands.keeps.number ∙ sym own;
   no_less = omega (arith, stands.keeps.counter, no_less);
   no_more = omega (arith, stands.keeps.counter, no_more);
   databases = stands.keeps.databases;
@@ -32,44 +32,45 @@ covers-with i disk w image r stored number no_less no_more none same stands = re
 }
 
 -- where the record reserves no more than was drawn, the files stand for the world that ended
-pub ended-stands : (i : Instance) (disk : Disk) (files : Files) (w : World) (r : Record) → Stored files r i.kept.databases.items → r.number ≡ i.kept.number → r.counter ≡ i.kept.counter → r.making ≡ None
-    → SameMedia disk.files files → StandsFor i disk w → Stands i.kept.number files (ended w)
+pub ended-stands : (number : ℕ) (i : Instance) (disk : Disk) (files : Files) (w : World) (r : Record) → Stored files r i.kept.databases.items → r.number ≡ i.kept.number → r.counter ≡ i.kept.counter → r.making ≡ None
+    → SameMedia disk.files files → StandsFor i disk w → Stands number files (ended w)
 unfolding ended
-ended-stands i disk files w r stored number counter none same stands =
+ended-stands number i disk files w r stored own counter none same stands =
     let to : LeadsTo w (ended w) i.kept.databases.items = keeps-same w (ended w) i.kept.databases.items refl (omega arith) refl refl stands.keeps.databases in
     record {
       «record» = r;
       kept = i.kept.databases.items;
       holds = inr stored;
-      instance = stands.keeps.number ∙ sym number;
+      instance = stands.keeps.number ∙ sym own;
       counter = stands.keeps.counter ∙ sym counter;
       databases = to.keeps;
       media = subst (λ making. KeepsMedia (ended w) making files) (sym none) (media-on w (ended w) None files to.goes refl (media-in w None disk.files files same stands.media));
+      finished = λ closed. none;
     }
 
 -- nothing was done
-pub close-none : (i : Instance) (disk : Disk) → IsReady i → IsStored disk i → Effect IsOurs (λ image. (w : World) → StandsFor i disk w → Covers i.kept.number image w) disk disk
-close-none i disk ready stored = effect_none disk (λ image left w stands. now-covers i disk w image ready stored left stands)
+pub close-none : (i : Instance) (disk : Disk) → IsReady i → IsStored disk i → Effect IsOurs (IfDurable disk (CutsEnd i disk)) disk disk
+close-none i disk ready stored = effect_none disk (λ image left durable number w stands. now-covers number i disk w image ready stored durable left stands)
 
-pub none-stands : (i : Instance) (disk : Disk) (w : World) → IsReady i → IsStored disk i → i.home.«record».counter ≡ i.kept.counter → StandsFor i disk w → Stands i.kept.number disk.files (ended w)
-none-stands i disk w ready stored exact stands =
-    ended-stands i disk disk.files w i.home.«record» (record { blobs = blobs_of disk.files; home = home_files stored.home; rows = stored.rows }) (sym ready.number) exact ready.none (λ path bytes. refl) stands
+pub none-stands : (number : ℕ) (i : Instance) (disk : Disk) (w : World) → IsReady i → IsStored disk i → i.home.«record».counter ≡ i.kept.counter → StandsFor i disk w → Stands number disk.files (ended w)
+none-stands number i disk w ready stored exact stands =
+    ended-stands number i disk disk.files w i.home.«record» (record { blobs = blobs_of disk.files; home = home_files stored.home; rows = stored.rows }) (sym ready.number) exact ready.none (λ path bytes. refl) stands
 
 -- the exact record is put
 pub close-put : (i : Instance) (before after : Disk) (next : Record) → IsReady i → IsStored before i → next.number ≡ i.kept.number → next.counter ≡ i.kept.counter → next.making ≡ None
     → Effect IsOwn (λ image. HomeIs image i.home.«record» (blobs_of before.files) ⊎ HomeIs image next (blobs_of before.files)) before after
-    → Effect IsOurs (λ image. (w : World) → StandsFor i before w → Covers i.kept.number image w) before after
-close-put i before after next ready stored number counter none effect =
-    effect_widen (λ name own. inl own) (λ image here others w stands.
-    let same : SameMedia before.files image = λ path bytes. stored.media path bytes (image (medium_file path)) (others (medium_file path) (not-own path) (inr (path, bytes, refl))) in
+    → Effect IsOurs (IfDurable before (CutsEnd i before)) before after
+close-put i before after next ready stored own counter none effect =
+    effect_widen (λ name own. inl own) (λ image here others durable number w stands.
+    let same : SameMedia before.files image = λ path bytes. durable path bytes (image (medium_file path)) (others (medium_file path) (not-own path) (inr (path, bytes, refl))) in
     elim here [
-      | inl old ↦ covers-with i before w image i.home.«record» (record { blobs = blobs_of before.files; home = old; rows = stored.rows }) (sym ready.number) ready.no_less ready.no_more ready.none same stands
-      | inr new ↦ covers-with i before w image next (record { blobs = blobs_of before.files; home = new; rows = stored.rows }) number (omega (arith, counter)) (omega (arith, counter)) none same stands
+      | inl old ↦ covers-with number i before w image i.home.«record» (record { blobs = blobs_of before.files; home = old; rows = stored.rows }) (sym ready.number) ready.no_less ready.no_more ready.none same stands
+      | inr new ↦ covers-with number i before w image next (record { blobs = blobs_of before.files; home = new; rows = stored.rows }) own (omega (arith, counter)) (omega (arith, counter)) none same stands
     ]) effect
 
-pub put-stands : (i j : Instance) (before after : Disk) (w : World) (next : Record) → IsReady i → IsStored before i → next.number ≡ i.kept.number → next.counter ≡ i.kept.counter → next.making ≡ None
-    → IsHome after j.home → j.home.«record» ≡ next → blobs_of after.files ≡ blobs_of before.files → {P : Files → Type 0} → Effect IsOwn P before after → StandsFor i before w → Stands i.kept.number after.files (ended w)
-put-stands i j before after w next ready stored number counter none home is blobs effect stands =
-    ended-stands i before after.files w j.home.«record» (record { blobs = blobs_of after.files; home = home_files home; rows = ap replayed blobs ∙ stored.rows })
-    (ap (λ (r : Record). r.number) is ∙ number) (ap (λ (r : Record). r.counter) is ∙ counter) (ap (λ (r : Record). r.making) is ∙ none)
+pub put-stands : (number : ℕ) (i j : Instance) (before after : Disk) (w : World) (next : Record) → IsReady i → IsStored before i → next.number ≡ i.kept.number → next.counter ≡ i.kept.counter → next.making ≡ None
+    → IsHome after j.home → j.home.«record» ≡ next → blobs_of after.files ≡ blobs_of before.files → {P : Files → Type 0} → Effect IsOwn P before after → StandsFor i before w → Stands number after.files (ended w)
+put-stands number i j before after w next ready stored own counter none home is blobs effect stands =
+    ended-stands number i before after.files w j.home.«record» (record { blobs = blobs_of after.files; home = home_files home; rows = ap replayed blobs ∙ stored.rows })
+    (ap (λ (r : Record). r.number) is ∙ own) (ap (λ (r : Record). r.counter) is ∙ counter) (ap (λ (r : Record). r.making) is ∙ none)
     (λ path bytes. effect.others (medium_file path) (not-own path)) stands

@@ -2,6 +2,7 @@
 use Rattle.std.proofs.Common.{◌≡◌, inl, inr, ℕ, List, Option, None, refl, sym, ◌∙◌, ap, subst, arith}
 use Rattle.bk_bytes.specs.Field.{AreBytes}
 use Rattle.bk_changes.specs.declared.state.Database.{Database as KeptDatabase}
+use Rattle.bk_device.specs.Calls.{ChangesNothing}
 use Rattle.bk_device.specs.Disk.{Files, Disk, IsSettled}
 use Rattle.bk_device.specs.Effects.{MayLeaveOwn}
 use Rattle.bk_home.specs.declared.record.Record.{Record}
@@ -16,7 +17,7 @@ use Rattle.bk_media.specs.Names.{medium_file}
 use Rattle.bk_world.specs.Medium.{medium_at}
 use Rattle.bk_world.specs.World.{World, opened}
 use Rattle.bk_instance.specs.declared.instance.Instance.{Instance}
-use Rattle.bk_instance.specs.Media.{KeepsMedia, shown_medium}
+use Rattle.bk_instance.specs.Media.{KeepsMedia, MediaAreDurable, shown_medium}
 use Rattle.bk_instance.specs.Stands.{Stored, Holds, Stands, Covers, IsReady, IsStored, StandsFor, IsOurs}
 
 -- Media.
@@ -50,14 +51,30 @@ stored-left i disk image stored left = record { blobs = blobs_of disk.files; hom
 pub own-left : (disk : Disk) (image : Files) → MayLeaveOwn IsOurs disk image → MayLeaveOwn IsOwn disk image
 own-left disk image left name own = left name (inl own)
 
-pub media-left : (i : Instance) (disk : Disk) (image : Files) → IsStored disk i → MayLeaveOwn IsOurs disk image → SameMedia disk.files image
-media-left i disk image stored left path bytes = stored.media path bytes (image (medium_file path)) (left (medium_file path) (inr (path, bytes, refl)))
+pub media-left : (disk : Disk) (image : Files) → MediaAreDurable disk → MayLeaveOwn IsOurs disk image → SameMedia disk.files image
+media-left disk image durable left path bytes = durable path bytes (image (medium_file path)) (left (medium_file path) (inr (path, bytes, refl)))
+
+-- where nothing is changed, nothing more is pending in media
+pub media-on-nothing : {a b : Disk} → ChangesNothing a b → MediaAreDurable a → MediaAreDurable b
+media-on-nothing nothing durable path bytes content may =
+    durable path bytes content (nothing.nothing_more (medium_file path) content may) ∙ sym (nothing.files (medium_file path))
+
+-- Own files hold the databases of an instance, and nothing is pending in media where nothing was at an earlier moment.
+pub record Since (first disk : Disk) (i : Instance) : Type 0 where
+  pub stored : IsStored disk i
+  pub calm : MediaAreDurable first → MediaAreDurable disk
+
+pub since : (first : Disk) {disk : Disk} {i : Instance} → IsStored disk i → (MediaAreDurable first → MediaAreDurable disk) → Since first disk i
+since first stored calm = record { stored = stored; calm = calm }
+
+pub since-now : {disk : Disk} {i : Instance} → IsStored disk i → Since disk disk i
+since-now stored = record { stored = stored; calm = λ durable. durable }
 
 -- Worlds.
 
 -- the world that an instance stands for
-pub covers-now : (i : Instance) (disk : Disk) (w : World) (image : Files) → IsReady i → StandsFor i disk w → Stored image i.home.«record» i.kept.databases.items → SameMedia disk.files image → Covers i.kept.number image w
-covers-now i disk w image ready stands stored same = record {
+pub covers-now : (number : ℕ) (i : Instance) (disk : Disk) (w : World) (image : Files) → IsReady i → StandsFor i disk w → Stored image i.home.«record» i.kept.databases.items → SameMedia disk.files image → Covers number image w
+covers-now number i disk w image ready stands stored same = record {
   «record» = i.home.«record»;
   kept = i.kept.databases.items;
   holds = inr stored;
@@ -82,6 +99,7 @@ covers-stands number files w covers =
       counter = refl;
       databases = to.keeps;
       media = media-on w next covers.«record».making files to.goes refl covers.media;
+      finished = λ closed. absurd cc;
     }
 
 -- files that stand for a world stand for the one in which a run begins
@@ -118,6 +136,6 @@ settled-covers number disk w image settled left stands =
     covers-same number disk.files image (opened w) (λ name ours. settled name (image name) (left name ours)) (stands-covers number disk.files w stands)
 
 -- an instance covers its world at each crash
-pub now-covers : (i : Instance) (disk : Disk) (w : World) (image : Files) → IsReady i → IsStored disk i → MayLeaveOwn IsOurs disk image → StandsFor i disk w → Covers i.kept.number image w
-now-covers i disk w image ready stored left stands =
-    covers-now i disk w image ready stands (stored-left i disk image stored (own-left disk image left)) (media-left i disk image stored left)
+pub now-covers : (number : ℕ) (i : Instance) (disk : Disk) (w : World) (image : Files) → IsReady i → IsStored disk i → MediaAreDurable disk → MayLeaveOwn IsOurs disk image → StandsFor i disk w → Covers number image w
+now-covers number i disk w image ready stored durable left stands =
+    covers-now number i disk w image ready stands (stored-left i disk image stored (own-left disk image left)) (media-left disk image durable left)

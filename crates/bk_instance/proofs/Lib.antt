@@ -12,3 +12,4 @@ pub mod BackupMedia
 pub mod Backups
 pub mod BackupCuts
 pub mod Restores
+pub mod Events

@@ -31,10 +31,10 @@ use Rattle.bk_set.specs.Found.{found}
 use Rattle.bk_world.specs.World.{World, opened}
 use Rattle.bk_kept.specs.Carried.{IsCarried}
 use Rattle.bk_instance.specs.declared.instance.Instance.{Instance}
-use Rattle.bk_instance.specs.Loading.{MediaAreDurable, IsCleared, LeavesCleared, LetsGo}
-use Rattle.bk_instance.specs.Media.{KeepsMedia, shown_medium, is_making, is_begun}
-use Rattle.bk_instance.specs.Stands.{Holds, Stands, Covers, StandsFor, IsOurs}
-use Rattle.bk_instance.proofs.Covering.{SameMedia, media-in, media-on, holds-same, stands-covers, covers-same, settled-covers}
+use Rattle.bk_instance.specs.Loading.{IsCleared, LeavesCleared, LetsGo, LeavesOpened}
+use Rattle.bk_instance.specs.Media.{KeepsMedia, MediaAreDurable, IfDurable, shown_medium, is_making, is_begun}
+use Rattle.bk_instance.specs.Stands.{Holds, Stands, StandsFor, IsOurs}
+use Rattle.bk_instance.proofs.Covering.{SameMedia, media-in, media-on, media-on-nothing, holds-same, stands-covers, covers-same, settled-covers}
 use Rattle.bk_instance.proofs.Stores.{not-own, media-kept}
 
 -- Replaying.
@@ -140,9 +140,6 @@ settled-on nothing settled name = durable-on name nothing (settled name)
 pub blobs-on : {a b : Disk} → ChangesNothing a b → blobs_of b.files ≡ blobs_of a.files
 blobs-on {a = a} {b = b} nothing = blobs_same a.files b.files (nothing.files rows_file)
 
-pub media-on-nothing : {a b : Disk} → ChangesNothing a b → MediaAreDurable a → MediaAreDurable b
-media-on-nothing nothing durable path bytes = durable-on (medium_file path) nothing (durable path bytes)
-
 -- Files that stand for a world.
 
 -- they stand for it where nothing is changed
@@ -155,6 +152,7 @@ stands-on {a = a} {b = b} number w nothing stands = record {
   counter = stands.counter;
   databases = stands.databases;
   media = media-in w stands.«record».making a.files b.files (λ path bytes. nothing.files (medium_file path)) stands.media;
+  finished = stands.finished;
 }
 
 -- an instance that isn't made is made, or not yet
@@ -181,6 +179,7 @@ fresh-stands number files image w not here same stands =
       counter = stands.counter;
       databases = stands.databases;
       media = media-in w stands.«record».making files image same stands.media;
+      finished = stands.finished;
     }
 
 -- the record of a made instance, and its databases
@@ -191,6 +190,7 @@ pub record Made (number : ℕ) (files : Files) (w : World) (r : Record) : Type 0
   pub counter : w.counter ≡ r.counter
   pub databases : KeepsDatabases w kept
   pub media : KeepsMedia w r.making files
+  pub finished : w.closed ≡ true → r.making ≡ None
 
 pub stands-made : (number : ℕ) (files : Files) (w : World) (r : Record) → HomeIs files r (blobs_of files) → Stands number files w → Made number files w r
 stands-made number files w r home stands =
@@ -206,13 +206,14 @@ stands-made number files w r home stands =
             counter = stands.counter ∙ ap (λ (x : Record). x.counter) same;
             databases = stands.databases;
             media = subst Media same stands.media;
+            finished = λ closed. ap (λ (x : Record). x.making) (sym same) ∙ stands.finished closed;
           }
     ]
 
 -- and the world stands so with another record, whose media are those
 pub made-stands : (number : ℕ) (files image : Files) (w : World) (r next : Record) (made : Made number files w r) → HomeIs image next (blobs_of files) → next.number ≡ r.number → next.counter ≡ r.counter
-    → KeepsMedia w next.making image → Stands number image w
-made-stands number files image w r next made home n counter media = record {
+    → KeepsMedia w next.making image → (r.making ≡ None → next.making ≡ None) → Stands number image w
+made-stands number files image w r next made home n counter media none = record {
   «record» = next;
   kept = made.kept;
   holds = inr (record { blobs = blobs_of files; home = home; rows = made.rows });
@@ -220,12 +221,13 @@ made-stands number files image w r next made home n counter media = record {
   counter = made.counter ∙ sym counter;
   databases = made.databases;
   media = media;
+  finished = λ closed. none (made.finished closed);
 }
 
 pub lets-go-stands : (number : ℕ) (files image : Files) (w : World) (r : Record) → HomeIs files r (blobs_of files) → LetsGo r files image → Stands number files w → Stands number image w
 lets-go-stands number files image w r home here stands =
     let made = stands-made number files w r home stands in
-    made-stands number files image w r here.«record» made here.home here.number here.counter (here.media w made.media)
+    made-stands number files image w r here.«record» made here.home here.number here.counter (here.media w made.media) here.none
 
 -- Opening an instance's own files.
 
@@ -237,14 +239,10 @@ made-or-not files = by (files made_file) refl
     by None is = inl is
     by (Some file) is = inr (λ none. absurd cc)
 
--- what a crash may leave of a world
-abbrev pub LeavesWorlds : ℕ → Files → Files → Type 0
-LeavesWorlds number files image = (w : World) → Stands number files w → Covers number image (opened w)
-
 -- they are synced
-pub sync-crash : (number : ℕ) (a b : Disk) → IsSettled a → Effect IsOwn (MayLeaveOwn IsOwn a) a b → Effect IsOurs (LeavesWorlds number a.files) a b
-sync-crash number a b settled effect =
-    effect_widen (λ name own. inl own) (λ image here others w stands.
+pub sync-crash : (number : ℕ) (a b : Disk) → Effect IsOwn (MayLeaveOwn IsOwn a) a b → Effect IsOurs (LeavesOpened number a) a b
+sync-crash number a b effect =
+    effect_widen (λ name own. inl own) (λ image here others settled w stands.
     covers-same number a.files image (opened w) (λ name ours.
     elim ours [
       | inl own ↦ settled name (image name) (here name own)
@@ -254,17 +252,16 @@ sync-crash number a b settled effect =
     ]) (stands-covers number a.files w stands)) effect
 
 -- and opened
-pub open-crash : (number : ℕ) (a b c : Disk) → IsSettled a → ChangesNothing a b → Effect IsOurs (LeavesWorlds number a.files) a b → (IsMade b.files → ChangesNothing b c)
-    → (IsNotMade b.files → IsDurable b made_file → Effect IsOwn (λ image. IsNotMade image ⊎ HomeIs image (fresh number) []) b c) → Effect IsOurs (LeavesWorlds number a.files) a c
-open-crash number a b c settled nothing first made new =
-    let calm : IsSettled b = settled-on nothing settled in
+pub open-crash : (number : ℕ) (a b c : Disk) → AreDurable b → ChangesNothing a b → Effect IsOurs (LeavesOpened number a) a b → (IsMade b.files → ChangesNothing b c)
+    → (IsNotMade b.files → IsDurable b made_file → Effect IsOwn (λ image. IsNotMade image ⊎ HomeIs image (fresh number) []) b c) → Effect IsOurs (LeavesOpened number a) a c
+open-crash number a b c durable nothing first made new =
     effect_then first (
     elim (made-or-not b.files) [
-      | inl not ↦ effect_widen (λ name own. inl own) (λ image here others w stands.
+      | inl not ↦ effect_widen (λ name own. inl own) (λ image here others settled w stands.
           stands-covers number image w (fresh-stands number b.files image w not here
-          (λ path bytes. calm (medium_file path) (image (medium_file path)) (others (medium_file path) (not-own path) (inr (path, bytes, refl))))
-          (stands-on number w nothing stands))) (new not (calm made_file))
-      | inr is ↦ effect_of_nothing (λ image left w stands. settled-covers number b w image calm left (stands-on number w nothing stands)) (made is)
+          (λ path bytes. settled-on nothing settled (medium_file path) (image (medium_file path)) (others (medium_file path) (not-own path) (inr (path, bytes, refl))))
+          (stands-on number w nothing stands))) (new not (durable made_file own_made))
+      | inr is ↦ effect_of_nothing (λ image left settled w stands. settled-covers number b w image (settled-on nothing settled) left (stands-on number w nothing stands)) (made is)
     ])
 
 pub open-stands : (number : ℕ) (a b c : Disk) (home : KeptHome) (w : World) → AreDurable b → ChangesNothing a b → IsHome c home → (IsNotMade b.files → home.«record» ≡ fresh number)
@@ -410,12 +407,13 @@ abbrev pub NamesDiffer : Type 0
 NamesDiffer = (path other : List ℕ) → AreBytes path → AreBytes other → medium_file path ≡ medium_file other → path ≡ other
 
 -- nothing was done
-pub let-go-none : (disk : Disk) (home : KeptHome) → IsHome disk home → MediaAreDurable disk → Effect IsOurs (LetsGo home.«record» disk.files) disk disk
-let-go-none disk home is durable = effect_none disk (λ image left. record {
+pub let-go-none : (disk : Disk) (home : KeptHome) → IsHome disk home → Effect IsOurs (IfDurable disk (LetsGo home.«record» disk.files)) disk disk
+let-go-none disk home is = effect_none disk (λ image left durable. record {
   «record» = home.«record»;
   home = home_left image is (λ name own. left name (inl own));
   number = refl;
   counter = refl;
+  none = λ before. before;
   media = λ w media. media-in w home.«record».making disk.files image (λ path bytes. durable path bytes (image (medium_file path)) (left (medium_file path) (inr (path, bytes, refl)))) media;
 })
 
@@ -440,16 +438,17 @@ media-left-durable path a b effect durable cleared other bytes =
     ]
 
 -- its file is removed, or not
-pub let-go-clear : (path : List ℕ) (a b : Disk) (home : KeptHome) → NamesDiffer → IsHome a home → MediaAreDurable a → AreBytes path → home.«record».making ≡ Some path
-    → Clears path a b → Effect IsOurs (LetsGo home.«record» a.files) a b
-let-go-clear path a b home names is durable bytes making effect =
-    effect_widen (λ name at. inr (path, bytes, at)) (λ image here others.
+pub let-go-clear : (path : List ℕ) (a b : Disk) (home : KeptHome) → NamesDiffer → IsHome a home → AreBytes path → home.«record».making ≡ Some path
+    → Clears path a b → Effect IsOurs (IfDurable a (LetsGo home.«record» a.files)) a b
+let-go-clear path a b home names is bytes making effect =
+    effect_widen (λ name at. inr (path, bytes, at)) (λ image here others durable.
     let other : OtherMedia path a.files image = λ p are differ. durable p are (image (medium_file p)) (others (medium_file p) (λ at. differ (names p path are bytes at)) (inr (p, are, refl))) in
     record {
       «record» = home.«record»;
       home = home_left image is (λ name own. others name (off-own path name own) (inl own));
       number = refl;
       counter = refl;
+      none = λ before. before;
       media = λ w media.
           let Before : Option (List ℕ) → Type 0 = λ m. KeepsMedia w m a.files in
           let After : Option (List ℕ) → Type 0 = λ m. KeepsMedia w m image in
@@ -459,14 +458,14 @@ let-go-clear path a b home names is durable bytes making effect =
     }) effect
 
 -- and then the record names it no longer
-let-go-put : (path : List ℕ) (a b c : Disk) (home : KeptHome) (next : Record) → NamesDiffer → MediaAreDurable a → AreBytes path → home.«record».making ≡ Some path
+let-go-put : (path : List ℕ) (a b c : Disk) (home : KeptHome) (next : Record) → NamesDiffer → AreBytes path → home.«record».making ≡ Some path
     → Clears path a b
-    → IsCleared (a.files (medium_file path)) (b.files (medium_file path)) → IsDurable b (medium_file path)
+    → IsCleared (a.files (medium_file path)) (b.files (medium_file path)) → (IsDurable a (medium_file path) → IsDurable b (medium_file path))
     → next.number ≡ home.«record».number → next.counter ≡ home.«record».counter → next.making ≡ None
-    → Effect IsOwn (λ image. HomeIs image home.«record» (blobs_of b.files) ⊎ HomeIs image next (blobs_of b.files)) b c → Effect IsOurs (LetsGo home.«record» a.files) b c
-let-go-put path a b c home next names durable bytes making first cleared calm number counter none effect =
-    effect_widen (λ name own. inl own) (λ image here others.
-    let there : SameMedia b.files image = λ p are. media-left-durable path a b first durable calm p are (image (medium_file p)) (others (medium_file p) (not-own p) (inr (p, are, refl))) in
+    → Effect IsOwn (λ image. HomeIs image home.«record» (blobs_of b.files) ⊎ HomeIs image next (blobs_of b.files)) b c → Effect IsOurs (IfDurable a (LetsGo home.«record» a.files)) b c
+let-go-put path a b c home next names bytes making first cleared calm number counter none effect =
+    effect_widen (λ name own. inl own) (λ image here others durable.
+    let there : SameMedia b.files image = λ p are. media-left-durable path a b first durable (calm (durable path bytes)) p are (image (medium_file p)) (others (medium_file p) (not-own p) (inr (p, are, refl))) in
     let other : OtherMedia path a.files image = λ p are differ. there p are ∙ first.others (medium_file p) (λ at. differ (names p path are bytes at)) in
     let Blobs : Record → List (List ℕ) → Type 0 = HomeIs image in
     let Is : Option (List ℕ) → Type 0 = λ file. IsCleared (a.files (medium_file path)) file in
@@ -478,6 +477,7 @@ let-go-put path a b c home next names durable bytes making first cleared calm nu
             home = let Old : List (List ℕ) → Type 0 = Blobs home.«record» in subst Old (blobs-cleared path a b first) old;
             number = refl;
             counter = refl;
+            none = λ before. before;
             media = λ w media.
                 let Before : Option (List ℕ) → Type 0 = λ m. KeepsMedia w m a.files in
                 let After : Option (List ℕ) → Type 0 = λ m. KeepsMedia w m image in
@@ -489,6 +489,7 @@ let-go-put path a b c home next names durable bytes making first cleared calm nu
             home = let New : List (List ℕ) → Type 0 = Blobs next in subst New (blobs-cleared path a b first) new;
             number = number;
             counter = counter;
+            none = λ was. none;
             media = λ w media.
                 let Before : Option (List ℕ) → Type 0 = λ m. KeepsMedia w m a.files in
                 let After : Option (List ℕ) → Type 0 = λ m. KeepsMedia w m image in
@@ -496,35 +497,35 @@ let-go-put path a b c home next names durable bytes making first cleared calm nu
           }
     ]) effect
 
-pub let-go-then : (path : List ℕ) (a b c : Disk) (home : KeptHome) (next : Record) → NamesDiffer → IsHome a home → MediaAreDurable a → AreBytes path → home.«record».making ≡ Some path
+pub let-go-then : (path : List ℕ) (a b c : Disk) (home : KeptHome) (next : Record) → NamesDiffer → IsHome a home → AreBytes path → home.«record».making ≡ Some path
     → Clears path a b
-    → IsCleared (a.files (medium_file path)) (b.files (medium_file path)) → IsDurable b (medium_file path)
+    → IsCleared (a.files (medium_file path)) (b.files (medium_file path)) → (IsDurable a (medium_file path) → IsDurable b (medium_file path))
     → next.number ≡ home.«record».number → next.counter ≡ home.«record».counter → next.making ≡ None
-    → Effect IsOwn (λ image. HomeIs image home.«record» (blobs_of b.files) ⊎ HomeIs image next (blobs_of b.files)) b c → Effect IsOurs (LetsGo home.«record» a.files) a c
-let-go-then path a b c home next names is durable bytes making first cleared calm number counter none second =
-    effect_then (let-go-clear path a b home names is durable bytes making first) (let-go-put path a b c home next names durable bytes making first cleared calm number counter none second)
+    → Effect IsOwn (λ image. HomeIs image home.«record» (blobs_of b.files) ⊎ HomeIs image next (blobs_of b.files)) b c → Effect IsOurs (IfDurable a (LetsGo home.«record» a.files)) a c
+let-go-then path a b c home next names is bytes making first cleared calm number counter none second =
+    effect_then (let-go-clear path a b home names is bytes making first) (let-go-put path a b c home next names bytes making first cleared calm number counter none second)
 
 -- All of it.
 
 -- the changes are read
-pub read-crash : (number : ℕ) (a b c : Disk) (home : KeptHome) → Effect IsOurs (LeavesWorlds number a.files) a b → ((w : World) → Stands number a.files w → Stands number b.files w)
-    → IsHome b home → MediaAreDurable b → ChangesNothing b c → Effect IsOurs (LeavesWorlds number a.files) a c
+pub read-crash : (number : ℕ) (a b c : Disk) (home : KeptHome) → Effect IsOurs (LeavesOpened number a) a b → ((w : World) → Stands number a.files w → Stands number b.files w)
+    → IsHome b home → (IsSettled a → MediaAreDurable b) → ChangesNothing b c → Effect IsOurs (LeavesOpened number a) a c
 read-crash number a b c home first same is media nothing =
-    effect_then first (effect_of_nothing (λ image left w stands.
-    covers-same number b.files image (opened w) (λ name ours. ours-durable b home is media name ours (image name) (left name ours)) (stands-covers number b.files w (same w stands))) nothing)
+    effect_then first (effect_of_nothing (λ image left settled w stands.
+    covers-same number b.files image (opened w) (λ name ours. ours-durable b home is (media settled) name ours (image name) (left name ours)) (stands-covers number b.files w (same w stands))) nothing)
 
 -- then the medium is let go
-pub load-crash : (number : ℕ) (a b c d : Disk) (home : KeptHome) → Effect IsOurs (LeavesWorlds number a.files) a b → ((w : World) → Stands number a.files w → Stands number b.files w)
-    → IsHome b home → MediaAreDurable b → ChangesNothing b c → Effect IsOurs (LetsGo home.«record» c.files) c d → Effect IsOurs (LeavesWorlds number a.files) a d
+pub load-crash : (number : ℕ) (a b c d : Disk) (home : KeptHome) → Effect IsOurs (LeavesOpened number a) a b → ((w : World) → Stands number a.files w → Stands number b.files w)
+    → IsHome b home → (IsSettled a → MediaAreDurable b) → ChangesNothing b c → Effect IsOurs (IfDurable c (LetsGo home.«record» c.files)) c d → Effect IsOurs (LeavesOpened number a) a d
 load-crash number a b c d home first same is media nothing second =
-    effect_then (read-crash number a b c home first same is media nothing) (effect_weaken (λ image here w stands.
-    stands-covers number image w (lets-go-stands number c.files image w home.«record» (home_files (home_kept (keeps_by_nothing nothing) is)) here (stands-on number w nothing (same w stands)))) second)
+    effect_then (read-crash number a b c home first same is media nothing) (effect_weaken (λ image here settled w stands.
+    stands-covers number image w (lets-go-stands number c.files image w home.«record» (home_files (home_kept (keeps_by_nothing nothing) is)) (here (media-on-nothing nothing (media settled))) (stands-on number w nothing (same w stands)))) second)
 
 -- and the files stand for the same worlds
 pub load-stands : (number : ℕ) (a b c d : Disk) (home : KeptHome) (w : World) → IsLawful d → ((w : World) → Stands number a.files w → Stands number b.files w) → IsHome b home → ChangesNothing b c
-    → Effect IsOurs (LetsGo home.«record» c.files) c d → Stands number a.files w → Stands number d.files w
-load-stands number a b c d home w lawful same is nothing second stands =
-    lets-go-stands number c.files d.files w home.«record» (home_files (home_kept (keeps_by_nothing nothing) is)) (second.now d.files (λ name ours. lawful.reads name)) (stands-on number w nothing (same w stands))
+    → MediaAreDurable c → Effect IsOurs (IfDurable c (LetsGo home.«record» c.files)) c d → Stands number a.files w → Stands number d.files w
+load-stands number a b c d home w lawful same is nothing durable second stands =
+    lets-go-stands number c.files d.files w home.«record» (home_files (home_kept (keeps_by_nothing nothing) is)) (second.now d.files (λ name ours. lawful.reads name) durable) (stands-on number w nothing (same w stands))
 
 -- where the changes don't fit there is no such world
 pub broken-rows : (number : ℕ) (b : Disk) (home : KeptHome) (w : World) → IsHome b home → replayed (blobs_of b.files) ≡ None → Stands number b.files w → ⊥

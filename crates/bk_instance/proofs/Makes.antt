@@ -17,11 +17,12 @@ use Rattle.bk_media.specs.Laws.{nothing_sealed, medium_kept}
 use Rattle.bk_media.specs.Media.{HasSets, LeavesMade, IsMedium}
 use Rattle.bk_media.specs.Names.{medium_file}
 use Rattle.bk_instance.specs.declared.instance.Instance.{Instance}
+use Rattle.bk_instance.specs.Media.{MediaAreDurable, IfDurable}
 use Rattle.bk_instance.specs.Stands.{Stored, IsReady, IsStored, IsOurs}
 use Rattle.bk_instance.specs.Steps.{Reaches, Unchanged, NotMade, MadeEmpty, Making}
-use Rattle.bk_instance.proofs.Covering.{stored-left}
+use Rattle.bk_instance.proofs.Covering.{Since, since-now, stored-left}
 use Rattle.bk_instance.proofs.OneParts.{own-widens}
-use Rattle.bk_instance.proofs.Stores.{not-own, media-kept, reserve-none}
+use Rattle.bk_instance.proofs.Stores.{not-own, media-durable, reserve-none}
 
 -- a record under which a medium is being made, or is made, and its file
 pub record Fits (old : Kept) (path : List ℕ) (r : Record) (file : Option (List ℕ)) : Type 0 where
@@ -44,9 +45,9 @@ making-of old files path r image fits stored others =
 -- GUIDs are reserved
 
 pub making-reserved : (i : Instance) (before after : Disk) (path : List ℕ) → IsStored before i → AreBytes path → before.files (medium_file path) ≡ None → Effect IsOwn (Reaches i.kept (Unchanged i.kept)) before after
-    → Effect IsOurs (Making i.kept before.files path) before after
+    → Effect IsOurs (IfDurable before (Making i.kept before.files path)) before after
 making-reserved i before after path stored bytes absent effect =
-    own-widens i before after stored (λ image reached same. inl (record {
+    own-widens i before after (since-now stored) (λ image reached same. inl (record {
       «record» = reached.«record»;
       stored = subst (Stored image reached.«record») reached.reached.1 reached.stored;
       number = reached.number;
@@ -56,18 +57,18 @@ making-reserved i before after path stored bytes absent effect =
       others = λ other are apart. same other are;
     })) effect
 
-pub making-begun : (i : Instance) (disk : Disk) (path : List ℕ) → IsReady i → IsStored disk i → AreBytes path → disk.files (medium_file path) ≡ None → Effect IsOurs (Making i.kept disk.files path) disk disk
+pub making-begun : (i : Instance) (disk : Disk) (path : List ℕ) → IsReady i → IsStored disk i → AreBytes path → disk.files (medium_file path) ≡ None → Effect IsOurs (IfDurable disk (Making i.kept disk.files path)) disk disk
 making-begun i disk path ready stored bytes absent = making-reserved i disk disk path stored bytes absent (reserve-none i disk ready stored)
 
 -- the record is put
 
-pub making-put : (i j : Instance) (first before after : Disk) (path : List ℕ) (next : Record) → IsStored before j → j.kept ≡ i.kept → AreBytes path → SameOthers first.files path before.files
+pub making-put : (i j : Instance) (first before after : Disk) (path : List ℕ) (next : Record) → Since first before j → j.kept ≡ i.kept → AreBytes path → SameOthers first.files path before.files
     → Fits i.kept path j.home.«record» (before.files (medium_file path)) → Fits i.kept path next (before.files (medium_file path))
     → Effect IsOwn (λ image. HomeIs image j.home.«record» (blobs_of before.files) ⊎ HomeIs image next (blobs_of before.files)) before after
-    → Effect IsOurs (Making i.kept first.files path) before after
-making-put i j first before after path next stored same bytes others old new effect =
-    own-widens j before after stored (λ image here media.
-    let rows : replayed (blobs_of before.files) ≡ Some i.kept.databases.items = stored.rows ∙ ap (λ (k : Kept). Some k.databases.items) same in
+    → Effect IsOurs (IfDurable first (Making i.kept first.files path)) before after
+making-put i j first before after path next since same bytes others old new effect =
+    own-widens j before after since (λ image here media.
+    let rows : replayed (blobs_of before.files) ≡ Some i.kept.databases.items = since.stored.rows ∙ ap (λ (k : Kept). Some k.databases.items) same in
     let rest : SameOthers first.files path image = λ other are apart. media other are ∙ others other are apart in
     let there : image (medium_file path) ≡ before.files (medium_file path) = media path bytes in
     elim here [
@@ -85,32 +86,32 @@ pub other-durable : {P : Files → Type 0} (before after : Disk) (path other : L
 other-durable before after path other effect apart durable =
     durable_kept {names = IsName (medium_file other)} (medium_file other) refl (keeps_by_effect (λ name is at. apart (sym is ∙ at)) effect) durable
 
-pub stored-beside : {P : Files → Type 0} (j : Instance) (before after : Disk) (path : List ℕ) → Effect (IsName (medium_file path)) P before after → IsStored before j
-    → ((other : List ℕ) → AreBytes other → (medium_file other ≡ medium_file path) ⊎ (medium_file other ≢ medium_file path)) → IsDurable after (medium_file path) → IsStored after j
-stored-beside j before after path effect stored tell durable =
+pub stored-beside : {P : Files → Type 0} {first : Disk} (j : Instance) (before after : Disk) (path : List ℕ) → Effect (IsName (medium_file path)) P before after → Since first before j
+    → ((other : List ℕ) → AreBytes other → (medium_file other ≡ medium_file path) ⊎ (medium_file other ≢ medium_file path)) → IsDurable after (medium_file path) → Since first after j
+stored-beside j before after path effect since tell durable =
     let keeps : KeepsFiles IsOwn before after = own-kept before after path effect in
     record {
-      home = home_kept keeps stored.home;
-      rows = ap replayed (home_files_kept keeps).1 ∙ stored.rows;
-      media = λ other bytes. elim (tell other bytes) [
+      stored = record { home = home_kept keeps since.stored.home; rows = ap replayed (home_files_kept keeps).1 ∙ since.stored.rows };
+      calm = λ before_all other bytes. elim (tell other bytes) [
         | inl same ↦ subst (IsDurable after) (sym same) durable
-        | inr apart ↦ other-durable before after path other effect apart (stored.media other bytes)
+        | inr apart ↦ other-durable before after path other effect apart (since.calm before_all other bytes)
       ];
     }
 
-pub making-made : (i j : Instance) (first before after : Disk) (path : List ℕ) → IsStored before j → j.kept ≡ i.kept → AreBytes path → SameOthers first.files path before.files
+pub making-made : (i j : Instance) (first before after : Disk) (path : List ℕ) → Since first before j → j.kept ≡ i.kept → AreBytes path → SameOthers first.files path before.files
     → before.files (medium_file path) ≡ None → Fits i.kept path j.home.«record» None → j.home.«record».making ≡ Some path
     → Effect (IsName (medium_file path)) (λ image. LeavesMade (before.may (medium_file path)) (image (medium_file path))) before after
-    → Effect IsOurs (Making i.kept first.files path) before after
-making-made i j first before after path stored same bytes others absent fits named effect =
+    → Effect IsOurs (IfDurable first (Making i.kept first.files path)) before after
+making-made i j first before after path since same bytes others absent fits named effect =
     effect_widen (λ name is. inr (path, bytes, is))
-    (λ image here rest.
-    let own : Stored image j.home.«record» j.kept.databases.items = stored-left j before image stored (λ name mine. rest name (λ is. not-own path (subst IsOwn is mine)) (inl mine)) in
+    (λ image here rest calm.
+    let durable : MediaAreDurable before = since.calm calm in
+    let own : Stored image j.home.«record» j.kept.databases.items = stored-left j before image since.stored (λ name mine. rest name (λ is. not-own path (subst IsOwn is mine)) (inl mine)) in
     let mine : Stored image j.home.«record» i.kept.databases.items = subst (λ (k : Kept). Stored image j.home.«record» k.databases.items) same own in
-    let beside : SameOthers first.files path image = λ other are apart. stored.media other are (image (medium_file other)) (rest (medium_file other) apart (inr (other, are, refl))) ∙ others other are apart in
+    let beside : SameOthers first.files path image = λ other are apart. durable other are (image (medium_file other)) (rest (medium_file other) apart (inr (other, are, refl))) ∙ others other are apart in
     let state : NotMade path j.home.«record».making (image (medium_file path)) ⊎ MadeEmpty path j.home.«record».making (image (medium_file path)) =
     elim here [
-      | inl was ↦ inl (inr (named, ap sealed (stored.media path bytes (image (medium_file path)) was ∙ absent) ∙ nothing_sealed))
+      | inl was ↦ inl (inr (named, ap sealed (durable path bytes (image (medium_file path)) was ∙ absent) ∙ nothing_sealed))
       | inr next ↦ elim next [ inl begun ↦ inl (inr (named, begun)) | inr made ↦ inr (inr named, made) ]
     ] in
     making-of i.kept first.files path j.home.«record» image (record { number = fits.number; no_less = fits.no_less; no_more = fits.no_more; is = state }) mine beside) effect
@@ -163,12 +164,11 @@ fits-unnamed i j held path file is_held ready same reserved has = record {
 }
 
 -- a record that is put leaves databases and media
-pub stored-put : {P : Files → Type 0} (j : Instance) (before after : Disk) (home : KeptHome) → IsStored before j → Effect IsOwn P before after → IsHome after home → blobs_of after.files ≡ blobs_of before.files
-    → IsStored after (record j { home = home })
-stored-put j before after home stored effect is blobs = record {
-  home = is;
-  rows = ap replayed blobs ∙ stored.rows;
-  media = λ path bytes. media-kept before after path effect (stored.media path bytes);
+pub stored-put : {P : Files → Type 0} {first : Disk} (j : Instance) (before after : Disk) (home : KeptHome) → Since first before j → Effect IsOwn P before after → IsHome after home → blobs_of after.files ≡ blobs_of before.files
+    → Since first after (record j { home = home })
+stored-put j before after home since effect is blobs = record {
+  stored = record { home = is; rows = ap replayed blobs ∙ since.stored.rows };
+  calm = λ calm. media-durable before after effect (since.calm calm);
 }
 
 -- Two paths.

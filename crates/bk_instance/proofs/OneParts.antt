@@ -19,36 +19,36 @@ use Rattle.bk_world.specs.declared.rule.Rule.{Rule}
 use Rattle.bk_world.specs.Machine.{Choice, Step, IsAllowed, MayChoose, Outcome, step, unless, broken, accepted, last_world}
 use Rattle.bk_world.specs.World.{World, current_name}
 use Rattle.bk_instance.specs.declared.instance.Instance.{Instance}
-use Rattle.bk_instance.specs.Media.{KeepsMedia}
+use Rattle.bk_instance.specs.Media.{KeepsMedia, IfDurable}
 use Rattle.bk_instance.specs.Stands.{Stored, Covers, CutAt, IsReady, IsStored, StandsFor, IsOurs, Answers, Cuts}
 use Rattle.bk_instance.specs.Steps.{Reaches, OneChange, Draws}
-use Rattle.bk_instance.proofs.Covering.{SameMedia, media-in, media-on, now-covers}
+use Rattle.bk_instance.proofs.Covering.{SameMedia, Since, since-now, media-in, media-on, now-covers}
 use Rattle.bk_instance.proofs.Stores.{not-own}
 
 -- From own files to all files of an instance.
 
 -- other files are media, and stay
-pub own-widens : {P Q : Files → Type 0} (i : Instance) (before after : Disk) → IsStored before i → ((image : Files) → P image → SameMedia before.files image → Q image) → Effect IsOwn P before after → Effect IsOurs Q before after
-own-widens i before after stored leads effect =
+pub own-widens : {P Q : Files → Type 0} {first : Disk} (i : Instance) (before after : Disk) → Since first before i → ((image : Files) → P image → SameMedia before.files image → Q image) → Effect IsOwn P before after → Effect IsOurs (IfDurable first Q) before after
+own-widens i before after since leads effect =
     effect_widen (λ name own. inl own)
-    (λ image here others. leads image here (λ path bytes. stored.media path bytes (image (medium_file path)) (others (medium_file path) (not-own path) (inr (path, bytes, refl))))) effect
+    (λ image here others durable. leads image here (λ path bytes. since.calm durable path bytes (image (medium_file path)) (others (medium_file path) (not-own path) (inr (path, bytes, refl))))) effect
 
 -- and what is there then
 pub media-after : {P : Files → Type 0} (before after : Disk) → Effect IsOwn P before after → SameMedia before.files after.files
 media-after before after effect path bytes = effect.others (medium_file path) (not-own path)
 
 -- nothing was done
-pub cuts-none : (i : Instance) (disk : Disk) (s : Statement) (now : ℕ) → IsReady i → IsStored disk i → Effect IsOurs (Cuts i disk s now) disk disk
-cuts-none i disk s now ready stored = effect_none disk (λ image left w stands. inl (now-covers i disk w image ready stored left stands))
+pub cuts-none : (i : Instance) (disk : Disk) (s : Statement) (now : ℕ) → IsReady i → IsStored disk i → Effect IsOurs (IfDurable disk (Cuts i disk s now)) disk disk
+cuts-none i disk s now ready stored = effect_none disk (λ image left durable number w stands. inl (now-covers number i disk w image ready stored durable left stands))
 
 -- Files that hold what a part leads to.
-pub covers-part : (old : Instance) (disk : Disk) (w v : World) (image : Files) (r : Record) (kept : List KeptDatabase) → StandsFor old disk w → SameMedia disk.files image → Stored image r kept → LeadsTo w v kept
-    → v.media ≡ w.media → r.number ≡ old.kept.number → r.making ≡ None → v.counter ≤ r.counter → r.counter ≤ v.counter + 1024 → Covers old.kept.number image v
-covers-part old disk w v image r kept stands same stored leads media number none no_less no_more = record {
+pub covers-part : (number : ℕ) (old : Instance) (disk : Disk) (w v : World) (image : Files) (r : Record) (kept : List KeptDatabase) → StandsFor old disk w → SameMedia disk.files image → Stored image r kept → LeadsTo w v kept
+    → v.media ≡ w.media → r.number ≡ old.kept.number → r.making ≡ None → v.counter ≤ r.counter → r.counter ≤ v.counter + 1024 → Covers number image v
+covers-part number old disk w v image r kept stands same stored leads media own none no_less no_more = record {
   «record» = r;
   kept = kept;
   holds = inr stored;
-  instance = leads.goes.instance ∙ stands.keeps.number ∙ sym number;
+  instance = leads.goes.instance ∙ stands.keeps.number ∙ sym own;
   no_less = no_less;
   no_more = no_more;
   databases = leads.keeps;
@@ -73,9 +73,9 @@ ByChange old s now reply n c = (w : World) → Keeps w old.kept → (kept : List
 
 pub one-cuts : (old : Instance) (disk : Disk) (s : Statement) (now : ℕ) (reply : Reply) (n : ℕ) (c : Change) (image : Files) → IsReady old → ByChange old s now reply n c
     → Reaches old.kept (OneChange old.kept n c) image → SameMedia disk.files image → Cuts old disk s now image
-one-cuts old disk s now reply n c image ready law reached same w stands = by reached.reached
+one-cuts old disk s now reply n c image ready law reached same number w stands = by reached.reached
   where
-    by : OneChange old.kept n c reached.drawn reached.kept → CutAt old.kept.number w s now image
+    by : OneChange old.kept n c reached.drawn reached.kept → CutAt number w s now image
     by (inl before) = inl (record {
       «record» = reached.«record»;
       kept = reached.kept;
@@ -92,8 +92,8 @@ one-cuts old disk s now reply n c image ready law reached same w stands = by rea
           choice = part.choice;
           n = 1;
           allowed = part.allowed;
-          covers = subst (Covers old.kept.number image) (sym (ap (λ parts. last_world w (take 1 parts)) part.parts))
-              (covers-part old disk w part.v image reached.«record» reached.kept stands same reached.stored part.leads part.media reached.number reached.none
+          covers = subst (Covers number image) (sym (ap (λ parts. last_world w (take 1 parts)) part.parts))
+              (covers-part number old disk w part.v image reached.«record» reached.kept stands same reached.stored part.leads part.media reached.number reached.none
               (omega (arith, part.counter, stands.keeps.counter, reached.no_less, after.0)) (omega (arith, part.counter, stands.keeps.counter, reached.no_more)));
         })
 
@@ -154,9 +154,9 @@ refused-answers i disk line item now rule broken_by w stands = (w, stepped-refus
 
 -- a change that is logged: a crash leaves the world before it or after it
 pub logged-cuts : (i : Instance) (before after : Disk) (s : Statement) (now : ℕ) (reply : Reply) (n : ℕ) (c : Change) → IsReady i → IsStored before i → ByChange i s now reply n c
-    → Effect IsOwn (Reaches i.kept (OneChange i.kept n c)) before after → Effect IsOurs (Cuts i before s now) before after
+    → Effect IsOwn (Reaches i.kept (OneChange i.kept n c)) before after → Effect IsOurs (IfDurable before (Cuts i before s now)) before after
 logged-cuts i before after s now reply n c ready stored law effect =
-    own-widens i before after stored (λ image reached same. one-cuts i before s now reply n c image ready law reached same) effect
+    own-widens i before after (since-now stored) (λ image reached same. one-cuts i before s now reply n c image ready law reached same) effect
 
 pub logged-answers : (old new : Instance) (before after : Disk) (s : Statement) (now : ℕ) (reply : Reply) (n : ℕ) (c : Change) → ByChange old s now reply n c → Draws old n c new
     → Effect IsOwn (Reaches old.kept (OneChange old.kept n c)) before after → Answers old before s now reply new after

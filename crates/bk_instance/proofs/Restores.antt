@@ -17,7 +17,7 @@ use Rattle.bk_changes.specs.Applied.{applied, changed, placed, has_name, most_da
 use Rattle.bk_changes.specs.Made.{taken_over}
 use Rattle.bk_changes.specs.Replayed.{replayed}
 use Rattle.bk_device.specs.Calls.{ChangesNothing}
-use Rattle.bk_device.specs.Compose.{effect_then, effect_weaken, effect_of_nothing, keeps_by_nothing, durable_kept}
+use Rattle.bk_device.specs.Compose.{effect_then, effect_weaken, effect_of_nothing, keeps_by_nothing}
 use Rattle.bk_device.specs.Disk.{Files, Disk}
 use Rattle.bk_device.specs.Effects.{Effect}
 use Rattle.bk_home.specs.Home.{IsOwn}
@@ -51,11 +51,11 @@ use Rattle.bk_world.specs.Medium.{Slot, readable, medium, medium_at}
 use Rattle.bk_world.specs.Restore.{replaced, taken_over as world_taken_over, base_of, recovered_world, whole_restore, whole_broken, set_broken, name_known}
 use Rattle.bk_world.specs.World.{World, Database, database_named, current_name}
 use Rattle.bk_instance.specs.declared.instance.Instance.{Instance}
-use Rattle.bk_instance.specs.Media.{IsFirst}
+use Rattle.bk_instance.specs.Media.{IsFirst, IfDurable}
 use Rattle.bk_instance.specs.Plans.{known_name, restoring}
 use Rattle.bk_instance.specs.Stands.{Stored, Covers, CutAt, IsReady, IsStored, StandsFor, IsOurs, Answers, Cuts}
 use Rattle.bk_instance.specs.Steps.{Changed, Reaches, Unchanged, IsSame, Draws, AllOf, SomeOf, SomeChanges, DrawsAll}
-use Rattle.bk_instance.proofs.Covering.{SameMedia, media-in, media-on, now-covers}
+use Rattle.bk_instance.proofs.Covering.{SameMedia, since-now, media-in, media-on, media-on-nothing, now-covers}
 use Rattle.bk_instance.proofs.OneParts.{own-widens, media-after, covers-part, stepped-refused}
 use Rattle.bk_instance.proofs.Paths.{text-bytes}
 
@@ -116,7 +116,6 @@ pub stored-nothing : (i : Instance) (a b : Disk) → ChangesNothing a b → IsSt
 stored-nothing i a b call stored = record {
   home = home_kept (keeps_by_nothing call) stored.home;
   rows = ap replayed (home_files_kept (keeps_by_nothing call)).1 ∙ stored.rows;
-  media = λ path bytes. durable_kept {names = IsOurs} (medium_file path) (inr (path, bytes, refl)) (keeps_by_nothing call) (stored.media path bytes);
 }
 
 pub stands-nothing : (i : Instance) (a b : Disk) (w : World) → ChangesNothing a b → StandsFor i a w → StandsFor i b w
@@ -125,12 +124,13 @@ stands-nothing i a b w call stands = record { keeps = stands.keeps; media = medi
 pub answers-through : (old new : Instance) (a b after : Disk) (s : Statement) (now : ℕ) (reply : Reply) → ChangesNothing a b → Answers old b s now reply new after → Answers old a s now reply new after
 answers-through old new a b after s now reply call answers w stands = answers w (stands-nothing old a b w call stands)
 
-pub cuts-nothing : (i : Instance) (a b : Disk) (s : Statement) (now : ℕ) → IsReady i → IsStored a i → ChangesNothing a b → Effect IsOurs (Cuts i a s now) a b
-cuts-nothing i a b s now ready stored call = effect_of_nothing (λ image left w stands. inl (now-covers i a w image ready stored left stands)) call
+pub cuts-nothing : (i : Instance) (a b : Disk) (s : Statement) (now : ℕ) → IsReady i → IsStored a i → ChangesNothing a b → Effect IsOurs (IfDurable a (Cuts i a s now)) a b
+cuts-nothing i a b s now ready stored call = effect_of_nothing (λ image left durable number w stands. inl (now-covers number i a w image ready stored durable left stands)) call
 
-pub cuts-through : (i : Instance) (a b c : Disk) (s : Statement) (now : ℕ) → IsReady i → IsStored a i → ChangesNothing a b → Effect IsOurs (Cuts i b s now) b c → Effect IsOurs (Cuts i a s now) a c
+pub cuts-through : (i : Instance) (a b c : Disk) (s : Statement) (now : ℕ) → IsReady i → IsStored a i → ChangesNothing a b → Effect IsOurs (IfDurable b (Cuts i b s now)) b c
+    → Effect IsOurs (IfDurable a (Cuts i a s now)) a c
 cuts-through i a b c s now ready stored call effect =
-    effect_then (cuts-nothing i a b s now ready stored call) (effect_weaken (λ image cuts w stands. cuts w (stands-nothing i a b w call stands)) effect)
+    effect_then (cuts-nothing i a b s now ready stored call) (effect_weaken (λ image cuts durable number w stands. cuts (media-on-nothing call durable) number w (stands-nothing i a b w call stands)) effect)
 
 -- Several changes.
 
@@ -285,10 +285,10 @@ still-leads w kept keeps = record { goes = goes-same w w refl (omega arith) refl
 
 pub some-cuts : (old : Instance) (disk : Disk) (s : Statement) (now : ℕ) (reply : Reply) (n : ℕ) (cs : List Change) (image : Files) → ByChanges old disk s now reply n cs
     → Reaches old.kept (SomeChanges old.kept n cs) image → SameMedia disk.files image → Cuts old disk s now image
-some-cuts old disk s now reply n cs image law reached same w stands = by reached.reached
+some-cuts old disk s now reply n cs image law reached same number w stands = by reached.reached
   where
-    by : SomeChanges old.kept n cs reached.drawn reached.kept → CutAt old.kept.number w s now image
-    by (inl before) = inl (covers-part old disk w w image reached.«record» reached.kept stands same reached.stored
+    by : SomeChanges old.kept n cs reached.drawn reached.kept → CutAt number w s now image
+    by (inl before) = inl (covers-part number old disk w w image reached.«record» reached.kept stands same reached.stored
         (still-leads w reached.kept (subst (KeepsDatabases w) (sym before.1) stands.keeps.databases)) refl reached.number reached.none
         (omega (arith, stands.keeps.counter, reached.no_less)) (omega (arith, stands.keeps.counter, reached.no_more)))
     by (inr after) =
@@ -298,15 +298,15 @@ some-cuts old disk s now reply n cs image law reached same w stands = by reached
           choice = of.choice;
           n = front.n;
           allowed = of.allowed;
-          covers = subst (λ parts. Covers old.kept.number image (last_world w (take front.n parts))) (sym of.are)
-              (covers-part old disk w (last_world w (take front.n of.parts)) image reached.«record» reached.kept stands same reached.stored front.leads front.media reached.number reached.none
+          covers = subst (λ parts. Covers number image (last_world w (take front.n parts))) (sym of.are)
+              (covers-part number old disk w (last_world w (take front.n of.parts)) image reached.«record» reached.kept stands same reached.stored front.leads front.media reached.number reached.none
               (omega (arith, front.no_more, stands.keeps.counter, reached.no_less, after.0)) (omega (arith, front.leads.goes.counter, stands.keeps.counter, reached.no_more)));
         })
 
 pub changed-cuts : (i : Instance) (before after : Disk) (s : Statement) (now : ℕ) (reply : Reply) (n : ℕ) (cs : List Change) → IsStored before i → ByChanges i before s now reply n cs
-    → Effect IsOwn (Reaches i.kept (SomeChanges i.kept n cs)) before after → Effect IsOurs (Cuts i before s now) before after
+    → Effect IsOwn (Reaches i.kept (SomeChanges i.kept n cs)) before after → Effect IsOurs (IfDurable before (Cuts i before s now)) before after
 changed-cuts i before after s now reply n cs stored law effect =
-    own-widens i before after stored (λ image reached same. some-cuts i before s now reply n cs image law reached same) effect
+    own-widens i before after (since-now stored) (λ image reached same. some-cuts i before s now reply n cs image law reached same) effect
 
 pub changed-answers : (old new : Instance) (before after : Disk) (s : Statement) (now : ℕ) (reply : Reply) (n : ℕ) (cs : List Change) → ByChanges old before s now reply n cs → DrawsAll old n cs new
     → Effect IsOwn (Reaches old.kept (SomeChanges old.kept n cs)) before after → Answers old before s now reply new after
@@ -543,7 +543,7 @@ restores-law i a b line name path replace now body known call of =
 pub restore-cuts : (i : Instance) (a b d : Disk) (line : ℕ) (name path : List ℕ) (replace : Bool) (now : ℕ) (body : SetBody) (known : List ℕ) → IsReady i → IsStored a i → ChangesNothing a b
     → Restores i a.files name path replace body known
     → Effect IsOwn (Reaches i.kept (SomeChanges i.kept 1 (restoring known body (record { high = i.kept.number; low = i.kept.counter })))) b d
-    → Effect IsOurs (Cuts i a (record { item = Restore name path replace; line = line }) now) a d
+    → Effect IsOurs (IfDurable a (Cuts i a (record { item = Restore name path replace; line = line }) now)) a d
 restore-cuts i a b d line name path replace now body known ready stored call of effect =
     cuts-through i a b d (record { item = Restore name path replace; line = line }) now ready stored call
     (changed-cuts i b d (record { item = Restore name path replace; line = line }) now (Recovered body.header.last) 1 (restoring known body (record { high = i.kept.number; low = i.kept.counter }))

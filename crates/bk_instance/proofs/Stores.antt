@@ -13,6 +13,7 @@ use Rattle.bk_home.specs.Home.{HomeIs, IsOwn, blobs_of, made_file, control_file,
 use Rattle.bk_kept.specs.declared.kept.Kept.{Kept}
 use Rattle.bk_media.specs.Names.{medium_file}
 use Rattle.bk_instance.specs.declared.instance.Instance.{Instance}
+use Rattle.bk_instance.specs.Media.{MediaAreDurable}
 use Rattle.bk_instance.specs.Stands.{IsReady, IsStored}
 use Rattle.bk_instance.specs.Steps.{Changed, Reaches, Unchanged, OneChange}
 use Rattle.bk_instance.proofs.Covering.{stored-left}
@@ -70,6 +71,9 @@ not-own path own = elim own [
 pub media-kept : {P : Files → Type 0} (before after : Disk) (path : List ℕ) → Effect IsOwn P before after → IsDurable before (medium_file path) → IsDurable after (medium_file path)
 media-kept before after path effect durable content may =
     durable content (effect.others_left (medium_file path) (not-own path) content may) ∙ sym (effect.others (medium_file path) (not-own path))
+
+pub media-durable : {P : Files → Type 0} (before after : Disk) → Effect IsOwn P before after → MediaAreDurable before → MediaAreDurable after
+media-durable before after effect durable path bytes = media-kept before after path effect (durable path bytes)
 
 -- GUIDs are reserved
 

@@ -4,3 +4,4 @@ pub mod Steps
 pub mod Loading
 pub mod Errors
 pub mod Plans
+pub mod Events

@@ -1,17 +1,12 @@
 -- What loading an instance does with a medium that was being made.
 use Rattle.std.specs.Prelude.{◌≡◌, ◌⊎◌, ℕ, true, false, List, Option, None}
-use Rattle.bk_bytes.specs.Field.{AreBytes}
-use Rattle.bk_device.specs.Disk.{Files, Disk, IsDurable}
+use Rattle.bk_device.specs.Disk.{Files, Disk, IsSettled}
 use Rattle.bk_gate.specs.Blobs.{sealed}
 use Rattle.bk_home.specs.declared.record.Record.{Record}
 use Rattle.bk_home.specs.Home.{HomeIs, blobs_of}
-use Rattle.bk_media.specs.Names.{medium_file}
-use Rattle.bk_world.specs.World.{World}
+use Rattle.bk_world.specs.World.{World, opened}
 use Rattle.bk_instance.specs.Media.{KeepsMedia, is_begun}
-
--- nothing is pending in any medium
-abbrev pub MediaAreDurable : Disk → Type 0
-MediaAreDurable disk = (path : List ℕ) → AreBytes path → IsDurable disk (medium_file path)
+use Rattle.bk_instance.specs.Stands.{Stands, Covers}
 
 -- the file of a medium is gone where no blob of it was sealed, and else it is as it was
 abbrev pub IsCleared : Option (List ℕ) → Option (List ℕ) → Type 0
@@ -27,4 +22,9 @@ pub record LetsGo (r : Record) (before image : Files) : Type 0 where
   pub home : HomeIs image «record» (blobs_of before)
   pub number : «record».number ≡ r.number
   pub counter : «record».counter ≡ r.counter
+  pub none : r.making ≡ None → «record».making ≡ None
   pub media : (w : World) → KeepsMedia w r.making before → KeepsMedia w «record».making image
+
+-- where nothing was pending, a crash of loading leaves what a crash may leave of each world that the files stood for, as a run opens it
+abbrev pub LeavesOpened : ℕ → Disk → Files → Type 0
+LeavesOpened number before image = IsSettled before → (w : World) → Stands number before.files w → Covers number image (opened w)

@@ -2,7 +2,7 @@
 use Rattle.std.specs.Prelude.{◌≡◌, ℕ, Bool, true, false, List, [], ◌∷◌, Option, Some, None, Result, Ok, Err, if◌then◌else◌, ◌&&◌}
 use Rattle.std.specs.Str.{bytes_eq}
 use Rattle.bk_bytes.specs.Field.{AreBytes}
-use Rattle.bk_device.specs.Disk.{Files}
+use Rattle.bk_device.specs.Disk.{Files, Disk, IsDurable}
 use Rattle.bk_gate.specs.Blobs.{sealed}
 use Rattle.bk_media.specs.Media.{read_medium, found_at}
 use Rattle.bk_media.specs.Names.{medium_file}
@@ -33,6 +33,14 @@ shown_medium making path file = if is_making making path && is_begun (sealed fil
 pub record KeepsMedia (w : World) (making : Option (List ℕ)) (files : Files) : Type 0 where
   pub read : (path : List ℕ) → AreBytes path → medium_at w.media path ≡ shown_medium making path (files (medium_file path))
   pub carried : (path : List ℕ) (p : ℕ) (body : SetBody) → AreBytes path → found_at (files (medium_file path)) p ≡ Some (Holds body) → IsCarried w body
+
+-- nothing is pending in any medium
+abbrev pub MediaAreDurable : Disk → Type 0
+MediaAreDurable disk = (path : List ℕ) → AreBytes path → IsDurable disk (medium_file path)
+
+-- an image is like this where nothing was pending in any medium
+abbrev pub IfDurable : Disk → (Files → Type 0) → Files → Type 0
+IfDurable disk Is image = MediaAreDurable disk → Is image
 
 -- what the first set of a file is: the body that it holds, or the rule by which it is refused
 abbrev pub IsFirst : Option (List ℕ) → Result SetBody Rule → Type 0

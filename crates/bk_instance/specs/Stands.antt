@@ -1,10 +1,10 @@
 -- Which worlds the files of a device stand for, and which an instance stands for with them.
-use Rattle.std.specs.Prelude.{◌≡◌, ◌⊎◌, ◌≤◌, ℕ, ◌+◌, false, List, [], take, None, Some}
+use Rattle.std.specs.Prelude.{◌≡◌, ◌⊎◌, ◌≤◌, ℕ, ◌+◌, true, false, List, [], take, None, Some}
 use Rattle.bk_bytes.specs.Field.{AreBytes}
 use Rattle.bk_changes.specs.declared.state.Database.{Database as KeptDatabase}
 use Rattle.bk_changes.specs.Replayed.{replayed}
 use Rattle.bk_changes.specs.Sound.{AllSound}
-use Rattle.bk_device.specs.Disk.{Files, Disk, IsDurable}
+use Rattle.bk_device.specs.Disk.{Files, Disk}
 use Rattle.bk_home.specs.declared.record.Record.{Record}
 use Rattle.bk_home.specs.Home.{IsNotMade, HomeIs, IsHome, IsOwn, blobs_of, fresh}
 use Rattle.bk_kept.specs.Kept.{Keeps, KeepsDatabases}
@@ -12,7 +12,7 @@ use Rattle.bk_media.specs.Names.{medium_file}
 use Rattle.bk_world.specs.declared.item.Statement.{Statement}
 use Rattle.bk_world.specs.declared.reply.Reply.{Reply}
 use Rattle.bk_world.specs.Machine.{Choice, Step, IsAllowed, step, last_world}
-use Rattle.bk_world.specs.World.{World}
+use Rattle.bk_world.specs.World.{World, ended}
 use Rattle.bk_instance.specs.declared.instance.Instance.{Instance}
 use Rattle.bk_instance.specs.Media.{KeepsMedia}
 
@@ -37,6 +37,8 @@ pub record Stands (number : ℕ) (files : Files) (w : World) : Type 0 where
   pub counter : w.counter ≡ «record».counter
   pub databases : KeepsDatabases w kept
   pub media : KeepsMedia w «record».making files
+  -- no medium is being made where a run has ended
+  pub finished : w.closed ≡ true → «record».making ≡ None
 
 -- Files hold what a crash leaves of a world: the same, but that GUIDs may have been reserved.
 pub record Covers (number : ℕ) (files : Files) (w : World) : Type 0 where
@@ -71,11 +73,10 @@ pub record IsReady (i : Instance) : Type 0 where
   pub none : i.home.«record».making ≡ None
   pub sound : AllSound i.kept.databases.items
 
--- its files hold its databases, and nothing is pending in them, nor in any medium
+-- its own files hold its databases, and nothing is pending in them
 pub record IsStored (disk : Disk) (i : Instance) : Type 0 where
   pub home : IsHome disk i.home
   pub rows : replayed (blobs_of disk.files) ≡ Some i.kept.databases.items
-  pub media : (path : List ℕ) → AreBytes path → IsDurable disk (medium_file path)
 
 -- it stands for a world, with the media on its device
 pub record StandsFor (i : Instance) (disk : Disk) (w : World) : Type 0 where
@@ -90,6 +91,14 @@ IsOurs name = IsOwn name ⊎ ((path : List ℕ) × AreBytes path × (name ≡ me
 abbrev pub Answers : Instance → Disk → Statement → ℕ → Reply → Instance → Disk → Type 0
 Answers old before s now reply new after = (w : World) → StandsFor old before w → (next : World) × Step w s now reply next × StandsFor new after next
 
--- each crash leaves what a crash of this statement may leave
+-- each crash leaves what a crash of this statement may leave, under each number that is asked for: the instance is made, and has its own
 abbrev pub Cuts : Instance → Disk → Statement → ℕ → Files → Type 0
-Cuts old before s now image = (w : World) → StandsFor old before w → CutAt old.kept.number w s now image
+Cuts old before s now image = (number : ℕ) (w : World) → StandsFor old before w → CutAt number w s now image
+
+-- at the end of a run, each crash leaves what a crash of its world may leave
+abbrev pub CutsEnd : Instance → Disk → Files → Type 0
+CutsEnd i before image = (number : ℕ) (w : World) → StandsFor i before w → Covers number image w
+
+-- and then its files stand for the world of the run that has ended
+abbrev pub StandsEnded : Instance → Disk → Files → Type 0
+StandsEnded i before files = (number : ℕ) (w : World) → StandsFor i before w → Stands number files (ended w)

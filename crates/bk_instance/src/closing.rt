@@ -2,9 +2,9 @@
 ghost use Rattle.std.specs.Prelude.{◌≡◌, ◌≤◌, OnOk, IsErrOf};
 ghost use Rattle.bk_device.specs.Counts.{HasRisen};
 ghost use Rattle.bk_device.specs.Effects.{Effect};
-ghost use Rattle.bk_instance.specs.Stands.{Stands, Covers, IsReady, IsStored, StandsFor, IsOurs};
+ghost use Rattle.bk_instance.specs.Media.{MediaAreDurable, IfDurable};
+ghost use Rattle.bk_instance.specs.Stands.{IsReady, IsStored, IsOurs, CutsEnd, StandsEnded};
 ghost use Rattle.bk_instance.specs.declared.error.ExecuteError.TheVariants as execute;
-ghost use Rattle.bk_world.specs.World.{World, ended};
 
 use crate::error::ExecuteError;
 use crate::instance::Instance;
@@ -17,8 +17,9 @@ impl Instance {
         requires ready { IsReady self.old }
         requires stored { D.tells → IsStored (D.disk dev.old) self.old }
         ensures stored { D.tells → OnOk result (IsStored (D.disk dev.new) self.new) }
-        ensures stands { D.tells → OnOk result ((w : World) → StandsFor self.old (D.disk dev.old) w → Stands self.old.kept.number (D.disk dev.new).files (ended w)) }
-        ensures crash { D.tells → Effect IsOurs (λ image. (w : World) → StandsFor self.old (D.disk dev.old) w → Covers self.old.kept.number image w) (D.disk dev.old) (D.disk dev.new) }
+        ensures media { D.tells → MediaAreDurable (D.disk dev.old) → OnOk result (MediaAreDurable (D.disk dev.new)) }
+        ensures stands { D.tells → OnOk result (StandsEnded self.old (D.disk dev.old) (D.disk dev.new).files) }
+        ensures crash { D.tells → Effect IsOurs (IfDurable (D.disk dev.old) (CutsEnd self.old (D.disk dev.old))) (D.disk dev.old) (D.disk dev.new) }
         ensures cause { IsErrOf result execute.Fault → HasRisen (D.disk_faults dev.old) (D.disk_faults dev.new) }
         ensures never_falls { D.disk_faults dev.old ≤ D.disk_faults dev.new }
         ensures tell_faults { D.tell_faults dev.new ≡ D.tell_faults dev.old }

@@ -2,6 +2,7 @@
 ghost use Rattle.std.specs.Prelude.{◌≡◌, ◌≤◌, IfOk, OnOk, IsErrOf};
 ghost use Rattle.bk_device.specs.Counts.{HasRisen};
 ghost use Rattle.bk_device.specs.Effects.{Effect};
+ghost use Rattle.bk_instance.specs.Media.{MediaAreDurable, IfDurable};
 ghost use Rattle.bk_instance.specs.Stands.{IsReady, IsStored, IsOurs, Answers, Cuts};
 ghost use Rattle.bk_instance.specs.declared.error.ExecuteError.TheVariants as execute;
 
@@ -36,9 +37,10 @@ impl Instance {
         requires stored { D.tells → IsStored (D.disk dev.old) self.old }
         ensures ready { OnOk result (IsReady self.new) }
         ensures stored { D.tells → OnOk result (IsStored (D.disk dev.new) self.new) }
+        ensures media { D.tells → MediaAreDurable (D.disk dev.old) → OnOk result (MediaAreDurable (D.disk dev.new)) }
         ensures number { OnOk result (self.new.kept.number ≡ self.old.kept.number) }
         ensures answers { D.tells → IfOk result (λ reply. Answers self.old (D.disk dev.old) statement.now now reply self.new (D.disk dev.new)) }
-        ensures crash { D.tells → Effect IsOurs (Cuts self.old (D.disk dev.old) statement.now now) (D.disk dev.old) (D.disk dev.new) }
+        ensures crash { D.tells → Effect IsOurs (IfDurable (D.disk dev.old) (Cuts self.old (D.disk dev.old) statement.now now)) (D.disk dev.old) (D.disk dev.new) }
         ensures cause { IsErrOf result execute.Fault → HasRisen (D.disk_faults dev.old) (D.disk_faults dev.new) }
         ensures never_falls { D.disk_faults dev.old ≤ D.disk_faults dev.new }
         ensures tell_faults { D.tell_faults dev.new ≡ D.tell_faults dev.old }

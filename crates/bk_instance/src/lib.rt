@@ -8,6 +8,7 @@ mod databases;
 mod error;
 mod first_set;
 mod instance;
+mod laws;
 mod loading;
 mod making;
 mod planning;
@@ -19,6 +20,7 @@ mod unfinished;
 
 pub use error::{ExecuteError, LoadError};
 pub use instance::Instance;
+pub use laws::{empty_files_stand, events_keep_what_stands};
 
 #[cfg(test)]
 mod tests;

@@ -5,8 +5,9 @@ ghost use Rattle.bk_device.specs.Counts.{HasRisen};
 ghost use Rattle.bk_device.specs.Disk.{IsSettled};
 ghost use Rattle.bk_device.specs.Effects.{Effect, MayLeaveOwn};
 ghost use Rattle.bk_home.specs.Home.{AreDurable, IsHome, IsNoInstance, IsOwn};
-ghost use Rattle.bk_instance.specs.Loading.{MediaAreDurable};
-ghost use Rattle.bk_instance.specs.Stands.{Stands, Covers, IsReady, IsStored, StandsFor, IsOurs};
+ghost use Rattle.bk_instance.specs.Loading.{LeavesOpened};
+ghost use Rattle.bk_instance.specs.Media.{MediaAreDurable};
+ghost use Rattle.bk_instance.specs.Stands.{Stands, IsReady, IsStored, StandsFor, IsOurs};
 ghost use Rattle.bk_instance.specs.declared.error.LoadError.TheVariants as load;
 ghost use Rattle.bk_world.specs.World.{World, opened};
 
@@ -41,7 +42,7 @@ fn open_home<D: Device>(alloc: Global, dev: &mut D, number: u64) -> Result<Home,
     ensures stands { D.tells → IfOk result (λ home. IsHome (D.disk dev.new) home) }
     ensures same { D.tells → OnOk result ((w : World) → Stands number (D.disk dev.old).files w → Stands number (D.disk dev.new).files w) }
     ensures media { D.tells → IsSettled (D.disk dev.old) → OnOk result (MediaAreDurable (D.disk dev.new)) }
-    ensures crash { D.tells → IsSettled (D.disk dev.old) → Effect IsOurs (λ image. (w : World) → Stands number (D.disk dev.old).files w → Covers number image (opened w)) (D.disk dev.old) (D.disk dev.new) }
+    ensures crash { D.tells → Effect IsOurs (LeavesOpened number (D.disk dev.old)) (D.disk dev.old) (D.disk dev.new) }
     ensures not_an_instance { D.tells → IsErrOf result load.NotAnInstance → IsNoInstance (D.disk dev.old).files }
     ensures no_instance { D.tells → IsNoInstance (D.disk dev.old).files → MatchResult result (λ _. ⊥) (λ e. e ≢ load.Broken) }
     ensures untouched { D.tells → IsErrOf result load.NotAnInstance → ChangesNothing (D.disk dev.old) (D.disk dev.new) }
@@ -64,10 +65,11 @@ impl Instance {
     /// nothing is changed; `Broken` only where the files stand for no world.
     pub fn load<D: Device>(alloc: Global, dev: &mut D, number: u64) -> Result<Instance, LoadError>
         ensures ready { IfOk result IsReady }
-        ensures stored { D.tells → IsSettled (D.disk dev.old) → IfOk result (IsStored (D.disk dev.new)) }
+        ensures stored { D.tells → IfOk result (IsStored (D.disk dev.new)) }
+        ensures media { D.tells → IsSettled (D.disk dev.old) → OnOk result (MediaAreDurable (D.disk dev.new)) }
         ensures stands { D.tells → IsSettled (D.disk dev.old) → IfOk result (λ i. (w : World) → Stands number (D.disk dev.old).files w → StandsFor i (D.disk dev.new) (opened w)) }
         ensures number { D.tells → IfOk result (λ i. (w : World) → Stands number (D.disk dev.old).files w → i.kept.number ≡ w.instance) }
-        ensures crash { D.tells → IsSettled (D.disk dev.old) → Effect IsOurs (λ image. (w : World) → Stands number (D.disk dev.old).files w → Covers number image (opened w)) (D.disk dev.old) (D.disk dev.new) }
+        ensures crash { D.tells → Effect IsOurs (LeavesOpened number (D.disk dev.old)) (D.disk dev.old) (D.disk dev.new) }
         ensures not_an_instance { D.tells → IsErrOf result load.NotAnInstance → IsNoInstance (D.disk dev.old).files }
         ensures no_instance { D.tells → IsNoInstance (D.disk dev.old).files → MatchResult result (λ _. ⊥) (λ e. e ≢ load.Broken) }
         ensures untouched { D.tells → IsErrOf result load.NotAnInstance → ChangesNothing (D.disk dev.old) (D.disk dev.new) }

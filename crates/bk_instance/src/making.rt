@@ -16,6 +16,7 @@ impl Instance {
     ghost use Rattle.bk_bytes.specs.Field.{AreBytes};
     ghost use Rattle.bk_device.specs.Counts.{HasRisen};
     ghost use Rattle.bk_device.specs.Effects.{Effect};
+    ghost use Rattle.bk_instance.specs.Media.{MediaAreDurable, IfDurable};
     ghost use Rattle.bk_instance.specs.Stands.{IsReady, IsStored, IsOurs};
     ghost use Rattle.bk_set.specs.Conditions.{KeepsBody};
     ghost use Rattle.bk_instance.specs.Steps.{Changed, Finishes, IsBased, IsSame, Making, base_of, mark_of};
@@ -43,12 +44,13 @@ impl Instance {
         ensures kept { self.new.kept ≡ self.old.kept }
         ensures reserved { OnOk result (self.old.kept.counter + 1 ≤ self.new.home.record.counter) }
         ensures stored { D.tells → OnOk result (IsStored (D.disk dev.new) self.new) }
+        ensures media { D.tells → MediaAreDurable (D.disk dev.old) → OnOk result (MediaAreDurable (D.disk dev.new)) }
         ensures name { IfOk result (λ m. m.name ≡ medium_file path.now) }
         ensures fit { IfOk result (λ m. m.failed ≡ false) }
         ensures medium { D.tells → IfOk result (λ m. IsMedium (D.disk dev.new) m) }
         ensures sets { D.tells → OnOk result (HasSets [] ((D.disk dev.new).files (medium_file path.now))) }
         ensures others { D.tells → (other : List ℕ) → AreBytes other → medium_file other ≢ medium_file path.now → (D.disk dev.new).files (medium_file other) ≡ (D.disk dev.old).files (medium_file other) }
-        ensures crash { D.tells → Effect IsOurs (Making self.old.kept (D.disk dev.old).files path.now) (D.disk dev.old) (D.disk dev.new) }
+        ensures crash { D.tells → Effect IsOurs (IfDurable (D.disk dev.old) (Making self.old.kept (D.disk dev.old).files path.now)) (D.disk dev.old) (D.disk dev.new) }
         ensures cause { IsErrOf result Fault → HasRisen (D.disk_faults dev.old) (D.disk_faults dev.new) }
         ensures never_falls { D.disk_faults dev.old ≤ D.disk_faults dev.new }
         ensures tell_faults { D.tell_faults dev.new ≡ D.tell_faults dev.old }
@@ -79,6 +81,7 @@ impl Instance {
         requires stored { D.tells → IsStored (D.disk dev.old) self.old }
         ensures ready { OnOk result (IsReady self.new) }
         ensures stored { D.tells → OnOk result (IsStored (D.disk dev.new) self.new) }
+        ensures media { D.tells → MediaAreDurable (D.disk dev.old) → OnOk result (MediaAreDurable (D.disk dev.new)) }
         ensures applied { OnOk result (applied (mark_of body.now) self.old.kept.databases.items ≡ Some self.new.kept.databases.items) }
         ensures same { OnOk result (IsSame self.old self.new) }
         ensures crash { D.tells → Effect IsOwn (Changed (mark_of body.now) self.old.home.record self.old.kept.databases.items) (D.disk dev.old) (D.disk dev.new) }
@@ -97,6 +100,7 @@ impl Instance {
         requires stored { D.tells → IsStored (D.disk dev.old) self.old }
         ensures ready { OnOk result (IsReady self.new) }
         ensures stored { D.tells → OnOk result (IsStored (D.disk dev.new) self.new) }
+        ensures media { D.tells → MediaAreDurable (D.disk dev.old) → OnOk result (MediaAreDurable (D.disk dev.new)) }
         ensures applied { OnOk result (applied (base_of body.now) self.old.kept.databases.items ≡ Some self.new.kept.databases.items) }
         ensures same { OnOk result (IsSame self.old self.new) }
         ensures crash { D.tells → Effect IsOwn (Changed (base_of body.now) self.old.home.record self.old.kept.databases.items) (D.disk dev.old) (D.disk dev.new) }
@@ -134,17 +138,20 @@ impl Instance {
         requires empty { D.tells → HasSets [] ((D.disk dev.old).files (medium_file path.now)) }
         ensures ready { OnOk result (IsReady self.new) }
         ensures stored { D.tells → OnOk result (IsStored (D.disk dev.new) self.new) }
+        ensures media { D.tells → MediaAreDurable (D.disk dev.old) → OnOk result (MediaAreDurable (D.disk dev.new)) }
         ensures same { OnOk result (IsSame self.old self.new) }
         ensures done { OnOk result (IsBased body.now self.old.kept.databases.items self.new.kept.databases.items) }
         ensures set { D.tells → OnOk result (HasAdded [] body.now ((D.disk dev.new).files (medium_file path.now))) }
         ensures others { D.tells → (other : List ℕ) → AreBytes other → medium_file other ≢ medium_file path.now → (D.disk dev.new).files (medium_file other) ≡ (D.disk dev.old).files (medium_file other) }
-        ensures crash { D.tells → Effect IsOurs (Finishes self.old.home.record self.old.kept.databases.items (D.disk dev.old).files path.now body.now) (D.disk dev.old) (D.disk dev.new) }
+        ensures crash { D.tells → Effect IsOurs (IfDurable (D.disk dev.old) (Finishes self.old.home.record self.old.kept.databases.items (D.disk dev.old).files path.now body.now)) (D.disk dev.old) (D.disk dev.new) }
         ensures cause { IsErrOf result Fault → HasRisen (D.disk_faults dev.old) (D.disk_faults dev.new) }
         ensures never_falls { D.disk_faults dev.old ≤ D.disk_faults dev.new }
         ensures tell_faults { D.tell_faults dev.new ≡ D.tell_faults dev.old }
     {
         name_law();
+        // Its checkpoint.
         self.mark(dev, body)?;
+        // Its stamp.
         self.mark(dev, body)?;
         medium.add_set(self.alloc, dev, body)?;
         self.base(dev, body)?;

@@ -35,6 +35,7 @@ impl Instance {
     ghost use Rattle.bk_home.specs.Home.{IsOwn};
     ghost use Rattle.bk_set.specs.Conditions.{IsBody};
     ghost use Rattle.bk_instance.specs.Plans.{restoring};
+    ghost use Rattle.bk_instance.specs.Media.{MediaAreDurable, IfDurable};
     ghost use Rattle.bk_instance.specs.Stands.{IsReady, IsStored, IsOurs, Answers, Cuts};
     ghost use Rattle.bk_instance.specs.Steps.{Changed, Draws, DrawsAll, IsSame, Reaches, SomeChanges};
     ghost use Rattle.bk_instance.specs.declared.error.ExecuteError.TheVariants.{Fault};
@@ -53,6 +54,7 @@ impl Instance {
         requires stored { D.tells → IsStored (D.disk dev.old) self.old }
         ensures ready { OnOk result (IsReady self.new) }
         ensures stored { D.tells → OnOk result (IsStored (D.disk dev.new) self.new) }
+        ensures media { D.tells → MediaAreDurable (D.disk dev.old) → OnOk result (MediaAreDurable (D.disk dev.new)) }
         ensures applied { OnOk result (applied (change.Replaced name.now body) self.old.kept.databases.items ≡ Some self.new.kept.databases.items) }
         ensures same { OnOk result (IsSame self.old self.new) }
         ensures crash { D.tells → Effect IsOwn (Changed (change.Replaced name.now body) self.old.home.record self.old.kept.databases.items) (D.disk dev.old) (D.disk dev.new) }
@@ -70,6 +72,7 @@ impl Instance {
         requires stored { D.tells → IsStored (D.disk dev.old) self.old }
         ensures ready { OnOk result (IsReady self.new) }
         ensures stored { D.tells → OnOk result (IsStored (D.disk dev.new) self.new) }
+        ensures media { D.tells → MediaAreDurable (D.disk dev.old) → OnOk result (MediaAreDurable (D.disk dev.new)) }
         ensures applied { OnOk result (applied (change.Restored name.now) self.old.kept.databases.items ≡ Some self.new.kept.databases.items) }
         ensures same { OnOk result (IsSame self.old self.new) }
         ensures crash { D.tells → Effect IsOwn (Changed (change.Restored name.now) self.old.home.record self.old.kept.databases.items) (D.disk dev.old) (D.disk dev.new) }
@@ -89,6 +92,7 @@ impl Instance {
         requires stored { D.tells → IsStored (D.disk dev.old) self.old }
         ensures ready { OnOk result (IsReady self.new) }
         ensures stored { D.tells → OnOk result (IsStored (D.disk dev.new) self.new) }
+        ensures media { D.tells → MediaAreDurable (D.disk dev.old) → OnOk result (MediaAreDurable (D.disk dev.new)) }
         ensures done { OnOk result (Draws self.old 1 (change.Recovered name.now (record { high = self.old.kept.number; low = self.old.kept.counter })) self.new) }
         ensures crash { D.tells → Effect IsOwn (Changed (change.Recovered name.now (record { high = self.old.kept.number; low = self.old.kept.counter })) self.old.home.record self.old.kept.databases.items) (D.disk dev.old) (D.disk dev.new) }
         ensures cause { IsErrOf result Fault → HasRisen (D.disk_faults dev.old) (D.disk_faults dev.new) }
@@ -118,6 +122,7 @@ impl Instance {
         requires stored { D.tells → IsStored (D.disk dev.old) self.old }
         ensures ready { OnOk result (IsReady self.new) }
         ensures stored { D.tells → OnOk result (IsStored (D.disk dev.new) self.new) }
+        ensures media { D.tells → MediaAreDurable (D.disk dev.old) → OnOk result (MediaAreDurable (D.disk dev.new)) }
         ensures done { OnOk result (DrawsAll self.old 1 (restoring name.now body (record { high = self.old.kept.number; low = self.old.kept.counter })) self.new) }
         ensures crash { D.tells → Effect IsOwn (Reaches self.old.kept (SomeChanges self.old.kept 1 (restoring name.now body (record { high = self.old.kept.number; low = self.old.kept.counter })))) (D.disk dev.old) (D.disk dev.new) }
         ensures cause { IsErrOf result Fault → HasRisen (D.disk_faults dev.old) (D.disk_faults dev.new) }
@@ -145,9 +150,10 @@ impl Instance {
         requires stored { D.tells → IsStored (D.disk dev.old) self.old }
         ensures ready { OnOk result (IsReady self.new) }
         ensures stored { D.tells → OnOk result (IsStored (D.disk dev.new) self.new) }
+        ensures media { D.tells → MediaAreDurable (D.disk dev.old) → OnOk result (MediaAreDurable (D.disk dev.new)) }
         ensures number { OnOk result (self.new.kept.number ≡ self.old.kept.number) }
         ensures answers { D.tells → IfOk result (λ reply. Answers self.old (D.disk dev.old) (record { item = Restore name.now path.now replace; line = line }) now reply self.new (D.disk dev.new)) }
-        ensures crash { D.tells → Effect IsOurs (Cuts self.old (D.disk dev.old) (record { item = Restore name.now path.now replace; line = line }) now) (D.disk dev.old) (D.disk dev.new) }
+        ensures crash { D.tells → Effect IsOurs (IfDurable (D.disk dev.old) (Cuts self.old (D.disk dev.old) (record { item = Restore name.now path.now replace; line = line }) now)) (D.disk dev.old) (D.disk dev.new) }
         ensures cause { IsErrOf result Fault → HasRisen (D.disk_faults dev.old) (D.disk_faults dev.new) }
         ensures never_falls { D.disk_faults dev.old ≤ D.disk_faults dev.new }
         ensures tell_faults { D.tell_faults dev.new ≡ D.tell_faults dev.old }

@@ -13,6 +13,7 @@ impl Instance {
     ghost use Rattle.bk_device.specs.Counts.{HasRisen};
     ghost use Rattle.bk_device.specs.Effects.{Effect};
     ghost use Rattle.bk_home.specs.Home.{IsOwn};
+    ghost use Rattle.bk_instance.specs.Media.{MediaAreDurable};
     ghost use Rattle.bk_instance.specs.Stands.{IsReady, IsStored};
     ghost use Rattle.bk_instance.specs.Steps.{Changed, Draws, IsSame, OneChange, Reaches, Unchanged};
     ghost use Rattle.bk_instance.specs.declared.error.ExecuteError.TheVariants.{Fault};
@@ -30,6 +31,7 @@ impl Instance {
         requires stored { D.tells → IsStored (D.disk dev.old) self.old }
         ensures ready { OnOk result (IsReady self.new) }
         ensures stored { D.tells → OnOk result (IsStored (D.disk dev.new) self.new) }
+        ensures media { D.tells → MediaAreDurable (D.disk dev.old) → OnOk result (MediaAreDurable (D.disk dev.new)) }
         ensures applied { OnOk result (applied change.now self.old.kept.databases.items ≡ Some self.new.kept.databases.items) }
         ensures same { OnOk result (IsSame self.old self.new) }
         ensures crash { D.tells → Effect IsOwn (Changed change.now self.old.home.record self.old.kept.databases.items) (D.disk dev.old) (D.disk dev.new) }
@@ -55,6 +57,7 @@ impl Instance {
         requires stored { D.tells → IsStored (D.disk dev.old) self.old }
         ensures ready { OnOk result (IsReady self.new) }
         ensures stored { D.tells → OnOk result (IsStored (D.disk dev.new) self.new) }
+        ensures media { D.tells → MediaAreDurable (D.disk dev.old) → OnOk result (MediaAreDurable (D.disk dev.new)) }
         ensures applied { OnOk result (applied change self.old.kept.databases.items ≡ Some self.new.kept.databases.items) }
         ensures same { OnOk result (IsSame self.old self.new) }
         ensures crash { D.tells → Effect IsOwn (Changed change self.old.home.record self.old.kept.databases.items) (D.disk dev.old) (D.disk dev.new) }
@@ -73,6 +76,7 @@ impl Instance {
         requires stored { D.tells → IsStored (D.disk dev.old) self.old }
         ensures ready { OnOk result (IsReady self.new) }
         ensures stored { D.tells → OnOk result (IsStored (D.disk dev.new) self.new) }
+        ensures media { D.tells → MediaAreDurable (D.disk dev.old) → OnOk result (MediaAreDurable (D.disk dev.new)) }
         ensures kept { self.new.kept ≡ self.old.kept }
         ensures reserved { OnOk result (self.old.kept.counter + n ≤ self.new.home.record.counter) }
         ensures crash { D.tells → Effect IsOwn (Reaches self.old.kept (Unchanged self.old.kept)) (D.disk dev.old) (D.disk dev.new) }
@@ -107,6 +111,7 @@ impl Instance {
         requires stored { D.tells → IsStored (D.disk dev.old) self.old }
         ensures ready { OnOk result (IsReady self.new) }
         ensures stored { D.tells → OnOk result (IsStored (D.disk dev.new) self.new) }
+        ensures media { D.tells → MediaAreDurable (D.disk dev.old) → OnOk result (MediaAreDurable (D.disk dev.new)) }
         ensures done { OnOk result (Draws self.old n change.now self.new) }
         ensures crash { D.tells → Effect IsOwn (Reaches self.old.kept (OneChange self.old.kept n change.now)) (D.disk dev.old) (D.disk dev.new) }
         ensures cause { IsErrOf result Fault → HasRisen (D.disk_faults dev.old) (D.disk_faults dev.new) }
@@ -133,6 +138,7 @@ impl Instance {
         requires stored { D.tells → IsStored (D.disk dev.old) self.old }
         ensures ready { OnOk result (IsReady self.new) }
         ensures stored { D.tells → OnOk result (IsStored (D.disk dev.new) self.new) }
+        ensures media { D.tells → MediaAreDurable (D.disk dev.old) → OnOk result (MediaAreDurable (D.disk dev.new)) }
         ensures done { OnOk result (Draws self.old n change self.new) }
         ensures crash { D.tells → Effect IsOwn (Reaches self.old.kept (OneChange self.old.kept n change)) (D.disk dev.old) (D.disk dev.new) }
         ensures cause { IsErrOf result Fault → HasRisen (D.disk_faults dev.old) (D.disk_faults dev.new) }

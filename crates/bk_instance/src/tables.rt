@@ -11,6 +11,7 @@ impl Instance {
     ghost use Rattle.std.specs.Prelude.{◌≡◌, ◌≤◌, ℕ, IfOk, OnOk, IsErrOf};
     ghost use Rattle.bk_device.specs.Counts.{HasRisen};
     ghost use Rattle.bk_device.specs.Effects.{Effect};
+    ghost use Rattle.bk_instance.specs.Media.{MediaAreDurable, IfDurable};
     ghost use Rattle.bk_instance.specs.Stands.{IsReady, IsStored, IsOurs, Answers, Cuts};
     ghost use Rattle.bk_instance.specs.declared.error.ExecuteError.TheVariants.{Fault};
     ghost use Rattle.bk_world.specs.declared.item.Item.TheVariants.{CreateTable, Insert, Select};
@@ -27,9 +28,10 @@ impl Instance {
         requires stored { D.tells → IsStored (D.disk dev.old) self.old }
         ensures ready { OnOk result (IsReady self.new) }
         ensures stored { D.tells → OnOk result (IsStored (D.disk dev.new) self.new) }
+        ensures media { D.tells → MediaAreDurable (D.disk dev.old) → OnOk result (MediaAreDurable (D.disk dev.new)) }
         ensures number { OnOk result (self.new.kept.number ≡ self.old.kept.number) }
         ensures answers { D.tells → IfOk result (λ reply. Answers self.old (D.disk dev.old) (record { item = CreateTable name.now; line = line }) now reply self.new (D.disk dev.new)) }
-        ensures crash { D.tells → Effect IsOurs (Cuts self.old (D.disk dev.old) (record { item = CreateTable name.now; line = line }) now) (D.disk dev.old) (D.disk dev.new) }
+        ensures crash { D.tells → Effect IsOurs (IfDurable (D.disk dev.old) (Cuts self.old (D.disk dev.old) (record { item = CreateTable name.now; line = line }) now)) (D.disk dev.old) (D.disk dev.new) }
         ensures cause { IsErrOf result Fault → HasRisen (D.disk_faults dev.old) (D.disk_faults dev.new) }
         ensures never_falls { D.disk_faults dev.old ≤ D.disk_faults dev.new }
         ensures tell_faults { D.tell_faults dev.new ≡ D.tell_faults dev.old }
@@ -56,9 +58,10 @@ impl Instance {
         requires stored { D.tells → IsStored (D.disk dev.old) self.old }
         ensures ready { OnOk result (IsReady self.new) }
         ensures stored { D.tells → OnOk result (IsStored (D.disk dev.new) self.new) }
+        ensures media { D.tells → MediaAreDurable (D.disk dev.old) → OnOk result (MediaAreDurable (D.disk dev.new)) }
         ensures number { OnOk result (self.new.kept.number ≡ self.old.kept.number) }
         ensures answers { D.tells → IfOk result (λ reply. Answers self.old (D.disk dev.old) (record { item = Insert table.now key value.now; line = line }) now reply self.new (D.disk dev.new)) }
-        ensures crash { D.tells → Effect IsOurs (Cuts self.old (D.disk dev.old) (record { item = Insert table.now key value.now; line = line }) now) (D.disk dev.old) (D.disk dev.new) }
+        ensures crash { D.tells → Effect IsOurs (IfDurable (D.disk dev.old) (Cuts self.old (D.disk dev.old) (record { item = Insert table.now key value.now; line = line }) now)) (D.disk dev.old) (D.disk dev.new) }
         ensures cause { IsErrOf result Fault → HasRisen (D.disk_faults dev.old) (D.disk_faults dev.new) }
         ensures never_falls { D.disk_faults dev.old ≤ D.disk_faults dev.new }
         ensures tell_faults { D.tell_faults dev.new ≡ D.tell_faults dev.old }
@@ -83,9 +86,10 @@ impl Instance {
         requires stored { D.tells → IsStored (D.disk _dev.old) self.old }
         ensures ready { OnOk result (IsReady self.new) }
         ensures stored { D.tells → OnOk result (IsStored (D.disk _dev.new) self.new) }
+        ensures media { D.tells → MediaAreDurable (D.disk _dev.old) → OnOk result (MediaAreDurable (D.disk _dev.new)) }
         ensures number { OnOk result (self.new.kept.number ≡ self.old.kept.number) }
         ensures answers { D.tells → IfOk result (λ reply. Answers self.old (D.disk _dev.old) (record { item = Select table.now; line = line }) now reply self.new (D.disk _dev.new)) }
-        ensures crash { D.tells → Effect IsOurs (Cuts self.old (D.disk _dev.old) (record { item = Select table.now; line = line }) now) (D.disk _dev.old) (D.disk _dev.new) }
+        ensures crash { D.tells → Effect IsOurs (IfDurable (D.disk _dev.old) (Cuts self.old (D.disk _dev.old) (record { item = Select table.now; line = line }) now)) (D.disk _dev.old) (D.disk _dev.new) }
         ensures cause { IsErrOf result Fault → HasRisen (D.disk_faults _dev.old) (D.disk_faults _dev.new) }
         ensures never_falls { D.disk_faults _dev.old ≤ D.disk_faults _dev.new }
         ensures tell_faults { D.tell_faults _dev.new ≡ D.tell_faults _dev.old }

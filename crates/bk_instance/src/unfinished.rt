@@ -8,8 +8,9 @@ ghost use Rattle.bk_device.specs.Effects.{Effect, IsName};
 ghost use Rattle.bk_gate.specs.Blobs.{sealed};
 ghost use Rattle.bk_home.specs.Home.{IsHome, blobs_of};
 ghost use Rattle.bk_media.specs.Names as names;
-ghost use Rattle.bk_instance.specs.Loading.{IsCleared, LeavesCleared, LetsGo, MediaAreDurable};
+ghost use Rattle.bk_instance.specs.Loading.{IsCleared, LeavesCleared, LetsGo};
 ghost use Rattle.bk_instance.specs.Media as media;
+ghost use Rattle.bk_instance.specs.Media.{MediaAreDurable, IfDurable};
 ghost use Rattle.bk_instance.specs.Stands.{IsOurs};
 ghost use Rattle.bk_instance.specs.declared.error.LoadError.TheVariants.{Broken, Fault, NotAnInstance};
 
@@ -73,7 +74,7 @@ pub(crate) fn let_go<D: Device>(
     ensures none { OnOk result (home.new.record.making ≡ None) }
     ensures blobs { D.tells → OnOk result (blobs_of (D.disk dev.new).files ≡ blobs_of (D.disk dev.old).files) }
     ensures media { D.tells → MediaAreDurable (D.disk dev.old) → OnOk result (MediaAreDurable (D.disk dev.new)) }
-    ensures crash { D.tells → MediaAreDurable (D.disk dev.old) → Effect IsOurs (LetsGo home.old.record (D.disk dev.old).files) (D.disk dev.old) (D.disk dev.new) }
+    ensures crash { D.tells → Effect IsOurs (IfDurable (D.disk dev.old) (LetsGo home.old.record (D.disk dev.old).files)) (D.disk dev.old) (D.disk dev.new) }
     ensures not_an_instance { IsErrOf result NotAnInstance → ⊥ }
     ensures broken { IsErrOf result Broken → ⊥ }
     ensures cause { IsErrOf result Fault → HasRisen (D.disk_faults dev.old) (D.disk_faults dev.new) }

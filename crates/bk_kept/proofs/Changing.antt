@@ -10,15 +10,16 @@ use Rattle.bk_world.specs.Changes.{appended_to}
 use Rattle.bk_world.specs.Entry.{Entry}
 use Rattle.bk_world.specs.Events.{IsNotToCome}
 use Rattle.bk_world.specs.History.{Touch}
-use Rattle.bk_world.specs.Sound.{GoesOn, IsOffOf, IsUnwritten, Differ, AreDifferent, IsOnce}
+use Rattle.bk_world.specs.Sound.{IsRising, GoesOn, IsOffOf, IsUnwritten, Differ, AreDifferent, IsOnce}
 use Rattle.bk_world.specs.World.{World, Database, database_named, with_database}
 use Rattle.bk_world.proofs.Histories.{branch_at-last}
 use Rattle.bk_changes.specs.declared.state.Database.{Database as KeptDatabase}
 use Rattle.bk_changes.specs.Applied.{changed}
 use Rattle.bk_kept.specs.Goes.{GoesOnTo, LeadsTo}
 use Rattle.bk_kept.specs.Kept.{KeepsDatabase, KeepsDatabases}
+use Rattle.bk_kept.proofs.Held.{rising-logged}
 use Rattle.bk_kept.proofs.Lines.{lines-later, lines-appended_to, once-appended_to, goes-on-elsewhere}
-use Rattle.bk_kept.proofs.Lists.{zip-map, zip-changed, others-changed, different-changed}
+use Rattle.bk_kept.proofs.Lists.{zip-map, zip-changed, zip-left, of-named, others-changed, different-changed}
 use Rattle.bk_kept.proofs.Reading.{kept-on, goes-same, goes-logged, goes-changed}
 
 pub name-kept : (w : World) (o : Database) (k : KeptDatabase) → KeepsDatabase w o k → o.name ≡ k.name
@@ -38,6 +39,7 @@ keeps-same w next kept instance counter history databases is =
         different = subst AreDifferent (sym databases) is.different;
         once = subst IsOnce (sym history) is.once;
         lines = lines-later w next next.history instance counter (subst (λ h. AllByRecursion (λ line. IsNotToCome w line.branch) h) (sym history) is.lines);
+        rising = subst (AllByRecursion (λ line. IsRising line.entries)) (sym history) is.rising;
       };
     }
 
@@ -71,6 +73,12 @@ unwritten-later w next db kept change is apart found online path databases =
       | inr late ↦ differ.branches online on (sym (branch_at-last db.path db.end k (starts-within db.end db.path is.starts) late) ∙ ap (λ p. branch_at p k) (sym path) ∙ same)
     ]))
 
+-- the database of a name goes on where it is online
+named-goes-on : (w : World) (kept : List KeptDatabase) (db : Database) → KeepsDatabases w kept → database_named w.databases db.name ≡ Some db → db.status ≡ Online → GoesOn w.history db.path db.end
+named-goes-on w kept db is found =
+    of-named (λ o. o.status ≡ Online → GoesOn w.history o.path o.end) w.databases db.name db
+    (zip-left (KeepsDatabase w) (λ o. o.status ≡ Online → GoesOn w.history o.path o.end) w.databases kept is.each (λ o k one. one.goes_on)) found
+
 pub keeps-logged : (w next : World) (db : Database) (change : Database → Database) (of : KeptDatabase → Option KeptDatabase) (entry : Entry) (ts : List Touch) (kept new : List KeptDatabase)
     → KeepsDatabases w kept → database_named w.databases db.name ≡ Some db → db.status ≡ Online → db.end ≤ entry.lsn
     → (change db).name ≡ db.name → (change db).path ≡ db.path → (change db).status ≡ db.status → db.end ≤ (change db).end
@@ -79,6 +87,7 @@ pub keeps-logged : (w next : World) (db : Database) (change : Database → Datab
     → changed db.name of kept ≡ Some new → LeadsTo w next new
 keeps-logged w next db change of entry ts kept new is found online above name path status end instance counter history databases own fits =
     let goes : GoesOnTo w next = goes-logged w next db db.name change (entry ∷ []) ts found online (above, tt) path status end instance counter history databases in
+    let on : GoesOn w.history db.path db.end = named-goes-on w kept db is found online in
     record {
       goes = goes;
       keeps = record {
@@ -92,6 +101,7 @@ keeps-logged w next db change of entry ts kept new is found online above name pa
         once = subst IsOnce (sym history) (once-appended_to w.history (last_branch db.path) (entry ∷ []) ts is.once);
         lines = subst (AllByRecursion (λ line. IsNotToCome next line.branch)) (sym history)
             (lines-appended_to (IsNotToCome next) w.history (last_branch db.path) (entry ∷ []) ts (lines-later w next w.history instance counter is.lines));
+        rising = subst (AllByRecursion (λ line. IsRising line.entries)) (sym history) (rising-logged w.history (last_branch db.path) on.branch entry ts db.end on.last on.below above is.rising);
       };
     }
 
@@ -116,5 +126,6 @@ keeps-changed w next db change of kept new is found name differs off instance co
         different = subst AreDifferent (sym databases) (different-changed w.databases db.name db change is.different found differs);
         once = subst IsOnce (sym history) is.once;
         lines = subst (AllByRecursion (λ line. IsNotToCome next line.branch)) (sym history) (lines-later w next w.history instance counter is.lines);
+        rising = subst (AllByRecursion (λ line. IsRising line.entries)) (sym history) is.rising;
       };
     }

@@ -1,5 +1,6 @@
 pub mod OfDatabases
 pub mod Lines
+pub mod Held
 pub mod Lists
 pub mod Reading
 pub mod Changing
@@ -9,6 +10,7 @@ pub mod RestoreParts
 pub mod Saving
 pub mod Grown
 pub mod Left
+pub mod Joined
 pub mod Related
 pub mod Tables
 pub mod Restores

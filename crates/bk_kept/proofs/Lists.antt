@@ -152,7 +152,8 @@ zip-map P Q [] (k ∷ ks) all each = absurd all
 zip-map P Q (d ∷ dbs) [] all each = absurd all
 zip-map P Q (d ∷ dbs) (k ∷ ks) all each = (each d k all.0, zip-map P Q dbs ks all.1 each)
 
-zip-map-all : (P Q : Database → KeptDatabase → Type 0) (R : Database → Type 0) (dbs : List Database) (kept : List KeptDatabase) → AllZip P dbs kept → AllByRecursion R dbs
+-- with what is known of each on the left
+pub zip-map-all : (P Q : Database → KeptDatabase → Type 0) (R : Database → Type 0) (dbs : List Database) (kept : List KeptDatabase) → AllZip P dbs kept → AllByRecursion R dbs
     → ((o : Database) (k : KeptDatabase) → P o k → R o → Q o k) → AllZip Q dbs kept
 zip-map-all P Q R [] [] all r each = tt
 zip-map-all P Q R [] (k ∷ ks) all r each = absurd all

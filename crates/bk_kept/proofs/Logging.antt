@@ -1,5 +1,5 @@
 -- A database that logs one entry more.
-use Rattle.std.proofs.Common.{◌≡◌, ◌<◌, ◌≤◌, ℕ, ◌+◌, Bool, true, false, cond, List, [], ◌∷◌, ◌++◌, length, map, Option, Some, None, refl, sym, ◌∙◌, ap, subst, eqb, arith}
+use Rattle.std.proofs.Common.{◌≡◌, ◌<◌, ◌≤◌, inl, inr, ℕ, ◌+◌, Bool, true, false, cond, List, [], ◌∷◌, ◌++◌, length, map, Option, Some, None, refl, sym, ◌∙◌, ap, subst, eqb, arith}
 use Rattle.std.specs.Prelude.{◌&&◌, not, is_some, option_map}
 use Rattle.std.specs.List.{AllByRecursion}
 use Rattle.std.specs.Ordering.{nat_cmp}
@@ -18,9 +18,9 @@ use Rattle.bk_world.specs.Entry.{Entry, rows_set, table_made as table_entry, not
 use Rattle.bk_world.specs.History.{Touch, History, entries}
 use Rattle.bk_world.specs.Rows.{Rows, rows_of, rows_after, tables_of, table_of, model_of, model_after, time_of, tables_below, rows_below, model_below, time_below}
 use Rattle.bk_world.specs.Seen.{tables}
-use Rattle.bk_world.specs.Sound.{GoesOn, IsUnwritten}
+use Rattle.bk_world.specs.Sound.{GoesOn, IsUnwritten, IsHeldOf}
 use Rattle.bk_world.specs.World.{World, Database, database_named, with_database}
-use Rattle.bk_world.proofs.Histories.{entries-logged, GoesOn-logged}
+use Rattle.bk_world.proofs.Histories.{branch_at-last, entries-logged, GoesOn-logged}
 use Rattle.bk_world.proofs.Folds.{rows_of-more, tables_of-more, model_of-more, time_of-more}
 use Rattle.bk_changes.specs.declared.state.Database.{Database as KeptDatabase}
 use Rattle.bk_changes.specs.declared.state.Table.{Table as KeptTable}
@@ -30,8 +30,9 @@ use Rattle.bk_changes.specs.Applied.{changed, goes_on, is_online, table_made, ta
 use Rattle.bk_changes.specs.Made.{new_table}
 use Rattle.bk_kept.specs.Goes.{GoesOnTo, LeadsTo}
 use Rattle.bk_kept.specs.Kept.{KeepsTable, KeepsDatabase, KeepsDatabases, status_of, state_of, units_of}
-use Rattle.bk_kept.proofs.Changing.{keeps-logged, unwritten-later, starts-later}
+use Rattle.bk_kept.proofs.Changing.{before-or-not, keeps-logged, unwritten-later, starts-later}
 use Rattle.bk_kept.proofs.Lines.{drawn-later}
+use Rattle.bk_kept.proofs.Reading.{passed-on}
 
 -- Standing.
 
@@ -77,6 +78,14 @@ module _ (w next : World) (db : Database) (kept : KeptDatabase) (is : KeepsDatab
   unfolding time_below
   shown-time = ap (time_of 0) shown-entries ∙ time_of-more 0 (entries w.history db.path db.end) entry
 
+  -- what it shows is held, but on its last branch
+  held-logged : (checkpoint live : ℕ) → db.status ≡ in_use.Online → GoesOnTo w next → IsHeldOf next.history (record db { end = later; checkpoint = checkpoint; kept = live })
+  held-logged checkpoint live online goes k lt =
+      elim (before-or-not db.end k) [
+        | inl early ↦ elim (is.held k early) [ inl own ↦ inl own | inr passed ↦ inr (passed-on w next db.path k goes is.drawn passed) ]
+        | inr late ↦ inl (online, branch_at-last db.path db.end k on.starts late)
+      ]
+
   -- the database is kept with its new end, and with the table that is shown then
   pub own-logged : (checkpoint live : ℕ) (table : Option KeptTable) → kept.standing ≡ Online → GoesOnTo w next → IsUnwritten next.databases db.path later
       → AllByRecursion (λ t. t.lsn < later) ts → model_after (model_below w.history db.path db.end) entry.change ≡ model_below w.history db.path db.end
@@ -102,6 +111,7 @@ module _ (w next : World) (db : Database) (kept : KeptDatabase) (is : KeepsDatab
     shows = record { table = shows; model = shown-model model; time = shown-time };
     drawn = drawn-later w next db.path goes.instance goes.counter is.drawn;
     unwritten = unwritten;
+    held = held-logged checkpoint live (is.status ∙ ap status_of online) goes;
     goes_on = λ _. subst (λ h. GoesOn h db.path later) (sym history) (GoesOn-logged w.history db.path db.end on entry ts above later below touched);
   }
 

@@ -1,18 +1,18 @@
 -- Databases that are made or dropped, points that move, and statements that change no database.
-use Rattle.std.proofs.Common.{◌≡◌, ◌≢◌, ℕ, ◌+◌, Bool, true, false, cond, List, [], ◌∷◌, ◌++◌, Option, Some, None, refl, sym, ◌∙◌, ap, subst, filter, eqb, leb, arith, min, lit<}
+use Rattle.std.proofs.Common.{◌≡◌, ◌≢◌, ◌⊎◌, inl, inr, ℕ, ◌+◌, Bool, true, false, cond, List, [], ◌∷◌, ◌++◌, Option, Some, None, refl, sym, ◌∙◌, ap, subst, filter, eqb, leb, arith, min, lit<}
 use Rattle.std.specs.Prelude.{◌&&◌, ◌||◌, not, nat_le, if◌then◌else◌}
 use Rattle.std.specs.List.{AllByRecursion, AllZip}
 use Rattle.bk_ids.specs.declared.guid.Guid.{Guid}
 use Rattle.bk_ids.specs.declared.path.Branch.{Branch}
 use Rattle.bk_ids.specs.Name.{lowered}
-use Rattle.bk_ids.specs.Path.{last_branch}
+use Rattle.bk_ids.specs.Path.{last_branch, branch_at}
 use Rattle.bk_world.specs.declared.database.Status.TheVariants as in_use
 use Rattle.bk_world.specs.declared.header.Header.{Header}
 use Rattle.bk_world.specs.Backup.{based_on, points_moved, medium_made, set_sealed, is_simple}
 use Rattle.bk_world.specs.Changes.{created, new_database, drawn, first_line, latest, with_current, dropped as world_dropped}
-use Rattle.bk_world.specs.History.{Line, is_guid, line_of, entries}
+use Rattle.bk_world.specs.History.{History, Line, is_guid, line_of, entries}
 use Rattle.bk_world.specs.Rows.{rows_of, tables_of, model_of, time_of, tables_below, rows_below, model_below, time_below}
-use Rattle.bk_world.specs.Sound.{has_line, IsBelow, IsOffOf, Differ}
+use Rattle.bk_world.specs.Sound.{has_line, IsBelow, IsOffOf, IsPassed, Differ}
 use Rattle.bk_world.specs.World.{World, Database, Session, database_named, with_database, current_name, session_numbered}
 use Rattle.bk_world.proofs.Apart.{entries-new_line}
 use Rattle.bk_world.proofs.Worlds.{is_guid-refl, session_numbered-number, session_numbered-with}
@@ -23,7 +23,8 @@ use Rattle.bk_changes.specs.Made.{made_database}
 use Rattle.bk_kept.specs.Goes.{GoesOnTo, LeadsTo}
 use Rattle.bk_kept.specs.Kept.{KeepsDatabase, KeepsDatabases, own_base}
 use Rattle.bk_kept.proofs.Changing.{name-kept, keeps-same, keeps-changed}
-use Rattle.bk_kept.proofs.Lines.{lines-later, all-new, never-on, once-drawn, goes-on-beside}
+use Rattle.bk_kept.proofs.Held.{passed-new}
+use Rattle.bk_kept.proofs.Lines.{lines-later, drawn-new, all-new, never-on, once-drawn, goes-on-beside}
 use Rattle.bk_kept.proofs.Lists.{zip-map, zip-more, zip-dropped, all-more, all-without, different-more, different-without, none-named, of-named}
 use Rattle.bk_kept.proofs.Logging.{fits-where, and-first, online-is, units-same}
 use Rattle.bk_kept.proofs.Reading.{kept-on}
@@ -72,6 +73,14 @@ new-off w d j is on k le lt same = by (leb 1 k) refl
         let none : None ≡ Some (is.goes_on on).branch = sym (ap (λ t. last_branch (cond t ((record { guid = branch; start = 1 }) ∷ []) [])) e) ∙ same ∙ (is.goes_on on).last in
         cc
 
+-- nothing is on a path of one branch before its start
+held-new : (b : Branch) (h : History) (k : ℕ) → ((in_use.Online ≡ in_use.Online) × (branch_at (b ∷ []) k ≡ Some b.guid)) ⊎ IsPassed h (branch_at (b ∷ []) k) k
+held-new b h k = by (leb b.start k)
+  where
+    by : (t : Bool) → ((in_use.Online ≡ in_use.Online) × (last_branch (cond t (b ∷ []) []) ≡ Some b.guid)) ⊎ IsPassed h (last_branch (cond t (b ∷ []) [])) k
+    by true = inl (refl, refl)
+    by false = inr tt
+
 pub created-leads : (w : World) (name : List ℕ) (now : ℕ) (kept new : List KeptDatabase) → KeepsDatabases w kept
     → kept_created name (drawn w w.counter) (drawn w (w.counter + 1)) (min now latest) kept ≡ Some new → LeadsTo w (created w name now) new
 unfolding created new_database made_database kept_created tables_below rows_below model_below time_below entries
@@ -89,6 +98,7 @@ created-leads w name now kept new is fits =
       counter = omega arith;
       shows = λ path n drawn_before off. entries-new_line line w.history path n (all-new w (w.counter + 1) path (omega arith) drawn_before);
       unwritten = λ path n drawn_before off. all-more (IsOffOf path n) w.databases made off (λ on k le lt. never-on branch path k (all-new w (w.counter + 1) path (omega arith) drawn_before));
+      passed = λ g n known is. passed-new line w.history g n (drawn-new w (w.counter + 1) g (omega arith) known) is;
     } in
     let here : line_of (line ∷ w.history) branch ≡ line = ap (λ t. cond t line (line_of w.history branch)) (is_guid-refl branch) in
     let one : entries (line ∷ w.history) ((record { guid = branch; start = 1 }) ∷ []) 2 ≡ line.entries = ap (λ (l : Line). filter (λ e. eqb e.lsn 1) l.entries) here in
@@ -112,6 +122,7 @@ created-leads w name now kept new is fits =
       shows = record { table = (ap tables_of one, λ n. ap (λ es. rows_of n [] es) one); model = ap (model_of _) one; time = ap (time_of 0) one };
       drawn = ((λ high. omega arith), tt);
       unwritten = all-more (IsOffOf made.path made.end) w.databases made (new-unwritten w.databases kept is.each) (λ on k le lt. absurd (omega (arith, le, lt)));
+      held = λ k lt. held-new (record { guid = branch; start = 1 }) next.history k;
       goes_on = λ on. record {
         branch = branch;
         last = refl;
@@ -130,6 +141,7 @@ created-leads w name now kept new is fits =
         different = different-more w.databases made is.different (apart w.databases kept is.each others);
         once = once-drawn w (w.counter + 1) line refl (omega arith) is.lines is.once;
         lines = ((λ high. omega arith), lines-later w next w.history refl (omega arith) is.lines);
+        rising = ((tt, tt), is.rising);
       };
     }
   where
@@ -164,6 +176,7 @@ dropped-leads w db kept new is fits =
       counter = omega arith;
       shows = λ path n drawn_before off. refl;
       unwritten = λ path n drawn_before off. all-without (IsOffOf path n) w.databases db.name off;
+      passed = λ g n known is. is;
     } in
     record {
       goes = goes;
@@ -173,6 +186,7 @@ dropped-leads w db kept new is fits =
         different = different-without w.databases db.name is.different;
         once = is.once;
         lines = lines-later w next w.history refl (omega arith) is.lines;
+        rising = is.rising;
       };
     }
 
@@ -221,5 +235,6 @@ based-leads w db at header kept new is found named online first model fits =
           shows = record { table = was.shows.table; model = was.shows.model; time = was.shows.time };
           drawn = was.drawn;
           unwritten = was.unwritten;
+          held = was.held;
           goes_on = was.goes_on;
         })

@@ -1,6 +1,7 @@
 -- What is kept and what sets hold, in a world that goes on.
-use Rattle.std.proofs.Common.{◌≡◌, ◌≤◌, ℕ, List, [], ◌∷◌, Option, None, Some, sym, ◌∙◌, ap, subst, arith}
+use Rattle.std.proofs.Common.{◌≡◌, ◌≤◌, inl, inr, ℕ, List, [], ◌∷◌, Option, None, Some, sym, ◌∙◌, ap, subst, arith}
 use Rattle.std.specs.List.{AllByRecursion}
+use Rattle.bk_ids.specs.declared.guid.Guid.{Guid}
 use Rattle.bk_ids.specs.declared.path.Branch.{Branch}
 use Rattle.bk_ids.specs.Path.{last_branch, branch_at}
 use Rattle.bk_set.specs.declared.body.SetBody.{SetBody}
@@ -12,15 +13,16 @@ use Rattle.bk_world.specs.Entry.{Entry}
 use Rattle.bk_world.specs.Events.{IsNotToCome}
 use Rattle.bk_world.specs.History.{Touch, History, entries}
 use Rattle.bk_world.specs.Rows.{tables_of, rows_of, model_of, time_of, tables_below, rows_below, model_below, time_below}
-use Rattle.bk_world.specs.Sound.{GoesOn, IsOff, IsOffOf, IsUnwritten}
+use Rattle.bk_world.specs.Sound.{GoesOn, IsOff, IsOffOf, IsUnwritten, IsPassed, IsHeld}
 use Rattle.bk_world.specs.World.{World, Database, database_named, with_database}
-use Rattle.bk_world.proofs.Apart.{entries-elsewhere}
+use Rattle.bk_world.proofs.Apart.{OfBranch, branch_at-of, entries-elsewhere}
 use Rattle.bk_changes.specs.declared.state.Database.{Database as KeptDatabase}
 use Rattle.bk_changes.specs.declared.state.Table.{Table as KeptTable}
 use Rattle.bk_kept.specs.Carried.{ShowsRows, IsCarried}
 use Rattle.bk_kept.specs.Goes.{GoesOnTo}
 use Rattle.bk_kept.specs.Kept.{KeepsTable, Shows, KeepsDatabase}
-use Rattle.bk_kept.proofs.Lines.{drawn-later, elsewhere}
+use Rattle.bk_kept.proofs.Held.{passed-appended_to}
+use Rattle.bk_kept.proofs.Lines.{to-come-later, drawn-later, elsewhere}
 use Rattle.bk_kept.proofs.Lists.{of-named, all-changed}
 
 -- A path that shows the same entries shows the same of everything.
@@ -46,19 +48,34 @@ rows-same h other path n (t ∷ u ∷ ts) rows same shows = shows
 
 -- A world goes on.
 
+-- what a path has passed at a number, it has passed still
+pub passed-on : (w next : World) (path : List Branch) (k : ℕ) → GoesOnTo w next → AllByRecursion (λ b. IsNotToCome w b.guid) path → IsPassed w.history (branch_at path k) k → IsPassed next.history (branch_at path k) k
+passed-on w next path k goes drawn is = by (branch_at path k) (branch_at-of (IsNotToCome w) path k drawn) is
+  where
+    by : (b : Option Guid) → OfBranch (IsNotToCome w) b → IsPassed w.history b k → IsPassed next.history b k
+    by None known passed = tt
+    by (Some g) known passed = goes.passed g k known passed
+
+-- a set holds what its path shows in another world, where that is the same
+pub carried-same : (w next : World) (body : SetBody) → entries next.history body.header.path body.header.last ≡ entries w.history body.header.path body.header.last
+    → AllByRecursion (λ b. IsNotToCome next b.guid) body.header.path → IsUnwritten next.databases body.header.path body.header.last → IsHeld next.history body.header.path body.header.last
+    → IsCarried w body → IsCarried next body
+unfolding tables_below model_below time_below
+carried-same w next body same drawn unwritten held is = record {
+  tables = ap tables_of same ∙ is.tables;
+  rows = rows-same w.history next.history body.header.path body.header.last body.tables body.rows same is.rows;
+  model = ap (model_of _) same ∙ is.model;
+  time = ap (time_of 0) same ∙ is.time;
+  drawn = drawn;
+  unwritten = unwritten;
+  held = held;
+}
+
 -- what a set holds stays what its path shows
 pub carried-on : (w next : World) (body : SetBody) → GoesOnTo w next → IsCarried w body → IsCarried next body
-unfolding tables_below model_below time_below
 carried-on w next body goes is =
-    let same : entries next.history body.header.path body.header.last ≡ entries w.history body.header.path body.header.last = goes.shows body.header.path body.header.last is.drawn is.unwritten in
-    record {
-      tables = ap tables_of same ∙ is.tables;
-      rows = rows-same w.history next.history body.header.path body.header.last body.tables body.rows same is.rows;
-      model = ap (model_of _) same ∙ is.model;
-      time = ap (time_of 0) same ∙ is.time;
-      drawn = drawn-later w next body.header.path goes.instance goes.counter is.drawn;
-      unwritten = goes.unwritten body.header.path body.header.last is.drawn is.unwritten;
-    }
+    carried-same w next body (goes.shows body.header.path body.header.last is.drawn is.unwritten) (drawn-later w next body.header.path goes.instance goes.counter is.drawn)
+    (goes.unwritten body.header.path body.header.last is.drawn is.unwritten) (λ k lt. passed-on w next body.header.path k goes is.drawn (is.held k lt)) is
 
 -- a database that stays is kept
 pub kept-on : (w next : World) (db : Database) (kept : KeptDatabase) → GoesOnTo w next → (db.status ≡ Online → GoesOn next.history db.path db.end) → KeepsDatabase w db kept → KeepsDatabase next db kept
@@ -82,6 +99,7 @@ kept-on w next db kept goes goes_on is = record {
   shows = shows-same w.history next.history db.path db.end kept (goes.shows db.path db.end is.drawn is.unwritten) is.shows;
   drawn = drawn-later w next db.path goes.instance goes.counter is.drawn;
   unwritten = goes.unwritten db.path db.end is.drawn is.unwritten;
+  held = λ k lt. elim (is.held k lt) [ inl own ↦ inl own | inr passed ↦ inr (passed-on w next db.path k goes is.drawn passed) ];
   goes_on = goes_on;
 }
 
@@ -92,6 +110,7 @@ goes-then {a} {b} {c} first second = record {
   shows = λ path n drawn off.
       second.shows path n (drawn-later a b path first.instance first.counter drawn) (first.unwritten path n drawn off) ∙ first.shows path n drawn off;
   unwritten = λ path n drawn off. second.unwritten path n (drawn-later a b path first.instance first.counter drawn) (first.unwritten path n drawn off);
+  passed = λ g n known is. second.passed g n (to-come-later a b g first.instance first.counter known) (first.passed g n known is);
 }
 
 -- where histories and databases stay
@@ -101,6 +120,7 @@ goes-same w next instance counter history databases = record {
   counter = counter;
   shows = λ path n drawn off. ap (λ h. entries h path n) history;
   unwritten = λ path n drawn off. subst (λ dbs. IsUnwritten dbs path n) (sym databases) off;
+  passed = λ g n known is. subst (λ h. IsPassed h (Some g) n) (sym history) is;
 }
 
 -- A database that is online logs entries.
@@ -122,6 +142,7 @@ goes-logged w next db name change es ts found online above path status end insta
   unwritten = λ p n drawn off.
       subst (λ dbs. IsUnwritten dbs p n) (sym databases)
       (all-changed (IsOffOf p n) (IsOffOf p n) w.databases name db change off found (off-later p n db (change db) path status end) (λ o is. is));
+  passed = λ g n known is. subst (λ h. IsPassed h (Some g) n) (sym history) (passed-appended_to w.history (last_branch db.path) es ts g n is);
 }
 
 -- A database changes, and the history stays.
@@ -135,4 +156,5 @@ goes-changed w next db name change found off instance counter history databases 
   unwritten = λ p n drawn was.
       subst (λ dbs. IsUnwritten dbs p n) (sym databases)
       (all-changed (IsOffOf p n) (IsOffOf p n) w.databases name db change was found (λ is. off p n drawn was) (λ o is. is));
+  passed = λ g n known is. subst (λ h. IsPassed h (Some g) n) (sym history) is;
 }

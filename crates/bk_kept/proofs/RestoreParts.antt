@@ -27,7 +27,7 @@ use Rattle.bk_world.specs.Events.{IsNotToCome}
 use Rattle.bk_world.specs.History.{History, Line, is_guid, line_of, entries}
 use Rattle.bk_world.specs.Restore.{replaced, taken_over as world_taken_over, file_units, base_of, forked, new_line, recovered as world_recovered, recovered_world}
 use Rattle.bk_world.specs.Rows.{tables_of, rows_of, model_of, time_of, tables_below, rows_below, model_below, time_below}
-use Rattle.bk_world.specs.Sound.{has_line, IsBelow, GoesOn, IsOffOf, IsUnwritten, Differ, AreDifferent, IsOnce}
+use Rattle.bk_world.specs.Sound.{has_line, IsRising, IsBelow, IsPassed, GoesOn, IsOffOf, IsUnwritten, Differ, AreDifferent, IsOnce}
 use Rattle.bk_world.specs.World.{World, Database, database_named, with_database, with_new_database}
 use Rattle.bk_world.proofs.Apart.{entries-new_line, entries-forked, forked-is, last_branch-one_more}
 use Rattle.bk_world.proofs.Worlds.{is_guid-refl}
@@ -40,11 +40,12 @@ use Rattle.bk_kept.specs.Carried.{ShowsRows, IsCarried}
 use Rattle.bk_kept.specs.Goes.{GoesOnTo, LeadsTo}
 use Rattle.bk_kept.specs.Kept.{KeepsTable, KeepsDatabase, KeepsDatabases}
 use Rattle.bk_kept.proofs.Changing.{name-kept, before-or-not}
-use Rattle.bk_kept.proofs.Lines.{drawn-later, lines-later, all-new, never-on, once-drawn, goes-on-beside}
+use Rattle.bk_kept.proofs.Held.{passed-new}
+use Rattle.bk_kept.proofs.Lines.{drawn-later, lines-later, drawn-new, all-new, never-on, once-drawn, goes-on-beside}
 use Rattle.bk_kept.proofs.Lists.{zip-changed, zip-placed, zip-known, zip-left, all-placed, all-changed, different-placed, different-changed-of, placed-is-changed, kept-named}
 use Rattle.bk_kept.proofs.Logging.{fits-where}
 use Rattle.bk_kept.proofs.Making.{not-last}
-use Rattle.bk_kept.proofs.Reading.{kept-on}
+use Rattle.bk_kept.proofs.Reading.{passed-on, kept-on}
 
 -- What a set makes.
 
@@ -83,6 +84,7 @@ replaced-leads w name body kept new is sound carried fits =
       counter = omega arith;
       shows = λ path n before off. refl;
       unwritten = λ path n before off. all-placed (IsOffOf path n) (IsOffOf path n) w.databases made off (λ on. none-online on) (λ o a. a);
+      passed = λ g n known is. is;
     } in
     let own : KeepsDatabase next made (taken_over name body) = record {
       name = refl;
@@ -104,6 +106,7 @@ replaced-leads w name body kept new is sound carried fits =
       shows = record { table = table-shown w.history header.path header.last body.tables body.rows carried.tables carried.rows; model = carried.model; time = carried.time };
       drawn = drawn-later w next header.path refl (omega arith) carried.drawn;
       unwritten = goes.unwritten header.path header.last carried.drawn carried.unwritten;
+      held = λ k lt. inr (carried.held k lt);
       goes_on = λ on. none-online on;
     } in
     record {
@@ -115,6 +118,7 @@ replaced-leads w name body kept new is sound carried fits =
         different = different-placed w.databases made is.different (apart w.databases);
         once = is.once;
         lines = lines-later w next w.history refl (omega arith) is.lines;
+        rising = is.rising;
       };
     }
   where
@@ -127,10 +131,10 @@ keeps-becomes : (w next : World) (db : Database) (change : Database → Database
     → KeepsDatabases w kept → database_named w.databases db.name ≡ Some db → find_kept kept db.name ≡ Some known → GoesOnTo w next → next.databases ≡ with_database w.databases db.name change
     → ((o : Database) (k : KeptDatabase) → KeepsDatabase w o k → o.status ≡ in_use.Online → GoesOn next.history o.path o.end)
     → ((o : Database) → AllByRecursion (λ b. IsNotToCome w b.guid) o.path → Differ db o → Differ (change db) o)
-    → IsOnce next.history → AllByRecursion (λ line. IsNotToCome next line.branch) next.history
+    → IsOnce next.history → AllByRecursion (λ line. IsNotToCome next line.branch) next.history → AllByRecursion (λ line. IsRising line.entries) next.history
     → ((j : KeptDatabase) → KeepsDatabase w db known → of known ≡ Some j → KeepsDatabase next (change db) j)
     → changed db.name of kept ≡ Some new → KeepsDatabases next new
-keeps-becomes w next db change of known kept new is found it goes databases on differs once lines own fits = record {
+keeps-becomes w next db change of known kept new is found it goes databases on differs once lines rising own fits = record {
   each = subst (λ dbs. AllZip (KeepsDatabase next) dbs new) (sym databases)
       (zip-changed (λ o k. KeepsDatabase w o k × (lowered o.name ≡ lowered db.name → k ≡ known)) (KeepsDatabase next) db.name change of db (λ o k p. p.0.name)
       (λ o k p differ. kept-on w next o k goes (on o k p.0) p.0)
@@ -141,6 +145,7 @@ keeps-becomes w next db change of known kept new is found it goes databases on d
       (zip-left (KeepsDatabase w) (λ o. AllByRecursion (λ b. IsNotToCome w b.guid) o.path) w.databases kept is.each (λ o k one. one.drawn)) is.different found differs);
   once = once;
   lines = lines;
+  rising = rising;
 }
 
 -- The second part: its files are restored.
@@ -160,12 +165,13 @@ restored-leads w name body kept new is found it fits =
       counter = omega arith;
       shows = λ path n before off. refl;
       unwritten = λ path n before off. all-placed (IsOffOf path n) (IsOffOf path n) w.databases made off (λ on. none-online on) (λ o a. a);
+      passed = λ g n known is. is;
     } in
     record {
       goes = goes;
       keeps = keeps-becomes w next db (λ _. made) kept_restored (taken_over name body) kept new is found it goes databases (λ o k one on. one.goes_on on)
           (λ o before differ. record { names = differ.names; branches = λ on. none-online on })
-          is.once (lines-later w next w.history refl (omega arith) is.lines) own fits;
+          is.once (lines-later w next w.history refl (omega arith) is.lines) is.rising own fits;
     }
   where
     some-is : {A : Type 0} {x y : A} → Some x ≡ Some y → x ≡ y
@@ -193,6 +199,7 @@ restored-leads w name body kept new is found it fits =
       shows = record { table = one.shows.table; model = one.shows.model; time = one.shows.time };
       drawn = drawn-later w (replaced w (world_taken_over name body.header (state.Restoring (base_of body.header) body.header.last))) body.header.path refl (omega arith) one.drawn;
       unwritten = all-placed (IsOffOf body.header.path body.header.last) (IsOffOf body.header.path body.header.last) w.databases (world_taken_over name body.header (state.Restoring (base_of body.header) body.header.last)) one.unwritten (λ on. none-online on) (λ o a. a);
+      held = λ k lt. elim (one.held k lt) [ inl on ↦ none-online on.0 | inr passed ↦ inr passed ];
       goes_on = λ on. none-online on;
     })
 
@@ -264,6 +271,7 @@ recovered-leads w name body kept new is found it fits =
       counter = omega arith;
       shows = λ p n before off. entries-new_line line w.history p n (all-new w w.counter p (omega arith) before);
       unwritten = λ p n before off. all-placed (IsOffOf p n) (IsOffOf p n) w.databases made off (never p n before) (λ o a. a);
+      passed = λ g n known is. passed-new line w.history g n (drawn-new w w.counter g (omega arith) known) is;
     } in
     let shown : entries next.history made.path (header.last + 1) ≡ entries w.history header.path header.last =
     ap (λ p. entries next.history p (header.last + 1)) path ∙ entries-forked w.history header.path header.last branch 1 (all-new w w.counter header.path (omega arith) was.drawn) in
@@ -272,7 +280,7 @@ recovered-leads w name body kept new is found it fits =
       keeps = keeps-becomes w next db (λ _. made) (kept_recovered branch) (restoring name body) kept new is found it goes databases
           (λ o k one on. goes-on-beside line w.history o.path o.end (all-new w w.counter o.path (omega arith) one.drawn) (one.goes_on on))
           (λ o before differ. record { names = differ.names; branches = λ on other same. not-last branch o.path (all-new w w.counter o.path (omega arith) before) (sym same ∙ last_is) })
-          (once-drawn w w.counter line refl (omega arith) is.lines is.once) ((λ high. omega arith), lines-later w next w.history refl (omega arith) is.lines)
+          (once-drawn w w.counter line refl (omega arith) is.lines is.once) ((λ high. omega arith), lines-later w next w.history refl (omega arith) is.lines) (tt, is.rising)
           (λ j one f.
           let fit = fits-where (is_recoverable (restoring name body)) (record (restoring name body) {
             path = forked header.path header.last branch;
@@ -309,6 +317,14 @@ recovered-leads w name body kept new is found it fits =
                 w.databases name db made
                 (both w.databases (zip-left (KeepsDatabase w) (λ o. AllByRecursion (λ b. is_guid branch b.guid ≡ false) o.path) w.databases kept is.each (λ o k each. all-new w w.counter o.path (omega arith) each.drawn)) one.unwritten)
                 found (λ on k le lt. absurd (omega (arith, le, lt))) (λ o p. off-forked w header.path header.last o p.0 p.1)));
+            held = λ k lt.
+                elim (before-or-not header.last k) [
+                  | inl early ↦
+                      let Passed : Option Guid → Type 0 = λ b. IsPassed next.history b k in
+                      inr (subst Passed (sym (ap (λ p. branch_at p k) path ∙ branch_at-before header.path (record { guid = branch; start = header.last }) k early))
+                      (passed-on w next header.path k goes one.drawn (elim (one.held k early) [ inl on ↦ none-online on.0 | inr passed ↦ passed ])))
+                  | inr late ↦ inl (refl, ap (λ p. branch_at p k) path ∙ branch_at-after header.path (record { guid = branch; start = header.last }) k late ∙ sym last_is)
+                ];
             goes_on = λ on. record {
               branch = branch;
               last = last_is;

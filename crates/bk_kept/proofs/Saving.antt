@@ -1,18 +1,18 @@
 -- The parts of a full backup that log and move points, and the set that it seals.
-use Rattle.std.proofs.Common.{◌≡◌, ℕ, ◌+◌, false, List, [], ◌∷◌, map, Option, Some, None, refl, sym, ◌∙◌, ap, subst, arith}
+use Rattle.std.proofs.Common.{◌≡◌, ◌<◌, ◌≤◌, ◌⊎◌, inl, inr, ℕ, ◌+◌, true, false, List, [], ◌∷◌, map, Option, Some, None, refl, sym, ◌∙◌, ap, subst, arith}
 use Rattle.std.specs.List.{AllByRecursion}
 use Rattle.bk_ids.specs.declared.guid.Guid.{Guid}
 use Rattle.bk_ids.specs.declared.path.Branch.{Branch}
-use Rattle.bk_ids.specs.Path.{last_branch}
+use Rattle.bk_ids.specs.Path.{last_branch, branch_at}
 use Rattle.bk_world.specs.declared.database.Status.TheVariants as in_use
 use Rattle.bk_world.specs.declared.header.SetKind.TheVariants as kind
 use Rattle.bk_world.specs.Backup.{full_header, checkpointed, stamped, base_lsn, kept_after}
 use Rattle.bk_world.specs.Changes.{logged as world_logged, logged_with, plain_entry, appended_to}
 use Rattle.bk_world.specs.Entry.{nothing}
 use Rattle.bk_world.specs.Events.{IsNotToCome}
-use Rattle.bk_world.specs.History.{History}
+use Rattle.bk_world.specs.History.{History, line_of, appended}
 use Rattle.bk_world.specs.Rows.{tables_below, model_below, time_below}
-use Rattle.bk_world.specs.Sound.{IsUnwritten}
+use Rattle.bk_world.specs.Sound.{has_line, IsUnwritten, IsPassed, IsHeld, GoesOn}
 use Rattle.bk_world.specs.World.{World, Database, least_begin, database_named, with_database}
 use Rattle.bk_changes.specs.declared.state.Database.{Database as KeptDatabase}
 use Rattle.bk_changes.specs.declared.state.Table.{Table as KeptTable}
@@ -22,6 +22,7 @@ use Rattle.bk_changes.specs.Sets.{kept_header, kept_body, tables_in, rows_in}
 use Rattle.bk_kept.specs.Carried.{ShowsRows, IsCarried}
 use Rattle.bk_kept.specs.Goes.{LeadsTo}
 use Rattle.bk_kept.specs.Kept.{KeepsTable, KeepsDatabase, KeepsDatabases, own_base}
+use Rattle.bk_kept.proofs.Held.{reached-lower, passed-logged}
 use Rattle.bk_kept.proofs.Lists.{named-changed}
 use Rattle.bk_kept.proofs.Logging.{marked-leads, is-online}
 
@@ -100,6 +101,19 @@ unfolding stamped world_logged logged_with
 stamped-found w db at time found name =
     ap (λ n. database_named (with_database w.databases n (λ d. record d { end = db.end + 2 })) at.name) (sym name) ∙ named-changed w.databases at.name at (λ d. record d { end = db.end + 2 }) found refl
 
+-- behind it the stamp's own number is passed
+pub stamped-passed : (w : World) (db : Database) (time n : ℕ) → GoesOn (stamped w db time).history db.path n → IsPassed (stamped w db time).history (last_branch db.path) (db.end + 1)
+unfolding stamped world_logged logged_with
+stamped-passed w db time n on = by (last_branch db.path) on.branch on.last on.there
+  where
+    by : (b : Option Guid) (g : Guid) → b ≡ Some g → has_line (appended_to w.history b (plain_entry (db.end + 1) time nothing ∷ []) []) g ≡ true
+        → IsPassed (appended_to w.history b (plain_entry (db.end + 1) time nothing ∷ []) []) b (db.end + 1)
+    by None g is there = tt
+    by (Some b) g is there =
+        let same : g ≡ b = cc in
+        passed-logged w.history b (plain_entry (db.end + 1) time nothing) [] (db.end + 1) (omega arith)
+        (subst (λ x. has_line (appended w.history b (plain_entry (db.end + 1) time nothing ∷ []) []) x ≡ true) same there)
+
 -- The set.
 
 pairs-of-rows : (n : ℕ) (es : List (ℕ × List ℕ)) → map pair_of (map (row_of n) es) ≡ es
@@ -112,9 +126,10 @@ own-rows h path n (Some t) kept = (kept.0, kept.1 ∙ sym (pairs-of-rows t.spec.
 
 -- it holds what its database shows behind the stamp
 pub own-carried : (w : World) (at : Database) (kept after : KeptDatabase) (set : Guid) (time : ℕ) → KeepsDatabase w at after
-    → after.path ≡ kept.path → after.end ≡ kept.end + 2 → after.table ≡ kept.table → after.model ≡ kept.model → after.time ≡ time → IsCarried w (kept_body kept set time)
+    → after.path ≡ kept.path → after.end ≡ kept.end + 2 → after.table ≡ kept.table → after.model ≡ kept.model → after.time ≡ time
+    → IsPassed w.history (last_branch at.path) (kept.end + 1) → IsCarried w (kept_body kept set time)
 unfolding kept_body kept_header
-own-carried w at kept after set time keeps path end table model timed =
+own-carried w at kept after set time keeps path end table model timed passed =
     let p : at.path ≡ kept.path = keeps.path ∙ path in
     let e : at.end ≡ kept.end + 2 = keeps.end ∙ end in
     let t : KeepsTable w.history kept.path (kept.end + 2) kept.table =
@@ -127,4 +142,13 @@ own-carried w at kept after set time keeps path end table model timed =
       time = ap (λ b. time_below w.history b (kept.end + 2)) (sym p) ∙ ap (time_below w.history at.path) (sym e) ∙ keeps.shows.time ∙ timed;
       drawn = subst (AllByRecursion (λ b. IsNotToCome w b.guid)) p keeps.drawn;
       unwritten = subst (λ b. IsUnwritten w.databases b (kept.end + 2)) p (subst (IsUnwritten w.databases at.path) e keeps.unwritten);
+      held = subst (λ b. IsHeld w.history b (kept.end + 2)) p (subst (IsHeld w.history at.path) e (λ k lt. held k lt (keeps.held k lt)));
     }
+  where
+    lower : (b : Option Guid) (k : ℕ) → k ≤ kept.end + 1 → IsPassed w.history b (kept.end + 1) → IsPassed w.history b k
+    lower None k le is = tt
+    lower (Some g) k le is = reached-lower (line_of w.history g).entries (kept.end + 1) k le is
+
+    held : (k : ℕ) → k < at.end → ((at.status ≡ in_use.Online) × (branch_at at.path k ≡ last_branch at.path)) ⊎ IsPassed w.history (branch_at at.path k) k → IsPassed w.history (branch_at at.path k) k
+    held k lt (inl own) = subst (λ b. IsPassed w.history b k) (sym own.1) (lower (last_branch at.path) k (omega (arith, lt, keeps.end ∙ end)) passed)
+    held k lt (inr is) = is

@@ -9,7 +9,7 @@ use Rattle.bk_world.specs.declared.database.TableSpec.{TableSpec}
 use Rattle.bk_world.specs.Events.{IsNotToCome}
 use Rattle.bk_world.specs.History.{History}
 use Rattle.bk_world.specs.Rows.{tables_below, rows_below, model_below, time_below}
-use Rattle.bk_world.specs.Sound.{IsUnwritten}
+use Rattle.bk_world.specs.Sound.{IsUnwritten, IsHeld}
 use Rattle.bk_world.specs.World.{World}
 
 -- a path shows these rows below a number: those of one table, or none
@@ -24,6 +24,7 @@ pub record IsCarried (w : World) (body : SetBody) : Type 0 where
   pub rows : ShowsRows w.history body.header.path body.header.last body.tables body.rows
   pub model : model_below w.history body.header.path body.header.last ≡ body.header.model
   pub time : time_below w.history body.header.path body.header.last ≡ body.header.finish
-  -- no branch of it is still to come, and no database writes what it holds
+  -- no branch of it is still to come, no database writes what it holds, and all of it is held
   pub drawn : AllByRecursion (λ b. IsNotToCome w b.guid) body.header.path
   pub unwritten : IsUnwritten w.databases body.header.path body.header.last
+  pub held : IsHeld w.history body.header.path body.header.last

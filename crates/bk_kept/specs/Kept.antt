@@ -12,7 +12,7 @@ use Rattle.bk_world.specs.declared.database.Unit.{Unit as RestoreUnit}
 use Rattle.bk_world.specs.Events.{IsNotToCome}
 use Rattle.bk_world.specs.History.{History}
 use Rattle.bk_world.specs.Rows.{tables_below, rows_below, model_below, time_below}
-use Rattle.bk_world.specs.Sound.{IsOnce, GoesOn, IsUnwritten, AreDifferent}
+use Rattle.bk_world.specs.Sound.{IsOnce, IsRising, GoesOn, IsUnwritten, IsHeldOf, AreDifferent}
 use Rattle.bk_world.specs.World.{World, Database, current_name}
 use Rattle.bk_kept.specs.declared.kept.Kept.{Kept}
 use Rattle.bk_changes.specs.declared.state.Database.{Database as KeptDatabase}
@@ -75,18 +75,20 @@ pub record KeepsDatabase (w : World) (db : Database) (kept : KeptDatabase) : Typ
   pub no_job : db.job ≡ None
   pub idle : db.transactions ≡ []
   pub shows : Shows w.history db.path db.end kept
-  -- its branches start below its end and none of them is still to come, no database writes below its end, and where it is online it goes on from there
+  -- its branches start below its end and none of them is still to come, no database writes below its end, what it shows is held, and where it is online it goes on from there
   pub starts : AllByRecursion (λ b. b.start < db.end) db.path
   pub drawn : AllByRecursion (λ b. IsNotToCome w b.guid) db.path
   pub unwritten : IsUnwritten w.databases db.path db.end
+  pub held : IsHeldOf w.history db
   pub goes_on : db.status ≡ in_use.Online → GoesOn w.history db.path db.end
 
--- the databases of the world are those that are kept, and its history has each branch once, none of which is still to come
+-- the databases of the world are those that are kept, and its history has each branch once, none of which is still to come, with entries that rise
 pub record KeepsDatabases (w : World) (kept : List KeptDatabase) : Type 0 where
   pub each : AllZip (KeepsDatabase w) w.databases kept
   pub different : AreDifferent w.databases
   pub once : IsOnce w.history
   pub lines : AllByRecursion (λ line. IsNotToCome w line.branch) w.history
+  pub rising : AllByRecursion (λ line. IsRising line.entries) w.history
 
 -- what is kept in memory stands for this world, but for its media
 pub record Keeps (w : World) (kept : Kept) : Type 0 where

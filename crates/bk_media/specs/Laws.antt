@@ -3,6 +3,9 @@ use Rattle.std.proofs.Common.{◌≡◌, ◌⊎◌, ◌≤◌, ◌<◌, ◌+◌,
 use Rattle.std.specs.Prelude.{if◌then◌else◌, slice_get, unwrap_or, option_map}
 use Rattle.std.proofs.lemmas.List.{map-append, length-map}
 use Rattle.std.proofs.lemmas.Slice.Eq.{bytes_eq-Decides}
+use Rattle.hex.specs.Hex.{encode_lower, decode_of}
+use Rattle.hex.proofs.HexLemmas.{decode_of-encode_lower}
+use Rattle.bk_bytes.specs.Field.{AreBytes}
 use Rattle.bk_world.specs.Medium.{Slot, readable, not_media, medium}
 use Rattle.bk_device.specs.Calls.{contents, ChangesNothing}
 use Rattle.bk_device.specs.Disk.{Disk, IsLawful}
@@ -16,6 +19,7 @@ use Rattle.bk_set.specs.declared.found.Found.TheVariants.{Holds}
 use Rattle.bk_set.specs.Spelling.{set_bytes}
 use Rattle.bk_set.specs.Found.{found, slot_of}
 use Rattle.bk_set.proofs.Founds.{set_found}
+use Rattle.bk_media.specs.Names.{medium_file}
 use Rattle.bk_media.specs.Media.{medium_letters, sets_in, HasSets, HasAdded, sets_of, slot_in, reading_of, read_medium, found_at, IsMedium, ShowsMedium, count_of}
 
 letters_first : (sets : List (List ℕ)) → sets_in (medium_letters ∷ sets) ≡ Some sets
@@ -135,3 +139,13 @@ nothing_then {a = a} {b = b} {c = c} lawful first second = record {
         second.time.nothing_forgotten since image heard (omega (arith, first.time.later)) (first.time.nothing_forgotten since image heard early left);
   };
 }
+
+-- media at different paths have different names
+pub names_differ : (path other : List ℕ) → AreBytes path → AreBytes other → medium_file path ≡ medium_file other → path ≡ other
+unfolding medium_file
+names_differ path other bytes other_bytes same =
+    let digits : encode_lower path ≡ encode_lower other = cc in
+    let decoded : decode_of (encode_lower path) ≡ decode_of (encode_lower other) = ap decode_of digits in
+    let one = decode_of-encode_lower path bytes in
+    let two = decode_of-encode_lower other other_bytes in
+    cc

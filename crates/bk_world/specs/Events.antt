@@ -1,5 +1,5 @@
 -- What may happen to a closed world between two runs, and nothing else.
-use Rattle.std.specs.Prelude.{◌≡◌, ◌⊎◌, ◌<◌, ◌≤◌, ℕ, ◌+◌, ◌*◌, Bool, true, false, List, [], ◌∷◌, ◌++◌, Option, None, Some, filter, map, not, nat_lt, ◌==◌, ◌&&◌, if◌then◌else◌, length, take, Contains}
+use Rattle.std.specs.Prelude.{◌≡◌, ◌⊎◌, ◌<◌, ◌≤◌, ℕ, ◌+◌, ◌*◌, Bool, true, false, List, [], ◌∷◌, ◌++◌, Option, None, Some, filter, map, not, nat_lt, ◌==◌, ◌&&◌, ◌||◌, if◌then◌else◌, length, take, Contains}
 use Rattle.std.specs.List.{AllByRecursion, AllZip}
 use Rattle.std.specs.Str.{bytes_eq}
 use Rattle.bk_ids.specs.declared.guid.Guid.{Guid}
@@ -13,7 +13,7 @@ use Rattle.bk_world.specs.declared.database.Status.TheVariants as status
 use Rattle.bk_world.specs.declared.database.Unit.{Unit as RestoreUnit}
 use Rattle.bk_world.specs.Medium.{Slot, Reading, readable, damaged, no_set, not_media, medium, medium_at, without_medium, with_medium}
 use Rattle.bk_world.specs.History.{History, line_of}
-use Rattle.bk_world.specs.Sound.{IsOnce}
+use Rattle.bk_world.specs.Sound.{IsOnce, has_line}
 use Rattle.bk_world.specs.World.{World, Database, database_named, with_database}
 
 -- Data files.
@@ -113,6 +113,7 @@ IsLonger {A} here there joined = ((more : List A) × (here ++ more ≡ there) ×
 -- two histories are joined, branch by branch, each branch once
 pub record Joins (here there joined : History) : Type 0 where
   pub once : IsOnce joined
+  pub lines : (branch : Guid) → has_line joined branch ≡ (has_line here branch || has_line there branch)
   pub entries : (branch : Guid) → IsLonger (line_of here branch).entries (line_of there branch).entries (line_of joined branch).entries
   pub touches : (branch : Guid) → IsLonger (line_of here branch).touches (line_of there branch).touches (line_of joined branch).touches
   pub records : (branch : Guid) → IsLonger (line_of here branch).records (line_of there branch).records (line_of joined branch).records

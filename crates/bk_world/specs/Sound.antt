@@ -1,11 +1,12 @@
 -- What every reachable world keeps of databases and of their places in the history.
-use Rattle.std.specs.Prelude.{◌≡◌, ◌≢◌, ◌<◌, ◌≤◌, ℕ, Bool, true, false, List, [], ◌∷◌, Option, Some, if◌then◌else◌}
+use Rattle.std.specs.Prelude.{◌≡◌, ◌≢◌, ◌⊎◌, ◌<◌, ◌≤◌, ℕ, Bool, true, false, List, [], ◌∷◌, Option, None, Some, if◌then◌else◌}
 use Rattle.std.specs.List.{AllByRecursion}
 use Rattle.bk_ids.specs.declared.guid.Guid.{Guid}
 use Rattle.bk_ids.specs.declared.path.Branch.{Branch}
 use Rattle.bk_ids.specs.Name.{lowered}
 use Rattle.bk_ids.specs.Path.{last_branch, branch_at}
 use Rattle.bk_world.specs.declared.database.Status.TheVariants.{Online}
+use Rattle.bk_world.specs.Entry.{Entry}
 use Rattle.bk_world.specs.History.{History, Line, is_guid, line_of}
 use Rattle.bk_world.specs.World.{Database}
 
@@ -18,6 +19,25 @@ has_line (line ∷ history) branch = if is_guid line.branch branch then true els
 abbrev pub IsOnce : History → Type 0
 IsOnce [] = Unit {0}
 IsOnce (line ∷ history) = (has_line history line.branch ≡ false) × IsOnce history
+
+-- entries rise by their numbers: each lies below all behind it
+abbrev pub IsRising : List Entry → Type 0
+IsRising [] = Unit {0}
+IsRising (entry ∷ entries) = AllByRecursion (λ e. entry.lsn < e.lsn) entries × IsRising entries
+
+-- one of some entries lies at a number or above
+abbrev pub IsReached : List Entry → ℕ → Type 0
+IsReached [] n = ⊥
+IsReached (entry ∷ entries) n = (n ≤ entry.lsn) ⊎ IsReached entries n
+
+-- a branch has an entry at a number or above: what comes to it later lies above that number
+abbrev pub IsPassed : History → Option Guid → ℕ → Type 0
+IsPassed history None n = Unit {0}
+IsPassed history (Some branch) n = IsReached (line_of history branch).entries n
+
+-- what a path shows below n is held: each of these numbers is passed on its branch
+abbrev pub IsHeld : History → List Branch → ℕ → Type 0
+IsHeld history path n = (k : ℕ) → k < n → IsPassed history (branch_at path k) k
 
 -- everything on a line lies below a number
 pub record IsBelow (line : Line) (n : ℕ) : Type 0 where
@@ -44,6 +64,10 @@ IsOffOf path n db = db.status ≡ Online → IsOff path n (last_branch db.path) 
 -- and none of some databases does
 abbrev pub IsUnwritten : List Database → List Branch → ℕ → Type 0
 IsUnwritten databases path n = AllByRecursion (IsOffOf path n) databases
+
+-- what a database shows is held, but on the last branch of one that is online, which goes on
+abbrev pub IsHeldOf : History → Database → Type 0
+IsHeldOf history db = (k : ℕ) → k < db.end → ((db.status ≡ Online) × (branch_at db.path k ≡ last_branch db.path)) ⊎ IsPassed history (branch_at db.path k) k
 
 -- two databases have different names, and where both are online they write on different branches
 pub record Differ (a b : Database) : Type 0 where

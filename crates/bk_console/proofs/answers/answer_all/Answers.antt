@@ -29,7 +29,7 @@ loop-statement-preserved g c =
       answered = subst (λ ss. AnsweredFront c.args.stop c.args.instance.now c.answer.new.instance c.args.statements.now ss g.C.Clock.tells (g.C.Clock.coming c.args.clock.now) (g.C.Clock.coming c.answer.new.clock)
           g.D.Device.tells (g.D.Device.disk c.args.device.now) (g.D.Device.disk c.answer.new.device)) (sym more)
           (front-more _ _ _ _ _ _ _ _ _ _ _ _ _ _ before.answered (ap (λ k. take k c.args.statements.now) short) (ap (λ k. take (k + 1) c.args.statements.now) short ∙ more)
-          _ _ now.answered now.number (not-stopped _ _ c.else-refused.either));
+          _ _ now.answered (not-stopped _ _ c.else-refused.either));
       ready = now.ready;
       stored = now.stored;
       others = λ t. keeps_then (before.others t) (now.others t);
@@ -44,7 +44,7 @@ returns-then-stop-clause-answered g c =
     let short : length (take i c.args.statements.now) ≡ i = length-take-le i c.args.statements.now (omega arith) in
     let more = take_more c.args.statements.now i c.statement-item.result c.loop-statement-test.true ∙ ap (λ s. take i c.args.statements.now ++ s ∷ []) (sym c.statement-item.is) in
     Stopped-from _ _ _ _ _ _ _ _ _ _ _ _ _ _ before.answered (ap (λ k. take k c.args.statements.now) short) (ap (λ k. take (k + 1) c.args.statements.now) short ∙ more)
-    _ _ c.in_ok-refused.ensures.answered c.in_ok-refused.ensures.number
+    _ _ c.in_ok-refused.ensures.answered
     (omega (arith, short, c.loop-statement-test.true)) c.if-refused.true c.if-stop.true
 
 pub returns-in_err-refused-clause-cut_short : goal.returns-in_err-refused-clause-cut_short

@@ -8,18 +8,18 @@ use Rattle.bk_console.proofs.console.console.Goals as goal
 pub returns-in_err-options-clause-run : goal.returns-in_err-options-clause-run
 returns-in_err-options-clause-run g c =
     let p = err_from_is_err_and c.from_residual.result c.from_residual.ensures.1 in
-    rw (p.1, p.2) (refused-words _ _ _ _ _ _ _ _ (λ t. g.met.D.Device.lawful t c.args.device.now) c.requires.settled c.in_err-options.field-0.0 (λ t. refl))
+    rw (p.1, p.2) (refused-words _ _ _ _ _ _ _ _ (λ t. g.met.D.Device.lawful t c.args.device.now) c.in_err-options.field-0.0 (λ t. refl))
 
 pub returns-in_err-script-clause-run : goal.returns-in_err-script-clause-run
 returns-in_err-script-clause-run g c =
     let p = err_from_is_err_and c.from_residual-in_err-script.result c.from_residual-in_err-script.ensures.1 in
     let read = c.in_err-script.ensures.read in
-    rw (p.1, p.2) (failed-reading _ _ _ _ _ _ _ _ (λ t. g.met.D.Device.lawful t c.args.device.now) c.requires.settled c.in_err-script.field-0.0 read.0 read.2 read.1 (λ h. read.3 (ap Err h)) (λ h. read.4 (ap Err h)))
+    rw (p.1, p.2) (failed-reading _ _ _ _ _ _ _ _ (λ t. g.met.D.Device.lawful t c.args.device.now) c.in_err-script.field-0.0 read.0 read.2 read.1 (λ h. read.3 (ap Err h)) (λ h. read.4 (ap Err h)))
 
 pub returns-in_err-statements-clause-run : goal.returns-in_err-statements-clause-run
 returns-in_err-statements-clause-run g c =
     let p = err_from_is_err_and c.from_residual-in_err-statements.result c.from_residual-in_err-statements.ensures.1 in
-    rw (p.1, p.2) (stopped-before _ _ _ _ _ _ _ _ (λ t. g.met.D.Device.lawful t c.args.device.now) c.requires.settled c.in_ok-script.script.items c.in_ok-script.ensures.whole c.in_ok-script.ensures.short)
+    rw (p.1, p.2) (stopped-before _ _ _ _ _ _ _ _ (λ t. g.met.D.Device.lawful t c.args.device.now) c.in_ok-script.script.items c.in_ok-script.ensures.whole c.in_ok-script.ensures.short)
 
 pub returns-clause-run : goal.returns-clause-run
 returns-clause-run g c =

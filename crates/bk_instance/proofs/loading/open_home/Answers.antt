@@ -3,14 +3,14 @@ use Rattle.bk_instance.proofs.Loads.{sync-crash, open-crash, open-stands, open-m
 use Rattle.bk_instance.proofs.loading.open_home.Goals as goal
 
 pub returns-in_err-sync_own-clause-crash : goal.returns-in_err-sync_own-clause-crash
-returns-in_err-sync_own-clause-crash g c t settled =
-    sync-crash c.args.number (g.D.Device.disk c.args.dev.now) (g.D.Device.disk c.sync_own.new.dev) settled (c.sync_own.ensures.crash t)
+returns-in_err-sync_own-clause-crash g c t =
+    sync-crash c.args.number (g.D.Device.disk c.args.dev.now) (g.D.Device.disk c.sync_own.new.dev) (c.sync_own.ensures.crash t)
 
 pub returns-in_err-home-clause-crash : goal.returns-in_err-home-clause-crash
-returns-in_err-home-clause-crash g c t settled =
+returns-in_err-home-clause-crash g c t =
     let a = g.D.Device.disk c.args.dev.now in
     let b = g.D.Device.disk c.sync_own.new.dev in
-    open-crash c.args.number a b (g.D.Device.disk c.load.new.dev) settled (c.in_ok-sync_own.ensures.effect t) (sync-crash c.args.number a b settled (c.sync_own.ensures.crash t)) (c.load.ensures.effect t) (c.load.ensures.crash t)
+    open-crash c.args.number a b (g.D.Device.disk c.load.new.dev) (c.in_ok-sync_own.ensures.durable t) (c.in_ok-sync_own.ensures.effect t) (sync-crash c.args.number a b (c.sync_own.ensures.crash t)) (c.load.ensures.effect t) (c.load.ensures.crash t)
 
 pub returns-clause-same : goal.returns-clause-same
 returns-clause-same g c t w stands =
@@ -23,7 +23,7 @@ returns-clause-media g c t settled =
     open-media c.args.number (g.D.Device.disk c.args.dev.now) (g.D.Device.disk c.sync_own.new.dev) (g.D.Device.disk c.load.new.dev) settled (c.in_ok-sync_own.ensures.effect t) (c.load.ensures.effect t) (c.load.ensures.crash t)
 
 pub returns-clause-crash : goal.returns-clause-crash
-returns-clause-crash g c t settled =
+returns-clause-crash g c t =
     let a = g.D.Device.disk c.args.dev.now in
     let b = g.D.Device.disk c.sync_own.new.dev in
-    open-crash c.args.number a b (g.D.Device.disk c.load.new.dev) settled (c.in_ok-sync_own.ensures.effect t) (sync-crash c.args.number a b settled (c.sync_own.ensures.crash t)) (c.load.ensures.effect t) (c.load.ensures.crash t)
+    open-crash c.args.number a b (g.D.Device.disk c.load.new.dev) (c.in_ok-sync_own.ensures.durable t) (c.in_ok-sync_own.ensures.effect t) (sync-crash c.args.number a b (c.sync_own.ensures.crash t)) (c.load.ensures.effect t) (c.load.ensures.crash t)

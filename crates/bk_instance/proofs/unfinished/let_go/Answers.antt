@@ -10,26 +10,26 @@ next : Record → Record
 next old = record { number = old.number; counter = old.counter; making = None }
 
 pub returns-in_default-clause-crash : goal.returns-in_default-clause-crash
-returns-in_default-clause-crash g c t durable = let-go-none (g.D.Device.disk c.args.dev.now) c.args.home.now (c.requires.stands t) durable
+returns-in_default-clause-crash g c t = let-go-none (g.D.Device.disk c.args.dev.now) c.args.home.now (c.requires.stands t)
 
 pub returns-in_err-clear-clause-crash : goal.returns-in_err-clear-clause-crash
-returns-in_err-clear-clause-crash g c t durable =
+returns-in_err-clear-clause-crash g c t =
     let making : c.args.home.now.«record».making ≡ Some c.as_str.result.now = sym (ap (λ (r : Record). r.making) c.record-record.ensures.same) ∙ c.in-Some.is ∙ ap (λ (p : List ℕ). Some p) (sym c.as_str.ensures) in
-    let-go-clear c.as_str.result.now (g.D.Device.disk c.args.dev.now) (g.D.Device.disk c.clear.new.dev) c.args.home.now c.name_law.ensures.different (c.requires.stands t) durable c.clear.ensures.bytes making (c.clear.ensures.crash t)
+    let-go-clear c.as_str.result.now (g.D.Device.disk c.args.dev.now) (g.D.Device.disk c.clear.new.dev) c.args.home.now c.name_law.ensures.different (c.requires.stands t) c.clear.ensures.bytes making (c.clear.ensures.crash t)
 
 pub put-requires-clause-stands : goal.put-requires-clause-stands
 put-requires-clause-stands g c t = home-cleared c.as_str.result.now (g.D.Device.disk c.args.dev.now) (g.D.Device.disk c.clear.new.dev) c.args.home.now (c.clear.ensures.crash t) (c.requires.stands t)
 
 pub returns-in_err-put-clause-crash : goal.returns-in_err-put-clause-crash
 unfolding next
-returns-in_err-put-clause-crash g c t durable =
+returns-in_err-put-clause-crash g c t =
     let a = g.D.Device.disk c.args.dev.now in
     let b = g.D.Device.disk c.clear.new.dev in
     let path = c.as_str.result.now in
     let same = c.record-record.ensures.same in
-    let calm : IsDurable b (medium_file path) = c.in_ok-clear.ensures.durable t (durable path c.clear.ensures.bytes) in
+    let calm : IsDurable a (medium_file path) → IsDurable b (medium_file path) = c.in_ok-clear.ensures.durable t in
     let making : c.args.home.now.«record».making ≡ Some path = sym (ap (λ (r : Record). r.making) same) ∙ c.in-Some.is ∙ ap (λ (p : List ℕ). Some p) (sym c.as_str.ensures) in
-    let-go-then path a b (g.D.Device.disk c.put.new.dev) c.args.home.now (next c.record-record.result.now) c.name_law.ensures.different (c.requires.stands t) durable c.clear.ensures.bytes making (c.clear.ensures.crash t)
+    let-go-then path a b (g.D.Device.disk c.put.new.dev) c.args.home.now (next c.record-record.result.now) c.name_law.ensures.different (c.requires.stands t) c.clear.ensures.bytes making (c.clear.ensures.crash t)
     (c.in_ok-clear.ensures.cleared t) calm (ap (λ (r : Record). r.number) same) (ap (λ (r : Record). r.counter) same) refl (c.put.ensures.crash t)
 
 pub returns-clause-blobs : goal.returns-clause-blobs
@@ -46,12 +46,12 @@ returns-clause-media g c t durable other bytes =
 
 pub returns-clause-crash : goal.returns-clause-crash
 unfolding next
-returns-clause-crash g c t durable =
+returns-clause-crash g c t =
     let a = g.D.Device.disk c.args.dev.now in
     let b = g.D.Device.disk c.clear.new.dev in
     let path = c.as_str.result.now in
     let same = c.record-record.ensures.same in
-    let calm : IsDurable b (medium_file path) = c.in_ok-clear.ensures.durable t (durable path c.clear.ensures.bytes) in
+    let calm : IsDurable a (medium_file path) → IsDurable b (medium_file path) = c.in_ok-clear.ensures.durable t in
     let making : c.args.home.now.«record».making ≡ Some path = sym (ap (λ (r : Record). r.making) same) ∙ c.in-Some.is ∙ ap (λ (p : List ℕ). Some p) (sym c.as_str.ensures) in
-    let-go-then path a b (g.D.Device.disk c.put.new.dev) c.args.home.now (next c.record-record.result.now) c.name_law.ensures.different (c.requires.stands t) durable c.clear.ensures.bytes making (c.clear.ensures.crash t)
+    let-go-then path a b (g.D.Device.disk c.put.new.dev) c.args.home.now (next c.record-record.result.now) c.name_law.ensures.different (c.requires.stands t) c.clear.ensures.bytes making (c.clear.ensures.crash t)
     (c.in_ok-clear.ensures.cleared t) calm (ap (λ (r : Record). r.number) same) (ap (λ (r : Record). r.counter) same) refl (c.put.ensures.crash t)

@@ -23,10 +23,10 @@ pub returns-in_err-medium-clause-crash : goal.returns-in_err-medium-clause-crash
 returns-in_err-medium-clause-crash g c tells = (making-effect c.args.self.now (g.D.Device.disk c.args.dev.now) (g.D.Device.disk c.make_medium.new.dev) c.args.line c.args.name.now c.args.path.now c.args.now c.in_ok-body.body (text-bytes c.args.path.now c.utf8.path) (λ other are. c.name_law.ensures.different c.args.path.now other (text-bytes c.args.path.now c.utf8.path) are) (c.requires.absent tells) (backup-law c.args.self.now (g.D.Device.disk c.args.dev.now) c.args.line c.args.name.now c.args.path.now c.args.now c.in_ok-body.body c.in_ok-body.ensures.plans (λ w stands. backup-fine c.args.self.now (g.D.Device.disk c.args.dev.now) c.args.line c.args.name.now c.args.path.now (None) (text-bytes c.args.path.now c.utf8.path) (c.requires.absent tells) (λ w keeps. c.in_default.ensures.broken w keeps) w stands)) (c.make_medium.ensures.crash tells))
 
 pub returns-in_err-finish_backup-clause-crash : goal.returns-in_err-finish_backup-clause-crash
-returns-in_err-finish_backup-clause-crash g c tells = effect_then (making-effect c.args.self.now (g.D.Device.disk c.args.dev.now) (g.D.Device.disk c.make_medium.new.dev) c.args.line c.args.name.now c.args.path.now c.args.now c.in_ok-body.body (text-bytes c.args.path.now c.utf8.path) (λ other are. c.name_law.ensures.different c.args.path.now other (text-bytes c.args.path.now c.utf8.path) are) (c.requires.absent tells) (backup-law c.args.self.now (g.D.Device.disk c.args.dev.now) c.args.line c.args.name.now c.args.path.now c.args.now c.in_ok-body.body c.in_ok-body.ensures.plans (λ w stands. backup-fine c.args.self.now (g.D.Device.disk c.args.dev.now) c.args.line c.args.name.now c.args.path.now (None) (text-bytes c.args.path.now c.utf8.path) (c.requires.absent tells) (λ w keeps. c.in_default.ensures.broken w keeps) w stands)) (c.make_medium.ensures.crash tells)) (finishing-effect c.args.self.now c.make_medium.new.self (g.D.Device.disk c.args.dev.now) (g.D.Device.disk c.make_medium.new.dev) (g.D.Device.disk c.finish_backup.new.dev) c.args.line c.args.name.now c.args.path.now c.args.now c.in_ok-body.body c.in_ok-medium.ensures.ready c.in_ok-medium.ensures.kept c.in_ok-medium.ensures.reserved (λ other are. c.name_law.ensures.different c.args.path.now other (text-bytes c.args.path.now c.utf8.path) are) (backup-law c.args.self.now (g.D.Device.disk c.args.dev.now) c.args.line c.args.name.now c.args.path.now c.args.now c.in_ok-body.body c.in_ok-body.ensures.plans (λ w stands. backup-fine c.args.self.now (g.D.Device.disk c.args.dev.now) c.args.line c.args.name.now c.args.path.now (None) (text-bytes c.args.path.now c.utf8.path) (c.requires.absent tells) (λ w keeps. c.in_default.ensures.broken w keeps) w stands)) (λ other are apart. c.make_medium.ensures.others tells other are apart) (c.finish_backup.ensures.crash tells))
+returns-in_err-finish_backup-clause-crash g c tells = effect_then (making-effect c.args.self.now (g.D.Device.disk c.args.dev.now) (g.D.Device.disk c.make_medium.new.dev) c.args.line c.args.name.now c.args.path.now c.args.now c.in_ok-body.body (text-bytes c.args.path.now c.utf8.path) (λ other are. c.name_law.ensures.different c.args.path.now other (text-bytes c.args.path.now c.utf8.path) are) (c.requires.absent tells) (backup-law c.args.self.now (g.D.Device.disk c.args.dev.now) c.args.line c.args.name.now c.args.path.now c.args.now c.in_ok-body.body c.in_ok-body.ensures.plans (λ w stands. backup-fine c.args.self.now (g.D.Device.disk c.args.dev.now) c.args.line c.args.name.now c.args.path.now (None) (text-bytes c.args.path.now c.utf8.path) (c.requires.absent tells) (λ w keeps. c.in_default.ensures.broken w keeps) w stands)) (c.make_medium.ensures.crash tells)) (finishing-effect c.args.self.now c.make_medium.new.self (g.D.Device.disk c.args.dev.now) (g.D.Device.disk c.make_medium.new.dev) (g.D.Device.disk c.finish_backup.new.dev) c.args.line c.args.name.now c.args.path.now c.args.now c.in_ok-body.body c.in_ok-medium.ensures.ready c.in_ok-medium.ensures.kept c.in_ok-medium.ensures.reserved (λ other are. c.name_law.ensures.different c.args.path.now other (text-bytes c.args.path.now c.utf8.path) are) (backup-law c.args.self.now (g.D.Device.disk c.args.dev.now) c.args.line c.args.name.now c.args.path.now c.args.now c.in_ok-body.body c.in_ok-body.ensures.plans (λ w stands. backup-fine c.args.self.now (g.D.Device.disk c.args.dev.now) c.args.line c.args.name.now c.args.path.now (None) (text-bytes c.args.path.now c.utf8.path) (c.requires.absent tells) (λ w keeps. c.in_default.ensures.broken w keeps) w stands)) (λ other are apart. c.make_medium.ensures.others tells other are apart) (c.in_ok-medium.ensures.media tells) (c.finish_backup.ensures.crash tells))
 
 pub returns-clause-stored : goal.returns-clause-stored
-returns-clause-stored g c tells = record { home = (c.in_ok-finish_backup.ensures.stored tells).home; rows = (c.in_ok-finish_backup.ensures.stored tells).rows; media = (c.in_ok-finish_backup.ensures.stored tells).media }
+returns-clause-stored g c tells = record { home = (c.in_ok-finish_backup.ensures.stored tells).home; rows = (c.in_ok-finish_backup.ensures.stored tells).rows }
 
 pub returns-clause-answers : goal.returns-clause-answers
 returns-clause-answers g c tells =
@@ -38,4 +38,7 @@ returns-clause-answers g c tells =
     (c.in_ok-finish_backup.ensures.same.current ∙ ap (λ (k : Kept). k.current) c.in_ok-medium.ensures.kept)
 
 pub returns-clause-crash : goal.returns-clause-crash
-returns-clause-crash g c tells = effect_then (making-effect c.args.self.now (g.D.Device.disk c.args.dev.now) (g.D.Device.disk c.make_medium.new.dev) c.args.line c.args.name.now c.args.path.now c.args.now c.in_ok-body.body (text-bytes c.args.path.now c.utf8.path) (λ other are. c.name_law.ensures.different c.args.path.now other (text-bytes c.args.path.now c.utf8.path) are) (c.requires.absent tells) (backup-law c.args.self.now (g.D.Device.disk c.args.dev.now) c.args.line c.args.name.now c.args.path.now c.args.now c.in_ok-body.body c.in_ok-body.ensures.plans (λ w stands. backup-fine c.args.self.now (g.D.Device.disk c.args.dev.now) c.args.line c.args.name.now c.args.path.now (None) (text-bytes c.args.path.now c.utf8.path) (c.requires.absent tells) (λ w keeps. c.in_default.ensures.broken w keeps) w stands)) (c.make_medium.ensures.crash tells)) (finishing-effect c.args.self.now c.make_medium.new.self (g.D.Device.disk c.args.dev.now) (g.D.Device.disk c.make_medium.new.dev) (g.D.Device.disk c.finish_backup.new.dev) c.args.line c.args.name.now c.args.path.now c.args.now c.in_ok-body.body c.in_ok-medium.ensures.ready c.in_ok-medium.ensures.kept c.in_ok-medium.ensures.reserved (λ other are. c.name_law.ensures.different c.args.path.now other (text-bytes c.args.path.now c.utf8.path) are) (backup-law c.args.self.now (g.D.Device.disk c.args.dev.now) c.args.line c.args.name.now c.args.path.now c.args.now c.in_ok-body.body c.in_ok-body.ensures.plans (λ w stands. backup-fine c.args.self.now (g.D.Device.disk c.args.dev.now) c.args.line c.args.name.now c.args.path.now (None) (text-bytes c.args.path.now c.utf8.path) (c.requires.absent tells) (λ w keeps. c.in_default.ensures.broken w keeps) w stands)) (λ other are apart. c.make_medium.ensures.others tells other are apart) (c.finish_backup.ensures.crash tells))
+returns-clause-crash g c tells = effect_then (making-effect c.args.self.now (g.D.Device.disk c.args.dev.now) (g.D.Device.disk c.make_medium.new.dev) c.args.line c.args.name.now c.args.path.now c.args.now c.in_ok-body.body (text-bytes c.args.path.now c.utf8.path) (λ other are. c.name_law.ensures.different c.args.path.now other (text-bytes c.args.path.now c.utf8.path) are) (c.requires.absent tells) (backup-law c.args.self.now (g.D.Device.disk c.args.dev.now) c.args.line c.args.name.now c.args.path.now c.args.now c.in_ok-body.body c.in_ok-body.ensures.plans (λ w stands. backup-fine c.args.self.now (g.D.Device.disk c.args.dev.now) c.args.line c.args.name.now c.args.path.now (None) (text-bytes c.args.path.now c.utf8.path) (c.requires.absent tells) (λ w keeps. c.in_default.ensures.broken w keeps) w stands)) (c.make_medium.ensures.crash tells)) (finishing-effect c.args.self.now c.make_medium.new.self (g.D.Device.disk c.args.dev.now) (g.D.Device.disk c.make_medium.new.dev) (g.D.Device.disk c.finish_backup.new.dev) c.args.line c.args.name.now c.args.path.now c.args.now c.in_ok-body.body c.in_ok-medium.ensures.ready c.in_ok-medium.ensures.kept c.in_ok-medium.ensures.reserved (λ other are. c.name_law.ensures.different c.args.path.now other (text-bytes c.args.path.now c.utf8.path) are) (backup-law c.args.self.now (g.D.Device.disk c.args.dev.now) c.args.line c.args.name.now c.args.path.now c.args.now c.in_ok-body.body c.in_ok-body.ensures.plans (λ w stands. backup-fine c.args.self.now (g.D.Device.disk c.args.dev.now) c.args.line c.args.name.now c.args.path.now (None) (text-bytes c.args.path.now c.utf8.path) (c.requires.absent tells) (λ w keeps. c.in_default.ensures.broken w keeps) w stands)) (λ other are apart. c.make_medium.ensures.others tells other are apart) (c.in_ok-medium.ensures.media tells) (c.finish_backup.ensures.crash tells))
+
+pub returns-clause-media : goal.returns-clause-media
+returns-clause-media g c tells durable = c.in_ok-finish_backup.ensures.media tells (c.in_ok-medium.ensures.media tells durable)

@@ -1,6 +1,6 @@
 use Rattle.std.proofs.Common.{◌∙◌, []}
 use Rattle.bk_home.specs.Home.{blobs_of}
-use Rattle.bk_instance.proofs.Stores.{change-none, change-appended, rows-changed, media-kept}
+use Rattle.bk_instance.proofs.Stores.{change-none, change-appended, rows-changed, media-durable}
 use Rattle.bk_instance.proofs.instance.Instance.change.Goals as goal
 
 pub returns-in_err-bytes-clause-crash : goal.returns-in_err-bytes-clause-crash
@@ -22,7 +22,6 @@ returns-clause-stored g c tells = record {
       (c.deref.ensures.value ∙ c.in_ok-bytes.ensures.bytes)
       (c.changes_law.ensures.spelled [] (blobs_of (g.D.Device.disk c.args.dev.now).files) c.args.change.now c.in_ok-bytes.ensures.fits)
       (c.requires.stored tells).rows c.in_ok-apply.ensures.ok (c.in_ok-append.ensures.blobs tells);
-  media = λ path bytes. media-kept (g.D.Device.disk c.args.dev.now) (g.D.Device.disk c.append.new.dev) path (c.append.ensures.crash tells) ((c.requires.stored tells).media path bytes);
 }
 
 pub returns-clause-crash : goal.returns-clause-crash
@@ -30,3 +29,6 @@ returns-clause-crash g c tells =
     change-appended c.args.self.now (g.D.Device.disk c.args.dev.now) (g.D.Device.disk c.append.new.dev) c.args.change.now c.apply.new.databases.items c.deref.result.now (c.requires.stored tells)
     (c.deref.ensures.value ∙ c.in_ok-bytes.ensures.bytes)
     (c.changes_law.ensures.spelled [] (blobs_of (g.D.Device.disk c.args.dev.now).files) c.args.change.now c.in_ok-bytes.ensures.fits) c.in_ok-apply.ensures.ok (c.append.ensures.crash tells)
+
+pub returns-clause-media : goal.returns-clause-media
+returns-clause-media g c tells = media-durable (g.D.Device.disk c.args.dev.now) (g.D.Device.disk c.append.new.dev) (c.append.ensures.crash tells)

@@ -6,7 +6,8 @@ use Rattle.bk_home.specs.declared.record.Record.{Record}
 use Rattle.bk_home.specs.Laws.{home_kept}
 use Rattle.bk_home.proofs.Steps.{same_error}
 use Rattle.bk_instance.specs.declared.error.LoadError.TheVariants.{Broken}
-use Rattle.bk_instance.proofs.Loads.{blobs-on, media-on-nothing, read-crash, load-crash, load-stands, broken-rows, load-number, instance-stands}
+use Rattle.bk_instance.proofs.Covering.{media-on-nothing}
+use Rattle.bk_instance.proofs.Loads.{blobs-on, read-crash, load-crash, load-stands, broken-rows, load-number, instance-stands}
 use Rattle.bk_instance.proofs.instance.Instance.load.Goals as goal
 
 pub returns-in_err-home-clause-broken : goal.returns-in_err-home-clause-broken
@@ -15,9 +16,9 @@ returns-in_err-home-clause-broken g c t =
     rw (p.1, p.2) (λ is w stands. c.in_err-home.ensures.broken t (same_error c.in_err-home.field-0.0 Broken is) w stands)
 
 pub returns-in_err-databases-clause-crash : goal.returns-in_err-databases-clause-crash
-returns-in_err-databases-clause-crash g c t settled =
+returns-in_err-databases-clause-crash g c t =
     read-crash c.args.number (g.D.Device.disk c.args.dev.now) (g.D.Device.disk c.open_home.new.dev) (g.D.Device.disk c.replay.new.dev) c.in_ok-home.home
-    (c.open_home.ensures.crash t settled) (c.in_ok-home.ensures.same t) (c.in_ok-home.ensures.stands t) (c.in_ok-home.ensures.media t settled) (c.replay.ensures.effect t)
+    (c.open_home.ensures.crash t) (c.in_ok-home.ensures.same t) (c.in_ok-home.ensures.stands t) (c.in_ok-home.ensures.media t) (c.replay.ensures.effect t)
 
 pub returns-in_err-databases-clause-broken : goal.returns-in_err-databases-clause-broken
 returns-in_err-databases-clause-broken g c t =
@@ -30,17 +31,19 @@ pub let_go-requires-clause-stands : goal.let_go-requires-clause-stands
 let_go-requires-clause-stands g c t = home_kept (keeps_by_nothing (c.replay.ensures.effect t)) (c.in_ok-home.ensures.stands t)
 
 pub returns-in_err-let_go-clause-crash : goal.returns-in_err-let_go-clause-crash
-returns-in_err-let_go-clause-crash g c t settled =
+returns-in_err-let_go-clause-crash g c t =
     load-crash c.args.number (g.D.Device.disk c.args.dev.now) (g.D.Device.disk c.open_home.new.dev) (g.D.Device.disk c.replay.new.dev) (g.D.Device.disk c.let_go.new.dev) c.in_ok-home.home
-    (c.open_home.ensures.crash t settled) (c.in_ok-home.ensures.same t) (c.in_ok-home.ensures.stands t) (c.in_ok-home.ensures.media t settled) (c.replay.ensures.effect t)
-    (c.let_go.ensures.crash t (media-on-nothing (c.replay.ensures.effect t) (c.in_ok-home.ensures.media t settled)))
+    (c.open_home.ensures.crash t) (c.in_ok-home.ensures.same t) (c.in_ok-home.ensures.stands t) (c.in_ok-home.ensures.media t) (c.replay.ensures.effect t)
+    (c.let_go.ensures.crash t)
 
 pub returns-clause-stored : goal.returns-clause-stored
-returns-clause-stored g c t settled = record {
+returns-clause-stored g c t = record {
   home = c.in_ok-let_go.ensures.stands t;
   rows = ap replayed (c.in_ok-let_go.ensures.blobs t ∙ blobs-on (c.replay.ensures.effect t)) ∙ c.in_ok-databases.ensures.rows t;
-  media = c.in_ok-let_go.ensures.media t (media-on-nothing (c.replay.ensures.effect t) (c.in_ok-home.ensures.media t settled));
 }
+
+pub returns-clause-media : goal.returns-clause-media
+returns-clause-media g c t settled = c.in_ok-let_go.ensures.media t (media-on-nothing (c.replay.ensures.effect t) (c.in_ok-home.ensures.media t settled))
 
 pub returns-clause-stands : goal.returns-clause-stands
 returns-clause-stands g c t settled w stands =
@@ -51,14 +54,14 @@ returns-clause-stands g c t settled w stands =
     (ap replayed (c.in_ok-let_go.ensures.blobs t ∙ blobs-on (c.replay.ensures.effect t)) ∙ c.in_ok-databases.ensures.rows t)
     (load-stands c.args.number (g.D.Device.disk c.args.dev.now) (g.D.Device.disk c.open_home.new.dev) (g.D.Device.disk c.replay.new.dev) (g.D.Device.disk c.let_go.new.dev) c.in_ok-home.home w
     (g.met.D.Device.lawful t c.let_go.new.dev) (c.in_ok-home.ensures.same t) (c.in_ok-home.ensures.stands t) (c.replay.ensures.effect t)
-    (c.let_go.ensures.crash t (media-on-nothing (c.replay.ensures.effect t) (c.in_ok-home.ensures.media t settled))) stands)
+    (media-on-nothing (c.replay.ensures.effect t) (c.in_ok-home.ensures.media t settled)) (c.let_go.ensures.crash t) stands)
 
 pub returns-clause-number : goal.returns-clause-number
 returns-clause-number g c t w stands =
     ap (λ (r : Record). r.number) c.record-record.ensures.same ∙ c.in_ok-let_go.ensures.number ∙ sym (load-number c.args.number (g.D.Device.disk c.open_home.new.dev) c.in_ok-home.home w (c.in_ok-home.ensures.stands t) (c.in_ok-home.ensures.same t w stands))
 
 pub returns-clause-crash : goal.returns-clause-crash
-returns-clause-crash g c t settled =
+returns-clause-crash g c t =
     load-crash c.args.number (g.D.Device.disk c.args.dev.now) (g.D.Device.disk c.open_home.new.dev) (g.D.Device.disk c.replay.new.dev) (g.D.Device.disk c.let_go.new.dev) c.in_ok-home.home
-    (c.open_home.ensures.crash t settled) (c.in_ok-home.ensures.same t) (c.in_ok-home.ensures.stands t) (c.in_ok-home.ensures.media t settled) (c.replay.ensures.effect t)
-    (c.let_go.ensures.crash t (media-on-nothing (c.replay.ensures.effect t) (c.in_ok-home.ensures.media t settled)))
+    (c.open_home.ensures.crash t) (c.in_ok-home.ensures.same t) (c.in_ok-home.ensures.stands t) (c.in_ok-home.ensures.media t) (c.replay.ensures.effect t)
+    (c.let_go.ensures.crash t)

@@ -9,4 +9,4 @@ returns-in_err-database-clause-crash g c tells =
 pub returns-clause-stored : goal.returns-clause-stored
 returns-clause-stored g c tells =
     let stored = c.in_ok-change_by.ensures.stored tells in
-    record { home = stored.home; rows = stored.rows; media = stored.media }
+    record { home = stored.home; rows = stored.rows }

@@ -1,6 +1,6 @@
 use Rattle.std.proofs.Common.{◌∙◌, ◌+◌, None, refl, ap}
 use Rattle.bk_changes.specs.Replayed.{replayed}
-use Rattle.bk_instance.proofs.Stores.{reserve-none, reserved, media-kept}
+use Rattle.bk_instance.proofs.Stores.{reserve-none, reserved, media-durable}
 use Rattle.bk_instance.proofs.instance.Instance.reserve.Goals as goal
 
 pub returns-then-drawn-n-clause-crash : goal.returns-then-drawn-n-clause-crash
@@ -14,9 +14,11 @@ pub returns-clause-stored : goal.returns-clause-stored
 returns-clause-stored g c tells = record {
   home = c.in_ok-put.ensures.stands tells;
   rows = ap replayed (c.in_ok-put.ensures.blobs tells) ∙ (c.requires.stored tells).rows;
-  media = λ path bytes. media-kept (g.D.Device.disk c.args.dev.now) (g.D.Device.disk c.put.new.dev) path (c.put.ensures.crash tells) ((c.requires.stored tells).media path bytes);
 }
 
 pub returns-clause-crash : goal.returns-clause-crash
 returns-clause-crash g c tells =
     reserved c.args.self.now (g.D.Device.disk c.args.dev.now) (g.D.Device.disk c.put.new.dev) (record { number = c.args.self.now.kept.number; counter = c.args.self.now.kept.counter + 1024; making = None }) c.requires.ready (c.requires.stored tells) refl refl refl (c.put.ensures.crash tells)
+
+pub returns-clause-media : goal.returns-clause-media
+returns-clause-media g c tells = media-durable (g.D.Device.disk c.args.dev.now) (g.D.Device.disk c.put.new.dev) (c.put.ensures.crash tells)

@@ -3,6 +3,7 @@ use Rattle.bk_kept.specs.Rules.{TakesSet}
 use Rattle.bk_world.specs.declared.item.Item.TheVariants.{Restore}
 use Rattle.bk_world.specs.declared.rule.Rule.{Rule}
 use Rattle.bk_instance.proofs.Restores.{reads-first, read-body, unread-answers, broken-answers, cuts-nothing, stored-nothing, restore-cuts, restore-answers}
+use Rattle.bk_instance.proofs.Covering.{media-on-nothing}
 use Rattle.bk_instance.proofs.instance.Instance.restore.Goals as goal
 
 pub returns-in_err-body-clause-crash : goal.returns-in_err-body-clause-crash
@@ -87,3 +88,6 @@ returns-clause-answers g c tells =
       known_by = c.in_ok-known.ensures;
     })
     c.in_ok-restore_set.ensures.done (c.restore_set.ensures.crash tells)
+
+pub returns-clause-media : goal.returns-clause-media
+returns-clause-media g c tells durable = c.in_ok-restore_set.ensures.media tells (media-on-nothing (c.first_set.ensures.effect tells) durable)

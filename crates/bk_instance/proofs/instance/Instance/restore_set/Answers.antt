@@ -57,3 +57,7 @@ returns-clause-done g c =
     let third = amid-next c.args.self.now c.replace.new.self c.finish.new.self 1 second c.in_ok-finish.ensures.ready c.in_ok-finish.ensures.same in
     set-done c.args.self.now c.reserve.new.self c.replace.new.self c.finish.new.self c.recover.new.self c.args.name.now c.args.body third c.reserve.ensures.kept
     c.in_ok-replace.ensures.applied c.in_ok-replace.ensures.same c.in_ok-finish.ensures.applied c.in_ok-finish.ensures.same c.in_ok-recover.ensures.done
+
+pub returns-clause-media : goal.returns-clause-media
+returns-clause-media g c tells durable =
+    c.in_ok-recover.ensures.media tells (c.in_ok-finish.ensures.media tells (c.in_ok-replace.ensures.media tells (c.in_ok-reserve.ensures.media tells durable)))

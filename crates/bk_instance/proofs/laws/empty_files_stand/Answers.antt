@@ -1,0 +1,5 @@
+use Rattle.bk_instance.proofs.Events.{start-stands}
+use Rattle.bk_instance.proofs.laws.empty_files_stand.Goals as goal
+
+pub returns : goal.returns
+returns c = start-stands
