@@ -105,13 +105,26 @@ fn exit_status_of_words(rt: HostRuntime) -> Result<(), Fail> {
         [].as_slice(),
         &["-b"],
         &[""],
+        &["-"],
         &["a", "b"],
+        &["a", "--instance"],
+        &["a", "--instance="],
         &["a", "--instance=0"],
+        &["a", "--instance", "01"],
+        &["a", "--instance", "+1"],
     ] {
         let (status, device) = answers(&rt, line, FIRST_SCRIPT.as_bytes())?;
         assert_eq!(rt; status, 2);
         assert_eq!(rt; device.told(), b"".as_slice());
     }
+    Ok(())
+}
+
+#[test]
+fn a_directory_of_hyphens(rt: HostRuntime) -> Result<(), Fail> {
+    let (status, device) = answers(&rt, &["--", "--"], b"")?;
+    assert_eq!(rt; status, 0);
+    assert_eq!(rt; device.told(), b"".as_slice());
     Ok(())
 }
 
