@@ -36,7 +36,7 @@ use Rattle.bk_console.specs.Answers.{NotOurs, NoneRefused, EndsRefused, GoesOnAc
 use Rattle.bk_console.proofs.Answering.{none-front}
 use Rattle.bk_console.proofs.Asking.{left-elapses, keeps-effect, settled-again}
 use Rattle.bk_console.proofs.Leaving.{LeavesOf-none, LeavesOf-done}
-use Rattle.bk_console.specs.Run.{code_of, words_status, read_status, answer_status, load_status, close_status, script_bytes, MayBegin, number_of, IsWhole, Executed, Ran}
+use Rattle.bk_console.specs.Run.{code_of, words_status, read_status, answer_status, load_status, close_status, script_bytes, MayBegin, asked_number, IsWhole, Executed, Ran}
 use Rattle.bk_console.specs.Words.{WordOptions}
 
 -- Statuses.
@@ -59,7 +59,7 @@ closed-as execute.Broken h = cc h
 -- Worlds.
 
 -- where nothing is pending, a crash leaves the world with which a run may begin
-begin-covers : (asks : Option WordOptions) (disk : Disk) (w : World) (image : Files) → IsSettled disk → MayLeave disk image → MayBegin asks disk.files w → Covers (number_of asks) image (opened w)
+begin-covers : (asks : Option WordOptions) (disk : Disk) (w : World) (image : Files) → IsSettled disk → MayLeave disk image → MayBegin asks disk.files w → Covers (asked_number asks) image (opened w)
 begin-covers None disk w image settled left may = absurd may
 begin-covers (Some options) disk w image settled left may = settled-covers options.instance disk w image settled (λ name ours. left name) may
 
@@ -74,7 +74,7 @@ nothing-executed asks statements ct coming dt disk code lawful above not_cut = r
   runs = λ t settled w may. (opened w, refl, λ h. absurd (not_ended code above h));
   settled = λ t settled h. absurd (not_ended code above h);
   crashes = λ t settled w may. left_begins disk (lawful t) (λ image left.
-      LeavesOf-none (number_of asks) (opened w) statements [] [] disk.told image disk.told (begin-covers asks disk w image settled left may) refl);
+      LeavesOf-none (asked_number asks) (opened w) statements [] [] disk.told image disk.told (begin-covers asks disk w image settled left may) refl);
   front = λ t. (0, sym (append-nil disk.told));
   accepted = λ asked. refl;
   done = λ h. absurd (omega (arith, h));

@@ -84,9 +84,9 @@ MayBegin None files w = ⊥
 MayBegin (Some options) files w = Stands options.instance files w
 
 -- the number that they give to an instance which isn't made: none matters where they ask for no run
-abbrev pub number_of : Option WordOptions → ℕ
-number_of None = 0
-number_of (Some options) = options.instance
+abbrev pub asked_number : Option WordOptions → ℕ
+asked_number None = 0
+asked_number (Some options) = options.instance
 
 -- These bytes are the whole source, and the statements are their script.
 pub record IsWhole (tells : Type 0) (bytes rest_after : List ℕ) (statements : List Statement) : Type 0 where
@@ -110,7 +110,7 @@ pub record Executed (asks : Option WordOptions) (statements : List Statement) (c
   pub settled : device_tells → IsSettled disk → (status ≡ 0) ⊎ (status ≡ 1) → IsSettled disk_after
   -- each crash meanwhile left what a crash of this run leaves, so that the next run with these words may begin with it
   pub crashes : device_tells → IsSettled disk → (w : World) → MayBegin asks disk.files w
-      → LeavesSince disk.moment (LeavesOf (number_of asks) (opened w) statements moments replies disk.told) disk_after
+      → LeavesSince disk.moment (LeavesOf (asked_number asks) (opened w) statements moments replies disk.told) disk_after
   -- whole texts of replies, and then perhaps a front of the next
   pub front : device_tells → TellsFront (replies_text replies) disk.told disk_after.told
   -- where a refusal stops the run, no statement is begun behind one
