@@ -1,15 +1,16 @@
 -- Cells, places, pending writes and rows stay tied.
-use Rattle.std.proofs.Common.{◌≡◌, ◌≢◌, ◌⊎◌, ◌<◌, ℕ, zero, suc, ◌+◌, Bool, true, false, not, List, [], ◌∷◌, ◌++◌, map, Option, Some, None, inl, inr, refl, sym, ◌∙◌, ap, subst, arith}
+use Rattle.std.proofs.Common.{◌≡◌, ◌≢◌, ◌⊎◌, ℕ, Bool, true, false, not, List, [], ◌∷◌, ◌++◌, Option, Some, None, inl, inr, refl, sym, ◌∙◌, ap, subst}
 use Rattle.std.specs.Prelude.{◌==◌, if◌then◌else◌}
 use Rattle.std.specs.List.{filter, AllByRecursion}
-use Rattle.std.proofs.lemmas.Bool.{eqb-true, eq-eqb}
+use Rattle.std.proofs.lemmas.Bool.{eqb-true, eq-eqb, cases_Bool}
+use Rattle.std.proofs.lemmas.Option.{same_Some}
 use Rattle.bk_bytes.specs.Cell.{Row}
 use Rattle.bk_ids.specs.declared.record.CellImage.{CellImage}
 use Rattle.bk_ids.specs.declared.record.Place.{Place}
-use Rattle.bk_undo.specs.Cells.{RowId, CellWrite, Stored, Tied, AreRows, IsOwn, WritesRise, LeadsTo, IsFreeOr, is_place, is_row, value_in, row_in, writes_at, rows_written, nothing_stored}
-use Rattle.bk_undo.specs.CellSteps.{SameCells, SamePlaces, SameRows, SetsCell, WritesRow, CommitsRows, UndoesWrite, EndsRollback, LeavesRows, GivesPlace, EndsPlace}
+use Rattle.bk_undo.specs.Cells.{RowId, CellWrite, Stored, Tied, AreRows, IsOwn, WritesRise, LeadsTo, is_place, is_row, value_in, row_in, writes_at, rows_written, nothing_stored}
+use Rattle.bk_undo.specs.CellSteps.{SameCells, SamePlaces, SameRows, WritesRow, CommitsRows, UndoesWrite, EndsRollback, LeavesRows, GivesPlace, EndsPlace}
 use Rattle.bk_undo.proofs.Held.{all_joined, all_filter}
-use Rattle.bk_undo.proofs.Ties.{bool_cases, clash, if_true, if_false, some_is, none_some, same_place, is_place-true, place_cases, row_cases, is_row-true, row_in_own, row_in_free_or, row_in_some, all_mapped, all_both, all_without, all_middle, filter_every, filter_no, none_pass, filter_swap, filter_passed, at_more, at_other, at_without_other, at_last, at_front, all_at_without, leads_more, leads_less, led_own, none_at, rise_more, rise_filter, rise_without}
+use Rattle.bk_undo.proofs.Ties.{clash, if_true, if_false, none_some, is_place-true, place_cases, row_cases, is_row-true, row_in_own, row_in_free_or, row_in_some, all_mapped, all_both, all_without, filter_every, filter_no, none_pass, filter_swap, filter_passed, at_more, at_other, at_without_other, at_last, at_front, all_at_without, leads_more, leads_less, led_own, rise_more, rise_filter, rise_without}
 
 -- ---- the beginning and the end
 
@@ -151,7 +152,7 @@ rows_led places id at alone placed (w ∷ ws) all cell now rows leads is =
     step (inr other) rest =
         let split : writes_at at (w ∷ ws) ≡ writes_at at ws = rw other.0 refl in
         let Leads : List CellWrite → Type 0 = λ xs. LeadsTo cell xs now in
-        let apart : w.row ≢ id = λ e. other.1 (some_is at w.place (sym placed ∙ ap places (sym e) ∙ all.0.placed)) in
+        let apart : w.row ≢ id = λ e. other.1 (same_Some at w.place (sym placed ∙ ap places (sym e) ∙ all.0.placed)) in
         rest cell now more (subst Leads split leads) (if_false (is_row w.row id) (value_in w.after) (rows id) (not_row w.row id apart) ∙ is)
       where
         not_row : (a b : RowId) → a ≢ b → is_row a b ≡ false
@@ -169,10 +170,10 @@ commits_rows begin old new s t =
     let Own : List CellWrite → Type 0 = AllByRecursion (IsOwn new.places) in
     record {
       committed = committed;
-      leads = λ at. leads_at at (bool_cases (mine at));
-      rows = λ id at e. s.rows id ∙ rows_at id at (sym (s.places id) ∙ e) (bool_cases (mine at));
+      leads = λ at. leads_at at (cases_Bool (mine at));
+      rows = λ id at e. s.rows id ∙ rows_at id at (sym (s.places id) ∙ e) (cases_Bool (mine at));
       unplaced = λ id e. s.rows id ∙ rows_unplaced old.places id (sym (s.places id) ∙ e) (filter is_its old.pending) (all_filter (IsOwn old.places) is_its old.pending t.written) old.rows (t.unplaced id (sym (s.places id) ∙ e));
-      own = λ at row e. s.places (row.table, row.key) ∙ own_at at row (bool_cases (mine at)) e;
+      own = λ at row e. s.places (row.table, row.key) ∙ own_at at row (cases_Bool (mine at)) e;
       written = subst Own (sym s.pending) (all_filter (IsOwn new.places) is_other old.pending (own_all old new s.places old.pending t.written));
       alone = λ id other at e f. t.alone id other at (sym (s.places id) ∙ e) (sym (s.places other) ∙ f);
       single = λ at.
@@ -310,7 +311,7 @@ gives_place row at old new s t =
 
     rows_at : (id : RowId) (p : Place) → Cases id → new.places id ≡ Some p → old.rows id ≡ row_in (t.committed p) id
     rows_at id p (inl is) e =
-        let same : p ≡ at = some_is p at (sym e ∙ here id is.0) in
+        let same : p ≡ at = same_Some p at (sym e ∙ here id is.0) in
         let none : t.committed p ≡ None = ap t.committed same ∙ empty (t.committed at) refl in
         t.unplaced id (ap old.places (sym is.1) ∙ s.none) ∙ ap (λ (c : Option Row). row_in c id) (sym none)
     rows_at id p (inr isnt) e = t.rows id p (sym (there id isnt.0) ∙ e)
@@ -377,6 +378,6 @@ ends_place row at old new s t =
 
     written_at : (id : RowId) (p : Place) → Cases id → is_place at p ≡ false → old.places id ≡ Some p → new.places id ≡ Some p
     written_at id p (inl is) apart e =
-        let same : at ≡ p = some_is at p (sym s.placed ∙ ap old.places is.1 ∙ e) in
+        let same : at ≡ p = same_Some at p (sym s.placed ∙ ap old.places is.1 ∙ e) in
         clash (is_place at p) (is_place-true at p same) apart
     written_at id p (inr isnt) apart e = there id isnt.0 ∙ e

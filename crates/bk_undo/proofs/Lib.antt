@@ -6,3 +6,11 @@ pub mod Ties
 pub mod KeptTied
 pub mod Loads
 pub mod StillPending
+pub mod Ends
+pub mod HeldCommit
+pub mod HeldWrite
+pub mod HeldBegin
+pub mod HeldUndone
+pub mod CellValues
+pub mod Endings
+pub mod Limits

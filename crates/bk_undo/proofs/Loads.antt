@@ -1,14 +1,15 @@
 -- A minimal bulk load keeps cells, places, pending writes and rows tied; and so does each kind of record.
-use Rattle.std.proofs.Common.{◌≡◌, ◌≢◌, ◌⊎◌, ◌<◌, ℕ, zero, suc, ◌+◌, Bool, true, false, List, [], ◌∷◌, ◌++◌, Option, Some, None, inl, inr, refl, sym, ◌∙◌, ap, subst, arith}
+use Rattle.std.proofs.Common.{◌≡◌, ◌≢◌, ◌⊎◌, ◌<◌, ℕ, zero, suc, ◌+◌, List, [], Option, Some, None, inl, inr, refl, sym, ◌∙◌, ap, subst, arith}
 use Rattle.std.specs.List.{AllByRecursion}
+use Rattle.std.proofs.lemmas.Option.{same_Some}
 use Rattle.bk_bytes.specs.Cell.{Row}
 use Rattle.bk_ids.specs.declared.record.Body.{Body}
 use Rattle.bk_ids.specs.declared.record.Body.TheVariants.{Database, Table, Begin, Write, Commit, RollbackEnd, Compensation, Checkpoint, Stamp, Model, Bulk, Recovery}
 use Rattle.bk_ids.specs.declared.record.Place.{Place}
 use Rattle.bk_ids.specs.declared.record.Rec.{Rec}
-use Rattle.bk_undo.specs.Cells.{RowId, CellWrite, Stored, Tied, IsOwn, WritesRise, LeadsTo, is_place, is_row, row_in, writes_at}
+use Rattle.bk_undo.specs.Cells.{RowId, CellWrite, Stored, Tied, IsOwn, WritesRise, LeadsTo, row_in, writes_at}
 use Rattle.bk_undo.specs.CellSteps.{LoadsRows, BodyGoes, Goes}
-use Rattle.bk_undo.proofs.Ties.{place_cases, row_cases, some_is, none_some, row_in_own, all_mapped, none_at}
+use Rattle.bk_undo.proofs.Ties.{place_cases, row_cases, none_some, row_in_own, all_mapped, none_at}
 use Rattle.bk_undo.proofs.KeptTied.{led_to, leaves_all, ends_rollback, writes_row, commits_rows, undoes_write}
 
 -- ---- which of the loaded cells or rows
@@ -91,10 +92,10 @@ loads_rows table first count value old new s t =
 
     rows_at : (id : RowId) (p : Place) → Among count key id → (among : Among count s.at p) → new.places id ≡ Some p → new.rows id ≡ row_in (committed_by p among) id
     rows_at id p (inl row) (inl found) e =
-        let same : s.at found.0 ≡ s.at row.0 = found.1.1 ∙ some_is p (s.at row.0) (sym e ∙ placed_new id row.0 row.1.0 row.1.1) in
+        let same : s.at found.0 ≡ s.at row.0 = found.1.1 ∙ same_Some p (s.at row.0) (sym e ∙ placed_new id row.0 row.1.0 row.1.1) in
         let index : found.0 ≡ row.0 = s.apart found.0 row.0 found.1.0 row.1.0 same in
         ap new.rows (sym row.1.1) ∙ s.rows row.0 row.1.0 ∙ sym (row_in_own (loaded found.0) id (ap key index ∙ row.1.1))
-    rows_at id p (inl row) (inr none) e = absurd (none row.0 row.1.0 (some_is (s.at row.0) p (sym (placed_new id row.0 row.1.0 row.1.1) ∙ e)))
+    rows_at id p (inl row) (inr none) e = absurd (none row.0 row.1.0 (same_Some (s.at row.0) p (sym (placed_new id row.0 row.1.0 row.1.1) ∙ e)))
     rows_at id p (inr other) (inl found) e =
         absurd (s.unowned found.0 found.1.0 id (sym (s.other_places id other) ∙ e ∙ ap (λ (q : Place). Some q) (sym found.1.1)))
     rows_at id p (inr other) (inr none) e = s.other_rows id other ∙ t.rows id p (sym (s.other_places id other) ∙ e)
@@ -109,13 +110,13 @@ loads_rows table first count value old new s t =
 
     own_at : (p : Place) (row : Row) (among : Among count s.at p) → Among count key (row.table, row.key) → committed_by p among ≡ Some row → new.places (row.table, row.key) ≡ Some p
     own_at p row (inl found) rows e =
-        let same : loaded found.0 ≡ row = some_is (loaded found.0) row e in
+        let same : loaded found.0 ≡ row = same_Some (loaded found.0) row e in
         placed_new (row.table, row.key) found.0 found.1.0 (ap (λ (r : Row). (r.table, r.key)) same) ∙ ap (λ (q : Place). Some q) found.1.1
     own_at p row (inr none) rows e = kept_at (row.table, row.key) p rows (t.own p row e)
 
     alone_at : (id other : RowId) (p : Place) → Among count key id → Among count key other → new.places id ≡ Some p → new.places other ≡ Some p → id ≡ other
     alone_at id other p (inl row) (inl also) e f =
-        let same : s.at row.0 ≡ s.at also.0 = some_is (s.at row.0) (s.at also.0) (sym (placed_new id row.0 row.1.0 row.1.1) ∙ e ∙ sym f ∙ placed_new other also.0 also.1.0 also.1.1) in
+        let same : s.at row.0 ≡ s.at also.0 = same_Some (s.at row.0) (s.at also.0) (sym (placed_new id row.0 row.1.0 row.1.1) ∙ e ∙ sym f ∙ placed_new other also.0 also.1.0 also.1.1) in
         sym row.1.1 ∙ ap key (s.apart row.0 also.0 row.1.0 also.1.0 same) ∙ also.1.1
     alone_at id other p (inl row) (inr none) e f =
         absurd (s.unowned row.0 row.1.0 other (sym (s.other_places other none) ∙ f ∙ sym e ∙ placed_new id row.0 row.1.0 row.1.1))

@@ -6,6 +6,7 @@ use Rattle.std.proofs.lemmas.Bool.{lt-ltb, le-ltb}
 use Rattle.std.proofs.lemmas.List.{append-nil}
 use Rattle.std.proofs.lemmas.List.Elements.{filter-append, filter_agree}
 use Rattle.std.proofs.lemmas.List.Folds.{list_all-append}
+use Rattle.std.proofs.Math.Bool.{and-true}
 use Rattle.bk_ids.specs.declared.record.CellImage.{CellImage}
 use Rattle.bk_ids.specs.declared.record.Rec.{Rec}
 use Rattle.bk_ids.specs.declared.record.Body.{Body}
@@ -64,23 +65,19 @@ noted_above n r before past = let test : nat_lt r.lsn n ≡ false = le-ltb r.lsn
 pub noted_below : (n : ℕ) (r : Rec) (before : List Pending) → r.lsn < n → noted n r before ≡ filter (is_open (r ∷ [])) before ++ writes r
 noted_below n r before less = let test : nat_lt r.lsn n ≡ true = lt-ltb r.lsn n less in rw test refl
 
-and_true : (b : Bool) → (b && true) ≡ b
-and_true true = refl
-and_true false = refl
-
 -- a record that closes by a test, and writes nothing
 pub noted_closed : (n : ℕ) (r : Rec) (test : Pending → Bool) (before : List Pending) → r.lsn < n → ((write : Pending) → closes r write ≡ test write) → writes r ≡ [] → noted n r before ≡ filter (λ write. not (test write)) before
 noted_closed n r test before less same none =
     noted_below n r before less
     ∙ ap (λ (ws : List Pending). filter (is_open (r ∷ [])) before ++ ws) none
     ∙ append-nil (filter (is_open (r ∷ [])) before)
-    ∙ filter_agree (is_open (r ∷ [])) (λ write. not (test write)) (λ write. and_true (not (closes r write)) ∙ ap not (same write)) before
+    ∙ filter_agree (is_open (r ∷ [])) (λ write. not (test write)) (λ write. and-true (not (closes r write)) ∙ ap not (same write)) before
 
 -- a record that closes nothing
 pub noted_open : (n : ℕ) (r : Rec) (before : List Pending) → r.lsn < n → ((write : Pending) → closes r write ≡ false) → noted n r before ≡ before ++ writes r
 noted_open n r before less none =
     noted_below n r before less
-    ∙ ap (λ (ws : List Pending). ws ++ writes r) (filter_none (is_open (r ∷ [])) before (λ write. and_true (not (closes r write)) ∙ ap not (none write)))
+    ∙ ap (λ (ws : List Pending). ws ++ writes r) (filter_none (is_open (r ∷ [])) before (λ write. and-true (not (closes r write)) ∙ ap not (none write)))
 
 -- a write
 pub noted_write : (n : ℕ) (r : Rec) (write : Pending) (after : CellImage) (before : List Pending) → r.lsn < n → r.body ≡ Write write.place write.before after → r.lsn ≡ write.lsn → r.begin ≡ write.begin → noted n r before ≡ before ++ write ∷ []

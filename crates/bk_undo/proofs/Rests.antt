@@ -16,14 +16,14 @@ use Rattle.bk_undo.proofs.Replay.{pending-append}
 
 -- filters
 
-filter_all : {X : Type 0} (p : X → Bool) (xs : List X) → AllByRecursion (λ x. p x ≡ true) xs → filter p xs ≡ xs
+pub filter_all : {X : Type 0} (p : X → Bool) (xs : List X) → AllByRecursion (λ x. p x ≡ true) xs → filter p xs ≡ xs
 filter_all {X = X} p [] all = refl
 filter_all {X = X} p (x ∷ xs) all = rw all.0 (ap (λ (rest : List X). x ∷ rest) (filter_all p xs all.1))
 
 reverse_cons : {X : Type 0} (x : X) (xs : List X) → reverse (x ∷ xs) ≡ reverse xs ++ x ∷ []
 reverse_cons x xs = reverse-append (x ∷ []) xs
 
-filter-reverse : {X : Type 0} (p : X → Bool) (xs : List X) → reverse (filter p xs) ≡ filter p (reverse xs)
+pub filter-reverse : {X : Type 0} (p : X → Bool) (xs : List X) → reverse (filter p xs) ≡ filter p (reverse xs)
 filter-reverse {X = X} p [] = refl
 filter-reverse {X = X} p (x ∷ xs) = step (p x) refl (filter-reverse p xs)
   where
@@ -138,7 +138,7 @@ pending_rises : (records : List Rec) → Rises records → RisesAll (pending rec
 pending_rises [] rises = tt
 pending_rises (r ∷ records) rises = one_rises (is_open records) r.lsn r.begin r.body (pending records) (pending_after r.lsn records rises.0) (pending_rises records rises.1)
 
-all_reverse : (P : Pending → Type 0) (ws : List Pending) → AllByRecursion P ws → AllByRecursion P (reverse ws)
+pub all_reverse : (P : Pending → Type 0) (ws : List Pending) → AllByRecursion P ws → AllByRecursion P (reverse ws)
 all_reverse P [] all = tt
 all_reverse P (w ∷ ws) all =
     let All : List Pending → Type 0 = λ xs. AllByRecursion P xs in
@@ -186,7 +186,7 @@ tests_below n (r ∷ records) low = (lt-ltb r.lsn n low.0, tests_below n records
 pub all_below : (n : ℕ) (records : List Rec) → AllByRecursion (λ (r : Rec). r.lsn < n) records → records_below n records ≡ records
 all_below n records low = filter_all (λ (r : Rec). nat_lt r.lsn n) records (tests_below n records low)
 
-lower : (n m : ℕ) (records : List Rec) → n ≤ m → AllByRecursion (λ (r : Rec). r.lsn < n) records → AllByRecursion (λ (r : Rec). r.lsn < m) records
+pub lower : (n m : ℕ) (records : List Rec) → n ≤ m → AllByRecursion (λ (r : Rec). r.lsn < n) records → AllByRecursion (λ (r : Rec). r.lsn < m) records
 lower n m [] order low = tt
 lower n m (r ∷ records) order low = (omega (arith, low.0, order), lower n m records order low.1)
 

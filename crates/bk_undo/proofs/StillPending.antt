@@ -1,9 +1,10 @@
 -- The pending writes are those that the log's reader finds.
-use Rattle.std.proofs.Common.{◌≡◌, ℕ, Bool, true, false, not, ◌&&◌, List, [], ◌∷◌, ◌++◌, map, refl, sym, ◌∙◌, ap, subst}
+use Rattle.std.proofs.Common.{◌≡◌, ℕ, true, false, not, List, [], ◌∷◌, ◌++◌, map, refl, sym, ◌∙◌, ap, subst}
 use Rattle.std.specs.Prelude.{◌==◌}
-use Rattle.std.specs.List.{filter, AllByRecursion}
+use Rattle.std.specs.List.{filter}
 use Rattle.std.proofs.lemmas.List.{append-nil, map-append}
 use Rattle.std.proofs.lemmas.List.Elements.{filter_agree}
+use Rattle.std.proofs.Math.Bool.{and-true}
 use Rattle.bk_bytes.specs.Cell.{cell_bytes}
 use Rattle.bk_ids.specs.declared.record.Body.{Body}
 use Rattle.bk_ids.specs.declared.record.Body.TheVariants.{Database, Table, Begin, Write, Commit, RollbackEnd, Compensation, Checkpoint, Stamp, Model, Bulk, Recovery}
@@ -20,15 +21,11 @@ use Rattle.bk_undo.proofs.Ties.{all_mapped, filter_every, filter_mapped, one_num
 abbrev after_body : ℕ → ℕ → Body → List Pending → List Pending
 after_body lsn begin body before = filter (λ write. not (body_closes body begin write)) before ++ body_writes lsn begin body
 
-and_true : (b : Bool) → (b && true) ≡ b
-and_true true = refl
-and_true false = refl
-
 one_more : (records : List Rec) (r : Rec) → pending (records ++ r ∷ []) ≡ after_body r.lsn r.begin r.body (pending records)
 one_more records r =
     pending-append records (r ∷ [])
     ∙ ap (λ (ws : List Pending). filter (is_open (r ∷ [])) (pending records) ++ ws) (pending_one r)
-    ∙ ap (λ (ws : List Pending). ws ++ writes r) (filter_agree (is_open (r ∷ [])) (λ write. not (body_closes r.body r.begin write)) (λ write. and_true (not (body_closes r.body r.begin write))) (pending records))
+    ∙ ap (λ (ws : List Pending). ws ++ writes r) (filter_agree (is_open (r ∷ [])) (λ write. not (body_closes r.body r.begin write)) (λ write. and-true (not (body_closes r.body r.begin write))) (pending records))
 
 -- a body that closes nothing and writes nothing
 nothing_done : (ws vs : List CellWrite) → vs ≡ ws → map pending_of vs ≡ filter (λ write. true) (map pending_of ws) ++ []

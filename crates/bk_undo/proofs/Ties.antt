@@ -1,19 +1,16 @@
 -- Places, rows of cells, and lists of writes.
-use Rattle.std.proofs.Common.{◌≡◌, ◌≢◌, ◌⊎◌, ◌<◌, ℕ, zero, suc, ◌+◌, Bool, true, false, not, ◌&&◌, List, [], ◌∷◌, ◌++◌, map, Option, Some, None, inl, inr, refl, sym, ◌∙◌, ap, subst, arith}
+use Rattle.std.proofs.Common.{◌≡◌, ◌≢◌, ◌⊎◌, ◌<◌, ℕ, Bool, true, false, not, ◌&&◌, List, [], ◌∷◌, ◌++◌, map, Option, Some, None, inl, inr, refl, sym, ◌∙◌, ap, subst, arith}
 use Rattle.std.specs.Prelude.{◌==◌, if◌then◌else◌}
 use Rattle.std.specs.List.{filter, AllByRecursion}
-use Rattle.std.proofs.lemmas.Bool.{eqb-true, eq-eqb, and_parts, and_from}
+use Rattle.std.proofs.lemmas.Bool.{eqb-true, eq-eqb, and_parts, and_from, cases_Bool}
 use Rattle.std.proofs.lemmas.List.{append-nil}
 use Rattle.std.proofs.lemmas.List.Elements.{filter-append}
+use Rattle.std.proofs.lemmas.Option.{same_Some}
 use Rattle.bk_bytes.specs.Cell.{Row}
 use Rattle.bk_ids.specs.declared.record.Place.{Place}
 use Rattle.bk_undo.specs.Cells.{RowId, CellWrite, is_place, is_row, value_in, row_in, IsFreeOr, writes_at, LeadsTo, IsOwn, WritesRise}
 
 -- ---- tests
-
-pub bool_cases : (b : Bool) → (b ≡ true) ⊎ (b ≡ false)
-bool_cases true = inl refl
-bool_cases false = inr refl
 
 pub clash : {A : Type 0} (b : Bool) → b ≡ true → b ≡ false → A
 clash b is isnt = let e : true ≡ false = sym is ∙ isnt in absurd (cc)
@@ -23,9 +20,6 @@ if_true b x y is = rw is refl
 
 pub if_false : {A : Type 0} (b : Bool) (x y : A) → b ≡ false → (if b then x else y) ≡ y
 if_false b x y is = rw is refl
-
-pub some_is : {A : Type 0} (x y : A) → Some x ≡ Some y → x ≡ y
-some_is x y e = cc
 
 pub none_some : {A B : Type 0} (o : Option A) (x : A) → o ≡ None → o ≡ Some x → B
 none_some o x is isnt = absurd (cc)
@@ -50,7 +44,7 @@ pub is_place-true : (a b : Place) → a ≡ b → is_place a b ≡ true
 is_place-true a b e = let P : Place → Type 0 = λ c. is_place a c ≡ true in subst P e (own_place a)
 
 pub place_cases : (a b : Place) → ((is_place a b ≡ true) × (a ≡ b)) ⊎ ((is_place a b ≡ false) × (a ≢ b))
-place_cases a b = elim (bool_cases (is_place a b)) [
+place_cases a b = elim (cases_Bool (is_place a b)) [
   | inl is ↦ inl (is, same_place a b is)
   | inr isnt ↦ inr (isnt, λ e. clash (is_place a b) (is_place-true a b e) isnt)
 ]
@@ -72,7 +66,7 @@ pub is_row-true : (a b : ℕ × ℕ) → a ≡ b → is_row a b ≡ true
 is_row-true a b e = let P : ℕ × ℕ → Type 0 = λ c. is_row a c ≡ true in subst P e (own_row a)
 
 pub row_cases : (a b : ℕ × ℕ) → ((is_row a b ≡ true) × (a ≡ b)) ⊎ ((is_row a b ≡ false) × (a ≢ b))
-row_cases a b = elim (bool_cases (is_row a b)) [
+row_cases a b = elim (cases_Bool (is_row a b)) [
   | inl is ↦ inl (is, same_row a b is)
   | inr isnt ↦ inr (isnt, λ e. clash (is_row a b) (is_row-true a b e) isnt)
 ]
@@ -91,7 +85,7 @@ row_is row id value p v = λ x. Some (record { table = (p x).0; key = (p x).1; v
 pub row_in_some : (cell : Option Row) (id : ℕ × ℕ) (value : List ℕ) → row_in cell id ≡ Some value → cell ≡ Some (record { table = id.0; key = id.1; value = value })
 row_in_some None id value e = absurd (cc)
 row_in_some (Some row) id value e = elim (row_cases (row.table, row.key) id) [
-  | inl is ↦ row_is row id value is.1 (some_is row.value value (sym (row_in_own row id is.1) ∙ e))
+  | inl is ↦ row_is row id value is.1 (same_Some row.value value (sym (row_in_own row id is.1) ∙ e))
   | inr isnt ↦ none_some (row_in (Some row) id) value (if_false (is_row (row.table, row.key) id) (Some row.value) None isnt.0) e
 ]
 
@@ -202,7 +196,7 @@ at_front at front back none =
     filter-append (λ v. is_place at v.place) front back ∙ ap (λ (rest : List CellWrite). writes_at at front ++ rest) none ∙ append-nil (writes_at at front)
 
 pub all_at_without : (P : CellWrite → Type 0) (at : Place) (front : List CellWrite) (w : CellWrite) (back : List CellWrite) → AllByRecursion P (writes_at at (front ++ w ∷ back)) → AllByRecursion P (writes_at at (front ++ back))
-all_at_without P at front w back all = elim (bool_cases (is_place at w.place)) [
+all_at_without P at front w back all = elim (cases_Bool (is_place at w.place)) [
   | inl is ↦
       let All : List CellWrite → Type 0 = AllByRecursion P in
       let one : writes_at at (w ∷ back) ≡ w ∷ writes_at at back = rw is refl in
@@ -287,7 +281,7 @@ one_number [] w back rise =
     above v less = differ v.lsn w.lsn (λ e. absurd (omega (arith, less, e)))
       where
         differ : (m n : ℕ) → m ≢ n → not (m == n) ≡ true
-        differ m n apart = elim (bool_cases (m == n)) [
+        differ m n apart = elim (cases_Bool (m == n)) [
           | inl is ↦ absurd (apart (eqb-true m n is))
           | inr isnt ↦ ap not isnt
         ]
@@ -297,7 +291,7 @@ one_number (v ∷ front) w back rise =
     rw other (ap (λ (rest : List CellWrite). v ∷ rest) (one_number front w back rise.1))
   where
     below : (m n : ℕ) → m < n → (m == n) ≡ false
-    below m n less = elim (bool_cases (m == n)) [
+    below m n less = elim (cases_Bool (m == n)) [
       | inl is ↦ let e : m ≡ n = eqb-true m n is in absurd (omega (arith, less, e))
       | inr isnt ↦ isnt
     ]

@@ -1,16 +1,13 @@
 -- How the cells of pages, the places of rows, the pending writes and the committed rows belong together.
 -- SQL Server: "Transaction Log Architecture and Management Guide". That a row has one cell is this project's own.
-use Rattle.std.specs.Prelude.{◌≡◌, ◌<◌, ℕ, ◌==◌, ◌&&◌, not, Bool, List, [], ◌∷◌, Option, Some, None, if◌then◌else◌}
+use Rattle.std.specs.Prelude.{◌≡◌, ◌<◌, ℕ, ◌==◌, ◌&&◌, Bool, List, [], ◌∷◌, Option, Some, None, if◌then◌else◌}
 use Rattle.std.specs.List.{filter, AllByRecursion}
 use Rattle.bk_bytes.specs.Cell.{Row, cell_bytes}
 use Rattle.bk_ids.specs.declared.record.Place.{Place}
+pub use Rattle.bk_world.specs.Records.{RowId, is_row}
 use Rattle.bk_undo.specs.declared.pending.Pending.{Pending}
 
 -- ---- what there is
-
--- a row's table and key
-abbrev pub RowId : Type 0
-RowId = ℕ × ℕ
 
 -- a write of a row's cell: its number, that of its transaction's first record, and what the cell held before and after
 pub record CellWrite : Type 0 where
@@ -35,10 +32,6 @@ nothing_stored = record { cells = λ at. None; places = λ id. None; pending = [
 -- two places are one
 abbrev pub is_place : Place → Place → Bool
 is_place a b = (a.file == b.file) && ((a.page == b.page) && (a.slot == b.slot))
-
--- two rows are one
-abbrev pub is_row : RowId → RowId → Bool
-is_row a b = (a.0 == b.0) && (a.1 == b.1)
 
 -- the value that a cell holds, whichever row's
 abbrev pub value_in : Option Row → Option (List ℕ)

@@ -3,15 +3,14 @@
 
 mod cells;
 mod error;
+mod holding;
 mod law;
 mod pending;
 mod undo;
 
 pub use cells::cells_law;
 pub use error::UndoError;
-pub use law::undo_law;
+pub use holding::holding_law;
+pub use law::{undo_law, undoing_law};
 pub use pending::Pending;
 pub use undo::losers;
-
-#[cfg(test)]
-mod tests;

@@ -1,7 +1,9 @@
 // Undoing from the log alone.
 ghost use Rattle.std.specs.Prelude.{◌≡◌, List, None, map, reverse, IfOk, IfErr, OnOk};
+ghost use Rattle.std.specs.List.{AllByRecursion};
 ghost use Rattle.bk_ids.specs.declared.record.Rec.{Rec};
 ghost use Rattle.bk_record.specs.Log.{IsLog};
+ghost use Rattle.bk_record.specs.Spelling.{KeepsLimits};
 ghost use Rattle.bk_undo.specs.Losers.{pending, records_below, compensation, compensation_of};
 ghost use Rattle.bk_undo.specs.Cause.{IsCause};
 
@@ -13,11 +15,12 @@ use std::alloc::{AllocError, Global};
 
 /// The compensation of the transactions that have begun and not ended below this LSN: for each of their writes below it
 /// that no record below it undoes, one record with what the cell held before, the last write first. The records have
-/// the number 0, which is to be set where they are appended.
+/// the number 0, which is to be set where they are appended, and keep the limits of a record that is encoded.
 ///
 /// `BadRecord` is answered exactly where the bytes aren't whole records alone.
 pub fn losers(alloc: Global, log: &[u8], below: Lsn) -> Result<Vec<Rec>, UndoError>
     ensures compensation { IfOk result (λ undoing. (records : List Rec) × IsLog log.now records None × (undoing.items ≡ compensation below records)) }
+    ensures limits { IfOk result (λ undoing. AllByRecursion (λ r. KeepsLimits r.body) undoing.items) }
     ensures cause { IfErr result (IsCause log.now) }
 {
     let writes = read_pending(alloc, log, below)?;

@@ -7,6 +7,7 @@ use Rattle.std.proofs.lemmas.Bool.Decides.{nat_tests}
 use Rattle.bk_ids.specs.declared.guid.Guid.{Guid}
 use Rattle.bk_ids.specs.declared.path.Branch.{Branch}
 use Rattle.bk_ids.specs.Path.{started, last_branch, branch_at}
+use Rattle.bk_ids.specs.Laws.{branch_at-started, branch_at-not_started}
 use Rattle.bk_world.specs.Changes.{appended_to}
 use Rattle.bk_world.specs.Entry.{Entry}
 use Rattle.bk_world.specs.History.{Touch, Line, History, is_guid, line_of, longer, appended, at_branch, along, entry_on, entries}
@@ -122,29 +123,6 @@ filter-started (b ∷ path) at all =
 pub forked-is : (path : List Branch) (at : ℕ) (branch : Guid) → AllByRecursion (λ b. b.start < at) path → forked path at branch ≡ path ++ (record { guid = branch; start = at }) ∷ []
 forked-is path at branch all = ap (λ p. p ++ (record { guid = branch; start = at }) ∷ []) (filter-started path at all)
 
-started-append : (path more : List Branch) (n : ℕ) → started (path ++ more) n ≡ started path n ++ started more n
-started-append [] more n = refl
-started-append (b ∷ path) more n = by (leb b.start n) (started-append path more n)
-  where
-    by : (t : Bool) → started (path ++ more) n ≡ started path n ++ started more n → cond t (b ∷ started (path ++ more) n) (started (path ++ more) n) ≡ cond t (b ∷ started path n) (started path n) ++ started more n
-    by true same = ap (λ p. b ∷ p) same
-    by false same = same
-
-pub last_branch-one_more : (path : List Branch) (b : Branch) → last_branch (path ++ b ∷ []) ≡ Some b.guid
-last_branch-one_more [] b = refl
-last_branch-one_more (a ∷ []) b = refl
-last_branch-one_more (a ∷ next ∷ path) b = last_branch-one_more (next ∷ path) b
-
-branch_at-before : (path : List Branch) (b : Branch) (k : ℕ) → k < b.start → branch_at (path ++ b ∷ []) k ≡ branch_at path k
-branch_at-before path b k lt =
-    let no : leb b.start k ≡ false = grind (arith, nat_tests, lt) in
-    ap last_branch (started-append path (b ∷ []) k ∙ ap (λ t. started path k ++ cond t (b ∷ []) []) no ∙ append-nil _)
-
-branch_at-after : (path : List Branch) (b : Branch) (k : ℕ) → b.start ≤ k → branch_at (path ++ b ∷ []) k ≡ Some b.guid
-branch_at-after path b k le =
-    let yes : leb b.start k ≡ true = le-leb b.start k le in
-    ap last_branch (started-append path (b ∷ []) k ∙ ap (λ t. started path k ++ cond t (b ∷ []) []) yes) ∙ last_branch-one_more (started path k) b
-
 -- below the point a recovered path shows what the old one showed, and above it nothing yet
 pub entries-forked : (h : History) (path : List Branch) (at : ℕ) (branch : Guid) (taken : ℕ) → AllByRecursion (λ b. is_guid branch b.guid ≡ false) path
     → entries (new_line branch ∷ h) (path ++ (record { guid = branch; start = at }) ∷ []) (at + taken) ≡ entries h path at
@@ -158,7 +136,7 @@ entries-forked h path at branch taken other = go taken ∙ below
         front zero le = refl
         front (suc n) le =
             let before : along (entry_on (new_line branch ∷ h)) (path ++ (record { guid = branch; start = at }) ∷ []) n ≡ along (entry_on h) path n = front n (omega arith) in
-            let one : branch_at (path ++ (record { guid = branch; start = at }) ∷ []) n ≡ branch_at path n = branch_at-before path (record { guid = branch; start = at }) n (omega arith) in
+            let one : branch_at (path ++ (record { guid = branch; start = at }) ∷ []) n ≡ branch_at path n = branch_at-not_started path (record { guid = branch; start = at }) n (omega arith) in
             let last : at_branch (entry_on (new_line branch ∷ h)) (branch_at (path ++ (record { guid = branch; start = at }) ∷ []) n) n ≡ at_branch (entry_on h) (branch_at path n) n =
             ap (λ o. at_branch (entry_on (new_line branch ∷ h)) o n) one
             ∙ at_other (new_line branch) h n (branch_at path n) (branch_at-of (λ g. is_guid branch g ≡ false) path n other) in
@@ -167,7 +145,7 @@ entries-forked h path at branch taken other = go taken ∙ below
     go : (d : ℕ) → along (entry_on (new_line branch ∷ h)) (path ++ (record { guid = branch; start = at }) ∷ []) (at + d) ≡ along (entry_on (new_line branch ∷ h)) (path ++ (record { guid = branch; start = at }) ∷ []) at
     go zero = rw add-zero refl
     go (suc d) =
-        let on : branch_at (path ++ (record { guid = branch; start = at }) ∷ []) (at + d) ≡ Some branch = branch_at-after path (record { guid = branch; start = at }) (at + d) (omega arith) in
+        let on : branch_at (path ++ (record { guid = branch; start = at }) ∷ []) (at + d) ≡ Some branch = branch_at-started path (record { guid = branch; start = at }) (at + d) (omega arith) in
         let none : at_branch (entry_on (new_line branch ∷ h)) (branch_at (path ++ (record { guid = branch; start = at }) ∷ []) (at + d)) (at + d) ≡ [] =
         ap (λ o. at_branch (entry_on (new_line branch ∷ h)) o (at + d)) on
         ∙ ap (λ t. filter (λ e. eqb e.lsn (at + d)) (cond t (new_line branch) (line_of h branch)).entries) (is_guid-refl branch) in

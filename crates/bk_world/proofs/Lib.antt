@@ -1,5 +1,11 @@
 pub mod Apart
 pub mod Histories
-pub mod Folds
 pub mod Worlds
 pub mod Runs
+pub mod Again
+pub mod Saying
+pub mod Elsewhere
+pub mod Growing
+pub mod Settled
+pub mod Sounds
+pub mod Crashing

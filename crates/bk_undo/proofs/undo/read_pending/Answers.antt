@@ -1,6 +1,6 @@
 use Rattle.std.proofs.Common.{[], ◌∷◌, ◌++◌, ◌∙◌, ap, sym}
 use Rattle.bk_record.specs.View.{record_of}
-use Rattle.bk_record.proofs.WalkSteps.{walked_more}
+use Rattle.bk_record.specs.WalkLaws.{walked_more}
 use Rattle.bk_undo.specs.Losers.{noted}
 use Rattle.bk_undo.proofs.Replay.{pending-noted}
 use Rattle.bk_undo.proofs.undo.read_pending.Goals as goal
