@@ -1,13 +1,13 @@
 -- Which slot of a file counts, by the heads of both.
-use Rattle.std.proofs.Common.{◌≡◌, ◌≢◌, ◌≤◌, ◌<◌, ℕ, ◌+◌, ◌-◌, min, Bool, true, false, ◌&&◌, List, [], ◌++◌, length, take, drop, get_or, Option, Some, None, refl, inl, inr, sym, ◌∙◌, ap, subst, arith, lit≤, lit<, zero-add}
+use Rattle.std.proofs.Common.{◌≡◌, ◌≢◌, ◌≤◌, ◌<◌, ℕ, ◌+◌, ◌-◌, min, Bool, true, false, ◌&&◌, List, length, take, drop, get_or, Option, Some, None, refl, inl, inr, sym, ◌∙◌, ap, subst, arith, lit≤, lit<, zero-add}
 use Rattle.std.specs.Prelude.{slice_index, option_map, ◌==◌, nat_le, nat_lt, IfSome}
 use Rattle.std.specs.Str.{bytes_eq}
 use Rattle.std.proofs.lemmas.Bool.{cases_lt, and_parts, leb-true}
 use Rattle.std.proofs.lemmas.Grind.{common_steps}
-use Rattle.std.proofs.lemmas.List.{take-take, get_or-take, append-nil, drop_all, length-take, length-drop}
+use Rattle.std.proofs.lemmas.List.{take-take, get_or-take, length-take, length-drop}
 use Rattle.std.proofs.Math.ListN.{get_or-append}
-use Rattle.bk_device.specs.Calls.{read_at, filled, ChangesNothing}
-use Rattle.bk_device.specs.Disk.{Disk, IsLawful}
+use Rattle.bk_device.specs.Calls.{read_at, filled}
+use Rattle.bk_device.specs.Laws.{filled_whole}
 use Rattle.bk_control.specs.declared.found.Entry.{Entry}
 use Rattle.bk_control.specs.declared.found.Head.{Head}
 use Rattle.bk_control.specs.declared.side.Side.TheVariants.{First, Second}
@@ -87,37 +87,6 @@ second_counts file first second b one two some newest short =
       holds = record { here = here; counts = second_newest file (record { sequence = b.sequence; bytes = read_at file 65632 b.len }) first.entry here one.slot newest; gate = one.gate };
       inside = entry_inside file 65600 second b two some;
     }
-
--- a buffer that was read whole
-pub filled_whole : (buffer file : List ℕ) (at room : ℕ) → room ≡ length buffer → at + room ≤ length file → filled buffer (read_at file at room) ≡ read_at file at room
-filled_whole buffer file at room is inside =
-    let size : length (read_at file at room) ≡ room = simp (length-take, length-drop) (omega arith) in
-    let rest : drop (length (read_at file at room)) buffer ≡ [] = drop_all (length (read_at file at room)) buffer (omega (arith, size, is)) in
-    ap (λ (r : List ℕ). read_at file at room ++ r) rest ∙ append-nil (read_at file at room)
-
--- reading changes nothing
-
-pub nothing_then : {a b c : Disk} → IsLawful a → ChangesNothing a b → ChangesNothing b c → ChangesNothing a c
-nothing_then {a = a} {b = b} {c = c} lawful first second = record {
-  files = λ name. second.files name ∙ first.files name;
-  nothing_more = λ name content may. first.nothing_more name content (second.nothing_more name content may);
-  told = second.told ∙ first.told;
-  time = record {
-    later = omega (arith, first.time.later, second.time.later);
-    nothing_else = λ since image heard early left.
-        elim (second.time.nothing_else since image heard (omega (arith, first.time.later)) left) [
-          | inl before ↦ elim (first.time.nothing_else since image heard early before) [
-            | inl earlier ↦ inl earlier
-            | inr here ↦
-                let Heard : List ℕ → Type 0 = λ h. a.left since image h in
-                inl (subst Heard (sym here.1) (lawful.counts_now since image early (λ name. first.nothing_more name (image name) (here.0 name))))
-          ]
-          | inr here ↦ inr (here.0, here.1 ∙ first.told)
-        ];
-    nothing_forgotten = λ since image heard early left.
-        second.time.nothing_forgotten since image heard (omega (arith, first.time.later)) (first.time.nothing_forgotten since image heard early left);
-  };
-}
 
 -- small steps of the cases
 

@@ -9,7 +9,7 @@ use Rattle.bk_device.specs.Effects.{Effect, IsName}
 use Rattle.bk_device.specs.Torn.{torn-written}
 use Rattle.bk_control.specs.declared.side.Side.TheVariants.{First, Second}
 use Rattle.bk_control.specs.Control.{IsControl}
-use Rattle.bk_control.specs.Reads.{torn-contents}
+use Rattle.bk_device.specs.Laws.{torn-contents}
 use Rattle.bk_control.specs.Slots.{Slot, slot_at, counting, control_of}
 use Rattle.bk_control.specs.Stands.{Stands, IsFilled, IsBlank, ChangesSlot, Grows, Lengthens}
 use Rattle.bk_control.proofs.Growing.{Growing, grown_byte, lengthens_grows, short_at}

@@ -6,7 +6,7 @@ use Rattle.bk_device.specs.Disk.{Disk, IsDurable}
 use Rattle.bk_device.specs.Effects.{Effect, IsName}
 use Rattle.bk_control.specs.declared.side.Side.{Side}
 use Rattle.bk_control.specs.Control.{Kept, IsControl, IsReady, slot_of, control_value}
-use Rattle.bk_control.specs.Reads.{torn-contents}
+use Rattle.bk_device.specs.Laws.{torn-contents}
 use Rattle.bk_control.specs.Slots.{Slot, control_of, other, place}
 use Rattle.bk_control.specs.Stands.{Holds, Stands, Rewrites}
 use Rattle.bk_control.proofs.SlotLaws.{dropping, dropping_done, advancing_done, other_other}

@@ -7,7 +7,7 @@ use Rattle.bk_device.specs.Disk.{Files, Disk, IsDurable}
 use Rattle.bk_device.specs.Effects.{Effect, IsName}
 use Rattle.bk_control.specs.declared.side.Side.{Side}
 use Rattle.bk_control.specs.declared.side.Side.TheVariants.{First, Second}
-use Rattle.bk_control.specs.Reads.{torn-contents}
+use Rattle.bk_device.specs.Laws.{torn-contents}
 use Rattle.bk_control.specs.Slots.{Slot, counting, control_of, other, place}
 use Rattle.bk_control.specs.Stands.{Stands, IsFilled, ChangesSlot, Rewrites, MayFollow}
 use Rattle.bk_control.proofs.SlotLaws.{changes_none, changes_torn, closing, closing_done, filling, opening, opening_done, other_other}

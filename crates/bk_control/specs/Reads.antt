@@ -1,8 +1,7 @@
 -- Parts of a read.
-use Rattle.std.proofs.Common.{◌≡◌, ◌<◌, ◌≤◌, ℕ, ◌+◌, ◌-◌, List, take, drop, get_or, Option, inl, inr, sym, ◌∙◌, ap, subst, arith}
+use Rattle.std.proofs.Common.{◌≡◌, ◌<◌, ◌≤◌, ℕ, ◌+◌, ◌-◌, List, take, drop, get_or, ◌∙◌, ap, arith}
 use Rattle.std.proofs.lemmas.List.{get_or-take, get_or-drop, take-take, drop-take, drop-drop}
-use Rattle.bk_device.specs.Calls.{contents, read_at, IsTorn, LeavesWrite}
-use Rattle.bk_device.specs.Torn.{torn-refl}
+use Rattle.bk_device.specs.Calls.{read_at}
 
 -- a part of a read is read from further on
 pub read_at-within : (from room at n : ℕ) (file : List ℕ) → at + n ≤ room → read_at (read_at file from room) at n ≡ read_at file (from + at) n
@@ -16,11 +15,3 @@ read_at-within from room at n file inside =
 -- a byte of a read
 pub index-within : (from room k : ℕ) (file : List ℕ) → k < room → get_or (read_at file from room) k 0 ≡ get_or file (from + k) 0
 index-within from room k file inside = get_or-take room (drop from file) k 0 inside ∙ get_or-drop from file k 0
-
--- what a write that a crash may have cut short leaves, as contents
-pub torn-contents : (at n : ℕ) (before after : Option (List ℕ)) → LeavesWrite at n before after → IsTorn at n (contents before) (contents after)
-torn-contents at n before after leaves =
-    elim leaves [
-      | inl same ↦ let Torn : Option (List ℕ) → Type 0 = λ file. IsTorn at n (contents before) (contents file) in subst Torn (sym same) (torn-refl at n (contents before))
-      | inr wrote ↦ let Torn : Option (List ℕ) → Type 0 = λ file. IsTorn at n (contents before) (contents file) in subst Torn (sym wrote.1) wrote.2
-    ]

@@ -1,20 +1,19 @@
 // A control file: one content, which each crash leaves as it was or as it became.
-ghost use Rattle.std.specs.Prelude.{◌≡◌, ◌≤◌, ◌<◌, ◌-◌, ◌⊎◌, ◌^◌, ◌+◌, Some, None, length, vec_len, vec_capacity, true, false, is_err, string_bytes, IfOk, OnOk, OnErr, IsErrOf};
+ghost use Rattle.std.specs.Prelude.{◌≡◌, ◌≤◌, ◌<◌, ◌-◌, ◌⊎◌, ◌^◌, ◌+◌, Some, None, length, vec_len, vec_capacity, true, false, is_err, string_bytes, IfOk, OnOk, OnErr, IsErrOf, IsErr};
 ghost use Rattle.bk_control.specs.Control.{Kept, IsControl, IsReady};
 ghost use Rattle.bk_control.specs.Slots.{control_of};
 ghost use Rattle.bk_device.specs.Calls.{ChangesNothing};
-ghost use Rattle.bk_device.specs.Counts.{HasRisen};
+ghost use Rattle.bk_device.specs.Counts.{HasCause};
 ghost use Rattle.bk_device.specs.Disk.{IsDurable};
 ghost use Rattle.bk_device.specs.Effects.{Effect, IsName};
 
-use crate::durable::write_durably;
 use crate::error::ControlError;
 use crate::found::{file_len, find, read_content};
 use crate::fresh::{lay, open_first};
 use crate::side::Side;
 use crate::slot::rewrite;
 use crate::whole::fill_up;
-use bk_device::{Device, Failed};
+use bk_device::{Device, Failed, write_durably};
 use std::alloc::Global;
 use std::marker::Model;
 
@@ -62,10 +61,8 @@ impl Control {
         ensures stands { D.tells → IsDurable (D.disk dev.old) name.now → IfOk result (λ c. IsControl (D.disk dev.new) c) }
         ensures effect { D.tells → ChangesNothing (D.disk dev.old) (D.disk dev.new) }
         ensures foreign { D.tells → IsErrOf result ControlError.Foreign → control_of ((D.disk dev.old).files name.now) ≡ None }
-        ensures cause { IsErrOf result ControlError.Fault → HasRisen (D.disk_faults dev.old) (D.disk_faults dev.new) }
+        ensures cause { HasCause D.disk_faults D.tell_faults dev.old dev.new (IsErrOf result ControlError.Fault) }
         ensures no_memory { IsErrOf result ControlError.NoMemory → dev.new ≡ dev.old }
-        ensures never_falls { D.disk_faults dev.old ≤ D.disk_faults dev.new }
-        ensures tell_faults { D.tell_faults dev.new ≡ D.tell_faults dev.old }
     {
         let name_kept = String::from_str(alloc, name)?;
         let mut content = Vec::with_capacity(alloc, 65_536)?;
@@ -102,10 +99,8 @@ impl Control {
         ensures stands { D.tells → IfOk result (λ c. IsControl (D.disk dev.new) c) }
         ensures crash { D.tells → Effect (IsName name.now) (λ image. (D.disk dev.old).may name.now (image name.now) ⊎ (control_of (image name.now) ≡ None) ⊎ (control_of (image name.now) ≡ Some bytes.now)) (D.disk dev.old) (D.disk dev.new) }
         ensures foreign { IsErrOf result ControlError.Foreign → ⊥ }
-        ensures cause { IsErrOf result ControlError.Fault → HasRisen (D.disk_faults dev.old) (D.disk_faults dev.new) }
+        ensures cause { HasCause D.disk_faults D.tell_faults dev.old dev.new (IsErrOf result ControlError.Fault) }
         ensures no_memory { IsErrOf result ControlError.NoMemory → dev.new ≡ dev.old }
-        ensures never_falls { D.disk_faults dev.old ≤ D.disk_faults dev.new }
-        ensures tell_faults { D.tell_faults dev.new ≡ D.tell_faults dev.old }
     {
         let name_kept = String::from_str(alloc, name)?;
         let mut content = Vec::with_capacity(alloc, 65_536)?;
@@ -142,9 +137,7 @@ impl Control {
         ensures failed { self.new.failed ≡ is_err result }
         ensures stands { D.tells → OnOk result (IsControl (D.disk dev.new) self.new) }
         ensures crash { D.tells → Effect (IsName self.old.name) (λ image. (control_of (image self.old.name) ≡ Some self.old.content) ⊎ (control_of (image self.old.name) ≡ Some bytes.now)) (D.disk dev.old) (D.disk dev.new) }
-        ensures cause { OnErr result (HasRisen (D.disk_faults dev.old) (D.disk_faults dev.new)) }
-        ensures never_falls { D.disk_faults dev.old ≤ D.disk_faults dev.new }
-        ensures tell_faults { D.tell_faults dev.new ≡ D.tell_faults dev.old }
+        ensures cause { HasCause D.disk_faults D.tell_faults dev.old dev.new (IsErr result) }
     {
         let outcome = self.store(dev, bytes);
         self.failed = outcome.is_err();
@@ -158,9 +151,7 @@ impl Control {
         ensures name { self.new.name ≡ self.old.name }
         ensures stands { D.tells → OnOk result (IsControl (D.disk dev.new) self.new) }
         ensures crash { D.tells → Effect (IsName self.old.name) (λ image. (control_of (image self.old.name) ≡ Some self.old.content) ⊎ (control_of (image self.old.name) ≡ Some bytes.now)) (D.disk dev.old) (D.disk dev.new) }
-        ensures cause { OnErr result (HasRisen (D.disk_faults dev.old) (D.disk_faults dev.new)) }
-        ensures never_falls { D.disk_faults dev.old ≤ D.disk_faults dev.new }
-        ensures tell_faults { D.tell_faults dev.new ≡ D.tell_faults dev.old }
+        ensures cause { HasCause D.disk_faults D.tell_faults dev.old dev.new (IsErr result) }
     {
         self.make_ready(dev)?;
         self.advance(dev, bytes)?;
@@ -175,9 +166,7 @@ impl Control {
         ensures room { OnOk result (self.new.sequence < 2 ^ 64 - 1) }
         ensures stands { D.tells → OnOk result (IsReady (D.disk dev.new) self.new) }
         ensures crash { D.tells → Effect (IsName self.old.name) (λ image. control_of (image self.old.name) ≡ Some self.old.content) (D.disk dev.old) (D.disk dev.new) }
-        ensures cause { OnErr result (HasRisen (D.disk_faults dev.old) (D.disk_faults dev.new)) }
-        ensures never_falls { D.disk_faults dev.old ≤ D.disk_faults dev.new }
-        ensures tell_faults { D.tell_faults dev.new ≡ D.tell_faults dev.old }
+        ensures cause { HasCause D.disk_faults D.tell_faults dev.old dev.new (IsErr result) }
     {
         self.make_whole(dev)?;
         self.leave_room(dev)?;
@@ -191,9 +180,7 @@ impl Control {
         ensures name { self.new.name ≡ self.old.name }
         ensures stands { D.tells → OnOk result (IsReady (D.disk dev.new) self.new) }
         ensures crash { D.tells → Effect (IsName self.old.name) (λ image. control_of (image self.old.name) ≡ Some self.old.content) (D.disk dev.old) (D.disk dev.new) }
-        ensures cause { OnErr result (HasRisen (D.disk_faults dev.old) (D.disk_faults dev.new)) }
-        ensures never_falls { D.disk_faults dev.old ≤ D.disk_faults dev.new }
-        ensures tell_faults { D.tell_faults dev.new ≡ D.tell_faults dev.old }
+        ensures cause { HasCause D.disk_faults D.tell_faults dev.old dev.new (IsErr result) }
     {
         if !self.is_whole {
             self.is_other_open = fill_up(dev, &self.name, self.side, self.is_other_open)?;
@@ -210,9 +197,7 @@ impl Control {
         ensures room { OnOk result (self.new.sequence < 2 ^ 64 - 1) }
         ensures stands { D.tells → OnOk result (IsReady (D.disk dev.new) self.new) }
         ensures crash { D.tells → Effect (IsName self.old.name) (λ image. control_of (image self.old.name) ≡ Some self.old.content) (D.disk dev.old) (D.disk dev.new) }
-        ensures cause { OnErr result (HasRisen (D.disk_faults dev.old) (D.disk_faults dev.new)) }
-        ensures never_falls { D.disk_faults dev.old ≤ D.disk_faults dev.new }
-        ensures tell_faults { D.tell_faults dev.new ≡ D.tell_faults dev.old }
+        ensures cause { HasCause D.disk_faults D.tell_faults dev.old dev.new (IsErr result) }
     {
         if self.sequence == u64::MAX {
             self.renumber(dev)?;
@@ -229,9 +214,7 @@ impl Control {
         ensures name { self.new.name ≡ self.old.name }
         ensures stands { D.tells → OnOk result (IsReady (D.disk dev.new) self.new) }
         ensures crash { D.tells → Effect (IsName self.old.name) (λ image. (control_of (image self.old.name) ≡ Some self.old.content) ⊎ (control_of (image self.old.name) ≡ Some bytes.now)) (D.disk dev.old) (D.disk dev.new) }
-        ensures cause { OnErr result (HasRisen (D.disk_faults dev.old) (D.disk_faults dev.new)) }
-        ensures never_falls { D.disk_faults dev.old ≤ D.disk_faults dev.new }
-        ensures tell_faults { D.tell_faults dev.new ≡ D.tell_faults dev.old }
+        ensures cause { HasCause D.disk_faults D.tell_faults dev.old dev.new (IsErr result) }
     {
         let side = self.side.other();
         let sequence = self.sequence + 1;
@@ -251,9 +234,7 @@ impl Control {
         ensures room { OnOk result (self.new.sequence ≡ 0) }
         ensures stands { D.tells → OnOk result (IsReady (D.disk dev.new) self.new) }
         ensures crash { D.tells → Effect (IsName self.old.name) (λ image. control_of (image self.old.name) ≡ Some self.old.content) (D.disk dev.old) (D.disk dev.new) }
-        ensures cause { OnErr result (HasRisen (D.disk_faults dev.old) (D.disk_faults dev.new)) }
-        ensures never_falls { D.disk_faults dev.old ≤ D.disk_faults dev.new }
-        ensures tell_faults { D.tell_faults dev.new ≡ D.tell_faults dev.old }
+        ensures cause { HasCause D.disk_faults D.tell_faults dev.old dev.new (IsErr result) }
     {
         let side = self.side.other();
         rewrite(dev, &self.name, side, self.is_other_open, 0, &self.content)?;

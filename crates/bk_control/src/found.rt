@@ -1,9 +1,9 @@
 // Reading a control file.
-ghost use Rattle.std.specs.Prelude.{◌≡◌, ◌≤◌, ◌+◌, ◌-◌, ◌==◌, min, List, ℕ, length, take, Some, None, slice_index, option_map, IfOk, OnErr, vec_len, vec_capacity, IfSome, OnOk, MatchOption};
+ghost use Rattle.std.specs.Prelude.{◌≡◌, ◌≤◌, ◌+◌, ◌-◌, ◌==◌, min, List, ℕ, length, take, Some, None, slice_index, option_map, IfOk, OnErr, vec_len, vec_capacity, IfSome, OnOk, MatchOption, IsErr};
 ghost use Rattle.bk_control.specs.Found.{IsHead, IsFound, sized};
 ghost use Rattle.bk_control.specs.Slots.{slot_in, counting, fits, place};
 ghost use Rattle.bk_device.specs.Calls.{contents, read_at, ChangesNothing};
-ghost use Rattle.bk_device.specs.Counts.{HasRisen};
+ghost use Rattle.bk_device.specs.Counts.{HasCause};
 
 use crate::side::Side;
 use crate::slot::{MAGIC, read_number};
@@ -98,9 +98,7 @@ fn read_head<D: Device>(dev: &mut D, name: &str, start: u64, len: u64) -> Result
     ensures head { D.tells → len ≡ length (contents ((D.disk dev.old).files name.now)) → IfOk result (IsHead (contents ((D.disk dev.old).files name.now)) start) }
     ensures short { IfOk result (λ head. IfSome head.entry (λ e. e.len ≤ 65536)) }
     ensures effect { D.tells → ChangesNothing (D.disk dev.old) (D.disk dev.new) }
-    ensures cause { OnErr result (HasRisen (D.disk_faults dev.old) (D.disk_faults dev.new)) }
-    ensures never_falls { D.disk_faults dev.old ≤ D.disk_faults dev.new }
-    ensures tell_faults { D.tell_faults dev.new ≡ D.tell_faults dev.old }
+    ensures cause { HasCause D.disk_faults D.tell_faults dev.old dev.new (IsErr result) }
 {
     let mut head = [0u8; 32];
     dev.read(name, start, &mut head)?;
@@ -115,9 +113,7 @@ fn read_head<D: Device>(dev: &mut D, name: &str, start: u64, len: u64) -> Result
 pub fn file_len<D: Device>(dev: &mut D, name: &str) -> Result<u64, Failed>
     ensures len { D.tells → IfOk result (λ len. len ≡ length (contents ((D.disk dev.old).files name.now))) }
     ensures effect { D.tells → ChangesNothing (D.disk dev.old) (D.disk dev.new) }
-    ensures cause { OnErr result (HasRisen (D.disk_faults dev.old) (D.disk_faults dev.new)) }
-    ensures never_falls { D.disk_faults dev.old ≤ D.disk_faults dev.new }
-    ensures tell_faults { D.tell_faults dev.new ≡ D.tell_faults dev.old }
+    ensures cause { HasCause D.disk_faults D.tell_faults dev.old dev.new (IsErr result) }
 {
     let len = dev.len(name)?;
     Ok(len.unwrap_or(0))
@@ -128,9 +124,7 @@ pub fn find<D: Device>(dev: &mut D, name: &str, len: u64) -> Result<Option<Found
     ensures found { D.tells → len ≡ length (contents ((D.disk dev.old).files name.now)) → IfOk result (λ found. MatchOption found (counting (contents ((D.disk dev.old).files name.now)) ≡ None) (IsFound (contents ((D.disk dev.old).files name.now)))) }
     ensures short { IfOk result (λ found. IfSome found (λ f. f.len ≤ 65536)) }
     ensures effect { D.tells → ChangesNothing (D.disk dev.old) (D.disk dev.new) }
-    ensures cause { OnErr result (HasRisen (D.disk_faults dev.old) (D.disk_faults dev.new)) }
-    ensures never_falls { D.disk_faults dev.old ≤ D.disk_faults dev.new }
-    ensures tell_faults { D.tell_faults dev.new ≡ D.tell_faults dev.old }
+    ensures cause { HasCause D.disk_faults D.tell_faults dev.old dev.new (IsErr result) }
 {
     let first = read_head(dev, name, 0, len)?;
     let second = read_head(dev, name, 65_600, len)?;
@@ -149,9 +143,7 @@ pub fn read_content<D: Device>(
     ensures len { vec_len content.new ≡ found.len }
     ensures room { vec_capacity content.old ≤ vec_capacity content.new }
     ensures effect { D.tells → ChangesNothing (D.disk dev.old) (D.disk dev.new) }
-    ensures cause { OnErr result (HasRisen (D.disk_faults dev.old) (D.disk_faults dev.new)) }
-    ensures never_falls { D.disk_faults dev.old ≤ D.disk_faults dev.new }
-    ensures tell_faults { D.tell_faults dev.new ≡ D.tell_faults dev.old }
+    ensures cause { HasCause D.disk_faults D.tell_faults dev.old dev.new (IsErr result) }
 {
     content.clear();
     match content.resize(found.len, 0) {

@@ -2,7 +2,6 @@
 #![tactic(auto)]
 
 mod control;
-mod durable;
 mod error;
 mod found;
 mod fresh;
@@ -13,6 +12,3 @@ mod whole;
 pub use control::Control;
 pub use error::ControlError;
 pub use side::Side;
-
-#[cfg(test)]
-mod tests;

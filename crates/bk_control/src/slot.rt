@@ -1,15 +1,14 @@
 // The writes that put a content into a slot.
-ghost use Rattle.std.specs.Prelude.{◌≡◌, ◌≤◌, ◌<◌, ◌+◌, ◌++◌, ◌⊎◌, ◌^◌, Some, length, drop, replicate, true, false, OnOk, OnErr};
+ghost use Rattle.std.specs.Prelude.{◌≡◌, ◌≤◌, ◌<◌, ◌+◌, ◌++◌, ◌⊎◌, ◌^◌, Some, length, drop, replicate, true, false, OnOk, OnErr, IsErr};
 ghost use Rattle.bk_control.specs.Slots.{Slot, magic, number, number_bytes, slot_at, counting, control_of, other, place};
 ghost use Rattle.bk_control.specs.Stands.{Stands, IsFilled, ChangesSlot, Rewrites, MayFollow};
 ghost use Rattle.bk_device.specs.Calls.{contents, written};
-ghost use Rattle.bk_device.specs.Counts.{HasRisen};
+ghost use Rattle.bk_device.specs.Counts.{HasCause};
 ghost use Rattle.bk_device.specs.Disk.{IsDurable};
 ghost use Rattle.bk_device.specs.Effects.{Effect, IsName};
 
-use crate::durable::write_durably;
 use crate::side::Side;
-use bk_device::{Device, Failed};
+use bk_device::{Device, Failed, write_durably};
 use byteorder::{ByteOrder, LittleEndian};
 
 pub const MAGIC: [u8; 8] = *b"SQLBAKC1";
@@ -54,9 +53,7 @@ pub fn fill<D: Device>(
     ensures changed { D.tells → OnOk result (ChangesSlot start (contents ((D.disk dev.old).files name.now)) (contents ((D.disk dev.new).files name.now))) }
     ensures durable { D.tells → OnOk result (IsDurable (D.disk dev.new) name.now) }
     ensures crash { D.tells → Effect (IsName name.now) (λ image. ChangesSlot start (contents ((D.disk dev.old).files name.now)) (contents (image name.now))) (D.disk dev.old) (D.disk dev.new) }
-    ensures cause { OnErr result (HasRisen (D.disk_faults dev.old) (D.disk_faults dev.new)) }
-    ensures never_falls { D.disk_faults dev.old ≤ D.disk_faults dev.new }
-    ensures tell_faults { D.tell_faults dev.new ≡ D.tell_faults dev.old }
+    ensures cause { HasCause D.disk_faults D.tell_faults dev.old dev.new (IsErr result) }
 {
     dev.write(name, start, &MAGIC)?;
     dev.write(name, start + 9, &head(sequence, bytes.len() as u64))?;
@@ -72,9 +69,7 @@ fn close<D: Device>(dev: &mut D, name: &str, side: Side, is_open: bool) -> Resul
     ensures stands { D.tells → (old : Slot) → Stands (other side) is_open old (contents ((D.disk dev.old).files name.now)) → OnOk result (Stands (other side) false old (contents ((D.disk dev.new).files name.now))) }
     ensures durable { D.tells → OnOk result (IsDurable (D.disk dev.new) name.now) }
     ensures crash { D.tells → Effect (IsName name.now) (λ image. counting (contents (image name.now)) ≡ counting (contents ((D.disk dev.old).files name.now))) (D.disk dev.old) (D.disk dev.new) }
-    ensures cause { OnErr result (HasRisen (D.disk_faults dev.old) (D.disk_faults dev.new)) }
-    ensures never_falls { D.disk_faults dev.old ≤ D.disk_faults dev.new }
-    ensures tell_faults { D.tell_faults dev.new ≡ D.tell_faults dev.old }
+    ensures cause { HasCause D.disk_faults D.tell_faults dev.old dev.new (IsErr result) }
 {
     if is_open {
         write_durably(dev, name, side.place() + 8, &[0])?;
@@ -97,9 +92,7 @@ pub fn rewrite<D: Device>(
     ensures rewritten { D.tells → OnOk result (Rewrites side (record { sequence = sequence; bytes = bytes.now }) (contents ((D.disk dev.old).files name.now)) (contents ((D.disk dev.new).files name.now))) }
     ensures durable { D.tells → OnOk result (IsDurable (D.disk dev.new) name.now) }
     ensures crash { D.tells → Effect (IsName name.now) (λ image. (control_of (image name.now) ≡ control_of ((D.disk dev.old).files name.now)) ⊎ (control_of (image name.now) ≡ Some bytes.now)) (D.disk dev.old) (D.disk dev.new) }
-    ensures cause { OnErr result (HasRisen (D.disk_faults dev.old) (D.disk_faults dev.new)) }
-    ensures never_falls { D.disk_faults dev.old ≤ D.disk_faults dev.new }
-    ensures tell_faults { D.tell_faults dev.new ≡ D.tell_faults dev.old }
+    ensures cause { HasCause D.disk_faults D.tell_faults dev.old dev.new (IsErr result) }
 {
     close(dev, name, side, is_open)?;
     fill(dev, name, side.place(), sequence, bytes)?;

@@ -1,10 +1,10 @@
 // A control file that is brought to its whole length.
-ghost use Rattle.std.specs.Prelude.{◌≡◌, ◌≤◌, Bool, Some, length, replicate, false, IfOk, OnOk, OnErr};
+ghost use Rattle.std.specs.Prelude.{◌≡◌, ◌≤◌, Bool, Some, length, replicate, false, IfOk, OnOk, OnErr, IsErr};
 ghost use Rattle.bk_control.specs.declared.side.Side.TheVariants.{First, Second};
 ghost use Rattle.bk_control.specs.Slots.{Slot, slot_at, counting};
 ghost use Rattle.bk_control.specs.Stands.{Holds, Stands, Grows, Lengthens};
 ghost use Rattle.bk_device.specs.Calls.{contents, written, LeavesWrite, CallsOn};
-ghost use Rattle.bk_device.specs.Counts.{HasRisen};
+ghost use Rattle.bk_device.specs.Counts.{HasCause};
 ghost use Rattle.bk_device.specs.Disk.{IsDurable};
 ghost use Rattle.bk_device.specs.Effects.{Effect, IsName};
 
@@ -18,9 +18,7 @@ fn write_zeros<D: Device>(dev: &mut D, name: &str, at: u64, n: usize) -> Result<
     requires inside { D.tells → at ≤ length (contents ((D.disk dev.old).files name.now)) }
     ensures written { D.tells → OnOk result ((D.disk dev.new).files name.now ≡ Some (written (contents ((D.disk dev.old).files name.now)) at (replicate n 0))) }
     ensures effect { D.tells → CallsOn name.now (LeavesWrite at n) (D.disk dev.old) (D.disk dev.new) }
-    ensures cause { OnErr result (HasRisen (D.disk_faults dev.old) (D.disk_faults dev.new)) }
-    ensures never_falls { D.disk_faults dev.old ≤ D.disk_faults dev.new }
-    ensures tell_faults { D.tell_faults dev.new ≡ D.tell_faults dev.old }
+    ensures cause { HasCause D.disk_faults D.tell_faults dev.old dev.new (IsErr result) }
 {
     let zeros = [0u8; 4_096];
     dev.write(name, at, &zeros[..n])?;
@@ -34,9 +32,7 @@ pub fn lengthen<D: Device>(dev: &mut D, name: &str, from: u64, to: u64) -> Resul
     ensures lengthened { D.tells → OnOk result (Lengthens to (contents ((D.disk dev.old).files name.now)) (contents ((D.disk dev.new).files name.now))) }
     ensures durable { D.tells → OnOk result (IsDurable (D.disk dev.new) name.now) }
     ensures crash { D.tells → Effect (IsName name.now) (λ image. Grows to (contents ((D.disk dev.old).files name.now)) (contents (image name.now))) (D.disk dev.old) (D.disk dev.new) }
-    ensures cause { OnErr result (HasRisen (D.disk_faults dev.old) (D.disk_faults dev.new)) }
-    ensures never_falls { D.disk_faults dev.old ≤ D.disk_faults dev.new }
-    ensures tell_faults { D.tell_faults dev.new ≡ D.tell_faults dev.old }
+    ensures cause { HasCause D.disk_faults D.tell_faults dev.old dev.new (IsErr result) }
 {
     let mut at = from;
     'pieces: while at < to {
@@ -58,9 +54,7 @@ fn drop_second<D: Device>(dev: &mut D, name: &str, len: u64) -> Result<u64, Fail
     ensures same { D.tells → OnOk result (slot_at (contents ((D.disk dev.new).files name.now)) 0 ≡ slot_at (contents ((D.disk dev.old).files name.now)) 0) }
     ensures durable { D.tells → OnOk result (IsDurable (D.disk dev.new) name.now) }
     ensures crash { D.tells → Effect (IsName name.now) (λ image. counting (contents (image name.now)) ≡ counting (contents ((D.disk dev.old).files name.now))) (D.disk dev.old) (D.disk dev.new) }
-    ensures cause { OnErr result (HasRisen (D.disk_faults dev.old) (D.disk_faults dev.new)) }
-    ensures never_falls { D.disk_faults dev.old ≤ D.disk_faults dev.new }
-    ensures tell_faults { D.tell_faults dev.new ≡ D.tell_faults dev.old }
+    ensures cause { HasCause D.disk_faults D.tell_faults dev.old dev.new (IsErr result) }
 {
     if len <= 65_600 {
         return Ok(len);
@@ -78,9 +72,7 @@ fn add_second<D: Device>(dev: &mut D, name: &str, len: u64) -> Result<(), Failed
     ensures stands { D.tells → (is_open : Bool) (slot : Slot) → Holds First is_open slot (contents ((D.disk dev.old).files name.now)) → OnOk result (Stands First false slot (contents ((D.disk dev.new).files name.now))) }
     ensures durable { D.tells → OnOk result (IsDurable (D.disk dev.new) name.now) }
     ensures crash { D.tells → Effect (IsName name.now) (λ image. counting (contents (image name.now)) ≡ counting (contents ((D.disk dev.old).files name.now))) (D.disk dev.old) (D.disk dev.new) }
-    ensures cause { OnErr result (HasRisen (D.disk_faults dev.old) (D.disk_faults dev.new)) }
-    ensures never_falls { D.disk_faults dev.old ≤ D.disk_faults dev.new }
-    ensures tell_faults { D.tell_faults dev.new ≡ D.tell_faults dev.old }
+    ensures cause { HasCause D.disk_faults D.tell_faults dev.old dev.new (IsErr result) }
 {
     let left = drop_second(dev, name, len)?;
     // up to the gate byte of the second slot, and with it
@@ -101,9 +93,7 @@ pub fn fill_up<D: Device>(
     ensures stands { D.tells → (slot : Slot) → Holds side is_open slot (contents ((D.disk dev.old).files name.now)) → IfOk result (λ is_open_now. Stands side is_open_now slot (contents ((D.disk dev.new).files name.now))) }
     ensures durable { D.tells → OnOk result (IsDurable (D.disk dev.new) name.now) }
     ensures crash { D.tells → Effect (IsName name.now) (λ image. counting (contents (image name.now)) ≡ counting (contents ((D.disk dev.old).files name.now))) (D.disk dev.old) (D.disk dev.new) }
-    ensures cause { OnErr result (HasRisen (D.disk_faults dev.old) (D.disk_faults dev.new)) }
-    ensures never_falls { D.disk_faults dev.old ≤ D.disk_faults dev.new }
-    ensures tell_faults { D.tell_faults dev.new ≡ D.tell_faults dev.old }
+    ensures cause { HasCause D.disk_faults D.tell_faults dev.old dev.new (IsErr result) }
 {
     let len = file_len(dev, name)?;
     match side {

@@ -4,6 +4,7 @@ pub mod Counts
 pub mod Disk
 pub mod Effects
 pub mod Held
+pub mod Laws
 pub mod Memory
 pub mod Names
 pub mod Replay

@@ -5,17 +5,22 @@ mod cache;
 mod call;
 mod clock;
 mod device;
+mod directory;
+mod durable;
 mod file_device;
 mod fixed_clock;
 mod held;
 mod mem_device;
 mod mem_source;
+mod open_file;
+mod read_ahead;
 mod source;
 mod stdin_source;
 mod system_clock;
 
 pub use clock::Clock;
 pub use device::Device;
+pub use durable::{remove_durably, write_durably};
 pub use file_device::FileDevice;
 pub use fixed_clock::FixedClock;
 pub use mem_device::{MemDevice, crash_law};
@@ -29,6 +34,3 @@ use thiserror::Error;
 #[derive(Clone, Copy, Debug, PartialEq, Eq, Error)]
 #[error("the device or the source has failed")]
 pub struct Failed;
-
-#[cfg(test)]
-mod tests;

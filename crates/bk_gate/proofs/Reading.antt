@@ -1,22 +1,15 @@
 -- Reading a gate file.
-use Rattle.std.proofs.Common.{◌≡◌, ◌≢◌, ◌≤◌, ◌<◌, ℕ, ◌+◌, List, [], ◌∷◌, ◌++◌, length, take, drop, get_or, Some, None, refl, inl, inr, sym, ◌∙◌, ap, subst, arith, lit≤, lit<, length-take, length-drop, add-zero}
+use Rattle.std.proofs.Common.{◌≡◌, ◌≢◌, ◌≤◌, ◌<◌, ℕ, ◌+◌, List, [], ◌∷◌, ◌++◌, length, take, drop, get_or, Some, None, sym, ◌∙◌, ap, subst, arith, lit≤, lit<, add-zero}
 use Rattle.std.specs.Prelude.{Bool, true, false}
 use Rattle.std.specs.Bool.{MatchBool}
 use Rattle.std.specs.Str.{bytes_eq}
 use Rattle.std.proofs.lemmas.Slice.Eq.{bytes_eq-Decides}
-use Rattle.std.proofs.lemmas.List.{get_or-take, get_or-drop, take-take, drop-take, drop-drop, drop_all, append-nil}
-use Rattle.bk_device.specs.Calls.{read_at, filled, ChangesNothing}
-use Rattle.bk_device.specs.Disk.{Disk, IsLawful}
+use Rattle.std.proofs.lemmas.List.{get_or-take, get_or-drop, take-take, drop-take, drop-drop}
+use Rattle.bk_device.specs.Calls.{read_at, filled}
+use Rattle.bk_device.specs.Laws.{filled_whole}
 use Rattle.bk_gate.specs.Blobs.{number, blob_at, magic, spans_of, IsGateFile}
 use Rattle.bk_gate.specs.Gate.{Lies, Stands}
 use Rattle.bk_gate.specs.BlobLaws.{no_blob, is_blob, long_blob, lies_more, stands_spans}
-
--- a buffer that was read whole
-pub filled_whole : (buffer file : List ℕ) (at room : ℕ) → room ≡ length buffer → at + room ≤ length file → filled buffer (read_at file at room) ≡ read_at file at room
-filled_whole buffer file at room is inside =
-    let size : length (read_at file at room) ≡ room = simp (length-take, length-drop) (omega arith) in
-    let rest : drop (length (read_at file at room)) buffer ≡ [] = drop_all (length (read_at file at room)) buffer (omega (arith, size, is)) in
-    ap (λ (r : List ℕ). read_at file at room ++ r) rest ∙ append-nil (read_at file at room)
 
 first_byte : (file : List ℕ) (at room : ℕ) → 0 < room → get_or (read_at file at room) 0 0 ≡ get_or file at 0
 first_byte file at room some = get_or-take room (drop at file) 0 0 some ∙ get_or-drop at file 0 0 ∙ ap (λ (p : ℕ). get_or file p 0) (add-zero at)
@@ -44,39 +37,6 @@ pub read_long : (file buffer head : List ℕ) (gate size : ℕ) → length buffe
 read_long file buffer head gate size room inside is size_is more =
     let read : head ≡ read_at file gate 9 = is ∙ filled_whole buffer file gate 9 (sym room) inside in
     long_blob file gate size (ap number (sym (size_bytes file gate) ∙ ap (λ (h : List ℕ). read_at h 1 8) (sym read)) ∙ sym size_is) more
-
--- reading changes nothing
-
-pub nothing_then : {a b c : Disk} → IsLawful a → ChangesNothing a b → ChangesNothing b c → ChangesNothing a c
-nothing_then {a = a} {b = b} {c = c} lawful first second = record {
-  files = λ name. second.files name ∙ first.files name;
-  nothing_more = λ name content may. first.nothing_more name content (second.nothing_more name content may);
-  told = second.told ∙ first.told;
-  time = record {
-    later = omega (arith, first.time.later, second.time.later);
-    nothing_else = λ since image heard early left.
-        elim (second.time.nothing_else since image heard (omega (arith, first.time.later)) left) [
-          | inl before ↦ elim (first.time.nothing_else since image heard early before) [
-            | inl earlier ↦ inl earlier
-            | inr here ↦
-                let Heard : List ℕ → Type 0 = λ h. a.left since image h in
-                inl (subst Heard (sym here.1) (lawful.counts_now since image early (λ name. first.nothing_more name (image name) (here.0 name))))
-          ]
-          | inr here ↦ inr (here.0, here.1 ∙ first.told)
-        ];
-    nothing_forgotten = λ since image heard early left.
-        second.time.nothing_forgotten since image heard (omega (arith, first.time.later)) (first.time.nothing_forgotten since image heard early left);
-  };
-}
-
--- nothing was called
-pub nothing_yet : (a : Disk) → ChangesNothing a a
-nothing_yet a = record {
-  files = λ name. refl;
-  nothing_more = λ name content may. may;
-  told = refl;
-  time = record { later = omega arith; nothing_else = λ since image heard early left. inl left; nothing_forgotten = λ since image heard early left. left };
-}
 
 -- a test of the letters
 pub tested : (is : Bool) (read front : List ℕ) → read ≡ front → is ≡ bytes_eq read magic → MatchBool is (front ≡ magic) (front ≢ magic)

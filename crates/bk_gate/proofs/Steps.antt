@@ -1,13 +1,14 @@
 -- What the steps of sealing a blob did to the device.
-use Rattle.std.proofs.Common.{◌≡◌, ◌≤◌, ◌<◌, ◌^◌, ◌⊎◌, ℕ, ◌+◌, List, [], ◌∷◌, ◌++◌, length, map, max, take, get_or, Option, Some, None, Bool, true, false, refl, inl, inr, sym, ◌∙◌, ap, subst, arith, lit<}
+use Rattle.std.proofs.Common.{◌≡◌, ◌≤◌, ◌<◌, ◌^◌, ◌⊎◌, ℕ, ◌+◌, List, [], ◌∷◌, ◌++◌, length, max, take, get_or, Option, Some, None, Bool, true, false, refl, inl, inr, sym, ◌∙◌, ap, subst, arith, lit<}
 use Rattle.std.specs.Prelude.{slice_index, option_map, IsSomeAnd}
 use Rattle.std.proofs.lemmas.List.{take-take}
 use Rattle.std.proofs.lemmas.Grind.{common_steps}
-use Rattle.bk_device.specs.Calls.{contents, read_at, written, IsTorn, LeavesWrite, LeavesCut, LeavesSame, CallsOn, ChangesNothing}
+use Rattle.bk_device.specs.Calls.{contents, read_at, written, LeavesWrite, LeavesCut, LeavesSame, CallsOn, ChangesNothing}
 use Rattle.bk_device.specs.Compose.{effect_then, effect_weaken, effect_none, effect_of_call, effect_of_nothing}
 use Rattle.bk_device.specs.Disk.{Files, Disk, IsDurable}
 use Rattle.bk_device.specs.Effects.{Effect, IsName}
-use Rattle.bk_device.specs.Torn.{torn-refl, torn-written, length-torn, written-length}
+use Rattle.bk_device.specs.Laws.{torn-contents}
+use Rattle.bk_device.specs.Torn.{torn-written, length-torn, written-length}
 use Rattle.bk_gate.specs.Blobs.{magic, sealed, blobs_in}
 use Rattle.bk_gate.specs.Gate.{Stands, Quiet, Loose, IsAt, IsPrepared}
 use Rattle.bk_gate.specs.Laws.{quiet_front}
@@ -16,13 +17,6 @@ use Rattle.bk_gate.specs.BlobLaws.{front_stands, behind, mending, mended_sealed,
 -- a crash leaves the blobs that there are
 abbrev pub Keeps : List ℕ → Disk → Files → Type 0
 Keeps name a image = sealed (image name) ≡ sealed (a.files name)
-
-pub torn-contents : (at n : ℕ) (before after : Option (List ℕ)) → LeavesWrite at n before after → IsTorn at n (contents before) (contents after)
-torn-contents at n before after leaves =
-    elim leaves [
-      | inl same ↦ let Torn : Option (List ℕ) → Type 0 = λ file. IsTorn at n (contents before) (contents file) in subst Torn (sym same) (torn-refl at n (contents before))
-      | inr wrote ↦ let Torn : Option (List ℕ) → Type 0 = λ file. IsTorn at n (contents before) (contents file) in subst Torn (sym wrote.1) wrote.2
-    ]
 
 pub quiet_none : (spans : List (ℕ × ℕ)) (end : ℕ) (name : List ℕ) (a : Disk) → Quiet spans end name a → Effect (IsName name) (Keeps name a) a a
 quiet_none spans end name a quiet = effect_none a (λ image mine. quiet_front spans end name a (image name) quiet (quiet.left (image name) (mine name refl)))

@@ -1,6 +1,7 @@
 -- A gate file that is kept on a device.
 use Rattle.std.proofs.Common.{◌≡◌, ◌≢◌, ◌⊎◌, ◌≤◌, ◌<◌, ◌+◌, ℕ, Bool, true, false, List, [], ◌∷◌, Option, Some, None, length, take}
 use Rattle.std.specs.Prelude.{slice_index, unwrap_or}
+use Rattle.std.specs.List.{All}
 use Rattle.bk_device.specs.Calls.{contents, read_at}
 use Rattle.bk_device.specs.Disk.{Disk, IsDurable}
 use Rattle.bk_gate.specs.Blobs.{number, number_bytes, blob_at, IsGateFile}
@@ -50,6 +51,10 @@ pub record Loose (spans : List (ℕ × ℕ)) (end : ℕ) (name : List ℕ) (disk
 abbrev pub IsAt : List (ℕ × ℕ) → ℕ → Bool → List ℕ → Disk → Type 0
 IsAt spans end true name disk = Quiet spans end name disk
 IsAt spans end false name disk = Loose spans end name disk
+
+-- the blobs in these parts end at this place or before it
+abbrev pub AreWithin : ℕ → List (ℕ × ℕ) → Type 0
+AreWithin end spans = All (λ span. span.0 + span.1 ≤ end) spans
 
 -- what contracts see of a gate
 pub record Kept : Type 0 where

@@ -1,11 +1,12 @@
 -- What the layers above may take of a gate file.
 use Rattle.std.proofs.Common.{◌≡◌, ◌≤◌, ◌<◌, ◌⊎◌, ◌+◌, ℕ, Bool, true, false, List, Option, Some, length, map, take, refl, ap, sym, subst, ◌∙◌, arith}
-use Rattle.std.specs.Prelude.{slice_index, slice_get}
+use Rattle.std.specs.Prelude.{slice_index, slice_get, option_map}
+use Rattle.std.proofs.lemmas.Option.{slice_get-map}
 use Rattle.bk_device.specs.Calls.{contents, read_at}
 use Rattle.bk_device.specs.Compose.{durable_kept}
 use Rattle.bk_device.specs.Disk.{Disk}
 use Rattle.bk_device.specs.Effects.{IsName, KeepsFiles}
-use Rattle.bk_gate.specs.Blobs.{sealed, spans_of, part_of, IsGateFile}
+use Rattle.bk_gate.specs.Blobs.{sealed, spans_of, part_of, blobs_in, IsGateFile}
 use Rattle.bk_gate.specs.Gate.{Kept, Stands, Quiet, IsAt, IsGate}
 use Rattle.bk_gate.specs.BlobLaws.{stands_spans, front_stands, front_sealed, shorter, gate_blobs, spans_inside}
 
@@ -97,3 +98,20 @@ gate_begun {a = a} {gate = gate} is = record {
 -- and room be made for spans
 pub gate_reserved : {a : Disk} {gate : Kept} (spare : ℕ) → IsGate a gate → IsGate a (record gate { spare = spare })
 gate_reserved spare is = record { at = is.at; room = is.room; sized = is.sized }
+
+-- a file whose blobs lie in spans that were read
+
+-- each lies whole in the file
+pub span_inside : (file : List ℕ) (spans : List (ℕ × ℕ)) (i : ℕ) (span : ℕ × ℕ) → spans ≡ spans_of file → slice_get spans i ≡ Some span → span.0 + span.1 ≤ length file
+unfolding spans_of
+span_inside file spans i span are there = spans_inside (length file) 16 file i span (ap (λ (s : List (ℕ × ℕ)). slice_get s i) (sym are) ∙ there)
+
+-- they are the parts in the spans
+pub blobs_are : (file : List ℕ) (spans : List (ℕ × ℕ)) → IsGateFile file → spans ≡ spans_of file → blobs_in file ≡ map (part_of file) spans
+blobs_are file spans gate are = gate_blobs file gate ∙ ap (map (part_of file)) (sym are)
+
+-- what lies in a span is a sealed blob
+pub blob_there : (file : List ℕ) (spans : List (ℕ × ℕ)) (i : ℕ) (span : ℕ × ℕ) → IsGateFile file → spans ≡ spans_of file → slice_get spans i ≡ Some span → slice_get (blobs_in file) i ≡ Some (read_at file span.0 span.1)
+blob_there file spans i span gate are there =
+    ap (λ (blobs : List (List ℕ)). slice_get blobs i) (blobs_are file spans gate are) ∙ slice_get-map (part_of file) spans i
+    ∙ ap (λ (o : Option (ℕ × ℕ)). option_map (part_of file) o) there

@@ -1,14 +1,13 @@
 // The writes that put a blob behind the end of a gate file.
-ghost use Rattle.std.specs.Prelude.{◌≡◌, ◌≢◌, ◌≤◌, ◌<◌, ◌+◌, ◌^◌, ◌++◌, ◌∷◌, ◌⊎◌, [], List, ℕ, Some, length, take, drop, true, false, slice_index, IfOk, OnOk, OnErr};
+ghost use Rattle.std.specs.Prelude.{◌≡◌, ◌≢◌, ◌≤◌, ◌<◌, ◌+◌, ◌^◌, ◌++◌, ◌∷◌, ◌⊎◌, [], List, ℕ, Some, length, take, drop, true, false, slice_index, IfOk, OnOk, OnErr, IsErr};
 ghost use Rattle.bk_gate.specs.Blobs.{number, number_bytes, sealed};
 ghost use Rattle.bk_gate.specs.Gate.{Stands, Quiet, IsAt, IsPrepared, HasFront, IfThere};
 ghost use Rattle.bk_device.specs.Calls.{contents, written, read_at};
-ghost use Rattle.bk_device.specs.Counts.{HasRisen};
+ghost use Rattle.bk_device.specs.Counts.{HasCause};
 ghost use Rattle.bk_device.specs.Disk.{IsDurable};
 ghost use Rattle.bk_device.specs.Effects.{Effect, IsName};
 
-use crate::durable::{remove_durably, write_durably};
-use bk_device::{Device, Failed};
+use bk_device::{Device, Failed, remove_durably, write_durably};
 use byteorder::{ByteOrder, LittleEndian};
 
 // Sees to it that the gate byte at the end is closed.
@@ -17,9 +16,7 @@ pub fn close<D: Device>(dev: &mut D, name: &str, end: u64, is_closed: bool) -> R
     ensures quiet { D.tells → (spans : List (ℕ × ℕ)) → IsAt spans end is_closed name.now (D.disk dev.old) → OnOk result (Quiet spans end name.now (D.disk dev.new)) }
     ensures sealed { D.tells → OnOk result (sealed ((D.disk dev.new).files name.now) ≡ sealed ((D.disk dev.old).files name.now)) }
     ensures crash { D.tells → Effect (IsName name.now) (λ image. sealed (image name.now) ≡ sealed ((D.disk dev.old).files name.now)) (D.disk dev.old) (D.disk dev.new) }
-    ensures cause { OnErr result (HasRisen (D.disk_faults dev.old) (D.disk_faults dev.new)) }
-    ensures never_falls { D.disk_faults dev.old ≤ D.disk_faults dev.new }
-    ensures tell_faults { D.tell_faults dev.new ≡ D.tell_faults dev.old }
+    ensures cause { HasCause D.disk_faults D.tell_faults dev.old dev.new (IsErr result) }
 {
     if !is_closed {
         write_durably(dev, name, end, &[0])?;
@@ -43,9 +40,7 @@ pub fn append<D: Device>(
     ensures sealed { D.tells → OnOk result (sealed ((D.disk dev.new).files name.now) ≡ sealed ((D.disk dev.old).files name.now)) }
     ensures small { OnOk result (at + length bytes.now < 2 ^ 62) }
     ensures crash { D.tells → Effect (IsName name.now) (λ image. sealed (image name.now) ≡ sealed ((D.disk dev.old).files name.now)) (D.disk dev.old) (D.disk dev.new) }
-    ensures cause { OnErr result (HasRisen (D.disk_faults dev.old) (D.disk_faults dev.new)) }
-    ensures never_falls { D.disk_faults dev.old ≤ D.disk_faults dev.new }
-    ensures tell_faults { D.tell_faults dev.new ≡ D.tell_faults dev.old }
+    ensures cause { HasCause D.disk_faults D.tell_faults dev.old dev.new (IsErr result) }
 {
     dev.write(name, at, bytes)?;
     Ok(())
@@ -74,9 +69,7 @@ fn settle<D: Device>(dev: &mut D, name: &str, end: u64) -> Result<(), Failed>
     ensures durable { D.tells → OnOk result (IsDurable (D.disk dev.new) name.now) }
     ensures same { D.tells → OnOk result ((D.disk dev.new).files name.now ≡ (D.disk dev.old).files name.now) }
     ensures crash { D.tells → Effect (IsName name.now) (λ image. sealed (image name.now) ≡ sealed ((D.disk dev.old).files name.now)) (D.disk dev.old) (D.disk dev.new) }
-    ensures cause { OnErr result (HasRisen (D.disk_faults dev.old) (D.disk_faults dev.new)) }
-    ensures never_falls { D.disk_faults dev.old ≤ D.disk_faults dev.new }
-    ensures tell_faults { D.tell_faults dev.new ≡ D.tell_faults dev.old }
+    ensures cause { HasCause D.disk_faults D.tell_faults dev.old dev.new (IsErr result) }
 {
     dev.sync(name)?;
     Ok(())
@@ -99,9 +92,7 @@ fn set_length<D: Device>(
     ensures blob { D.tells → OnOk result (IfThere end (contents ((D.disk dev.old).files name.now)) (contents ((D.disk dev.new).files name.now))) }
     ensures sealed { D.tells → OnOk result (sealed ((D.disk dev.new).files name.now) ≡ sealed ((D.disk dev.old).files name.now)) }
     ensures crash { D.tells → Effect (IsName name.now) (λ image. sealed (image name.now) ≡ sealed ((D.disk dev.old).files name.now)) (D.disk dev.old) (D.disk dev.new) }
-    ensures cause { OnErr result (HasRisen (D.disk_faults dev.old) (D.disk_faults dev.new)) }
-    ensures never_falls { D.disk_faults dev.old ≤ D.disk_faults dev.new }
-    ensures tell_faults { D.tell_faults dev.new ≡ D.tell_faults dev.old }
+    ensures cause { HasCause D.disk_faults D.tell_faults dev.old dev.new (IsErr result) }
 {
     if size != stored {
         append(dev, name, end, end.saturating_add(1), &spelled(size))?;
@@ -130,9 +121,7 @@ fn finish<D: Device>(
     ensures sealed { D.tells → OnOk result (sealed ((D.disk dev.new).files name.now) ≡ sealed ((D.disk dev.old).files name.now)) }
     ensures crash { D.tells → Effect (IsName name.now) (λ image. sealed (image name.now) ≡ sealed ((D.disk dev.old).files name.now)) (D.disk dev.old) (D.disk dev.new) }
     ensures small { OnOk result (next < 2 ^ 62) }
-    ensures cause { OnErr result (HasRisen (D.disk_faults dev.old) (D.disk_faults dev.new)) }
-    ensures never_falls { D.disk_faults dev.old ≤ D.disk_faults dev.new }
-    ensures tell_faults { D.tell_faults dev.new ≡ D.tell_faults dev.old }
+    ensures cause { HasCause D.disk_faults D.tell_faults dev.old dev.new (IsErr result) }
 {
     set_length(dev, name, end, size, stored)?;
     append(dev, name, end, next, &[0])?;
@@ -159,9 +148,7 @@ pub fn seal_blob<D: Device>(
     ensures sealed { D.tells → OnOk result (sealed ((D.disk dev.new).files name.now) ≡ sealed ((D.disk dev.old).files name.now) ++ read_at (contents ((D.disk dev.old).files name.now)) (end + 9) size ∷ []) }
     ensures crash { D.tells → Effect (IsName name.now) (λ image. (sealed (image name.now) ≡ sealed ((D.disk dev.old).files name.now)) ⊎ (sealed (image name.now) ≡ sealed ((D.disk dev.old).files name.now) ++ read_at (contents ((D.disk dev.old).files name.now)) (end + 9) size ∷ [])) (D.disk dev.old) (D.disk dev.new) }
     ensures small { OnOk result (next < 2 ^ 62) }
-    ensures cause { OnErr result (HasRisen (D.disk_faults dev.old) (D.disk_faults dev.new)) }
-    ensures never_falls { D.disk_faults dev.old ≤ D.disk_faults dev.new }
-    ensures tell_faults { D.tell_faults dev.new ≡ D.tell_faults dev.old }
+    ensures cause { HasCause D.disk_faults D.tell_faults dev.old dev.new (IsErr result) }
 {
     finish(dev, name, end, next, size, stored)?;
     write_durably(dev, name, end, &[1])?;
@@ -196,9 +183,7 @@ fn lay_front<D: Device>(dev: &mut D, name: &str, end: u64, bytes: &[u8]) -> Resu
     ensures sealed { D.tells → OnOk result (sealed ((D.disk dev.new).files name.now) ≡ sealed ((D.disk dev.old).files name.now)) }
     ensures small { IfOk result (λ n. end + 9 + n < 2 ^ 62) }
     ensures crash { D.tells → Effect (IsName name.now) (λ image. sealed (image name.now) ≡ sealed ((D.disk dev.old).files name.now)) (D.disk dev.old) (D.disk dev.new) }
-    ensures cause { OnErr result (HasRisen (D.disk_faults dev.old) (D.disk_faults dev.new)) }
-    ensures never_falls { D.disk_faults dev.old ≤ D.disk_faults dev.new }
-    ensures tell_faults { D.tell_faults dev.new ≡ D.tell_faults dev.old }
+    ensures cause { HasCause D.disk_faults D.tell_faults dev.old dev.new (IsErr result) }
 {
     let n = bytes.len().min(4088);
     let mut front = [0u8; 4096];
@@ -224,9 +209,7 @@ fn lay_rest<D: Device>(
     ensures sealed { D.tells → OnOk result (sealed ((D.disk dev.new).files name.now) ≡ sealed ((D.disk dev.old).files name.now)) }
     ensures small { OnOk result (end + 9 + length bytes.now < 2 ^ 62) }
     ensures crash { D.tells → Effect (IsName name.now) (λ image. sealed (image name.now) ≡ sealed ((D.disk dev.old).files name.now)) (D.disk dev.old) (D.disk dev.new) }
-    ensures cause { OnErr result (HasRisen (D.disk_faults dev.old) (D.disk_faults dev.new)) }
-    ensures never_falls { D.disk_faults dev.old ≤ D.disk_faults dev.new }
-    ensures tell_faults { D.tell_faults dev.new ≡ D.tell_faults dev.old }
+    ensures cause { HasCause D.disk_faults D.tell_faults dev.old dev.new (IsErr result) }
 {
     if n < bytes.len() {
         append(dev, name, end, end + 9 + n as u64, &bytes[n..])?;
@@ -248,9 +231,7 @@ fn lay_blob<D: Device>(
     ensures sealed { D.tells → OnOk result (sealed ((D.disk dev.new).files name.now) ≡ sealed ((D.disk dev.old).files name.now)) }
     ensures small { OnOk result (end + 9 + length bytes.now < 2 ^ 62) }
     ensures crash { D.tells → Effect (IsName name.now) (λ image. sealed (image name.now) ≡ sealed ((D.disk dev.old).files name.now)) (D.disk dev.old) (D.disk dev.new) }
-    ensures cause { OnErr result (HasRisen (D.disk_faults dev.old) (D.disk_faults dev.new)) }
-    ensures never_falls { D.disk_faults dev.old ≤ D.disk_faults dev.new }
-    ensures tell_faults { D.tell_faults dev.new ≡ D.tell_faults dev.old }
+    ensures cause { HasCause D.disk_faults D.tell_faults dev.old dev.new (IsErr result) }
 {
     close(dev, name, end, is_closed)?;
     let n = lay_front(dev, name, end, bytes)?;
@@ -276,9 +257,7 @@ pub fn keep_ready<D: Device>(
     ensures stored { D.tells → IfOk result (λ now. read_at (contents ((D.disk dev.new).files name.now)) (end + 1) 8 ≡ number_bytes now) }
     ensures sealed { D.tells → OnOk result (sealed ((D.disk dev.new).files name.now) ≡ sealed ((D.disk dev.old).files name.now)) }
     ensures crash { D.tells → Effect (IsName name.now) (λ image. sealed (image name.now) ≡ sealed ((D.disk dev.old).files name.now)) (D.disk dev.old) (D.disk dev.new) }
-    ensures cause { OnErr result (HasRisen (D.disk_faults dev.old) (D.disk_faults dev.new)) }
-    ensures never_falls { D.disk_faults dev.old ≤ D.disk_faults dev.new }
-    ensures tell_faults { D.tell_faults dev.new ≡ D.tell_faults dev.old }
+    ensures cause { HasCause D.disk_faults D.tell_faults dev.old dev.new (IsErr result) }
 {
     if len == 0 {
         lay_blob(dev, name, end, is_closed, &[])?;
@@ -306,9 +285,7 @@ pub fn add_blob<D: Device>(
     ensures sealed { D.tells → OnOk result (sealed ((D.disk dev.new).files name.now) ≡ sealed ((D.disk dev.old).files name.now)) }
     ensures small { OnOk result (end + 9 + (len + length bytes.now) < 2 ^ 62) }
     ensures crash { D.tells → Effect (IsName name.now) (λ image. sealed (image name.now) ≡ sealed ((D.disk dev.old).files name.now)) (D.disk dev.old) (D.disk dev.new) }
-    ensures cause { OnErr result (HasRisen (D.disk_faults dev.old) (D.disk_faults dev.new)) }
-    ensures never_falls { D.disk_faults dev.old ≤ D.disk_faults dev.new }
-    ensures tell_faults { D.tell_faults dev.new ≡ D.tell_faults dev.old }
+    ensures cause { HasCause D.disk_faults D.tell_faults dev.old dev.new (IsErr result) }
 {
     if len == 0 {
         lay_blob(dev, name, end, is_closed, bytes)?;
@@ -341,9 +318,7 @@ pub fn store_blob<D: Device>(
     ensures durable { D.tells → OnOk result (IsDurable (D.disk dev.new) name.now) }
     ensures next { IfOk result (λ next. (next ≡ end + 9 + len) × (next < 2 ^ 62)) }
     ensures crash { D.tells → Effect (IsName name.now) (λ image. (sealed (image name.now) ≡ sealed ((D.disk dev.old).files name.now)) ⊎ (sealed (image name.now) ≡ sealed ((D.disk dev.old).files name.now) ++ read_at (contents ((D.disk dev.old).files name.now)) (end + 9) len ∷ [])) (D.disk dev.old) (D.disk dev.new) }
-    ensures cause { OnErr result (HasRisen (D.disk_faults dev.old) (D.disk_faults dev.new)) }
-    ensures never_falls { D.disk_faults dev.old ≤ D.disk_faults dev.new }
-    ensures tell_faults { D.tell_faults dev.new ≡ D.tell_faults dev.old }
+    ensures cause { HasCause D.disk_faults D.tell_faults dev.old dev.new (IsErr result) }
 {
     let stored = keep_ready(dev, name, end, is_closed, len, stored)?;
     let next = end.saturating_add(9).saturating_add(len);
@@ -358,9 +333,7 @@ fn trim<D: Device>(dev: &mut D, name: &str, end: u64) -> Result<(), Failed>
     ensures durable { D.tells → OnOk result (IsDurable (D.disk dev.new) name.now) }
     ensures sealed { D.tells → OnOk result (sealed ((D.disk dev.new).files name.now) ≡ sealed ((D.disk dev.old).files name.now)) }
     ensures crash { D.tells → Effect (IsName name.now) (λ image. sealed (image name.now) ≡ sealed ((D.disk dev.old).files name.now)) (D.disk dev.old) (D.disk dev.new) }
-    ensures cause { OnErr result (HasRisen (D.disk_faults dev.old) (D.disk_faults dev.new)) }
-    ensures never_falls { D.disk_faults dev.old ≤ D.disk_faults dev.new }
-    ensures tell_faults { D.tell_faults dev.new ≡ D.tell_faults dev.old }
+    ensures cause { HasCause D.disk_faults D.tell_faults dev.old dev.new (IsErr result) }
 {
     cut_behind(dev, name, end)?;
     settle(dev, name, end)?;
@@ -372,9 +345,7 @@ fn cut_behind<D: Device>(dev: &mut D, name: &str, end: u64) -> Result<(), Failed
     ensures quiet { D.tells → (spans : List (ℕ × ℕ)) → Quiet spans end name.now (D.disk dev.old) → OnOk result (Quiet spans end name.now (D.disk dev.new)) }
     ensures sealed { D.tells → OnOk result (sealed ((D.disk dev.new).files name.now) ≡ sealed ((D.disk dev.old).files name.now)) }
     ensures crash { D.tells → Effect (IsName name.now) (λ image. sealed (image name.now) ≡ sealed ((D.disk dev.old).files name.now)) (D.disk dev.old) (D.disk dev.new) }
-    ensures cause { OnErr result (HasRisen (D.disk_faults dev.old) (D.disk_faults dev.new)) }
-    ensures never_falls { D.disk_faults dev.old ≤ D.disk_faults dev.new }
-    ensures tell_faults { D.tell_faults dev.new ≡ D.tell_faults dev.old }
+    ensures cause { HasCause D.disk_faults D.tell_faults dev.old dev.new (IsErr result) }
 {
     if end < u64::MAX {
         dev.cut(name, end + 1)?;
@@ -393,9 +364,7 @@ pub fn leave_closed<D: Device>(
     ensures at { D.tells → (spans : List (ℕ × ℕ)) → IsAt spans end is_closed name.now (D.disk dev.old) → OnOk result (IsAt spans end is_closed name.now (D.disk dev.new)) }
     ensures sealed { D.tells → OnOk result (sealed ((D.disk dev.new).files name.now) ≡ sealed ((D.disk dev.old).files name.now)) }
     ensures crash { D.tells → Effect (IsName name.now) (λ image. sealed (image name.now) ≡ sealed ((D.disk dev.old).files name.now)) (D.disk dev.old) (D.disk dev.new) }
-    ensures cause { OnErr result (HasRisen (D.disk_faults dev.old) (D.disk_faults dev.new)) }
-    ensures never_falls { D.disk_faults dev.old ≤ D.disk_faults dev.new }
-    ensures tell_faults { D.tell_faults dev.new ≡ D.tell_faults dev.old }
+    ensures cause { HasCause D.disk_faults D.tell_faults dev.old dev.new (IsErr result) }
 {
     if is_closed {
         trim(dev, name, end)?;
@@ -410,9 +379,7 @@ pub fn start<D: Device>(dev: &mut D, name: &str) -> Result<(), Failed>
     ensures quiet { D.tells → OnOk result (Quiet [] 16 name.now (D.disk dev.new)) }
     ensures durable { D.tells → OnOk result (IsDurable (D.disk dev.new) name.now) }
     ensures crash { D.tells → Effect (IsName name.now) (λ image. (D.disk dev.old).may name.now (image name.now) ⊎ (sealed (image name.now) ≡ [])) (D.disk dev.old) (D.disk dev.new) }
-    ensures cause { OnErr result (HasRisen (D.disk_faults dev.old) (D.disk_faults dev.new)) }
-    ensures never_falls { D.disk_faults dev.old ≤ D.disk_faults dev.new }
-    ensures tell_faults { D.tell_faults dev.new ≡ D.tell_faults dev.old }
+    ensures cause { HasCause D.disk_faults D.tell_faults dev.old dev.new (IsErr result) }
 {
     remove_durably(dev, name)?;
     write_durably(dev, name, 0, &HEADER)?;
@@ -425,9 +392,7 @@ fn erase<D: Device>(dev: &mut D, name: &str, end: u64) -> Result<(), Failed>
     ensures quiet { D.tells → OnOk result (Quiet [] 16 name.now (D.disk dev.new)) }
     ensures sealed { D.tells → OnOk result (sealed ((D.disk dev.new).files name.now) ≡ []) }
     ensures crash { D.tells → Effect (IsName name.now) (λ image. (sealed (image name.now) ≡ sealed ((D.disk dev.old).files name.now)) ⊎ (sealed (image name.now) ≡ [])) (D.disk dev.old) (D.disk dev.new) }
-    ensures cause { OnErr result (HasRisen (D.disk_faults dev.old) (D.disk_faults dev.new)) }
-    ensures never_falls { D.disk_faults dev.old ≤ D.disk_faults dev.new }
-    ensures tell_faults { D.tell_faults dev.new ≡ D.tell_faults dev.old }
+    ensures cause { HasCause D.disk_faults D.tell_faults dev.old dev.new (IsErr result) }
 {
     settle(dev, name, end)?;
     write_durably(dev, name, 16, &[0])?;
@@ -439,9 +404,7 @@ fn erase_blobs<D: Device>(dev: &mut D, name: &str, end: u64, has_blobs: bool) ->
     ensures quiet { D.tells → OnOk result (Quiet [] 16 name.now (D.disk dev.new)) }
     ensures sealed { D.tells → OnOk result (sealed ((D.disk dev.new).files name.now) ≡ []) }
     ensures crash { D.tells → Effect (IsName name.now) (λ image. (sealed (image name.now) ≡ sealed ((D.disk dev.old).files name.now)) ⊎ (sealed (image name.now) ≡ [])) (D.disk dev.old) (D.disk dev.new) }
-    ensures cause { OnErr result (HasRisen (D.disk_faults dev.old) (D.disk_faults dev.new)) }
-    ensures never_falls { D.disk_faults dev.old ≤ D.disk_faults dev.new }
-    ensures tell_faults { D.tell_faults dev.new ≡ D.tell_faults dev.old }
+    ensures cause { HasCause D.disk_faults D.tell_faults dev.old dev.new (IsErr result) }
 {
     if has_blobs {
         erase(dev, name, end)?;
@@ -462,9 +425,7 @@ pub fn empty<D: Device>(
     ensures durable { D.tells → OnOk result (IsDurable (D.disk dev.new) name.now) }
     ensures sealed { D.tells → OnOk result (sealed ((D.disk dev.new).files name.now) ≡ []) }
     ensures crash { D.tells → Effect (IsName name.now) (λ image. (sealed (image name.now) ≡ sealed ((D.disk dev.old).files name.now)) ⊎ (sealed (image name.now) ≡ [])) (D.disk dev.old) (D.disk dev.new) }
-    ensures cause { OnErr result (HasRisen (D.disk_faults dev.old) (D.disk_faults dev.new)) }
-    ensures never_falls { D.disk_faults dev.old ≤ D.disk_faults dev.new }
-    ensures tell_faults { D.tell_faults dev.new ≡ D.tell_faults dev.old }
+    ensures cause { HasCause D.disk_faults D.tell_faults dev.old dev.new (IsErr result) }
 {
     close(dev, name, end, is_closed)?;
     erase_blobs(dev, name, end, has_blobs)?;

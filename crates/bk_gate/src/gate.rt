@@ -1,15 +1,15 @@
 // A gate file: sealed blobs, which each crash leaves as they were or with the new one.
-ghost use Rattle.std.specs.Prelude.{◌≡◌, ◌≤◌, ◌<◌, ◌⊎◌, ◌^◌, ◌+◌, ◌-◌, ◌++◌, ◌∷◌, [], List, ℕ, Some, None, length, vec_len, vec_capacity, true, false, is_err, string_bytes, slice_get, unwrap_or, IsSome, IsNone, IfOk, OnOk, OnErr, IsErrOf};
+ghost use Rattle.std.specs.Prelude.{◌≡◌, ◌≤◌, ◌<◌, ◌⊎◌, ◌^◌, ◌+◌, ◌-◌, ◌++◌, ◌∷◌, [], List, ℕ, Some, None, length, vec_len, vec_capacity, true, false, is_err, string_bytes, slice_get, unwrap_or, IsSome, IsNone, IfOk, OnOk, OnErr, IsErrOf, IsErr};
 ghost use Rattle.bk_gate.specs.Blobs.{sealed, spans_of, IsGateFile};
 ghost use Rattle.bk_device.specs.Calls.{contents, ChangesNothing};
-ghost use Rattle.bk_gate.specs.Gate.{Kept, IsGate, begun_of};
-ghost use Rattle.bk_device.specs.Counts.{HasRisen};
+ghost use Rattle.bk_gate.specs.Gate.{Kept, IsGate, AreWithin, begun_of};
+ghost use Rattle.bk_device.specs.Counts.{HasCause};
 ghost use Rattle.bk_device.specs.Disk.{IsDurable};
 ghost use Rattle.bk_device.specs.Effects.{Effect, IsName};
 
 use crate::blob::{add_blob, empty, leave_closed, start, store_blob};
 use crate::error::GateError;
-use crate::read::{check, read_closed, read_spans};
+use crate::read::{check, read_closed, read_span, read_spans};
 use bk_device::{Device, Failed};
 use std::alloc::{AllocError, Global};
 use std::marker::Model;
@@ -45,7 +45,7 @@ impl Model for Gate {
       failed = g.failed;
     } };
 
-    ghost invariant = { λ g. vec_len g.spans + g.spare ≤ vec_capacity g.spans };
+    ghost invariant = { λ g. (vec_len g.spans + g.spare ≤ vec_capacity g.spans) × AreWithin g.end g.spans.items × (g.end < 2 ^ 64) };
 }
 
 impl Gate {
@@ -56,15 +56,14 @@ impl Gate {
     pub fn load<D: Device>(alloc: Global, dev: &mut D, name: &str) -> Result<Gate, GateError>
         ensures gate_file { D.tells → OnOk result (IsGateFile (contents ((D.disk dev.old).files name.now))) }
         ensures spans { D.tells → IfOk result (λ g. g.spans ≡ spans_of (contents ((D.disk dev.old).files name.now))) }
+        ensures end { D.tells → IfOk result (λ g. g.end ≤ length (contents ((D.disk dev.old).files name.now))) }
         ensures name { IfOk result (λ g. g.name ≡ name.now) }
         ensures none { IfOk result (λ g. g.begun ≡ None) }
         ensures failed { IfOk result (λ g. g.failed ≡ false) }
         ensures stands { D.tells → IsDurable (D.disk dev.old) name.now → IfOk result (λ g. IsGate (D.disk dev.new) g) }
         ensures effect { D.tells → ChangesNothing (D.disk dev.old) (D.disk dev.new) }
         ensures foreign { D.tells → IsErrOf result GateError.Foreign → IsGateFile (contents ((D.disk dev.old).files name.now)) → ⊥ }
-        ensures cause { IsErrOf result GateError.Fault → HasRisen (D.disk_faults dev.old) (D.disk_faults dev.new) }
-        ensures never_falls { D.disk_faults dev.old ≤ D.disk_faults dev.new }
-        ensures tell_faults { D.tell_faults dev.new ≡ D.tell_faults dev.old }
+        ensures cause { HasCause D.disk_faults D.tell_faults dev.old dev.new (IsErrOf result GateError.Fault) }
     {
         let name_kept = String::from_str(alloc, name)?;
         let len = check(dev, name)?;
@@ -94,10 +93,8 @@ impl Gate {
         ensures durable { D.tells → OnOk result (IsDurable (D.disk dev.new) name.now) }
         ensures crash { D.tells → Effect (IsName name.now) (λ image. (D.disk dev.old).may name.now (image name.now) ⊎ (sealed (image name.now) ≡ [])) (D.disk dev.old) (D.disk dev.new) }
         ensures foreign { IsErrOf result GateError.Foreign → ⊥ }
-        ensures cause { IsErrOf result GateError.Fault → HasRisen (D.disk_faults dev.old) (D.disk_faults dev.new) }
+        ensures cause { HasCause D.disk_faults D.tell_faults dev.old dev.new (IsErrOf result GateError.Fault) }
         ensures no_memory { IsErrOf result GateError.NoMemory → dev.new ≡ dev.old }
-        ensures never_falls { D.disk_faults dev.old ≤ D.disk_faults dev.new }
-        ensures tell_faults { D.tell_faults dev.new ≡ D.tell_faults dev.old }
     {
         let name_kept = String::from_str(alloc, name)?;
         start(dev, name)?;
@@ -128,13 +125,38 @@ impl Gate {
         self.spans.len()
     }
 
-    /// Where the content of a sealed blob begins in the file, and its length, in bytes.
+    /// Where the content of a sealed blob begins in the file, and its length, in bytes. It ends where the next gate byte
+    /// is, or before that, so the place and the length together are below 2^64.
     pub fn span(&self, i: usize) -> (u64, u64)
         requires fit { self.now.failed ≡ false }
         requires there { i < length self.now.spans }
-        ensures { slice_get self.now.spans i ≡ Some result }
+        ensures span { slice_get self.now.spans i ≡ Some result }
+        ensures inside { result.0 + result.1 ≤ self.now.end }
+        ensures small { result.0 + result.1 < 2 ^ 64 }
     {
         self.spans[i]
+    }
+
+    /// The bytes of the sealed blob of this number, from 0, in one buffer of their length. Changes nothing. `Foreign` isn't
+    /// answered.
+    pub fn read<D: Device>(
+        &self,
+        alloc: Global,
+        dev: &mut D,
+        i: usize,
+    ) -> Result<Vec<u8>, GateError>
+        requires fit { self.now.failed ≡ false }
+        requires there { i < length self.now.spans }
+        requires spans { D.tells → self.now.spans ≡ spans_of (contents ((D.disk dev.old).files self.now.name)) }
+        requires gate_file { D.tells → IsGateFile (contents ((D.disk dev.old).files self.now.name)) }
+        ensures bytes { D.tells → IfOk result (λ bytes. slice_get (sealed ((D.disk dev.old).files self.now.name)) i ≡ Some bytes.items) }
+        ensures effect { D.tells → ChangesNothing (D.disk dev.old) (D.disk dev.new) }
+        ensures foreign { IsErrOf result GateError.Foreign → ⊥ }
+        ensures cause { HasCause D.disk_faults D.tell_faults dev.old dev.new (IsErrOf result GateError.Fault) }
+    {
+        let (at, len) = self.span(i);
+        let bytes = read_span(alloc, dev, self.name(), at, len)?;
+        Ok(bytes)
     }
 
     /// Begins a blob, where none is begun.
@@ -169,11 +191,10 @@ impl Gate {
         ensures added { D.tells → OnOk result (begun_of (D.disk dev.new) self.new ≡ begun_of (D.disk dev.old) self.old ++ bytes.now) }
         ensures sealed { D.tells → OnOk result (sealed ((D.disk dev.new).files self.old.name) ≡ sealed ((D.disk dev.old).files self.old.name)) }
         ensures same { OnOk result (self.new ≡ record self.old { begun = self.new.begun; stored = self.new.stored; is_closed = true }) }
+        ensures name { self.new.name ≡ self.old.name }
         ensures failed { self.new.failed ≡ is_err result }
         ensures crash { D.tells → Effect (IsName self.old.name) (λ image. sealed (image self.old.name) ≡ sealed ((D.disk dev.old).files self.old.name)) (D.disk dev.old) (D.disk dev.new) }
-        ensures cause { OnErr result (HasRisen (D.disk_faults dev.old) (D.disk_faults dev.new)) }
-        ensures never_falls { D.disk_faults dev.old ≤ D.disk_faults dev.new }
-        ensures tell_faults { D.tell_faults dev.new ≡ D.tell_faults dev.old }
+        ensures cause { HasCause D.disk_faults D.tell_faults dev.old dev.new (IsErr result) }
     {
         let len = self.begun.unwrap_or(0);
         match add_blob(dev, &self.name, self.end, self.is_closed, len, bytes) {
@@ -208,9 +229,7 @@ impl Gate {
         ensures durable { D.tells → OnOk result (IsDurable (D.disk dev.new) self.old.name) }
         ensures failed { self.new.failed ≡ is_err result }
         ensures crash { D.tells → Effect (IsName self.old.name) (λ image. (sealed (image self.old.name) ≡ sealed ((D.disk dev.old).files self.old.name)) ⊎ (sealed (image self.old.name) ≡ sealed ((D.disk dev.old).files self.old.name) ++ begun_of (D.disk dev.old) self.old ∷ [])) (D.disk dev.old) (D.disk dev.new) }
-        ensures cause { OnErr result (HasRisen (D.disk_faults dev.old) (D.disk_faults dev.new)) }
-        ensures never_falls { D.disk_faults dev.old ≤ D.disk_faults dev.new }
-        ensures tell_faults { D.tell_faults dev.new ≡ D.tell_faults dev.old }
+        ensures cause { HasCause D.disk_faults D.tell_faults dev.old dev.new (IsErr result) }
     {
         let len = self.begun.unwrap_or(0);
         match store_blob(dev, &self.name, self.end, self.is_closed, len, self.stored) {
@@ -247,11 +266,34 @@ impl Gate {
         ensures no_memory { IsErrOf result GateError.NoMemory → (self.new ≡ self.old) × (dev.new ≡ dev.old) }
         ensures foreign { IsErrOf result GateError.Foreign → ⊥ }
         ensures crash { D.tells → Effect (IsName self.old.name) (λ image. (sealed (image self.old.name) ≡ sealed ((D.disk dev.old).files self.old.name)) ⊎ (sealed (image self.old.name) ≡ sealed ((D.disk dev.old).files self.old.name) ++ begun_of (D.disk dev.old) self.old ∷ [])) (D.disk dev.old) (D.disk dev.new) }
-        ensures cause { IsErrOf result GateError.Fault → HasRisen (D.disk_faults dev.old) (D.disk_faults dev.new) }
-        ensures never_falls { D.disk_faults dev.old ≤ D.disk_faults dev.new }
-        ensures tell_faults { D.tell_faults dev.new ≡ D.tell_faults dev.old }
+        ensures cause { HasCause D.disk_faults D.tell_faults dev.old dev.new (IsErrOf result GateError.Fault) }
     {
         self.reserve_one_more()?;
+        self.seal_reserved(dev)?;
+        Ok(())
+    }
+
+    /// Seals a blob of these bytes, where none is begun, by one place of the spare, which is at least 1. Takes no memory. A
+    /// crash leaves the sealed blobs as they were, or with this one.
+    pub fn append_reserved<D: Device>(&mut self, dev: &mut D, bytes: &[u8]) -> Result<(), Failed>
+        requires fit { self.old.failed ≡ false }
+        requires none { self.old.begun ≡ None }
+        requires spare { 1 ≤ self.old.spare }
+        requires stands { D.tells → IsGate (D.disk dev.old) self.old }
+        ensures stands { D.tells → OnOk result (IsGate (D.disk dev.new) self.new) }
+        ensures spans { OnOk result (self.new.spans ≡ self.old.spans ++ (self.old.end + 9, length bytes.now) ∷ []) }
+        ensures count { OnOk result (length self.new.spans ≡ length self.old.spans + 1) }
+        ensures none { OnOk result (self.new.begun ≡ None) }
+        ensures spare { OnOk result (self.new.spare + 1 ≡ self.old.spare) }
+        ensures name { self.new.name ≡ self.old.name }
+        ensures sealed { D.tells → OnOk result (sealed ((D.disk dev.new).files self.old.name) ≡ sealed ((D.disk dev.old).files self.old.name) ++ bytes.now ∷ []) }
+        ensures durable { D.tells → OnOk result (IsDurable (D.disk dev.new) self.old.name) }
+        ensures failed { self.new.failed ≡ is_err result }
+        ensures crash { D.tells → Effect (IsName self.old.name) (λ image. (sealed (image self.old.name) ≡ sealed ((D.disk dev.old).files self.old.name)) ⊎ (sealed (image self.old.name) ≡ sealed ((D.disk dev.old).files self.old.name) ++ bytes.now ∷ [])) (D.disk dev.old) (D.disk dev.new) }
+        ensures cause { HasCause D.disk_faults D.tell_faults dev.old dev.new (IsErr result) }
+    {
+        self.begin();
+        self.add(dev, bytes)?;
         self.seal_reserved(dev)?;
         Ok(())
     }
@@ -282,9 +324,7 @@ impl Gate {
         ensures durable { D.tells → OnOk result (IsDurable (D.disk dev.new) self.old.name) }
         ensures failed { self.new.failed ≡ is_err result }
         ensures crash { D.tells → Effect (IsName self.old.name) (λ image. (sealed (image self.old.name) ≡ sealed ((D.disk dev.old).files self.old.name)) ⊎ (sealed (image self.old.name) ≡ [])) (D.disk dev.old) (D.disk dev.new) }
-        ensures cause { OnErr result (HasRisen (D.disk_faults dev.old) (D.disk_faults dev.new)) }
-        ensures never_falls { D.disk_faults dev.old ≤ D.disk_faults dev.new }
-        ensures tell_faults { D.tell_faults dev.new ≡ D.tell_faults dev.old }
+        ensures cause { HasCause D.disk_faults D.tell_faults dev.old dev.new (IsErr result) }
     {
         let count = self.spans.len();
         match empty(dev, &self.name, self.end, self.is_closed, count > 0) {
@@ -309,12 +349,11 @@ impl Gate {
         requires stands { D.tells → IsGate (D.disk dev.old) self.old }
         ensures stands { D.tells → OnOk result (IsGate (D.disk dev.new) self.new) }
         ensures same { OnOk result (self.new ≡ record self.old { begun = None }) }
+        ensures name { self.new.name ≡ self.old.name }
         ensures sealed { D.tells → OnOk result (sealed ((D.disk dev.new).files self.old.name) ≡ sealed ((D.disk dev.old).files self.old.name)) }
         ensures failed { self.new.failed ≡ is_err result }
         ensures crash { D.tells → Effect (IsName self.old.name) (λ image. sealed (image self.old.name) ≡ sealed ((D.disk dev.old).files self.old.name)) (D.disk dev.old) (D.disk dev.new) }
-        ensures cause { OnErr result (HasRisen (D.disk_faults dev.old) (D.disk_faults dev.new)) }
-        ensures never_falls { D.disk_faults dev.old ≤ D.disk_faults dev.new }
-        ensures tell_faults { D.tell_faults dev.new ≡ D.tell_faults dev.old }
+        ensures cause { HasCause D.disk_faults D.tell_faults dev.old dev.new (IsErr result) }
     {
         match leave_closed(dev, &self.name, self.end, self.is_closed) {
             Ok(()) => {

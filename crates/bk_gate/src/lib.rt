@@ -2,13 +2,9 @@
 #![tactic(auto)]
 
 mod blob;
-mod durable;
 mod error;
 mod gate;
 mod read;
 
 pub use error::GateError;
 pub use gate::Gate;
-
-#[cfg(test)]
-mod tests;

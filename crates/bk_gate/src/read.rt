@@ -1,23 +1,21 @@
 // Reading a gate file.
-ghost use Rattle.std.specs.Prelude.{◌≡◌, ◌≢◌, ◌≤◌, ◌<◌, ◌+◌, ◌++◌, ◌∷◌, [], List, ℕ, None, length, take, IsTrue, IfOk, IfSome, OnOk, OnErr, IsErrOf};
+ghost use Rattle.std.specs.Prelude.{◌≡◌, ◌≢◌, ◌≤◌, ◌<◌, ◌+◌, ◌++◌, ◌∷◌, [], List, ℕ, None, length, take, IsTrue, IfOk, IfSome, OnOk, OnErr, IsErrOf, IsErr};
 ghost use Rattle.std.specs.Bool.{MatchBool};
 ghost use Rattle.bk_gate.specs.Blobs.{blob_at, magic, IsGateFile};
-ghost use Rattle.bk_gate.specs.Gate.{Lies, IsShut};
-ghost use Rattle.bk_device.specs.Calls.{contents, ChangesNothing};
-ghost use Rattle.bk_device.specs.Counts.{HasRisen};
+ghost use Rattle.bk_gate.specs.Gate.{Lies, IsShut, AreWithin};
+ghost use Rattle.bk_device.specs.Calls.{contents, read_at, ChangesNothing};
+ghost use Rattle.bk_device.specs.Counts.{HasCause};
 
 use crate::blob::read_number;
 use crate::error::GateError;
 use bk_device::{Device, Failed};
-use std::alloc::AllocError;
+use std::alloc::{AllocError, Global};
 
 // Whether the file, of at least sixteen bytes, begins with the letters of a gate file.
 pub fn begins_well<D: Device>(dev: &mut D, name: &str) -> Result<bool, Failed>
     ensures value { D.tells → 16 ≤ length (contents ((D.disk dev.old).files name.now)) → IfOk result (λ is. MatchBool is (take 16 (contents ((D.disk dev.old).files name.now)) ≡ magic) (take 16 (contents ((D.disk dev.old).files name.now)) ≢ magic)) }
     ensures effect { D.tells → ChangesNothing (D.disk dev.old) (D.disk dev.new) }
-    ensures cause { OnErr result (HasRisen (D.disk_faults dev.old) (D.disk_faults dev.new)) }
-    ensures never_falls { D.disk_faults dev.old ≤ D.disk_faults dev.new }
-    ensures tell_faults { D.tell_faults dev.new ≡ D.tell_faults dev.old }
+    ensures cause { HasCause D.disk_faults D.tell_faults dev.old dev.new (IsErr result) }
 {
     let mut letters = [0u8; 16];
     dev.read(name, 0, &mut letters)?;
@@ -31,9 +29,7 @@ pub fn check<D: Device>(dev: &mut D, name: &str) -> Result<u64, GateError>
     ensures gate_file { D.tells → OnOk result (IsGateFile (contents ((D.disk dev.old).files name.now))) }
     ensures foreign { D.tells → IsErrOf result GateError.Foreign → IsGateFile (contents ((D.disk dev.old).files name.now)) → ⊥ }
     ensures effect { D.tells → ChangesNothing (D.disk dev.old) (D.disk dev.new) }
-    ensures cause { IsErrOf result GateError.Fault → HasRisen (D.disk_faults dev.old) (D.disk_faults dev.new) }
-    ensures never_falls { D.disk_faults dev.old ≤ D.disk_faults dev.new }
-    ensures tell_faults { D.tell_faults dev.new ≡ D.tell_faults dev.old }
+    ensures cause { HasCause D.disk_faults D.tell_faults dev.old dev.new (IsErrOf result GateError.Fault) }
 {
     let len = dev.len(name)?.unwrap_or(0);
     if len < 17 {
@@ -52,9 +48,7 @@ fn read_blob<D: Device>(dev: &mut D, name: &str, gate: u64, len: u64) -> Result<
     ensures blob { D.tells → len ≡ length (contents ((D.disk dev.old).files name.now)) → IfOk result (λ size. blob_at (contents ((D.disk dev.old).files name.now)) gate ≡ size) }
     ensures inside { IfOk result (λ size. IfSome size (λ s. gate + 9 + s ≤ len)) }
     ensures effect { D.tells → ChangesNothing (D.disk dev.old) (D.disk dev.new) }
-    ensures cause { OnErr result (HasRisen (D.disk_faults dev.old) (D.disk_faults dev.new)) }
-    ensures never_falls { D.disk_faults dev.old ≤ D.disk_faults dev.new }
-    ensures tell_faults { D.tell_faults dev.new ≡ D.tell_faults dev.old }
+    ensures cause { HasCause D.disk_faults D.tell_faults dev.old dev.new (IsErr result) }
 {
     if len - gate < 9 {
         return Ok(None);
@@ -74,9 +68,7 @@ pub fn read_closed<D: Device>(dev: &mut D, name: &str, end: u64, len: u64) -> Re
     requires { end ≤ len }
     ensures value { D.tells → len ≡ length (contents ((D.disk dev.old).files name.now)) → IfOk result (λ is. IsShut (contents ((D.disk dev.old).files name.now)) end is) }
     ensures effect { D.tells → ChangesNothing (D.disk dev.old) (D.disk dev.new) }
-    ensures cause { OnErr result (HasRisen (D.disk_faults dev.old) (D.disk_faults dev.new)) }
-    ensures never_falls { D.disk_faults dev.old ≤ D.disk_faults dev.new }
-    ensures tell_faults { D.tell_faults dev.new ≡ D.tell_faults dev.old }
+    ensures cause { HasCause D.disk_faults D.tell_faults dev.old dev.new (IsErr result) }
 {
     if end == len {
         return Ok(false);
@@ -98,11 +90,10 @@ pub fn read_spans<D: Device>(
     ensures lies { D.tells → len ≡ length (contents ((D.disk dev.old).files name.now)) → IfOk result (λ end. Lies (contents ((D.disk dev.old).files name.now)) 16 spans.new.items end) }
     ensures ends { D.tells → len ≡ length (contents ((D.disk dev.old).files name.now)) → IfOk result (λ end. blob_at (contents ((D.disk dev.old).files name.now)) end ≡ None) }
     ensures inside { IfOk result (λ end. end ≤ len) }
+    ensures within { IfOk result (λ end. AreWithin end spans.new.items) }
     ensures effect { D.tells → ChangesNothing (D.disk dev.old) (D.disk dev.new) }
     ensures foreign { IsErrOf result GateError.Foreign → ⊥ }
-    ensures cause { IsErrOf result GateError.Fault → HasRisen (D.disk_faults dev.old) (D.disk_faults dev.new) }
-    ensures never_falls { D.disk_faults dev.old ≤ D.disk_faults dev.new }
-    ensures tell_faults { D.tell_faults dev.new ≡ D.tell_faults dev.old }
+    ensures cause { HasCause D.disk_faults D.tell_faults dev.old dev.new (IsErrOf result GateError.Fault) }
 {
     let mut gate = 16;
     'blobs: while let Some(size) = read_blob(dev, name, gate, len)? {
@@ -117,4 +108,23 @@ fn push_span(spans: &mut Vec<(u64, u64)>, span: (u64, u64)) -> Result<(), AllocE
 {
     spans.push(span)?;
     Ok(())
+}
+
+// The `len` bytes of a file from offset `at` on, which lie whole in the file.
+pub fn read_span<D: Device>(
+    alloc: Global,
+    dev: &mut D,
+    name: &str,
+    at: u64,
+    len: u64,
+) -> Result<Vec<u8>, GateError>
+    requires { D.tells → at + len ≤ length (contents ((D.disk dev.old).files name.now)) }
+    ensures bytes { D.tells → IfOk result (λ bytes. bytes.items ≡ read_at (contents ((D.disk dev.old).files name.now)) at len) }
+    ensures effect { D.tells → ChangesNothing (D.disk dev.old) (D.disk dev.new) }
+    ensures foreign { IsErrOf result GateError.Foreign → ⊥ }
+    ensures cause { HasCause D.disk_faults D.tell_faults dev.old dev.new (IsErrOf result GateError.Fault) }
+{
+    let mut bytes = vec![in alloc; 0u8; len as usize]?;
+    dev.read(name, at, bytes.as_mut_slice())?;
+    Ok(bytes)
 }

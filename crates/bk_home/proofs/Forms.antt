@@ -2,10 +2,11 @@
 use Rattle.std.proofs.Common.{◌≡◌, ◌≤◌, ◌+◌, ℕ, eqb, cond, List, [], ◌∷◌, ◌++◌, length, Option, Some, None, refl, sym, ap, subst, ◌∙◌, arith, lit<, length-append}
 use Rattle.std.proofs.lemmas.List.{append-nil}
 use Rattle.std.proofs.lemmas.Str.{IsUtf8-nil}
+use Rattle.std.proofs.lemmas.Option.{same_Some}
 use Rattle.bk_bytes.specs.Field.{AreBytes, bytes_of}
-use Rattle.bk_bytes.proofs.Fields.{length-bytes_of}
+use Rattle.bk_bytes.specs.FieldLaws.{length-bytes_of}
 use Rattle.bk_bytes.specs.Codec.{IsCodec, IsString}
-use Rattle.bk_bytes.proofs.Codecs.{number-IsCodec, string-IsCodec, followed-IsCodec, converted-IsCodec, bind_some, guard_true, some_is}
+use Rattle.bk_bytes.specs.CodecLaws.{number-IsCodec, string-IsCodec, followed-IsCodec, converted-IsCodec, bind_some, guard_true}
 use Rattle.bk_home.specs.declared.record.Record.{Record}
 use Rattle.bk_home.specs.Spelling.{IsShort, HasPath, IsRecord, path_bytes, path_in, record_bytes, path_form, record_form, read_record}
 
@@ -22,7 +23,7 @@ path_form-IsCodec : IsCodec (Option (List ℕ)) path_form
 unfolding path_form
 path_form-IsCodec = converted-IsCodec _ _ _ HasPath (string-IsCodec 0 100 (lit< tt)) (record {
   takes = λ text making fits e.
-      subst (λ (m : Option (List ℕ)). (path_bytes m ≡ text) × HasPath m) (some_is (path_in text) making e) (path_takes text fits);
+      subst (λ (m : Option (List ℕ)). (path_bytes m ≡ text) × HasPath m) (same_Some (path_in text) making e) (path_takes text fits);
   gives = λ making h. let is = path_gives making h in (ap (λ (m : Option (List ℕ)). Some m) is.0, is.1);
 })
 
@@ -31,7 +32,7 @@ unfolding record_form path_form
 record_form-IsCodec = converted-IsCodec _ _ _ IsRecord (followed-IsCodec _ _ (number-IsCodec 8) (λ _. followed-IsCodec _ _ (number-IsCodec 8) (λ _. path_form-IsCodec))) (record {
   takes = λ x r fits e.
       subst (λ (y : Record). ((y.number, (y.counter, y.making)) ≡ x) × IsRecord y)
-      (some_is (record { number = x.0; counter = x.1.0; making = x.1.1 }) r e)
+      (same_Some (record { number = x.0; counter = x.1.0; making = x.1.1 }) r e)
       (refl, record { number = fits.0; counter = fits.1.0; path = fits.1.1 });
   gives = λ r h. (refl, (h.number, (h.counter, h.path)));
 })

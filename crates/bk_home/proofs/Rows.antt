@@ -1,29 +1,13 @@
 -- The first blob of a file of rows, and the blobs behind it.
-use Rattle.std.proofs.Common.{◌≡◌, ◌≤◌, ◌+◌, ℕ, true, false, eqb, List, [], ◌∷◌, length, map, Option, Some, None, refl, sym, ap, subst, ◌∙◌, arith, length-take, length-drop}
-use Rattle.std.specs.Prelude.{slice_get, unwrap_or, option_map}
+use Rattle.std.proofs.Common.{◌≡◌, ◌≤◌, ◌+◌, ℕ, true, false, eqb, List, [], ◌∷◌, length, map, Some, None, refl, sym, ap, subst, ◌∙◌}
+use Rattle.std.specs.Prelude.{slice_get, unwrap_or}
 use Rattle.std.proofs.lemmas.Bool.{eqb-true, eq-eqb}
-use Rattle.std.proofs.lemmas.Option.{slice_get-map}
 use Rattle.bk_device.specs.Calls.{read_at}
 use Rattle.bk_gate.specs.Blobs.{spans_of, part_of, blobs_in, IsGateFile}
-use Rattle.bk_gate.specs.BlobLaws.{gate_blobs, foreign_blobs, spans_inside}
+use Rattle.bk_gate.specs.BlobLaws.{foreign_blobs}
+use Rattle.bk_gate.specs.Laws.{span_inside, blobs_are}
+use Rattle.bk_device.specs.Laws.{length-read_at}
 use Rattle.bk_home.specs.Home.{rows_in, begins_empty}
-
--- a span lies whole in the file
-pub inside_of : (file : List ℕ) (spans : List (ℕ × ℕ)) (i : ℕ) (span : ℕ × ℕ) → spans ≡ spans_of file → slice_get spans i ≡ Some span → span.0 + span.1 ≤ length file
-unfolding spans_of
-inside_of file spans i span are there = spans_inside (length file) 16 file i span (ap (λ (s : List (ℕ × ℕ)). slice_get s i) (sym are) ∙ there)
-
-blobs_are : (file : List ℕ) (spans : List (ℕ × ℕ)) → IsGateFile file → spans ≡ spans_of file → blobs_in file ≡ map (part_of file) spans
-blobs_are file spans gate are = gate_blobs file gate ∙ ap (map (part_of file)) (sym are)
-
--- what lies in a span is a sealed blob
-pub blob_there : (file : List ℕ) (spans : List (ℕ × ℕ)) (i : ℕ) (span : ℕ × ℕ) → IsGateFile file → spans ≡ spans_of file → slice_get spans i ≡ Some span → slice_get (blobs_in file) i ≡ Some (read_at file span.0 span.1)
-blob_there file spans i span gate are there =
-    ap (λ (blobs : List (List ℕ)). slice_get blobs i) (blobs_are file spans gate are) ∙ slice_get-map (part_of file) spans i
-    ∙ ap (λ (o : Option (ℕ × ℕ)). option_map (part_of file) o) there
-
-part_length : (file : List ℕ) (at len : ℕ) → at + len ≤ length file → length (read_at file at len) ≡ len
-part_length file at len inside = simp (length-take, length-drop) (omega arith)
 
 first_empty : (file : List ℕ) (spans : List (ℕ × ℕ)) → begins_empty spans ≡ true → map (part_of file) spans ≡ [] ∷ unwrap_or (rows_in (map (part_of file) spans)) []
 first_empty file [] e = absurd cc
@@ -47,14 +31,14 @@ some_first (byte ∷ first) blobs some = refl
 no_first : (file : List ℕ) (spans : List (ℕ × ℕ)) → ((span : ℕ × ℕ) → slice_get spans 0 ≡ Some span → span.0 + span.1 ≤ length file) → begins_empty spans ≡ false → rows_in (map (part_of file) spans) ≡ None
 no_first file [] inside e = refl
 no_first file (span ∷ spans) inside e =
-    let size : length (part_of file span) ≡ span.1 = part_length file span.0 span.1 (inside span refl) in
+    let size : length (part_of file span) ≡ span.1 = length-read_at file span.0 span.1 (inside span refl) in
     some_first (part_of file span) (map (part_of file) spans)
     (λ none. let test : eqb span.1 0 ≡ true = eq-eqb span.1 0 (sym size ∙ none) in cc)
 
 -- one that doesn't has none
 pub other_rows : (file : List ℕ) (spans : List (ℕ × ℕ)) → IsGateFile file → spans ≡ spans_of file → begins_empty spans ≡ false → rows_in (blobs_in file) ≡ None
 other_rows file spans gate are e =
-    ap rows_in (blobs_are file spans gate are) ∙ no_first file spans (λ span there. inside_of file spans 0 span are there) e
+    ap rows_in (blobs_are file spans gate are) ∙ no_first file spans (λ span there. span_inside file spans 0 span are there) e
 
 -- nor has a file that is no gate file
 pub foreign_rows : (file : List ℕ) → (IsGateFile file → ⊥) → rows_in (blobs_in file) ≡ None

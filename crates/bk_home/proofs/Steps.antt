@@ -1,15 +1,15 @@
 -- What making an instance, putting its record and adding a blob did to the device.
 use Rattle.std.proofs.Common.{◌≡◌, ◌⊎◌, ℕ, Bool, true, false, List, [], ◌∷◌, ◌++◌, length, map, Option, Some, None, refl, inl, inr, sym, ap, subst, ◌∙◌, arith, get_or}
-use Rattle.std.specs.Prelude.{is_some, option_map, Result, Err, IsErrOf}
+use Rattle.std.specs.Prelude.{is_some, option_map}
 use Rattle.bk_control.specs.Control.{IsControl, control_value, control_durable, control_kept}
 use Rattle.bk_control.specs.Control.{Kept as KeptControl}
 use Rattle.bk_control.specs.Slots.{control_of}
 use Rattle.bk_device.specs.Calls.{contents, ChangesNothing}
 use Rattle.bk_device.specs.Compose.{effect_then, effect_weaken, effect_widen, effect_none, effect_of_nothing, keeps_by_effect, keeps_by_nothing, durable_kept}
-use Rattle.bk_device.specs.Disk.{Files, Disk, IsDurable, IsLawful}
+use Rattle.bk_device.specs.Disk.{Files, Disk, IsDurable}
 use Rattle.bk_device.specs.Effects.{Effect, IsName, KeepsFiles}
 use Rattle.bk_gate.specs.Blobs.{sealed, part_of}
-use Rattle.bk_gate.specs.Gate.{IsGate, begun_of}
+use Rattle.bk_gate.specs.Gate.{IsGate}
 use Rattle.bk_gate.specs.Gate.{Kept as KeptGate}
 use Rattle.bk_gate.specs.Laws.{gate_sealed, gate_kept}
 use Rattle.bk_home.specs.declared.record.Record.{Record}
@@ -32,23 +32,6 @@ rows_not_made same = let e : 114 ≡ 109 = ap letter same in absurd (omega (arit
 pub rows_not_control : rows_file ≡ control_file → ⊥
 rows_not_control same = let e : 114 ≡ 99 = ap letter same in absurd (omega (arith, e))
 
--- ---- sealing one blob
-
--- the blobs that there were, then these or one more
-pub seal_crash : (name begun added blob bytes : List ℕ) (a b c : Disk) → begun ≡ name → added ≡ name → sealed (b.files begun) ≡ sealed (a.files begun) → blob ≡ bytes
-    → Effect (IsName begun) (λ image. sealed (image begun) ≡ sealed (a.files begun)) a b
-    → Effect (IsName added) (λ image. (sealed (image added) ≡ sealed (b.files added)) ⊎ (sealed (image added) ≡ sealed (b.files added) ++ blob ∷ [])) b c
-    → Effect (IsName name) (λ image. (sealed (image name) ≡ sealed (a.files name)) ⊎ (sealed (image name) ≡ sealed (a.files name) ++ bytes ∷ [])) a c
-seal_crash name begun added blob bytes a b c is_begun is_added same is_blob first second =
-    let First : List ℕ → Type 0 = λ n. Effect (IsName n) (λ image. sealed (image n) ≡ sealed (a.files n)) a b in
-    let Second : List ℕ → Type 0 = λ n. Effect (IsName n) (λ image. (sealed (image n) ≡ sealed (b.files n)) ⊎ (sealed (image n) ≡ sealed (b.files n) ++ blob ∷ [])) b c in
-    let Same : List ℕ → Type 0 = λ n. sealed (b.files n) ≡ sealed (a.files n) in
-    let here : sealed (b.files name) ≡ sealed (a.files name) = subst Same is_begun same in
-    let more : sealed (b.files name) ++ blob ∷ [] ≡ sealed (a.files name) ++ bytes ∷ [] =
-    ap (λ (blobs : List (List ℕ)). blobs ++ blob ∷ []) here ∙ ap (λ (x : List ℕ). sealed (a.files name) ++ x ∷ []) is_blob in
-    effect_then (effect_weaken (λ image kept. inl kept) (subst First is_begun first))
-    (effect_weaken (λ image either. elim either [ inl kept ↦ inl (kept ∙ here) | inr grown ↦ inr (grown ∙ more) ]) (subst Second is_added second))
-
 -- ---- making the file of rows
 
 -- any file was left under a name, and then under the same name again
@@ -58,12 +41,12 @@ any_then {P} {Q} name other a b c is first second =
     effect_then (effect_weaken (λ image here. tt) first) (effect_weaken (λ image here. tt) (subst Second is second))
 
 -- an empty blob was sealed in a file with none
-pub first_sealed : (name : List ℕ) (a b : Disk) (kept : KeptGate) → kept.name ≡ name → kept.spans ≡ [] → kept.begun ≡ Some 0 → IsGate a kept → sealed (b.files kept.name) ≡ sealed (a.files kept.name) ++ begun_of a kept ∷ [] → sealed (b.files name) ≡ [] ∷ []
-first_sealed name a b kept is none begun gate grown =
+pub first_sealed : (name other : List ℕ) (a b : Disk) (kept : KeptGate) → other ≡ kept.name → kept.name ≡ name → kept.spans ≡ [] → IsGate a kept → sealed (b.files other) ≡ sealed (a.files other) ++ [] ∷ [] → sealed (b.files name) ≡ [] ∷ []
+first_sealed name other a b kept also is none gate grown =
     let before : sealed (a.files kept.name) ≡ [] = gate_sealed gate ∙ ap (map (part_of (contents (a.files kept.name)))) none in
-    let empty : begun_of a kept ≡ [] = ap (λ (o : Option ℕ). begun_of a (record kept { begun = o })) begun in
-    let Grown : List ℕ → Type 0 = λ n. sealed (b.files n) ≡ sealed (a.files kept.name) ++ begun_of a kept ∷ [] in
-    subst Grown is grown ∙ ap (λ (blobs : List (List ℕ)). blobs ++ begun_of a kept ∷ []) before ∙ ap (λ (blob : List ℕ). blob ∷ []) empty
+    let Grown : List ℕ → Type 0 = λ n. sealed (b.files n) ≡ sealed (a.files n) ++ [] ∷ [] in
+    let There : List ℕ → Type 0 = λ n. sealed (b.files n) ≡ [] ∷ [] in
+    subst There is (subst Grown also grown ∙ ap (λ (blobs : List (List ℕ)). blobs ++ [] ∷ []) before)
 
 -- ---- making an instance
 
@@ -268,29 +251,6 @@ append_home kept failed name bytes a b gate is named new_name grown gates durabl
 
 -- ---- opening
 
--- two calls that change nothing change nothing
-pub nothing_then : {a b c : Disk} → IsLawful a → ChangesNothing a b → ChangesNothing b c → ChangesNothing a c
-nothing_then {a = a} {b = b} {c = c} lawful first second = record {
-  files = λ name. second.files name ∙ first.files name;
-  nothing_more = λ name content may. first.nothing_more name content (second.nothing_more name content may);
-  told = second.told ∙ first.told;
-  time = record {
-    later = omega (arith, first.time.later, second.time.later);
-    nothing_else = λ since image heard early left.
-        elim (second.time.nothing_else since image heard (omega (arith, first.time.later)) left) [
-          | inl before ↦ elim (first.time.nothing_else since image heard early before) [
-            | inl earlier ↦ inl earlier
-            | inr here ↦
-                let Heard : List ℕ → Type 0 = λ h. a.left since image h in
-                inl (subst Heard (sym here.1) (lawful.counts_now since image early (λ name. first.nothing_more name (image name) (here.0 name))))
-          ]
-          | inr here ↦ inr (here.0, here.1 ∙ first.told)
-        ];
-    nothing_forgotten = λ since image heard early left.
-        second.time.nothing_forgotten since image heard (omega (arith, first.time.later)) (first.time.nothing_forgotten since image heard early left);
-  };
-}
-
 -- a file whose length was told is there, or it isn't
 pub some_made : (files : Files) (len : Option ℕ) → len ≡ option_map length (files made_file) → is_some len ≡ true → IsMade files
 some_made files len told some none =
@@ -314,9 +274,6 @@ opened_files a b content r made first held reads rows = record {
   rows = ap sealed (sym (first.files rows_file)) ∙ rows ∙ ap (λ (blobs : List (List ℕ)). [] ∷ blobs) (blobs_same a.files b.files (first.files rows_file));
 }
 
-unchanged : {names : List ℕ → Type 0} {a b : Disk} → ChangesNothing a b → KeepsFiles names a b
-unchanged call = record { same = λ name _. call.files name; nothing_more = λ name _. call.nothing_more name }
-
 -- and the home stands where nothing was pending
 pub opened_home : (failed : Bool) (a b c : Disk) (control : KeptControl) (gate : KeptGate) (r : Record) → IsMade a.files → AreDurable a → ChangesNothing a b → ChangesNothing b c → control.name ≡ control_file → gate.name ≡ rows_file
     → read_record control.content ≡ Some r → sealed (b.files rows_file) ≡ [] ∷ blobs_of b.files
@@ -324,11 +281,11 @@ pub opened_home : (failed : Bool) (a b c : Disk) (control : KeptControl) (gate :
 opened_home failed a b c control gate r made durable first second control_name gate_name reads rows controls gates = record {
   control_name = control_name;
   gate_name = gate_name;
-  controls = control_kept (unchanged second) (controls (durable control_file own_control));
-  gates = gates (durable_kept {names = IsName rows_file} rows_file refl (unchanged first) (durable rows_file own_rows));
+  controls = control_kept (keeps_by_nothing second) (controls (durable control_file own_control));
+  gates = gates (durable_kept {names = IsName rows_file} rows_file refl (keeps_by_nothing first) (durable rows_file own_rows));
   made = λ none. made (sym (second.files made_file ∙ first.files made_file) ∙ none);
-  made_durable = durable_kept {names = IsName made_file} made_file refl (unchanged second) (durable_kept {names = IsName made_file} made_file refl (unchanged first) (durable made_file own_made));
-  rows_durable = durable_kept {names = IsName rows_file} rows_file refl (unchanged second) (durable_kept {names = IsName rows_file} rows_file refl (unchanged first) (durable rows_file own_rows));
+  made_durable = durable_kept {names = IsName made_file} made_file refl (keeps_by_nothing second) (durable_kept {names = IsName made_file} made_file refl (keeps_by_nothing first) (durable made_file own_made));
+  rows_durable = durable_kept {names = IsName rows_file} rows_file refl (keeps_by_nothing second) (durable_kept {names = IsName rows_file} rows_file refl (keeps_by_nothing first) (durable rows_file own_rows));
   reads = reads;
   rows = ap sealed (second.files rows_file) ∙ rows ∙ ap (λ (blobs : List (List ℕ)). [] ∷ blobs) (sym (blobs_same b.files c.files (second.files rows_file)));
 }
@@ -373,7 +330,3 @@ pub load_crash : (number : ℕ) (a b c : Disk) → ChangesNothing a b → IsNotM
 load_crash number a b c call none durable next =
     effect_then (effect_of_nothing (λ image mine. inl (durable (image made_file) (mine made_file own_made) ∙ none)) call)
     (next (durable_kept {names = IsName made_file} made_file refl (keeps_by_nothing call) durable))
-
--- the same error of another result
-pub same_error : {T U E : Type 0} (e d : E) → IsErrOf {T = T} (Err e) d → IsErrOf {T = U} (Err e) d
-same_error {T} {U} {E} e d is = let same : e ≡ d = cc in ap (λ (x : E). let r : Result U E = Err x in r) same

@@ -1,7 +1,7 @@
 // An instance's own files.
 ghost use Rattle.std.specs.Prelude.{◌≡◌, ◌≢◌, ◌≤◌, ◌<◌, ◌⊎◌, ◌+◌, ◌-◌, ◌++◌, ◌∷◌, ◌||◌, [], List, ℕ, None, Some, length, slice_get, true, false, IfOk, IfErr, OnOk, IsErrOf, MatchResult};
 ghost use Rattle.bk_device.specs.Calls.{ChangesNothing};
-ghost use Rattle.bk_device.specs.Counts.{HasRisen};
+ghost use Rattle.bk_device.specs.Counts.{HasCause};
 ghost use Rattle.bk_device.specs.Disk.{IsDurable};
 ghost use Rattle.bk_device.specs.Effects.{Effect};
 ghost use Rattle.bk_home.specs.Spelling.{IsShort};
@@ -13,7 +13,6 @@ use crate::making::{is_made, make_control, make_rows, mark_made};
 use crate::opening::{load_control, load_rows, recorded};
 use crate::part::read_blob;
 use crate::record::Record;
-use crate::seal::seal;
 use bk_control::Control;
 use bk_device::Device;
 use bk_gate::Gate;
@@ -62,9 +61,7 @@ impl Home {
         ensures broken { D.tells → IsErrOf result HomeError.Broken → IsBroken (D.disk dev.old).files }
         ensures effect { D.tells → IsMade (D.disk dev.old).files → ChangesNothing (D.disk dev.old) (D.disk dev.new) }
         ensures crash { D.tells → IsNotMade (D.disk dev.old).files → IsDurable (D.disk dev.old) made_file → Effect IsOwn (λ image. IsNotMade image ⊎ HomeIs image (fresh number) []) (D.disk dev.old) (D.disk dev.new) }
-        ensures cause { IsErrOf result HomeError.Fault → HasRisen (D.disk_faults dev.old) (D.disk_faults dev.new) }
-        ensures never_falls { D.disk_faults dev.old ≤ D.disk_faults dev.new }
-        ensures tell_faults { D.tell_faults dev.new ≡ D.tell_faults dev.old }
+        ensures cause { HasCause D.disk_faults D.tell_faults dev.old dev.new (IsErrOf result HomeError.Fault) }
     {
         if is_made(dev)? {
             let home = Home::open(alloc, dev)?;
@@ -83,9 +80,7 @@ impl Home {
         ensures not_an_instance { D.tells → IsMade (D.disk dev.old).files → IsErrOf result HomeError.NotAnInstance → IsNoInstance (D.disk dev.old).files }
         ensures broken { D.tells → IsMade (D.disk dev.old).files → IsErrOf result HomeError.Broken → IsBroken (D.disk dev.old).files }
         ensures effect { D.tells → ChangesNothing (D.disk dev.old) (D.disk dev.new) }
-        ensures cause { IsErrOf result HomeError.Fault → HasRisen (D.disk_faults dev.old) (D.disk_faults dev.new) }
-        ensures never_falls { D.disk_faults dev.old ≤ D.disk_faults dev.new }
-        ensures tell_faults { D.tell_faults dev.new ≡ D.tell_faults dev.old }
+        ensures cause { HasCause D.disk_faults D.tell_faults dev.old dev.new (IsErrOf result HomeError.Fault) }
     {
         let control = load_control(alloc, dev)?;
         let gate = load_rows(alloc, dev)?;
@@ -106,9 +101,7 @@ impl Home {
         ensures stands { D.tells → IfOk result (λ h. IsHome (D.disk dev.new) h) }
         ensures trouble { IfErr result IsTrouble }
         ensures crash { D.tells → IsDurable (D.disk dev.old) made_file → Effect IsOwn (λ image. IsNotMade image ⊎ HomeIs image (fresh number) []) (D.disk dev.old) (D.disk dev.new) }
-        ensures cause { IsErrOf result HomeError.Fault → HasRisen (D.disk_faults dev.old) (D.disk_faults dev.new) }
-        ensures never_falls { D.disk_faults dev.old ≤ D.disk_faults dev.new }
-        ensures tell_faults { D.tell_faults dev.new ≡ D.tell_faults dev.old }
+        ensures cause { HasCause D.disk_faults D.tell_faults dev.old dev.new (IsErrOf result HomeError.Fault) }
     {
         let record = Record {
             number,
@@ -155,9 +148,7 @@ impl Home {
         ensures bytes { D.tells → IfOk result (λ bytes. slice_get (blobs_of (D.disk dev.old).files) i ≡ Some bytes.items) }
         ensures trouble { IfErr result IsTrouble }
         ensures effect { D.tells → ChangesNothing (D.disk dev.old) (D.disk dev.new) }
-        ensures cause { IsErrOf result HomeError.Fault → HasRisen (D.disk_faults dev.old) (D.disk_faults dev.new) }
-        ensures never_falls { D.disk_faults dev.old ≤ D.disk_faults dev.new }
-        ensures tell_faults { D.tell_faults dev.new ≡ D.tell_faults dev.old }
+        ensures cause { HasCause D.disk_faults D.tell_faults dev.old dev.new (IsErrOf result HomeError.Fault) }
     {
         let count = self.count();
         prove!(i < count);
@@ -187,9 +178,7 @@ impl Home {
         ensures no_memory { IsErrOf result HomeError.NoMemory → (self.new ≡ self.old) × (dev.new ≡ dev.old) }
         ensures trouble { IfErr result IsTrouble }
         ensures crash { D.tells → Effect IsOwn (λ image. HomeIs image self.old.record (blobs_of (D.disk dev.old).files) ⊎ HomeIs image next (blobs_of (D.disk dev.old).files)) (D.disk dev.old) (D.disk dev.new) }
-        ensures cause { IsErrOf result HomeError.Fault → HasRisen (D.disk_faults dev.old) (D.disk_faults dev.new) }
-        ensures never_falls { D.disk_faults dev.old ≤ D.disk_faults dev.new }
-        ensures tell_faults { D.tell_faults dev.new ≡ D.tell_faults dev.old }
+        ensures cause { HasCause D.disk_faults D.tell_faults dev.old dev.new (IsErrOf result HomeError.Fault) }
     {
         let bytes = encode(alloc, &next)?;
         self.control.put(dev, &bytes)?;
@@ -212,12 +201,10 @@ impl Home {
         ensures no_memory { IsErrOf result HomeError.NoMemory → (self.new ≡ self.old) × (dev.new ≡ dev.old) }
         ensures trouble { IfErr result IsTrouble }
         ensures crash { D.tells → Effect IsOwn (λ image. HomeIs image self.old.record (blobs_of (D.disk dev.old).files) ⊎ HomeIs image self.old.record (blobs_of (D.disk dev.old).files ++ bytes.now ∷ [])) (D.disk dev.old) (D.disk dev.new) }
-        ensures cause { IsErrOf result HomeError.Fault → HasRisen (D.disk_faults dev.old) (D.disk_faults dev.new) }
-        ensures never_falls { D.disk_faults dev.old ≤ D.disk_faults dev.new }
-        ensures tell_faults { D.tell_faults dev.new ≡ D.tell_faults dev.old }
+        ensures cause { HasCause D.disk_faults D.tell_faults dev.old dev.new (IsErrOf result HomeError.Fault) }
     {
         self.gate.reserve(1)?;
-        seal(&mut self.gate, dev, bytes)?;
+        self.gate.append_reserved(dev, bytes)?;
         Ok(())
     }
 }

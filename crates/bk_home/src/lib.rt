@@ -10,12 +10,8 @@ mod making;
 mod opening;
 mod part;
 mod record;
-mod seal;
 mod unread;
 
 pub use error::HomeError;
 pub use home::Home;
 pub use record::Record;
-
-#[cfg(test)]
-mod tests;

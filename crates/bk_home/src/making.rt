@@ -1,8 +1,8 @@
 // Making the three files.
-ghost use Rattle.std.specs.Prelude.{◌≡◌, ◌≤◌, ◌⊎◌, [], ◌∷◌, List, ℕ, None, length, true, false, IfOk, OnOk, OnErr, IsErrOf};
+ghost use Rattle.std.specs.Prelude.{◌≡◌, ◌≤◌, ◌⊎◌, [], ◌∷◌, List, ℕ, None, length, true, false, IfOk, OnOk, OnErr, IsErrOf, IsErr};
 ghost use Rattle.bk_control.specs.Control.{IsControl};
 ghost use Rattle.bk_device.specs.Calls.{ChangesNothing};
-ghost use Rattle.bk_device.specs.Counts.{HasRisen};
+ghost use Rattle.bk_device.specs.Counts.{HasCause};
 ghost use Rattle.bk_device.specs.Disk.{IsDurable};
 ghost use Rattle.bk_device.specs.Effects.{Effect, IsName};
 ghost use Rattle.bk_gate.specs.Blobs.{sealed};
@@ -20,9 +20,7 @@ pub fn is_made<D: Device>(dev: &mut D) -> Result<bool, Failed>
     ensures made { D.tells → IfOk result (λ is. is ≡ true → IsMade (D.disk dev.old).files) }
     ensures not_made { D.tells → IfOk result (λ is. is ≡ false → IsNotMade (D.disk dev.old).files) }
     ensures effect { D.tells → ChangesNothing (D.disk dev.old) (D.disk dev.new) }
-    ensures cause { OnErr result (HasRisen (D.disk_faults dev.old) (D.disk_faults dev.new)) }
-    ensures never_falls { D.disk_faults dev.old ≤ D.disk_faults dev.new }
-    ensures tell_faults { D.tell_faults dev.new ≡ D.tell_faults dev.old }
+    ensures cause { HasCause D.disk_faults D.tell_faults dev.old dev.new (IsErr result) }
 {
     let len = dev.len("sqlbak.made")?;
     Ok(len.is_some())
@@ -42,9 +40,7 @@ pub fn make_control<D: Device>(
     ensures crash { D.tells → Effect (IsName control_file) (λ _. Unit {0}) (D.disk dev.old) (D.disk dev.new) }
     ensures not_an_instance { IsErrOf result HomeError.NotAnInstance → ⊥ }
     ensures broken { IsErrOf result HomeError.Broken → ⊥ }
-    ensures cause { IsErrOf result HomeError.Fault → HasRisen (D.disk_faults dev.old) (D.disk_faults dev.new) }
-    ensures never_falls { D.disk_faults dev.old ≤ D.disk_faults dev.new }
-    ensures tell_faults { D.tell_faults dev.new ≡ D.tell_faults dev.old }
+    ensures cause { HasCause D.disk_faults D.tell_faults dev.old dev.new (IsErrOf result HomeError.Fault) }
 {
     match Control::make(alloc, dev, "sqlbak.control", bytes) {
         Ok(control) => Ok(control),
@@ -64,9 +60,7 @@ fn make_gate<D: Device>(alloc: Global, dev: &mut D) -> Result<Gate, HomeError>
     ensures crash { D.tells → Effect (IsName rows_file) (λ _. Unit {0}) (D.disk dev.old) (D.disk dev.new) }
     ensures not_an_instance { IsErrOf result HomeError.NotAnInstance → ⊥ }
     ensures broken { IsErrOf result HomeError.Broken → ⊥ }
-    ensures cause { IsErrOf result HomeError.Fault → HasRisen (D.disk_faults dev.old) (D.disk_faults dev.new) }
-    ensures never_falls { D.disk_faults dev.old ≤ D.disk_faults dev.new }
-    ensures tell_faults { D.tell_faults dev.new ≡ D.tell_faults dev.old }
+    ensures cause { HasCause D.disk_faults D.tell_faults dev.old dev.new (IsErrOf result HomeError.Fault) }
 {
     match Gate::make(alloc, dev, "sqlbak.rows") {
         Ok(gate) => Ok(gate),
@@ -88,14 +82,11 @@ pub fn make_rows<D: Device>(alloc: Global, dev: &mut D) -> Result<Gate, HomeErro
     ensures crash { D.tells → Effect (IsName rows_file) (λ _. Unit {0}) (D.disk dev.old) (D.disk dev.new) }
     ensures not_an_instance { IsErrOf result HomeError.NotAnInstance → ⊥ }
     ensures broken { IsErrOf result HomeError.Broken → ⊥ }
-    ensures cause { IsErrOf result HomeError.Fault → HasRisen (D.disk_faults dev.old) (D.disk_faults dev.new) }
-    ensures never_falls { D.disk_faults dev.old ≤ D.disk_faults dev.new }
-    ensures tell_faults { D.tell_faults dev.new ≡ D.tell_faults dev.old }
+    ensures cause { HasCause D.disk_faults D.tell_faults dev.old dev.new (IsErrOf result HomeError.Fault) }
 {
     let mut gate = make_gate(alloc, dev)?;
     gate.reserve(1)?;
-    gate.begin();
-    gate.seal_reserved(dev)?;
+    gate.append_reserved(dev, &[])?;
     Ok(gate)
 }
 
@@ -104,9 +95,7 @@ pub fn mark_made<D: Device>(dev: &mut D) -> Result<(), Failed>
     ensures made { D.tells → OnOk result (IsMade (D.disk dev.new).files) }
     ensures durable { D.tells → OnOk result (IsDurable (D.disk dev.new) made_file) }
     ensures crash { D.tells → Effect (IsName made_file) (λ image. (D.disk dev.old).may made_file (image made_file) ⊎ IsMade image) (D.disk dev.old) (D.disk dev.new) }
-    ensures cause { OnErr result (HasRisen (D.disk_faults dev.old) (D.disk_faults dev.new)) }
-    ensures never_falls { D.disk_faults dev.old ≤ D.disk_faults dev.new }
-    ensures tell_faults { D.tell_faults dev.new ≡ D.tell_faults dev.old }
+    ensures cause { HasCause D.disk_faults D.tell_faults dev.old dev.new (IsErr result) }
 {
     dev.write("sqlbak.made", 0, &[])?;
     dev.sync("sqlbak.made")?;

@@ -3,7 +3,7 @@ ghost use Rattle.std.specs.Prelude.{◌≡◌, ◌≤◌, [], ◌∷◌, List, �
 ghost use Rattle.bk_control.specs.Control.{IsControl};
 ghost use Rattle.bk_control.specs.Slots.{control_of};
 ghost use Rattle.bk_device.specs.Calls.{contents, ChangesNothing};
-ghost use Rattle.bk_device.specs.Counts.{HasRisen};
+ghost use Rattle.bk_device.specs.Counts.{HasCause};
 ghost use Rattle.bk_device.specs.Disk.{IsDurable};
 ghost use Rattle.bk_gate.specs.Blobs.{sealed, spans_of, IsGateFile};
 ghost use Rattle.bk_gate.specs.Gate.{IsGate};
@@ -28,9 +28,7 @@ pub fn load_control<D: Device>(alloc: Global, dev: &mut D) -> Result<Control, Ho
     ensures effect { D.tells → ChangesNothing (D.disk dev.old) (D.disk dev.new) }
     ensures not_an_instance { D.tells → IsErrOf result HomeError.NotAnInstance → control_of ((D.disk dev.old).files control_file) ≡ None }
     ensures broken { IsErrOf result HomeError.Broken → ⊥ }
-    ensures cause { IsErrOf result HomeError.Fault → HasRisen (D.disk_faults dev.old) (D.disk_faults dev.new) }
-    ensures never_falls { D.disk_faults dev.old ≤ D.disk_faults dev.new }
-    ensures tell_faults { D.tell_faults dev.new ≡ D.tell_faults dev.old }
+    ensures cause { HasCause D.disk_faults D.tell_faults dev.old dev.new (IsErrOf result HomeError.Fault) }
 {
     match Control::load(alloc, dev, "sqlbak.control") {
         Ok(control) => Ok(control),
@@ -51,9 +49,7 @@ fn load_gate<D: Device>(alloc: Global, dev: &mut D) -> Result<Gate, HomeError>
     ensures effect { D.tells → ChangesNothing (D.disk dev.old) (D.disk dev.new) }
     ensures broken { D.tells → IsErrOf result HomeError.Broken → IsGateFile (contents ((D.disk dev.old).files rows_file)) → ⊥ }
     ensures not_an_instance { IsErrOf result HomeError.NotAnInstance → ⊥ }
-    ensures cause { IsErrOf result HomeError.Fault → HasRisen (D.disk_faults dev.old) (D.disk_faults dev.new) }
-    ensures never_falls { D.disk_faults dev.old ≤ D.disk_faults dev.new }
-    ensures tell_faults { D.tell_faults dev.new ≡ D.tell_faults dev.old }
+    ensures cause { HasCause D.disk_faults D.tell_faults dev.old dev.new (IsErrOf result HomeError.Fault) }
 {
     match Gate::load(alloc, dev, "sqlbak.rows") {
         Ok(gate) => Ok(gate),
@@ -86,9 +82,7 @@ pub fn load_rows<D: Device>(alloc: Global, dev: &mut D) -> Result<Gate, HomeErro
     ensures effect { D.tells → ChangesNothing (D.disk dev.old) (D.disk dev.new) }
     ensures broken { D.tells → IsErrOf result HomeError.Broken → rows_in (sealed ((D.disk dev.old).files rows_file)) ≡ None }
     ensures not_an_instance { IsErrOf result HomeError.NotAnInstance → ⊥ }
-    ensures cause { IsErrOf result HomeError.Fault → HasRisen (D.disk_faults dev.old) (D.disk_faults dev.new) }
-    ensures never_falls { D.disk_faults dev.old ≤ D.disk_faults dev.new }
-    ensures tell_faults { D.tell_faults dev.new ≡ D.tell_faults dev.old }
+    ensures cause { HasCause D.disk_faults D.tell_faults dev.old dev.new (IsErrOf result HomeError.Fault) }
 {
     let gate = load_gate(alloc, dev)?;
     if begins_empty(&gate) {

@@ -1,16 +1,17 @@
 -- The first blob of a file, and its sets.
-use Rattle.std.proofs.Common.{◌≡◌, ◌≤◌, ◌+◌, ℕ, zero, suc, Bool, true, false, List, [], ◌∷◌, ◌++◌, length, map, drop, Option, Some, None, refl, inl, inr, sym, ap, ◌∙◌, arith, length-take, length-drop}
+use Rattle.std.proofs.Common.{◌≡◌, ◌≤◌, ◌+◌, ℕ, zero, suc, Bool, true, false, List, [], ◌∷◌, length, map, Option, Some, None, refl, inl, inr, sym, ap, ◌∙◌, arith}
 use Rattle.std.specs.Prelude.{if◌then◌else◌, slice_get, unwrap_or, is_some, option_map}
 use Rattle.std.specs.Str.{bytes_eq}
-use Rattle.std.proofs.lemmas.List.{drop_all, append-nil, length-map}
-use Rattle.std.proofs.lemmas.Option.{slice_get-map}
+use Rattle.std.proofs.lemmas.List.{length-map}
 use Rattle.std.proofs.lemmas.Slice.Eq.{bytes_eq-Decides}
 use Rattle.bk_world.specs.Medium.{not_media}
 use Rattle.bk_device.specs.Calls.{contents, read_at, filled}
 use Rattle.bk_device.specs.Disk.{Disk}
 use Rattle.bk_device.specs.Names.{true_or_false}
 use Rattle.bk_gate.specs.Blobs.{sealed, spans_of, part_of, blobs_in, IsGateFile}
-use Rattle.bk_gate.specs.BlobLaws.{gate_blobs, foreign_blobs, spans_inside}
+use Rattle.bk_gate.specs.BlobLaws.{foreign_blobs}
+use Rattle.bk_gate.specs.Laws.{span_inside, blobs_are}
+use Rattle.bk_device.specs.Laws.{length-read_at, filled_whole}
 use Rattle.bk_gate.specs.Gate.{Kept}
 use Rattle.bk_set.specs.Found.{found}
 use Rattle.bk_media.specs.Media.{medium_letters, sets_in, HasSets, sets_of, reading_of, read_medium, found_at, ShowsMedium, count_of, HasNoSet}
@@ -19,13 +20,6 @@ use Rattle.bk_media.specs.Laws.{shown_count}
 is_some_if : {A : Type 0} (b : Bool) (x : A) → is_some (if b then Some x else None) ≡ b
 is_some_if true x = refl
 is_some_if false x = refl
-
-pub inside_of : (file : List ℕ) (spans : List (ℕ × ℕ)) (i : ℕ) (span : ℕ × ℕ) → spans ≡ spans_of file → slice_get spans i ≡ Some span → span.0 + span.1 ≤ length file
-unfolding spans_of
-inside_of file spans i span are there = spans_inside (length file) 16 file i span (ap (λ (s : List (ℕ × ℕ)). slice_get s i) (sym are) ∙ there)
-
-blobs_are : (file : List ℕ) (spans : List (ℕ × ℕ)) → IsGateFile file → spans ≡ spans_of file → blobs_in file ≡ map (part_of file) spans
-blobs_are file spans gate are = gate_blobs file gate ∙ ap (map (part_of file)) (sym are)
 
 pub first_none : (file : List ℕ) (spans : List (ℕ × ℕ)) → IsGateFile file → spans ≡ spans_of file → length spans ≡ 0 → is_some (sets_in (blobs_in file)) ≡ false
 first_none file [] gate are none = ap (λ (blobs : List (List ℕ)). is_some (sets_in blobs)) (blobs_are file [] gate are)
@@ -40,15 +34,12 @@ first_is file (first ∷ spans) span gate are there =
     ∙ is_some_if (bytes_eq (part_of file first) medium_letters) (map (part_of file) spans)
     ∙ ap (λ (s : ℕ × ℕ). bytes_eq (part_of file s) medium_letters) same
 
-pub part_length : (file : List ℕ) (at len : ℕ) → at + len ≤ length file → length (read_at file at len) ≡ len
-part_length file at len inside = simp (length-take, length-drop) (omega arith)
-
 pub first_other : (file : List ℕ) (spans : List (ℕ × ℕ)) (span : ℕ × ℕ) → IsGateFile file → spans ≡ spans_of file → slice_get spans 0 ≡ Some span → (span.1 ≡ 8 → ⊥) → is_some (sets_in (blobs_in file)) ≡ false
 first_other file spans span gate are there other =
     first_is file spans span gate are there ∙ elim (true_or_false (bytes_eq (part_of file span) medium_letters)) [
       | inl is ↦
           let letters : part_of file span ≡ medium_letters = (bytes_eq-Decides (part_of file span) medium_letters).0 is in
-          absurd (other (sym (part_length file span.0 span.1 (inside_of file spans 0 span are there)) ∙ ap (λ (b : List ℕ). length b) letters))
+          absurd (other (sym (length-read_at file span.0 span.1 (span_inside file spans 0 span are there)) ∙ ap (λ (b : List ℕ). length b) letters))
       | inr isnt ↦ isnt
     ]
 
@@ -56,10 +47,8 @@ first_other file spans span gate are there other =
 pub letters_read : (buffer new other file : List ℕ) (room : ℕ) (spans : List (ℕ × ℕ)) (span : ℕ × ℕ) → IsGateFile file → spans ≡ spans_of file → slice_get spans 0 ≡ Some span → span.1 ≡ 8
     → new ≡ filled buffer (read_at other span.0 room) → room ≡ 8 → length buffer ≡ 8 → other ≡ file → bytes_eq new medium_letters ≡ is_some (sets_in (blobs_in file))
 letters_read buffer new other file room spans span gate are there eight was is_room size_is same =
-    let inside : span.0 + 8 ≤ length file = omega (arith, inside_of file spans 0 span are there, eight) in
-    let size : length (read_at file span.0 8) ≡ 8 = part_length file span.0 8 inside in
-    let rest : drop (length (read_at file span.0 8)) buffer ≡ [] = drop_all (length (read_at file span.0 8)) buffer (omega (arith, size, size_is)) in
-    let whole : filled buffer (read_at file span.0 8) ≡ read_at file span.0 8 = ap (λ (r : List ℕ). read_at file span.0 8 ++ r) rest ∙ append-nil (read_at file span.0 8) in
+    let inside : span.0 + 8 ≤ length file = omega (arith, span_inside file spans 0 span are there, eight) in
+    let whole : filled buffer (read_at file span.0 8) ≡ read_at file span.0 8 = filled_whole buffer file span.0 8 (sym size_is) inside in
     let read : new ≡ read_at file span.0 span.1 =
     was ∙ ap (λ (n : ℕ). filled buffer (read_at other span.0 n)) is_room ∙ ap (λ (f : List ℕ). filled buffer (read_at f span.0 8)) same ∙ whole ∙ ap (λ (n : ℕ). read_at file span.0 n) (sym eight) in
     ap (λ (b : List ℕ). bytes_eq b medium_letters) read ∙ sym (first_is file spans span gate are there)
@@ -114,9 +103,3 @@ pub set_found_at : {a : Disk} {kept : Kept} (p : ℕ) (bytes : List ℕ) → Sho
 unfolding found_at
 set_found_at zero bytes is some there = absurd (some refl)
 set_found_at (suc i) bytes is some there = ap (λ (o : Option (List ℕ)). option_map found o) (ap (λ (blobs : List (List ℕ)). slice_get blobs (suc i)) (sym is.sets) ∙ there)
-
--- what lies in a span is a sealed blob
-pub blob_there : (file : List ℕ) (spans : List (ℕ × ℕ)) (i : ℕ) (span : ℕ × ℕ) → IsGateFile file → spans ≡ spans_of file → slice_get spans i ≡ Some span → slice_get (blobs_in file) i ≡ Some (read_at file span.0 span.1)
-blob_there file spans i span gate are there =
-    ap (λ (blobs : List (List ℕ)). slice_get blobs i) (blobs_are file spans gate are) ∙ slice_get-map (part_of file) spans i
-    ∙ ap (λ (o : Option (ℕ × ℕ)). option_map (part_of file) o) there

@@ -3,9 +3,10 @@ use Rattle.std.proofs.Common.{◌≡◌, ◌⊎◌, ℕ, Bool, true, false, List
 use Rattle.std.specs.Prelude.{is_some, option_map}
 use Rattle.bk_world.specs.Medium.{not_media}
 use Rattle.bk_device.specs.Calls.{contents, ChangesNothing}
-use Rattle.bk_device.specs.Compose.{effect_then, effect_weaken, effect_none}
+use Rattle.bk_device.specs.Compose.{effect_then, effect_weaken, effect_none, keeps_by_nothing}
 use Rattle.bk_device.specs.Disk.{Disk, IsDurable}
-use Rattle.bk_device.specs.Effects.{Effect, IsName, KeepsFiles}
+use Rattle.bk_device.specs.Laws.{durable_by_nothing}
+use Rattle.bk_device.specs.Effects.{Effect, IsName}
 use Rattle.bk_gate.specs.Blobs.{sealed, part_of, spans_of, IsGateFile}
 use Rattle.bk_gate.specs.Gate.{Kept, IsGate}
 use Rattle.bk_gate.specs.Laws.{gate_sealed, gate_kept}
@@ -15,21 +16,6 @@ use Rattle.bk_set.specs.Spelling.{set_bytes}
 use Rattle.bk_media.specs.Media.{medium_letters, sets_in, read_medium, HasSets, HasAdded, LeavesMade, LeavesAdded, sets_of, IsMedium, ShowsMedium}
 use Rattle.bk_media.specs.Laws.{sets_are, medium_left}
 use Rattle.bk_media.proofs.Sets.{ill_read, foreign_ill}
-
--- the blobs that there were, then these or one more
-pub seal_crash : (name begun added blob bytes : List ℕ) (a b c : Disk) → begun ≡ name → added ≡ name → sealed (b.files begun) ≡ sealed (a.files begun) → blob ≡ bytes
-    → Effect (IsName begun) (λ image. sealed (image begun) ≡ sealed (a.files begun)) a b
-    → Effect (IsName added) (λ image. (sealed (image added) ≡ sealed (b.files added)) ⊎ (sealed (image added) ≡ sealed (b.files added) ++ blob ∷ [])) b c
-    → Effect (IsName name) (λ image. (sealed (image name) ≡ sealed (a.files name)) ⊎ (sealed (image name) ≡ sealed (a.files name) ++ bytes ∷ [])) a c
-seal_crash name begun added blob bytes a b c is_begun is_added same is_blob first second =
-    let First : List ℕ → Type 0 = λ n. Effect (IsName n) (λ image. sealed (image n) ≡ sealed (a.files n)) a b in
-    let Second : List ℕ → Type 0 = λ n. Effect (IsName n) (λ image. (sealed (image n) ≡ sealed (b.files n)) ⊎ (sealed (image n) ≡ sealed (b.files n) ++ blob ∷ [])) b c in
-    let Same : List ℕ → Type 0 = λ n. sealed (b.files n) ≡ sealed (a.files n) in
-    let here : sealed (b.files name) ≡ sealed (a.files name) = subst Same is_begun same in
-    let more : sealed (b.files name) ++ blob ∷ [] ≡ sealed (a.files name) ++ bytes ∷ [] =
-    ap (λ (blobs : List (List ℕ)). blobs ++ blob ∷ []) here ∙ ap (λ (x : List ℕ). sealed (a.files name) ++ x ∷ []) is_blob in
-    effect_then (effect_weaken (λ image kept. inl kept) (subst First is_begun first))
-    (effect_weaken (λ image either. elim either [ inl kept ↦ inl (kept ∙ here) | inr grown ↦ inr (grown ∙ more) ]) (subst Second is_added second))
 
 -- a file with no blob was made
 pub made_first : (name : List ℕ) (a b : Disk) → Effect (IsName name) (λ image. a.may name (image name) ⊎ (sealed (image name) ≡ [])) a b → Effect (IsName name) (λ image. LeavesMade (a.may name) (image name)) a b
@@ -134,17 +120,13 @@ shown_medium name given a b c d kept is_medium is_given is_kept first second thi
       sets = subst Has (sym same) has;
     }
 
-kept_by : {names : List ℕ → Type 0} {a b : Disk} → ChangesNothing a b → KeepsFiles names a b
-kept_by call = record { same = λ name _. call.files name; nothing_more = λ name _. call.nothing_more name }
-
 pub opened_medium : (name given : List ℕ) (a b c d : Disk) (kept : Kept) → given ≡ name → kept.name ≡ given → ChangesNothing a b → ChangesNothing b c → ChangesNothing c d
     → IsDurable a name → (IsDurable b given → IsGate c kept) → HasSets (sets_of (a.files name)) (a.files name) → IsMedium d kept
 opened_medium name given a b c d kept is_given is_kept first second third durable gate has =
     let Durable : List ℕ → Type 0 = λ n. IsDurable b n in
-    let here : IsDurable b name = λ content may. durable content (first.nothing_more name content may) ∙ sym (first.files name) in
     let same : d.files kept.name ≡ a.files name = ap d.files (is_kept ∙ is_given) ∙ third.files name ∙ second.files name ∙ first.files name in
     let Has : Option (List ℕ) → Type 0 = λ file. HasSets (sets_of file) file in
-    record { gate = gate_kept (kept_by third) (gate (subst Durable (sym is_given) here)); sets = subst Has (sym same) has }
+    record { gate = gate_kept (keeps_by_nothing third) (gate (subst Durable (sym is_given) (durable_by_nothing name first durable))); sets = subst Has (sym same) has }
 
 -- a file whose length was told is there
 pub is_there : (name given : List ℕ) (a : Disk) (len : Option ℕ) → given ≡ name → len ≡ option_map length (a.files given) → is_some len ≡ true → a.files name ≡ None → ⊥

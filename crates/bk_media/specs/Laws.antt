@@ -7,18 +7,18 @@ use Rattle.hex.specs.Hex.{encode_lower, decode_of}
 use Rattle.hex.proofs.HexLemmas.{decode_of-encode_lower}
 use Rattle.bk_bytes.specs.Field.{AreBytes}
 use Rattle.bk_world.specs.Medium.{Slot, readable, not_media, medium}
-use Rattle.bk_device.specs.Calls.{contents, ChangesNothing}
-use Rattle.bk_device.specs.Disk.{Disk, IsLawful}
+use Rattle.bk_device.specs.Calls.{contents}
+use Rattle.bk_device.specs.Disk.{Disk}
 use Rattle.bk_device.specs.Effects.{IsName, KeepsFiles}
 use Rattle.bk_gate.specs.Blobs.{sealed, part_of}
-use Rattle.bk_gate.specs.BlobLaws.{foreign_blobs, gate_blobs}
+use Rattle.bk_gate.specs.BlobLaws.{foreign_blobs}
 use Rattle.bk_gate.specs.Gate.{Kept}
-use Rattle.bk_gate.specs.Laws.{gate_kept, gate_left, gate_spans, gate_file}
+use Rattle.bk_gate.specs.Laws.{gate_kept, gate_left, gate_spans, gate_file, blobs_are}
 use Rattle.bk_set.specs.declared.body.SetBody.{SetBody}
 use Rattle.bk_set.specs.declared.found.Found.TheVariants.{Holds}
 use Rattle.bk_set.specs.Spelling.{set_bytes}
 use Rattle.bk_set.specs.Found.{found, slot_of}
-use Rattle.bk_set.proofs.Founds.{set_found}
+use Rattle.bk_set.specs.FoundLaws.{set_found}
 use Rattle.bk_media.specs.Names.{medium_file}
 use Rattle.bk_media.specs.Media.{medium_letters, sets_in, HasSets, HasAdded, sets_of, slot_in, reading_of, read_medium, found_at, IsMedium, ShowsMedium, count_of}
 
@@ -109,36 +109,13 @@ medium_shown is = record { gate_file = gate_file is.gate; spans = sym (gate_span
 pub shown_count : {a : Disk} {kept : Kept} → ShowsMedium a kept → count_of kept ≡ length (sets_of (a.files kept.name))
 shown_count {a = a} {kept = kept} is =
     let blobs : sealed (a.files kept.name) ≡ map (part_of (contents (a.files kept.name))) kept.spans =
-    gate_blobs (contents (a.files kept.name)) is.gate_file ∙ ap (map (part_of (contents (a.files kept.name)))) (sym is.spans) in
+    blobs_are (contents (a.files kept.name)) kept.spans is.gate_file is.spans in
     let same : map (part_of (contents (a.files kept.name))) kept.spans ≡ medium_letters ∷ sets_of (a.files kept.name) = sym blobs ∙ is.sets in
     omega (arith, ap (λ (parts : List (List ℕ)). length parts) same, length-map kept.spans (part_of (contents (a.files kept.name))))
 
 -- and of the sets that it has
 pub medium_count : {a : Disk} {kept : Kept} → IsMedium a kept → count_of kept ≡ length (sets_of (a.files kept.name))
 medium_count is = shown_count (medium_shown is)
-
--- two calls that change nothing change nothing
-pub nothing_then : {a b c : Disk} → IsLawful a → ChangesNothing a b → ChangesNothing b c → ChangesNothing a c
-nothing_then {a = a} {b = b} {c = c} lawful first second = record {
-  files = λ name. second.files name ∙ first.files name;
-  nothing_more = λ name content may. first.nothing_more name content (second.nothing_more name content may);
-  told = second.told ∙ first.told;
-  time = record {
-    later = omega (arith, first.time.later, second.time.later);
-    nothing_else = λ since image heard early left.
-        elim (second.time.nothing_else since image heard (omega (arith, first.time.later)) left) [
-          | inl before ↦ elim (first.time.nothing_else since image heard early before) [
-            | inl earlier ↦ inl earlier
-            | inr here ↦
-                let Heard : List ℕ → Type 0 = λ h. a.left since image h in
-                inl (subst Heard (sym here.1) (lawful.counts_now since image early (λ name. first.nothing_more name (image name) (here.0 name))))
-          ]
-          | inr here ↦ inr (here.0, here.1 ∙ first.told)
-        ];
-    nothing_forgotten = λ since image heard early left.
-        second.time.nothing_forgotten since image heard (omega (arith, first.time.later)) (first.time.nothing_forgotten since image heard early left);
-  };
-}
 
 -- media at different paths have different names
 pub names_differ : (path other : List ℕ) → AreBytes path → AreBytes other → medium_file path ≡ medium_file other → path ≡ other

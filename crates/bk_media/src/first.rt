@@ -1,7 +1,7 @@
 // The first blob of a medium.
-ghost use Rattle.std.specs.Prelude.{◌≡◌, ◌≢◌, ◌≤◌, ◌⊎◌, ◌+◌, ◌∷◌, [], List, ℕ, None, length, is_some, true, false, IfOk, OnOk, OnErr, IsErrOf};
+ghost use Rattle.std.specs.Prelude.{◌≡◌, ◌≢◌, ◌≤◌, ◌⊎◌, ◌+◌, ◌∷◌, [], List, ℕ, None, length, is_some, true, false, IfOk, OnOk, OnErr, IsErrOf, IsErr};
 ghost use Rattle.bk_device.specs.Calls.{contents, ChangesNothing};
-ghost use Rattle.bk_device.specs.Counts.{HasRisen};
+ghost use Rattle.bk_device.specs.Counts.{HasCause};
 ghost use Rattle.bk_device.specs.Disk.{IsDurable};
 ghost use Rattle.bk_device.specs.Effects.{Effect, IsName};
 ghost use Rattle.bk_gate.specs.Blobs.{sealed, spans_of, IsGateFile};
@@ -9,7 +9,6 @@ ghost use Rattle.bk_gate.specs.Gate.{IsGate};
 ghost use Rattle.bk_media.specs.Media.{LeavesMade, HasSets, sets_in, medium_letters};
 
 use crate::error::{LoadError, MakeError};
-use crate::seal::seal;
 use bk_device::{Device, Failed};
 use bk_gate::{Gate, GateError};
 use std::alloc::Global;
@@ -25,9 +24,7 @@ pub fn load_gate<D: Device>(alloc: Global, dev: &mut D, name: &str) -> Result<Ga
     ensures effect { D.tells → ChangesNothing (D.disk dev.old) (D.disk dev.new) }
     ensures foreign { D.tells → IsErrOf result LoadError.NotMedia → IsGateFile (contents ((D.disk dev.old).files name.now)) → ⊥ }
     ensures missing { IsErrOf result LoadError.Missing → ⊥ }
-    ensures cause { IsErrOf result LoadError.Fault → HasRisen (D.disk_faults dev.old) (D.disk_faults dev.new) }
-    ensures never_falls { D.disk_faults dev.old ≤ D.disk_faults dev.new }
-    ensures tell_faults { D.tell_faults dev.new ≡ D.tell_faults dev.old }
+    ensures cause { HasCause D.disk_faults D.tell_faults dev.old dev.new (IsErrOf result LoadError.Fault) }
 {
     match Gate::load(alloc, dev, name) {
         Ok(gate) => Ok(gate),
@@ -47,9 +44,7 @@ pub fn begins_well<D: Device>(dev: &mut D, gate: &Gate) -> Result<bool, Failed>
     ensures value { D.tells → IfOk result (λ is. is ≡ is_some (sets_in (sealed ((D.disk dev.old).files gate.now.name)))) }
     ensures some { IfOk result (λ is. is ≡ true → 1 ≤ length gate.now.spans) }
     ensures effect { D.tells → ChangesNothing (D.disk dev.old) (D.disk dev.new) }
-    ensures cause { OnErr result (HasRisen (D.disk_faults dev.old) (D.disk_faults dev.new)) }
-    ensures never_falls { D.disk_faults dev.old ≤ D.disk_faults dev.new }
-    ensures tell_faults { D.tell_faults dev.new ≡ D.tell_faults dev.old }
+    ensures cause { HasCause D.disk_faults D.tell_faults dev.old dev.new (IsErr result) }
 {
     if gate.count() == 0 {
         return Ok(false);
@@ -71,9 +66,7 @@ fn make_gate<D: Device>(alloc: Global, dev: &mut D, name: &str) -> Result<Gate, 
     ensures failed { IfOk result (λ g. g.failed ≡ false) }
     ensures stands { D.tells → IfOk result (λ g. IsGate (D.disk dev.new) g) }
     ensures crash { D.tells → Effect (IsName name.now) (λ image. (D.disk dev.old).may name.now (image name.now) ⊎ (sealed (image name.now) ≡ [])) (D.disk dev.old) (D.disk dev.new) }
-    ensures cause { IsErrOf result MakeError.Fault → HasRisen (D.disk_faults dev.old) (D.disk_faults dev.new) }
-    ensures never_falls { D.disk_faults dev.old ≤ D.disk_faults dev.new }
-    ensures tell_faults { D.tell_faults dev.new ≡ D.tell_faults dev.old }
+    ensures cause { HasCause D.disk_faults D.tell_faults dev.old dev.new (IsErrOf result MakeError.Fault) }
 {
     match Gate::make(alloc, dev, name) {
         Ok(gate) => Ok(gate),
@@ -93,12 +86,10 @@ pub fn make_empty<D: Device>(alloc: Global, dev: &mut D, name: &str) -> Result<G
     ensures sets { D.tells → OnOk result (HasSets [] ((D.disk dev.new).files name.now)) }
     ensures durable { D.tells → OnOk result (IsDurable (D.disk dev.new) name.now) }
     ensures crash { D.tells → Effect (IsName name.now) (λ image. LeavesMade ((D.disk dev.old).may name.now) (image name.now)) (D.disk dev.old) (D.disk dev.new) }
-    ensures cause { IsErrOf result MakeError.Fault → HasRisen (D.disk_faults dev.old) (D.disk_faults dev.new) }
-    ensures never_falls { D.disk_faults dev.old ≤ D.disk_faults dev.new }
-    ensures tell_faults { D.tell_faults dev.new ≡ D.tell_faults dev.old }
+    ensures cause { HasCause D.disk_faults D.tell_faults dev.old dev.new (IsErrOf result MakeError.Fault) }
 {
     let mut gate = make_gate(alloc, dev, name)?;
     gate.reserve(1)?;
-    seal(&mut gate, dev, &LETTERS)?;
+    gate.append_reserved(dev, &LETTERS)?;
     Ok(gate)
 }

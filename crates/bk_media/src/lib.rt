@@ -5,12 +5,8 @@ mod error;
 mod first;
 mod medium;
 mod name;
-mod seal;
 mod span;
 
 pub use error::{AddError, LoadError, MakeError, SetError};
 pub use medium::Medium;
 pub use name::{medium_file, name_law};
-
-#[cfg(test)]
-mod tests;

@@ -1,7 +1,7 @@
 // A medium: a gate file, whose first blob says so and whose further blobs are backup sets.
 ghost use Rattle.std.specs.Prelude.{◌≡◌, ◌≤◌, ◌<◌, ◌⊎◌, ◌↔◌, ◌+◌, ◌-◌, ◌++◌, ◌∷◌, [], List, ℕ, Option, Some, None, length, true, false, IfOk, OnOk, IsErrOf};
 ghost use Rattle.bk_device.specs.Calls.{ChangesNothing};
-ghost use Rattle.bk_device.specs.Counts.{HasRisen};
+ghost use Rattle.bk_device.specs.Counts.{HasCause};
 ghost use Rattle.bk_device.specs.Disk.{IsDurable};
 ghost use Rattle.bk_device.specs.Effects.{Effect, IsName};
 ghost use Rattle.bk_gate.specs.Gate.{Kept};
@@ -14,7 +14,6 @@ ghost use Rattle.bk_media.specs.Media.{HasSets, LeavesMade, HasAdded, LeavesAdde
 use crate::error::{AddError, LoadError, MakeError, SetError};
 use crate::first::{begins_well, load_gate, make_empty};
 use crate::name::medium_file;
-use crate::seal::seal;
 use crate::span::read_blob;
 use bk_device::Device;
 use bk_gate::Gate;
@@ -53,9 +52,7 @@ impl Medium {
         ensures missing { D.tells → IsErrOf result LoadError.Missing → (D.disk dev.old).files (medium_file path.now) ≡ None }
         ensures not_media { D.tells → IsErrOf result LoadError.NotMedia → read_medium ((D.disk dev.old).files (medium_file path.now)) ≡ Some not_media }
         ensures effect { D.tells → ChangesNothing (D.disk dev.old) (D.disk dev.new) }
-        ensures cause { IsErrOf result LoadError.Fault → HasRisen (D.disk_faults dev.old) (D.disk_faults dev.new) }
-        ensures never_falls { D.disk_faults dev.old ≤ D.disk_faults dev.new }
-        ensures tell_faults { D.tell_faults dev.new ≡ D.tell_faults dev.old }
+        ensures cause { HasCause D.disk_faults D.tell_faults dev.old dev.new (IsErrOf result LoadError.Fault) }
     {
         let name = medium_file(alloc, path)?;
         if dev.len(&name)?.is_none() {
@@ -79,9 +76,7 @@ impl Medium {
         ensures sets { D.tells → OnOk result (HasSets [] ((D.disk dev.new).files (medium_file path.now))) }
         ensures durable { D.tells → OnOk result (IsDurable (D.disk dev.new) (medium_file path.now)) }
         ensures crash { D.tells → Effect (IsName (medium_file path.now)) (λ image. LeavesMade ((D.disk dev.old).may (medium_file path.now)) (image (medium_file path.now))) (D.disk dev.old) (D.disk dev.new) }
-        ensures cause { IsErrOf result MakeError.Fault → HasRisen (D.disk_faults dev.old) (D.disk_faults dev.new) }
-        ensures never_falls { D.disk_faults dev.old ≤ D.disk_faults dev.new }
-        ensures tell_faults { D.tell_faults dev.new ≡ D.tell_faults dev.old }
+        ensures cause { HasCause D.disk_faults D.tell_faults dev.old dev.new (IsErrOf result MakeError.Fault) }
     {
         let name = medium_file(alloc, path)?;
         let gate = make_empty(alloc, dev, &name)?;
@@ -107,9 +102,7 @@ impl Medium {
         ensures no_such { IsErrOf result SetError.NoSuchSet ↔ HasNoSet self.now p }
         ensures is_body { IfOk result IsBody }
         ensures effect { D.tells → ChangesNothing (D.disk dev.old) (D.disk dev.new) }
-        ensures cause { IsErrOf result SetError.Fault → HasRisen (D.disk_faults dev.old) (D.disk_faults dev.new) }
-        ensures never_falls { D.disk_faults dev.old ≤ D.disk_faults dev.new }
-        ensures tell_faults { D.tell_faults dev.new ≡ D.tell_faults dev.old }
+        ensures cause { HasCause D.disk_faults D.tell_faults dev.old dev.new (IsErrOf result SetError.Fault) }
     {
         if p == 0 {
             return Err(SetError::NoSuchSet);
@@ -141,13 +134,11 @@ impl Medium {
         ensures fit { OnOk result (self.new.failed ≡ false) }
         ensures no_memory { IsErrOf result AddError.NoMemory → (self.new ≡ self.old) × (dev.new ≡ dev.old) }
         ensures crash { D.tells → Effect (IsName self.old.name) (λ image. LeavesAdded (sets_of ((D.disk dev.old).files self.old.name)) body.now (image self.old.name)) (D.disk dev.old) (D.disk dev.new) }
-        ensures cause { IsErrOf result AddError.Fault → HasRisen (D.disk_faults dev.old) (D.disk_faults dev.new) }
-        ensures never_falls { D.disk_faults dev.old ≤ D.disk_faults dev.new }
-        ensures tell_faults { D.tell_faults dev.new ≡ D.tell_faults dev.old }
+        ensures cause { HasCause D.disk_faults D.tell_faults dev.old dev.new (IsErrOf result AddError.Fault) }
     {
         let bytes = encode_set(alloc, body)?;
         self.gate.reserve(1)?;
-        seal(&mut self.gate, dev, &bytes)?;
+        self.gate.append_reserved(dev, &bytes)?;
         Ok(())
     }
 }

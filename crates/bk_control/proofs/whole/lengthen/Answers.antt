@@ -1,5 +1,6 @@
-use Rattle.std.proofs.Common.{◌∙◌, ap, arith}
+use Rattle.std.proofs.Common.{ap, arith}
 use Rattle.bk_device.specs.Calls.{contents}
+use Rattle.bk_device.specs.Laws.{cause_then}
 use Rattle.bk_control.proofs.Growing.{grow_step, lengthens_more, lengthens_end}
 use Rattle.bk_control.proofs.whole.lengthen.Goals as goal
 
@@ -15,8 +16,7 @@ pieces-preserved g c = record {
   file = λ t. lengthens_more c.pieces.at c.min-n.result _ _ _ (omega (arith, c.pieces.invariant.order, c.requires.from t)) (c.pieces.invariant.file t) (ap contents (c.in_ok-write_zeros.ensures.written t));
   effect = λ t.
       grow_step c.args.name.now c.args.to c.pieces.at c.min-n.result (g.D.Device.disk c.args.dev.now) (g.D.Device.disk c.pieces.dev) (g.D.Device.disk c.write_zeros.new.dev) (omega (arith, c.pieces.invariant.order, c.requires.from t)) (omega (arith, c.min-n.ensures, c.pieces-test.true, c.pieces.invariant.bound, c.requires.from t)) (c.pieces.invariant.effect t) (c.write_zeros.ensures.effect t);
-  never_falls = omega (arith, c.pieces.invariant.never_falls, c.write_zeros.ensures.never_falls);
-  tell_faults = c.write_zeros.ensures.tell_faults ∙ c.pieces.invariant.tell_faults;
+  cause = cause_then c.pieces.invariant.cause c.write_zeros.ensures.cause (λ none. absurd none);
 }
 
 pub returns-clause-lengthened : goal.returns-clause-lengthened

@@ -1,4 +1,4 @@
-use Rattle.std.proofs.Common.{◌≡◌, ◌≤◌, ◌<◌, ◌+◌, ◌++◌, ◌∙◌, inl, ap, arith, length, List, ℕ}
+use Rattle.std.proofs.Common.{◌≡◌, ◌≤◌, ◌<◌, ◌+◌, ◌∙◌, inl, ap, arith, length, List, ℕ}
 use Rattle.bk_device.specs.Calls.{contents, written, read_at}
 use Rattle.bk_device.specs.Torn.{read_at-written_other}
 use Rattle.bk_gate.specs.BlobLaws.{adds}

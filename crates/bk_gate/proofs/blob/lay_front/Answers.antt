@@ -1,4 +1,4 @@
-use Rattle.std.proofs.Common.{◌≡◌, ◌<◌, ◌+◌, ◌++◌, ◌∙◌, take, length, ap, sym, subst, arith, List, ℕ}
+use Rattle.std.proofs.Common.{◌≡◌, ◌+◌, ◌++◌, ◌∙◌, take, length, ap, sym, subst, arith, List, ℕ}
 use Rattle.bk_device.specs.Calls.{contents, written}
 use Rattle.bk_gate.specs.Blobs.{number_bytes}
 use Rattle.bk_gate.specs.Gate.{HasFront}

@@ -1,4 +1,4 @@
-use Rattle.std.proofs.Common.{◌≡◌, ◌+◌, ◌-◌, ◌∙◌, ap, sym, subst, take, drop, length, arith, List, ℕ}
+use Rattle.std.proofs.Common.{◌≡◌, ◌+◌, ◌-◌, ap, sym, subst, take, drop, length, List, ℕ}
 use Rattle.bk_device.specs.Calls.{contents, written}
 use Rattle.bk_gate.specs.Gate.{HasFront}
 use Rattle.bk_gate.specs.BlobLaws.{front_rest}

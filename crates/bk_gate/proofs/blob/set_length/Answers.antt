@@ -1,7 +1,7 @@
 use Rattle.std.proofs.Common.{◌≡◌, ◌+◌, ◌∙◌, ap, arith, List, ℕ}
 use Rattle.bk_device.specs.Calls.{contents, written, read_at}
 use Rattle.bk_gate.specs.Blobs.{number_bytes}
-use Rattle.bk_gate.specs.BlobLaws.{sizes, sizes_length, sizes_blob}
+use Rattle.bk_gate.specs.BlobLaws.{sizes}
 use Rattle.bk_gate.proofs.Steps.{quiet_none}
 use Rattle.bk_gate.proofs.blob.set_length.Goals as goal
 

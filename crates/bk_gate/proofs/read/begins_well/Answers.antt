@@ -1,6 +1,7 @@
 use Rattle.std.proofs.Common.{◌∙◌, refl, take}
 use Rattle.bk_device.specs.Calls.{contents}
-use Rattle.bk_gate.proofs.Reading.{filled_whole, tested}
+use Rattle.bk_device.specs.Laws.{filled_whole}
+use Rattle.bk_gate.proofs.Reading.{tested}
 use Rattle.bk_gate.proofs.read.begins_well.Goals as goal
 
 pub returns-clause-value : goal.returns-clause-value

@@ -1,6 +1,8 @@
 use Rattle.std.proofs.Common.{◌≤◌, ◌+◌, ◌∙◌, ap, sym, arith, length}
 use Rattle.bk_device.specs.Calls.{contents}
-use Rattle.bk_gate.proofs.Reading.{nothing_then, read_more}
+use Rattle.bk_device.specs.Laws.{nothing_then, cause_then}
+use Rattle.bk_gate.proofs.Gates.{within_pushed}
+use Rattle.bk_gate.proofs.Reading.{read_more}
 use Rattle.bk_gate.proofs.read.read_spans.Goals as goal
 
 pub blobs-preserved : goal.blobs-preserved
@@ -12,6 +14,6 @@ blobs-preserved g c =
       lies = λ t size.
           let same = ap contents ((c.blobs.invariant.nothing t).files c.args.name.now) in
           read_more _ _ c.blobs.gate c.in-Some.size _ _ same (c.blobs.invariant.lies t size) (c.in_ok-size.ensures.blob t (size ∙ sym (ap length same)) ∙ c.in-Some.is) c.in_ok-push_span.ensures;
-      never_falls = omega (arith, c.blobs.invariant.never_falls, c.read_blob.ensures.never_falls);
-      tell_faults = c.read_blob.ensures.tell_faults ∙ c.blobs.invariant.tell_faults;
+      within = within_pushed c.blobs.gate (c.blobs.gate + (9 + c.in-Some.size)) _ _ (c.blobs.gate + 9, c.in-Some.size) (omega arith) (omega arith) c.in_ok-push_span.ensures c.blobs.invariant.within;
+      cause = cause_then c.blobs.invariant.cause c.read_blob.ensures.cause (λ none. absurd none);
     }

@@ -11,10 +11,10 @@ returns-then-count-eq0-clause-value g c t =
 pub returns-then-len-ne8-clause-value : goal.returns-then-len-ne8-clause-value
 returns-then-len-ne8-clause-value g c t =
     let file = contents ((g.D.Device.disk c.args.dev.now).files c.args.gate.now.name) in
-    sym (first_other file c.args.gate.now.spans c.span-at.result (c.requires.gate_file t) (c.requires.spans t) c.span-at.ensures c.if-len-ne8.true)
+    sym (first_other file c.args.gate.now.spans c.span-at.result (c.requires.gate_file t) (c.requires.spans t) c.span-at.ensures.span c.if-len-ne8.true)
 
 pub returns-clause-value : goal.returns-clause-value
 returns-clause-value g c t =
     let file = contents ((g.D.Device.disk c.args.dev.now).files c.args.gate.now.name) in
-    c.eq.ensures ∙ letters_read _ c.read.new.buf _ file _ c.args.gate.now.spans c.span-at.result (c.requires.gate_file t) (c.requires.spans t) c.span-at.ensures c.if-len-ne8.false
+    c.eq.ensures ∙ letters_read _ c.read.new.buf _ file _ c.args.gate.now.spans c.span-at.result (c.requires.gate_file t) (c.requires.spans t) c.span-at.ensures.span c.if-len-ne8.false
     (c.in_ok-read.ensures.bytes t) refl refl (ap (λ (n : List ℕ). contents ((g.D.Device.disk c.args.dev.now).files n)) c.name.ensures)

@@ -1,4 +1,4 @@
-use Rattle.bk_control.proofs.Finding.{nothing_then}
+use Rattle.bk_device.specs.Laws.{nothing_then}
 use Rattle.bk_control.proofs.control.Control.load.Goals as goal
 
 pub returns-in_err-read_content-clause-effect : goal.returns-in_err-read_content-clause-effect

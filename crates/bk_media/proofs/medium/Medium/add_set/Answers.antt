@@ -11,6 +11,6 @@ returns-in_err-reserve-clause-crash g c t = add_none c.args.body.now (c.requires
 
 pub returns-clause-stands : goal.returns-clause-stands
 returns-clause-stands g c t =
-    sealed_medium c.args.self.now.name c.args.body.now c.deref.result.now (g.D.Device.disk c.args.dev.now) (g.D.Device.disk c.seal.new.dev) c.reserve.new.self c.seal.new.gate
-    (ap (λ (k : Kept). k.name) c.in_ok-reserve.ensures.same ∙ ap (λ (k : Kept). k.name) c.self.view_is) c.in_ok-seal.ensures.name c.in_ok-bytes.ensures.fits
-    (c.deref.ensures.value ∙ c.in_ok-bytes.ensures.bytes) (c.requires.stands t).sets (c.in_ok-seal.ensures.sealed t) (c.in_ok-seal.ensures.stands t)
+    sealed_medium c.args.self.now.name c.args.body.now c.deref.result.now (g.D.Device.disk c.args.dev.now) (g.D.Device.disk c.append_reserved.new.dev) c.reserve.new.self c.append_reserved.new.self
+    (ap (λ (k : Kept). k.name) c.in_ok-reserve.ensures.same ∙ ap (λ (k : Kept). k.name) c.self.view_is) c.append_reserved.ensures.name c.in_ok-bytes.ensures.fits
+    (c.deref.ensures.value ∙ c.in_ok-bytes.ensures.bytes) (c.requires.stands t).sets (c.in_ok-append_reserved.ensures.sealed t) (c.in_ok-append_reserved.ensures.stands t)

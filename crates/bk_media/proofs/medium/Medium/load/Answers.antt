@@ -3,7 +3,7 @@ use Rattle.std.specs.Prelude.{not}
 use Rattle.std.proofs.lemmas.Result.{err_from_is_err_and}
 use Rattle.bk_media.specs.Names.{medium_file}
 use Rattle.bk_media.proofs.Sets.{well_has, count_is, ill_read}
-use Rattle.bk_media.specs.Laws.{nothing_then}
+use Rattle.bk_device.specs.Laws.{nothing_then}
 use Rattle.bk_media.proofs.Steps.{opened, opened_medium, shown_medium, is_there, foreign_read}
 use Rattle.bk_media.proofs.medium.Medium.load.Goals as goal
 
