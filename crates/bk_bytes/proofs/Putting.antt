@@ -4,7 +4,7 @@ use Rattle.std.proofs.lemmas.List.{append-nil, take_rest, drop-drop, drop_all, l
 use borrow.Rule.Slice.PartMut.{put_mid}
 use Rattle.byteorder.specs.Endian.{little_bytes}
 use Rattle.bk_bytes.specs.Field.{bytes_of, with_field}
-use Rattle.bk_bytes.proofs.Fields.{length-bytes_of}
+use Rattle.bk_bytes.specs.FieldLaws.{length-bytes_of}
 
 -- the first bytes of the rest are the field, and nothing else changes
 pub put_mid-field : (n x at : ℕ) (old rest : List ℕ) → at + n ≤ length old

@@ -2,3 +2,8 @@ pub mod Field
 pub mod Codec
 pub mod Cell
 pub mod CellView
+pub mod FieldLaws
+pub mod TextLaws
+pub mod CodecLaws
+pub mod CellLaws
+pub mod LoopLaws

@@ -19,6 +19,3 @@ pub use split::{
     split_run, split_str, split_text, split_u8, split_u16, split_u32, split_u64, split_u128,
     split_zeros,
 };
-
-#[cfg(test)]
-mod tests;

@@ -2,20 +2,21 @@
 use Rattle.std.proofs.Common.{◌≡◌, ◌<◌, ◌-◌, ℕ, zero, suc, Bool, true, false, cond, List, [], ◌++◌, length, Option, Some, None, Result, Ok, Err, refl, sym, ◌∙◌, ap, subst, ltb, eqb, lit<}
 use Rattle.std.specs.Prelude.{IfOk}
 use Rattle.std.proofs.lemmas.List.{append-nil}
+use Rattle.std.proofs.lemmas.Option.{same_Some}
 use Rattle.bk_bytes.specs.Field.{AreBytes, bytes_of}
 use Rattle.bk_bytes.specs.Codec.{◌>>=◌, Codec, IsCodec, string, number_at, string_at}
-use Rattle.bk_bytes.proofs.Codecs.{AreBytes-take, AreBytes-after, bind_some, guard_true, some_is, number-IsCodec, string-IsCodec, followed-IsCodec}
+use Rattle.bk_bytes.specs.CodecLaws.{AreBytes-take, AreBytes-after, bind_some, guard_true, number-IsCodec, string-IsCodec, followed-IsCodec}
 use Rattle.bk_fields.specs.Guids.{guid_form}
-use Rattle.bk_fields.proofs.Laws.{guid_form-IsCodec}
+use Rattle.bk_fields.specs.Laws.{guid_form-IsCodec}
 use Rattle.bk_set.specs.declared.body.SetBody.{SetBody}
 use Rattle.bk_set.specs.declared.found.Found.TheVariants.{Damaged, NoSet}
 use Rattle.bk_set.specs.Conditions.{IsBody}
 use Rattle.bk_set.specs.Found.{found, front_of, digest_in, body_or_none}
 use Rattle.bk_set.specs.Reading.{body_form, body_of}
 use Rattle.bk_set.specs.Spelling.{set_bytes}
-use Rattle.bk_set.proofs.Founds.{set_found}
-use Rattle.bk_set.proofs.Kept.{body_keeps}
-use Rattle.bk_set.proofs.Laws.{body_read}
+use Rattle.bk_set.specs.FoundLaws.{set_found}
+use Rattle.bk_set.specs.Laws.{body_keeps}
+use Rattle.bk_set.specs.Laws.{body_read}
 use Rattle.bk_changes.specs.declared.change.Change.{Change}
 use Rattle.bk_changes.specs.declared.change.Change.TheVariants.{Created, Dropped, TableMade, RowAdded, Logged, Based, Replaced, Restored, Recovered}
 use Rattle.bk_changes.specs.declared.unread.Unread.{Unread}
@@ -82,7 +83,7 @@ replaced-fits bytes c fits e =
     let b = bind_some (string_at 1 64 bytes) _ c e in
     let d = bind_some (body_held (found b.0.1)) _ c b.2 in
     let name = (string-IsCodec 1 64 (lit< tt)).takes bytes b.0.0 b.0.1 fits b.1 in
-    let is : Replaced b.0.0 d.0 ≡ c = some_is (Replaced b.0.0 d.0) c d.2 in
+    let is : Replaced b.0.0 d.0 ≡ c = same_Some (Replaced b.0.0 d.0) c d.2 in
     subst IsChange is (name.1, found-fits b.0.1 d.0 (AreBytes-after bytes _ b.0.1 fits name.0) d.1)
 
 fields-fit : (kind : ℕ) (bytes : List ℕ) (c : Change) → AreBytes bytes → fields_in kind bytes ≡ Some c → IsChange c

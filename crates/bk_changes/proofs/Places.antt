@@ -7,7 +7,7 @@ use Rattle.std.proofs.lemmas.Bool.Decides.{nat_tests}
 use Rattle.std.proofs.lemmas.List.{set-get_or}
 use Rattle.std.proofs.lemmas.List.Quantifiers.{position-Some}
 use Rattle.bk_bytes.specs.Codec.{◌>>=◌}
-use Rattle.bk_bytes.proofs.Codecs.{bind_assoc}
+use Rattle.bk_bytes.specs.CodecLaws.{bind_assoc}
 use Rattle.bk_ids.specs.Name.{same_name}
 use Rattle.bk_changes.specs.declared.error.ApplyError.{ApplyError}
 use Rattle.bk_changes.specs.declared.state.Database.{Database}

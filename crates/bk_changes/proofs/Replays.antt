@@ -1,9 +1,10 @@
 -- Blobs that are replayed one after the other.
 use Rattle.std.proofs.Common.{◌≡◌, ℕ, List, [], ◌∷◌, ◌++◌, Option, Some, None, refl, ◌∙◌, ap, subst}
 use Rattle.std.specs.List.{AllByRecursion}
+use Rattle.std.proofs.lemmas.Option.{same_Some}
 use Rattle.bk_bytes.specs.Field.{AreBytes}
 use Rattle.bk_bytes.specs.Codec.{◌>>=◌}
-use Rattle.bk_bytes.proofs.Codecs.{bind_some, some_is}
+use Rattle.bk_bytes.specs.CodecLaws.{bind_some}
 use Rattle.bk_changes.specs.declared.change.Change.{Change}
 use Rattle.bk_changes.specs.declared.state.Database.{Database}
 use Rattle.bk_changes.specs.Applied.{applied}
@@ -37,7 +38,7 @@ pub replayed-spelled : (ds : List Database) (blobs : List (List ℕ)) (c : Chang
 replayed-spelled ds blobs c is = replayed-more ds blobs (change_bytes c) ∙ spelled-step c is (replayed_from ds blobs)
 
 pub replayed-sound : (ds new : List Database) (blobs : List (List ℕ)) → AllByRecursion AreBytes blobs → AllSound ds → replayed_from ds blobs ≡ Some new → AllSound new
-replayed-sound ds new [] fits all e = subst AllSound (some_is ds new e) all
+replayed-sound ds new [] fits all e = subst AllSound (same_Some ds new e) all
 replayed-sound ds new (blob ∷ blobs) fits all e =
     let b = bind_some (step_of blob ds) (λ next. replayed_from next blobs) new e in
     let d = bind_some (change_of blob) (λ c. applied c ds) b.0 b.1 in

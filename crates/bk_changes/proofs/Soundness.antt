@@ -8,8 +8,9 @@ use Rattle.std.specs.declared.cmp.Ordering.TheVariants.{Less, Equal, Greater}
 use Rattle.std.proofs.lemmas.Bool.{and_parts, ltb-true, leb-true, not-true}
 use Rattle.std.proofs.lemmas.Bool.Decides.{nat_tests}
 use Rattle.std.proofs.lemmas.List.{length-map}
+use Rattle.std.proofs.lemmas.Option.{same_Some}
 use Rattle.bk_bytes.specs.Codec.{◌>>=◌}
-use Rattle.bk_bytes.proofs.Codecs.{bind_some, guard_true, some_is}
+use Rattle.bk_bytes.specs.CodecLaws.{bind_some, guard_true}
 use Rattle.bk_ids.specs.declared.guid.Guid.{Guid}
 use Rattle.bk_ids.specs.Name.{same_name}
 use Rattle.bk_header.specs.Conditions.{IsHeaderFile, AreHeaderFiles, AreNumbered, total_extents, KeepFiles, HasPath}
@@ -275,11 +276,11 @@ changed-sound name change keeps (d ∷ ds) new e all = by (λ x h. changed-sound
     by : ((x : List Database) → changed name change ds ≡ Some x → AllSound x) → (t : Bool) → cond t (change d >>= λ x. Some (x ∷ ds)) (changed name change ds >>= λ others. Some (d ∷ others)) ≡ Some new → AllSound new
     by later true h =
         let b = bind_some (change d) (λ x. Some (x ∷ ds)) new h in
-        let is : b.0 ∷ ds ≡ new = some_is (b.0 ∷ ds) new b.2 in
+        let is : b.0 ∷ ds ≡ new = same_Some (b.0 ∷ ds) new b.2 in
         subst AllSound is (keeps d b.0 b.1 all.0, all.1)
     by later false h =
         let b = bind_some (changed name change ds) (λ others. Some (d ∷ others)) new h in
-        let is : d ∷ b.0 ≡ new = some_is (d ∷ b.0) new b.2 in
+        let is : d ∷ b.0 ≡ new = same_Some (d ∷ b.0) new b.2 in
         subst AllSound is (all.0, later b.0 b.1)
 
 dropped-sound : (name : List ℕ) (ds new : List Database) → dropped name ds ≡ Some new → AllSound ds → AllSound new
@@ -287,10 +288,10 @@ dropped-sound name [] new e all = absurd cc
 dropped-sound name (d ∷ ds) new e all = by (λ x h. dropped-sound name ds x h all.1) (same_name d.name name) e
   where
     by : ((x : List Database) → dropped name ds ≡ Some x → AllSound x) → (t : Bool) → cond t (Some ds) (dropped name ds >>= λ others. Some (d ∷ others)) ≡ Some new → AllSound new
-    by later true h = let is : ds ≡ new = some_is ds new h in subst AllSound is all.1
+    by later true h = let is : ds ≡ new = same_Some ds new h in subst AllSound is all.1
     by later false h =
         let b = bind_some (dropped name ds) (λ others. Some (d ∷ others)) new h in
-        let is : d ∷ b.0 ≡ new = some_is (d ∷ b.0) new b.2 in
+        let is : d ∷ b.0 ≡ new = same_Some (d ∷ b.0) new b.2 in
         subst AllSound is (all.0, later b.0 b.1)
 
 placed-sound : (new : Database) (ds : List Database) → IsSound new → AllSound ds → AllSound (placed new ds)

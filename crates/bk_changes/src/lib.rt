@@ -32,6 +32,3 @@ pub use saving::set_body;
 pub use state::{Database, Standing, Table};
 pub use unread::Unread;
 pub use writing::encode_change;
-
-#[cfg(test)]
-mod tests;

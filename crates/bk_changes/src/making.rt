@@ -1,7 +1,8 @@
 //! Databases that are made, and those that sets make.
 
-ghost use Rattle.std.specs.Prelude.{◌≡◌, ◌<◌, ◌≤◌, length, map, IfOk};
+ghost use Rattle.std.specs.Prelude.{◌≡◌, ◌<◌, ◌≤◌, ◌∷◌, [], length, map, codes, IfOk};
 ghost use Rattle.bk_set.specs.Conditions.{IsBody};
+ghost use Rattle.bk_world.specs.Changes.{default_file};
 ghost use Rattle.bk_world.specs.Restore as world;
 ghost use Rattle.bk_changes.specs.Made.{pair_of, KeysRise, made_database, table_in, taken_over};
 
@@ -23,6 +24,39 @@ fn named(alloc: Global, text: &str) -> Result<Name, AllocError>
     Name::new(alloc, text).map_err(|_| AllocError)
 }
 
+// The filegroups of a new database: PRIMARY.
+fn primary(alloc: Global) -> Result<Sequence<Name>, AllocError>
+    ensures { IfOk result (λ groups. groups ≡ codes "PRIMARY" ∷ []) }
+{
+    let primary = named(alloc, "PRIMARY")?;
+    Ok(Sequence::new(vec![in alloc; primary]?))
+}
+
+// Its one data file, which has its name.
+fn first_file(alloc: Global, name: &Name) -> Result<Sequence<FileSpec>, AllocError>
+    ensures { IfOk result (λ files. files ≡ default_file name.now ∷ []) }
+{
+    let file = FileSpec {
+        number: 1,
+        group: 0,
+        extents: 128,
+        name: name.copy(alloc)?,
+        path: Text::new(String::from_str(alloc, name.as_str())?),
+    };
+    Ok(Sequence::new(vec![in alloc; file]?))
+}
+
+// Its path: a branch that begins with its first log record.
+fn first_path(alloc: Global, branch: Guid) -> Result<Path, AllocError>
+    ensures { IfOk result (λ path. path ≡ (record { guid = branch; start = 1 }) ∷ []) }
+{
+    let first = Branch {
+        guid: branch,
+        start: 1,
+    };
+    Ok(Path::new(vec![in alloc; first]?))
+}
+
 /// A database of this name, as CREATE DATABASE makes it at a time.
 #[tactic(auto, unfolding(crate::specs::Made::made_database))]
 pub fn made(
@@ -36,27 +70,17 @@ pub fn made(
 {
     let log = log_name(alloc, name)?;
     let log_name = named(alloc, &log)?;
-    let file = FileSpec {
-        number: 1,
-        group: 0,
-        extents: 128,
-        name: name.copy(alloc)?,
-        path: Text::new(String::from_str(alloc, name.as_str())?),
-    };
-    let primary = named(alloc, "PRIMARY")?;
+    let groups = primary(alloc)?;
+    let files = first_file(alloc, name)?;
+    let path = first_path(alloc, branch)?;
     Ok(Database {
         name: name.copy(alloc)?,
         family,
-        groups: Sequence::new(vec![in alloc; primary]?),
-        files: Sequence::new(vec![in alloc; file]?),
+        groups,
+        files,
         log_name,
         log_path: Text::new(log),
-        path: Path::new(vec![in alloc;
-            Branch {
-                guid: branch,
-                start: 1
-            },
-        ]?),
+        path,
         end: 2,
         archive: 1,
         chain: false,
@@ -113,12 +137,13 @@ pub fn taken(alloc: Global, name: &Name, body: &SetBody) -> Result<Database, All
     ensures { IfOk result (λ database. database ≡ taken_over name.now body.now) }
 {
     let header = &body.header;
-    let table = table(alloc, body)?;
+    let groups = Sequence::new(copies::names(alloc, header.groups.as_slice())?);
+    let files = Sequence::new(copies::file_specs(alloc, header.files.as_slice())?);
     Ok(Database {
         name: name.copy(alloc)?,
         family: header.family,
-        groups: Sequence::new(copies::names(alloc, header.groups.as_slice())?),
-        files: Sequence::new(copies::file_specs(alloc, header.files.as_slice())?),
+        groups,
+        files,
         log_name: header.log_name.copy(alloc)?,
         log_path: header.log_path.copy(alloc)?,
         path: header.path.copy(alloc)?,
@@ -128,7 +153,7 @@ pub fn taken(alloc: Global, name: &Name, body: &SetBody) -> Result<Database, All
         base: base_of(header),
         model: header.model,
         time: header.finish,
-        table,
+        table: table(alloc, body)?,
         standing: Standing::Interrupted,
     })
 }

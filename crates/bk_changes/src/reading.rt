@@ -11,20 +11,16 @@ use crate::change::Change;
 use crate::unread::Unread;
 use bk_bytes::{split_str, split_u8, split_u64};
 use bk_fields::split_guid;
-use bk_ids::{Guid, Name, NameError, Text};
+use bk_ids::{Guid, Name, Text};
 use bk_set::{Found, SetBody, read_set};
 use std::alloc::Global;
 
 fn read_name(alloc: Global, bytes: &[u8]) -> Result<(Name, &[u8]), Unread>
     ensures { Reads (λ x. (x.0, x.1.now)) result ((string 1 64).reading bytes.now) }
 {
-    let Some((text, rest)) = split_str(bytes, 1, 64) else {
-        return Err(Unread::NoChange);
-    };
-    match Name::new(alloc, text) {
-        Ok(name) => Ok((name, rest)),
-        Err(NameError::NoMemory) => Err(Unread::NoMemory),
-        Err(NameError::TooLong { .. }) => Err(Unread::NoChange),
+    match bk_fields::read_name(alloc, bytes)? {
+        Some(read) => Ok(read),
+        None => Err(Unread::NoChange),
     }
 }
 

@@ -89,9 +89,9 @@ pub fn set_body(alloc: Global, kept: &Database, set: Guid, time: u64) -> Result<
     ensures body { IfOk result (λ body. body ≡ kept_body kept.now set time) }
     ensures keeps { IsSound kept.now → time ≤ latest → IfOk result KeepsBody }
 {
-    let header = header(alloc, kept, set, time)?;
     let tables = Sequence::new(tables(alloc, &kept.table)?);
     let rows = Sequence::new(rows(alloc, &kept.table)?);
+    let header = header(alloc, kept, set, time)?;
     Ok(SetBody {
         header,
         tables,

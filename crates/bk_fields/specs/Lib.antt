@@ -1,2 +1,3 @@
 pub mod Guids
 pub mod Models
+pub mod Laws

@@ -3,9 +3,8 @@
 
 mod guid;
 mod model;
+mod name;
 
 pub use guid::{append_guid, guid_law, split_guid};
 pub use model::{append_model, model_law, split_model};
-
-#[cfg(test)]
-mod tests;
+pub use name::read_name;

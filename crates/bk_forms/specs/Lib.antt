@@ -1,2 +1,4 @@
 pub mod Creating
 pub mod Rows
+pub mod CreatingLaws
+pub mod RowsLaws

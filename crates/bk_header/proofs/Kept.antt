@@ -1,13 +1,12 @@
 -- A header that keeps the conditions, and what its types say, have a spelling.
-use Rattle.std.proofs.Common.{ℕ, ◌<◌, List, [], ◌∷◌, length, Result, Ok, Err, arith}
+use Rattle.std.proofs.Common.{ℕ, ◌<◌, List, [], ◌∷◌, length, Result, Ok, Err}
 use Rattle.std.specs.Prelude.{OnOk}
 use Rattle.std.specs.List.{AllByRecursion}
 use Rattle.bk_ids.specs.declared.path.Branch.{Branch}
 use Rattle.bk_world.specs.declared.header.HeaderFile.{HeaderFile}
 use Rattle.bk_world.specs.declared.header.Header.{Header}
-use Rattle.std.proofs.lemmas.List.Elements.{All-from_recursion}
 use Rattle.bk_fields.specs.Guids.{IsGuid}
-use Rattle.bk_header.specs.Conditions.{IsHeaderPath, IsHeaderFile, IsHeader, KeepsPath, KeepsConditions, HasPath, HasRanges, HasFileRanges, HasListRanges}
+use Rattle.bk_header.specs.Conditions.{IsHeaderPath, IsHeaderFile, IsHeader, KeepsPath, KeepsConditions, HasRanges, HasFileRanges, HasListRanges}
 
 -- what holds whatever comes out
 pub always : {T E : Type 0} (r : Result T E) (P : Type 0) → P → OnOk r P
@@ -51,46 +50,4 @@ header_kept h k r l = record {
   files = record { some = k.files.some; few = k.files.few; numbered = k.files.numbered; each = each_kept (length h.groups) h.files k.files.groups_there l.files; small = k.files.small };
   log_name = l.log_name;
   log_path = l.log_path;
-}
-
--- what has a spelling keeps the conditions
-below_of : (last : ℕ) (path : List Branch) → AllByRecursion (λ b. IsGuid b.guid × (b.start < last)) path → AllByRecursion (λ b. b.start < last) path
-below_of last [] h = tt
-below_of last (b ∷ path) h = (h.0.1, below_of last path h.1)
-
-path_of : (last : ℕ) (path : List Branch) → IsHeaderPath last path → KeepsPath last path
-path_of last [] h = absurd h
-path_of last (b ∷ path) h = (h.0, (h.1.0, below_of last (b ∷ path) h.1.1))
-
-groups_of : (groups : ℕ) (files : List HeaderFile) → AllByRecursion (IsHeaderFile groups) files → AllByRecursion (λ f. f.spec.group < groups) files
-groups_of groups [] h = tt
-groups_of groups (f ∷ files) h = (h.0.group, groups_of groups files h.1)
-
-paths_of : (groups : ℕ) (files : List HeaderFile) → AllByRecursion (IsHeaderFile groups) files → AllByRecursion HasPath files
-paths_of groups [] h = tt
-paths_of groups (f ∷ files) h = ((h.0.path.least_bytes, h.0.path.most_bytes), paths_of groups files h.1)
-
-pub header_keeps : (h : Header) → IsHeader h → KeepsConditions h
-header_keeps h is = record {
-  version = is.version;
-  range = is.range;
-  base_there = is.base_there;
-  start = is.start;
-  finish = is.finish;
-  expiry = is.expiry;
-  name_short = omega (arith, is.name.most_bytes);
-  path = path_of h.last h.path is.path;
-  path_short = is.path_short;
-  groups_some = is.groups_some;
-  groups_few = is.groups_few;
-  files = record {
-    some = is.files.some;
-    few = is.files.few;
-    numbered = is.files.numbered;
-    groups_there = groups_of (length h.groups) h.files is.files.each;
-    paths = All-from_recursion HasPath h.files (paths_of (length h.groups) h.files is.files.each);
-    small = is.files.small;
-  };
-  log_path_some = is.log_path.least_bytes;
-  log_path_short = is.log_path.most_bytes;
 }

@@ -1,4 +1,2 @@
 pub mod Readings
-pub mod Forms
-pub mod Laws
 pub mod Kept

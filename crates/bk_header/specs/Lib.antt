@@ -3,3 +3,5 @@ pub mod Conditions
 pub mod Reading
 pub mod Decoding
 pub mod Found
+pub mod FormLaws
+pub mod Laws

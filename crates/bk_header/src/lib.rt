@@ -12,6 +12,3 @@ mod unread;
 
 pub use decoding::{decode, header_law};
 pub use encoding::encode;
-
-#[cfg(test)]
-mod tests;

@@ -8,7 +8,7 @@ ghost use Rattle.bk_header.specs.Decoding.{Reads};
 use crate::unread::Unread;
 use bk_bytes::{split_str, split_u8, split_u16, split_u32, split_u64};
 use bk_fields::split_guid;
-use bk_ids::{Branch, Name, NameError, Path, Sequence, Text};
+use bk_ids::{Branch, Name, Path, Sequence, Text};
 use bk_world::{FileSpec, HeaderFile};
 use std::alloc::Global;
 
@@ -27,13 +27,9 @@ pub struct Lists {
 fn read_name(alloc: Global, bytes: &[u8]) -> Result<(Name, &[u8]), Unread>
     ensures { Reads (λ x. (x.0, x.1.now)) result ((string 1 64).reading bytes.now) }
 {
-    let Some((text, rest)) = split_str(bytes, 1, 64) else {
-        return Err(Unread::NoHeader);
-    };
-    match Name::new(alloc, text) {
-        Ok(name) => Ok((name, rest)),
-        Err(NameError::NoMemory) => Err(Unread::NoMemory),
-        Err(NameError::TooLong { .. }) => Err(Unread::NoHeader),
+    match bk_fields::read_name(alloc, bytes)? {
+        Some(read) => Ok(read),
+        None => Err(Unread::NoHeader),
     }
 }
 

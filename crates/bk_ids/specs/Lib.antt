@@ -1,4 +1,5 @@
 pub mod Digest
 pub mod Guid
+pub mod Laws
 pub mod Name
 pub mod Path

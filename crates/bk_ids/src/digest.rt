@@ -18,18 +18,3 @@ impl Digest {
         hex::encode(alloc, &self.bytes)
     }
 }
-
-#[cfg(test)]
-mod tests {
-    use super::*;
-    use std::test::Fail;
-
-    #[test]
-    fn a_digest_prints_in_lower_case(rt: HostRuntime) -> Result<(), Fail> {
-        let digest = Digest { bytes: [0xA5; 32] };
-        let text = digest.text(rt.alloc())?;
-        assert_eq!(rt; text.len(), 64);
-        assert!(rt; text.as_str().starts_with("a5a5"));
-        Ok(())
-    }
-}

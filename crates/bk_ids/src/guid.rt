@@ -22,20 +22,3 @@ impl Guid {
         Uuid::from_u64_pair(self.high, self.low).to_string(alloc)
     }
 }
-
-#[cfg(test)]
-mod tests {
-    use super::*;
-    use std::test::Fail;
-
-    #[test]
-    fn a_guid_prints_hyphenated_in_lower_case(rt: HostRuntime) -> Result<(), Fail> {
-        let guid = Guid {
-            high: 1,
-            low: 0xABC,
-        };
-        let text = guid.text(rt.alloc())?;
-        assert_eq!(rt; text.as_str(), "00000000-0000-0001-0000-000000000abc");
-        Ok(())
-    }
-}

@@ -77,28 +77,3 @@ impl Name {
         self.text.as_str().eq_ignore_ascii_case(&other.text)
     }
 }
-
-#[cfg(test)]
-mod tests {
-    use super::*;
-    use std::test::Fail;
-
-    #[test]
-    fn names_are_the_same_in_any_case_of_ascii(rt: HostRuntime) -> Result<(), Fail> {
-        let sales = Name::new(rt.alloc(), "Sales")?;
-        assert!(rt; sales.same(&Name::new(rt.alloc(), "sALES")?));
-        assert!(rt; !sales.same(&Name::new(rt.alloc(), "Sale")?));
-        assert_eq!(rt; sales.copy(rt.alloc())?.as_str(), "Sales");
-        Ok(())
-    }
-
-    #[test]
-    fn a_name_of_65_bytes_is_too_long(rt: HostRuntime) -> Result<(), Fail> {
-        let text = "a".repeat(rt.alloc(), 65)?;
-        assert_eq!(rt;
-            Name::new(rt.alloc(), &text).err(),
-            Some(NameError::TooLong { bytes: 65 })
-        );
-        Ok(())
-    }
-}

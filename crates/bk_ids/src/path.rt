@@ -152,33 +152,3 @@ fn first_differ(path: &[Branch], x: Lsn, other: &[Branch], y: Lsn) -> Option<Lsn
     let least = earlier(path, other, other, in_path);
     if least < end { Some(least) } else { None }
 }
-
-#[cfg(test)]
-mod tests {
-    use super::*;
-    use std::test::Fail;
-
-    const fn drawn(low: u64) -> Guid {
-        Guid { high: 1, low }
-    }
-
-    const fn at(low: u64, start: Lsn) -> Branch {
-        Branch {
-            guid: drawn(low),
-            start,
-        }
-    }
-
-    // The path of a database, and the one on which it was recovered at 17.
-    #[test]
-    fn a_fork_parts_two_paths_at_its_start(rt: HostRuntime) -> Result<(), Fail> {
-        let alloc = rt.alloc();
-        let old = Path::new(vec![in alloc; at(2, 1)]?);
-        let new = old.cut(alloc, 18)?.grown(alloc, at(6, 17))?;
-        assert_eq!(rt; new.differ(22, &old, 19), Some(17));
-        assert_eq!(rt; new.differ(17, &old, 19), None);
-        assert_eq!(rt; old.copy(alloc)?.differ(19, &old, 19), None);
-        assert_eq!(rt; new.as_slice().len(), 2);
-        Ok(())
-    }
-}

@@ -40,16 +40,3 @@ impl Text {
         self.inner.as_str()
     }
 }
-
-#[cfg(test)]
-mod tests {
-    use super::*;
-    use std::test::Fail;
-
-    #[test]
-    fn a_copy_has_the_same_bytes(rt: HostRuntime) -> Result<(), Fail> {
-        let text = Text::new(String::from_str(rt.alloc(), "D:\\Backup\\Sales.bak")?);
-        assert_eq!(rt; text.copy(rt.alloc())?.as_str(), "D:\\Backup\\Sales.bak");
-        Ok(())
-    }
-}

@@ -21,7 +21,7 @@ use Rattle.bk_world.specs.Seen.{tables}
 use Rattle.bk_world.specs.Sound.{GoesOn, IsUnwritten, IsHeldOf}
 use Rattle.bk_world.specs.World.{World, Database, database_named, with_database}
 use Rattle.bk_world.proofs.Histories.{branch_at-last, entries-logged, GoesOn-logged}
-use Rattle.bk_world.proofs.Folds.{rows_of-more, tables_of-more, model_of-more, time_of-more}
+use Rattle.bk_world.specs.FoldLaws.{rows_of-more, tables_of-more, model_of-more, time_of-more}
 use Rattle.bk_changes.specs.declared.state.Database.{Database as KeptDatabase}
 use Rattle.bk_changes.specs.declared.state.Table.{Table as KeptTable}
 use Rattle.bk_changes.specs.declared.state.Standing.{Standing}

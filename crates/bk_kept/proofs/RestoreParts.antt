@@ -1,17 +1,15 @@
 -- The three parts of a whole restore.
-use Rattle.std.proofs.Common.{◌≡◌, ◌≢◌, ◌<◌, ◌≤◌, inl, inr, ℕ, ◌+◌, Bool, true, false, cond, List, [], ◌∷◌, ◌++◌, length, map, Option, Some, None, refl, sym, ◌∙◌, ap, subst, leb, arith}
+use Rattle.std.proofs.Common.{◌≡◌, ◌≢◌, ◌<◌, ◌≤◌, inl, inr, ℕ, ◌+◌, true, false, cond, List, [], ◌∷◌, ◌++◌, length, map, Option, Some, None, refl, sym, ◌∙◌, ap, subst, arith}
 use Rattle.std.specs.Prelude.{◌&&◌, ◌||◌, not, nat_lt}
 use Rattle.std.specs.List.{AllByRecursion, AllZip}
-use Rattle.std.proofs.lemmas.List.{append-nil}
-use Rattle.std.proofs.lemmas.Bool.{le-leb}
-use Rattle.std.proofs.lemmas.Bool.Decides.{nat_tests}
 use Rattle.bk_fields.specs.Guids.{IsGuid}
 use Rattle.bk_header.specs.Conditions.{IsHeaderPath}
 use Rattle.bk_ids.specs.declared.guid.Guid.{Guid}
 use Rattle.bk_ids.specs.declared.path.Branch.{Branch}
 use Rattle.bk_ids.specs.declared.unit.UnitId.TheVariants.{File}
 use Rattle.bk_ids.specs.Name.{lowered}
-use Rattle.bk_ids.specs.Path.{last_branch, branch_at, started}
+use Rattle.bk_ids.specs.Path.{last_branch, branch_at}
+use Rattle.bk_ids.specs.Laws.{last_branch-one_more, branch_at-started, branch_at-not_started}
 use Rattle.bk_set.specs.Conditions.{IsBody}
 use Rattle.bk_set.specs.declared.body.SetBody.{SetBody}
 use Rattle.bk_set.specs.declared.body.SetRow.{SetRow}
@@ -29,7 +27,7 @@ use Rattle.bk_world.specs.Restore.{replaced, taken_over as world_taken_over, fil
 use Rattle.bk_world.specs.Rows.{tables_of, rows_of, model_of, time_of, tables_below, rows_below, model_below, time_below}
 use Rattle.bk_world.specs.Sound.{has_line, IsRising, IsBelow, IsPassed, GoesOn, IsOffOf, IsUnwritten, Differ, AreDifferent, IsOnce}
 use Rattle.bk_world.specs.World.{World, Database, database_named, with_database, with_new_database}
-use Rattle.bk_world.proofs.Apart.{entries-new_line, entries-forked, forked-is, last_branch-one_more}
+use Rattle.bk_world.proofs.Apart.{entries-new_line, entries-forked, forked-is}
 use Rattle.bk_world.proofs.Worlds.{is_guid-refl}
 use Rattle.bk_changes.specs.declared.state.Database.{Database as KeptDatabase}
 use Rattle.bk_changes.specs.declared.state.Table.{Table as KeptTable}
@@ -205,24 +203,6 @@ restored-leads w name body kept new is found it fits =
 
 -- The third part: it is recovered on a branch of its own.
 
-started-append : (path more : List Branch) (n : ℕ) → started (path ++ more) n ≡ started path n ++ started more n
-started-append [] more n = refl
-started-append (b ∷ path) more n = by (leb b.start n) (started-append path more n)
-  where
-    by : (t : Bool) → started (path ++ more) n ≡ started path n ++ started more n → cond t (b ∷ started (path ++ more) n) (started (path ++ more) n) ≡ cond t (b ∷ started path n) (started path n) ++ started more n
-    by true same = ap (λ p. b ∷ p) same
-    by false same = same
-
-branch_at-before : (path : List Branch) (b : Branch) (k : ℕ) → k < b.start → branch_at (path ++ b ∷ []) k ≡ branch_at path k
-branch_at-before path b k lt =
-    let early : leb b.start k ≡ false = grind (arith, nat_tests, lt) in
-    ap last_branch (started-append path (b ∷ []) k ∙ ap (λ t. started path k ++ cond t (b ∷ []) []) early ∙ append-nil _)
-
-branch_at-after : (path : List Branch) (b : Branch) (k : ℕ) → b.start ≤ k → branch_at (path ++ b ∷ []) k ≡ Some b.guid
-branch_at-after path b k le =
-    let late : leb b.start k ≡ true = le-leb b.start k le in
-    ap last_branch (started-append path (b ∷ []) k ∙ ap (λ t. started path k ++ cond t (b ∷ []) []) late) ∙ last_branch-one_more (started path k) b
-
 starts-to : (n : ℕ) (path : List Branch) (branch : Guid) → AllByRecursion (λ b. b.start < n) path → AllByRecursion (λ b. b.start < n + 1) (path ++ (record { guid = branch; start = n }) ∷ [])
 starts-to n [] branch all = (omega arith, tt)
 starts-to n (b ∷ path) branch all = (omega (arith, all.0), starts-to n path branch all.1)
@@ -245,8 +225,8 @@ off-forked : (w : World) (path : List Branch) (at : ℕ) (o : Database) → AllB
     → IsOffOf (path ++ (record { guid = drawn w w.counter; start = at }) ∷ []) (at + 1) o
 off-forked w path at o new off on k le lt same =
     elim (before-or-not at k) [
-      | inl early ↦ off on k le early (sym (branch_at-before path (record { guid = drawn w w.counter; start = at }) k early) ∙ same)
-      | inr late ↦ not-last (drawn w w.counter) o.path new (sym same ∙ branch_at-after path (record { guid = drawn w w.counter; start = at }) k late)
+      | inl early ↦ off on k le early (sym (branch_at-not_started path (record { guid = drawn w w.counter; start = at }) k early) ∙ same)
+      | inr late ↦ not-last (drawn w w.counter) o.path new (sym same ∙ branch_at-started path (record { guid = drawn w w.counter; start = at }) k late)
     ]
 
 pub recovered-leads : (w : World) (name : List ℕ) (body : SetBody) (kept new : List KeptDatabase) → KeepsDatabases w kept
@@ -321,9 +301,9 @@ recovered-leads w name body kept new is found it fits =
                 elim (before-or-not header.last k) [
                   | inl early ↦
                       let Passed : Option Guid → Type 0 = λ b. IsPassed next.history b k in
-                      inr (subst Passed (sym (ap (λ p. branch_at p k) path ∙ branch_at-before header.path (record { guid = branch; start = header.last }) k early))
+                      inr (subst Passed (sym (ap (λ p. branch_at p k) path ∙ branch_at-not_started header.path (record { guid = branch; start = header.last }) k early))
                       (passed-on w next header.path k goes one.drawn (elim (one.held k early) [ inl on ↦ none-online on.0 | inr passed ↦ passed ])))
-                  | inr late ↦ inl (refl, ap (λ p. branch_at p k) path ∙ branch_at-after header.path (record { guid = branch; start = header.last }) k late ∙ sym last_is)
+                  | inr late ↦ inl (refl, ap (λ p. branch_at p k) path ∙ branch_at-started header.path (record { guid = branch; start = header.last }) k late ∙ sym last_is)
                 ];
             goes_on = λ on. record {
               branch = branch;

@@ -4,3 +4,5 @@ pub mod Media
 pub mod Pages
 pub mod Restore
 pub mod Stops
+pub mod BackupLaws
+pub mod RestoreLaws

@@ -1,2 +1,5 @@
 pub mod Page
 pub mod Changes
+pub mod PartLaws
+pub mod DigestLaws
+pub mod Laws

@@ -14,6 +14,3 @@ pub use digest::{Mismatch, check, seal_digest};
 pub use digests::page_digests;
 pub use header::{format_page, page_file, page_lsn, page_number, set_page_lsn};
 pub use law::page_law;
-
-#[cfg(test)]
-mod tests;

@@ -5,8 +5,8 @@ use Rattle.std.proofs.lemmas.List.{length-drop, length-take, drop-drop, drop-tak
 use Rattle.bk_ids.specs.declared.record.ExtentId.{ExtentId}
 use Rattle.bk_bytes.specs.Field.{number_of}
 use Rattle.bk_bytes.specs.Codec.{number_at, run_at, times_at, list_at}
-use Rattle.bk_bytes.proofs.Fields.{number_of-take}
-use Rattle.bk_bytes.proofs.Codecs.{guard_false, some}
+use Rattle.bk_bytes.specs.FieldLaws.{number_of-take}
+use Rattle.bk_bytes.specs.CodecLaws.{guard_false, some}
 use Rattle.bk_record.specs.Reading.{extent_form}
 use Rattle.bk_record.specs.Extents.{extents_in, extents_of}
 

@@ -5,8 +5,8 @@ use Rattle.std.proofs.lemmas.Bool.{le-ltb}
 use Rattle.std.proofs.lemmas.List.{length-take}
 use Rattle.bk_bytes.specs.Field.{AreBytes}
 use Rattle.bk_bytes.specs.Cell.{IsCell, cell_form}
-use Rattle.bk_bytes.proofs.Codecs.{AreBytes-take}
-use Rattle.bk_bytes.proofs.Cells.{is_some-cell, is_some-no_cell}
+use Rattle.bk_bytes.specs.CodecLaws.{AreBytes-take}
+use Rattle.bk_bytes.specs.CellLaws.{is_some-cell, is_some-no_cell}
 use Rattle.bk_record.specs.Reading.{image_form}
 
 pub image_read : (bytes image : List ℕ) → 128 ≤ length bytes → image ≡ take 128 bytes → IsCell image → image_form.reading bytes ≡ Some (record { bytes = image }, drop 128 bytes)

@@ -17,6 +17,3 @@ pub use extents::Extents;
 pub use view::{BodyRef, MarkRef, RecRef};
 pub use walk::{BadRecord, LogCursor, cursor};
 pub use writing::encode;
-
-#[cfg(test)]
-mod tests;

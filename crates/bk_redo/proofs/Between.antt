@@ -22,13 +22,13 @@ in_between from to r h =
 
 -- what a test lets through, one record on
 
-kept : (from to : ℕ) (r : Rec) (records : List Rec) → from ≤ r.lsn → r.lsn < to → records_between from to (r ∷ records) ≡ r ∷ records_between from to records
+pub kept : (from to : ℕ) (r : Rec) (records : List Rec) → from ≤ r.lsn → r.lsn < to → records_between from to (r ∷ records) ≡ r ∷ records_between from to records
 kept from to r records low high = cond-true (is_between from to r) (r ∷ records_between from to records) (records_between from to records) (between_in from to r low high)
 
-skipped_early : (from to : ℕ) (r : Rec) (records : List Rec) → r.lsn < from → records_between from to (r ∷ records) ≡ records_between from to records
+pub skipped_early : (from to : ℕ) (r : Rec) (records : List Rec) → r.lsn < from → records_between from to (r ∷ records) ≡ records_between from to records
 skipped_early from to r records early = cond-false (is_between from to r) (r ∷ records_between from to records) (records_between from to records) (between_early from to r early)
 
-skipped_late : (from to : ℕ) (r : Rec) (records : List Rec) → to ≤ r.lsn → records_between from to (r ∷ records) ≡ records_between from to records
+pub skipped_late : (from to : ℕ) (r : Rec) (records : List Rec) → to ≤ r.lsn → records_between from to (r ∷ records) ≡ records_between from to records
 skipped_late from to r records late = cond-false (is_between from to r) (r ∷ records_between from to records) (records_between from to records) (between_late from to r late)
 
 -- nothing lies between two numbers of which the second isn't above the first

@@ -4,7 +4,7 @@ use Rattle.std.specs.Prelude.{replicate}
 use Rattle.std.specs.List.{range_with_len}
 use Rattle.bk_page.specs.Page.{lsn_of, cell_at, fresh_page}
 use Rattle.bk_page.specs.Changes.{IsFresh}
-use Rattle.bk_page.proofs.Changes.{fresh_page-fresh}
+use Rattle.bk_page.specs.Laws.{fresh_page-fresh}
 use Rattle.bk_redo.specs.PageStates.{PageState, free_cell, fresh, cells_of, page_of}
 
 -- a function that has one value from a number on

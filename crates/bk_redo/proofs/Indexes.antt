@@ -1,10 +1,10 @@
 -- Maps from places to frames.
-use Rattle.std.proofs.Common.{◌≡◌, ◌≢◌, ◌≤◌, ◌<◌, ℕ, ◌+◌, true, false, cond, List, [], length, get_or, Option, Some, None, refl, ap, ap₂, subst, ◌∙◌, sym, ⊎_elim, arith}
+use Rattle.std.proofs.Common.{◌≡◌, ◌≢◌, ◌≤◌, ◌<◌, ℕ, ◌+◌, true, false, cond, List, [], length, get_or, Option, Some, None, ap, ap₂, subst, ◌∙◌, sym, ⊎_elim, arith}
 use Rattle.std.specs.Prelude.{◌==◌}
 use Rattle.std.specs.Ordering.{nat_cmp, ordering_then, is_eq}
-use Rattle.std.specs.Cmp.{nat_cmp_is}
+use Rattle.std.specs.Cmp.{nat_cmp_is, Equal-is}
 use Rattle.std.specs.declared.cmp.Ordering.{Ordering}
-use Rattle.std.specs.declared.cmp.Ordering.TheVariants.{Less, Equal, Greater}
+use Rattle.std.specs.declared.cmp.Ordering.TheVariants.{Equal}
 use Rattle.std.specs.BTreeMap.{is_at}
 use Rattle.std.specs.List.{AllPairs}
 use Rattle.std.specs.Map.{lookup}
@@ -18,24 +18,16 @@ use Rattle.bk_redo.specs.Frames.{page_cmp, IsFrameOf, IsIndex, is_frame}
 
 -- ---- pages that compare as equal
 
-equal_from_is_eq : (o : Ordering) → is_eq o ≡ true → o ≡ Equal
-equal_from_is_eq Less e = cc
-equal_from_is_eq Equal e = refl
-equal_from_is_eq Greater e = cc
-
 same_page : (a b : PageAt) → is_at (page_cmp a) b ≡ true → a ≡ b
 same_page a b e =
-    let pairs : (a.file, a.page) ≡ (b.file, b.page) = exact_pairs nat_cmp nat_cmp exact_unsigned exact_unsigned (a.file, a.page) (b.file, b.page) (equal_from_is_eq (page_cmp a b) e) in
+    let pairs : (a.file, a.page) ≡ (b.file, b.page) = exact_pairs nat_cmp nat_cmp exact_unsigned exact_unsigned (a.file, a.page) (b.file, b.page) ((Equal-is (page_cmp a b)).0 e) in
     ap (λ (p : ℕ × ℕ). let page : PageAt = record { file = p.0; page = p.1 } in page) pairs
-
-nat_cmp-same : (a b : ℕ) → a ≡ b → nat_cmp a b ≡ Equal
-nat_cmp-same a b e = sym (nat_cmp_is a b Equal e)
 
 other_page : (a b : PageAt) → is_at (page_cmp a) b ≡ false → a ≢ b
 other_page a b differs e =
     let equal : is_at (page_cmp a) b ≡ true =
-    ap (λ (o : Ordering). is_eq (ordering_then o (nat_cmp a.page b.page))) (nat_cmp-same a.file b.file (ap (λ (p : PageAt). p.file) e))
-    ∙ ap is_eq (nat_cmp-same a.page b.page (ap (λ (p : PageAt). p.page) e)) in
+    ap (λ (o : Ordering). is_eq (ordering_then o (nat_cmp a.page b.page))) (sym (nat_cmp_is a.file b.file Equal (ap (λ (p : PageAt). p.file) e)))
+    ∙ ap is_eq (sym (nat_cmp_is a.page b.page Equal (ap (λ (p : PageAt). p.page) e))) in
     both_ways (is_at (page_cmp a) b) differs equal
 
 -- ---- one place more

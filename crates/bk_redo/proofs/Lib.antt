@@ -8,3 +8,4 @@ pub mod Parts
 pub mod Whole
 pub mod Writing
 pub mod ChainLaws
+pub mod SliceLaws

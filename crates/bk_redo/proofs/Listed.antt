@@ -43,7 +43,7 @@ all_records [] others first second = second
 all_records (r ∷ records) others first second = (first.0, all_records records others first.1 second)
 
 -- whole records, and behind them whole records
-logs_joined : (front back : List ℕ) (records others : List Rec) → IsLog front records None → IsLog back others None → IsLog (front ++ back) (records ++ others) None
+pub logs_joined : (front back : List ℕ) (records others : List Rec) → IsLog front records None → IsLog back others None → IsLog (front ++ back) (records ++ others) None
 logs_joined front back records others first second =
     let spelled : front ≡ flat_map spelling records = first.spelled ∙ ap (λ (rest : List ℕ). flat_map spelling records ++ rest) first.ends ∙ append-nil (flat_map spelling records) in
     let also : back ≡ flat_map spelling others = second.spelled ∙ ap (λ (rest : List ℕ). flat_map spelling others ++ rest) second.ends ∙ append-nil (flat_map spelling others) in

@@ -43,7 +43,7 @@ lsn_rises at least page (r ∷ records) rises low =
 -- ---- records that redo passes over
 
 -- the record isn't on the page, or no later than it
-abbrev IsPast : PageAt → PageState → Rec → Type 0
+abbrev pub IsPast : PageAt → PageState → Rec → Type 0
 IsPast at page r = (touches at r ≡ false) ⊎ (r.lsn ≤ page.lsn)
 
 -- the records that made a page
@@ -61,10 +61,10 @@ made_past at least page (r ∷ records) rises low =
     (cases_Bool (touches at r)) in
     (first, made_past at (r.lsn + 1) (changed at page r) records rises.1 next)
 
-untouched_same : (at : PageAt) (page : PageState) (r : Rec) → touches at r ≡ false → changed at page r ≡ page
+pub untouched_same : (at : PageAt) (page : PageState) (r : Rec) → touches at r ≡ false → changed at page r ≡ page
 untouched_same at page r untouched = cond-false (touches at r) (record { lsn = r.lsn; cells = cells_after at (effect_of r.body) page.cells }) page untouched
 
-redone_past : (at : PageAt) (page : PageState) (r : Rec) → IsPast at page r → redone at page r ≡ page
+pub redone_past : (at : PageAt) (page : PageState) (r : Rec) → IsPast at page r → redone at page r ≡ page
 redone_past at page r past =
     let test : Bool = nat_lt page.lsn r.lsn && not (fills at r) in
     ⊎_elim
@@ -87,7 +87,7 @@ redone_all_later at least page (r ∷ records) rises low unfilled =
     let next : (changed at page r).lsn < r.lsn + 1 = after_record at page r (λ n. n < r.lsn + 1) (omega arith) (omega (arith, rises.0)) in
     ap (λ (p : PageState). fold (redone at) p records) one ∙ redone_all_later at (r.lsn + 1) (changed at page r) records rises.1 next parts.1
 
-changed_by_none : (at : PageAt) (page : PageState) (records : List Rec) → list_any (touches at) records ≡ false → fold (changed at) page records ≡ page
+pub changed_by_none : (at : PageAt) (page : PageState) (records : List Rec) → list_any (touches at) records ≡ false → fold (changed at) page records ≡ page
 changed_by_none at page [] untouched = refl
 changed_by_none at page (r ∷ records) untouched =
     let parts = or_parts (touches at r) (list_any (touches at) records) untouched in

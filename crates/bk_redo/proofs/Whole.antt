@@ -4,7 +4,7 @@ use Rattle.std.specs.Prelude.{◌↔◌}
 use Rattle.std.proofs.lemmas.List.{append-nil, length-append, length-drop, length-take-le, take_all, drop_all, get_or-take, get_or-drop, get_or_append_left, get_or-append_right}
 use Rattle.bk_ids.specs.declared.record.Rec.{Rec}
 use Rattle.bk_record.specs.Log.{IsLog}
-use Rattle.bk_record.proofs.WalkSteps.{one_log}
+use Rattle.bk_record.specs.WalkLaws.{one_log}
 use Rattle.bk_redo.specs.declared.error.RedoError.{RedoError}
 use Rattle.bk_redo.specs.declared.error.RedoError.TheVariants.{BadRecord}
 use Rattle.bk_redo.specs.declared.place.PageAt.{PageAt}

@@ -7,10 +7,10 @@ use Rattle.std.proofs.lemmas.List.{same_lists, length-set, get_or-set_same, get_
 use Rattle.std.proofs.lemmas.List.FromFn.{length-map-range_with_len, get_or-map-range_with_len}
 use Rattle.bk_page.specs.Page.{part, lsn_of, cell_at, with_lsn, with_cell}
 use Rattle.bk_page.specs.Changes.{WritesCell, WritesLsn, SameCells}
-use Rattle.bk_page.proofs.Changes.{with_cell-writes, with_lsn-writes}
-use Rattle.bk_page.proofs.Parts.{part-with_field_before, part-with_field_after}
+use Rattle.bk_page.specs.Laws.{with_cell-writes, with_lsn-writes}
+use Rattle.bk_page.specs.PartLaws.{part-with_field_before, part-with_field_after}
 use Rattle.bk_bytes.specs.Field.{bytes_of}
-use Rattle.bk_bytes.proofs.Fields.{length-bytes_of}
+use Rattle.bk_bytes.specs.FieldLaws.{length-bytes_of}
 use Rattle.bk_redo.specs.PageStates.{PageState, cells_of, page_of}
 use Rattle.bk_redo.specs.Frames.{Becomes, cell_redone, unused_bytes}
 

@@ -7,3 +7,4 @@ pub mod CellWrites
 pub mod Listing
 pub mod Chains
 pub mod Tasks
+pub mod Laws

@@ -9,12 +9,30 @@ ghost use Rattle.bk_redo.specs.PageStates.{PageState, page_of, fresh};
 ghost use Rattle.bk_redo.specs.Effects.{fills};
 ghost use Rattle.bk_redo.specs.Redo.{RiseFrom, Leads, records_between, as_of, redone_by};
 ghost use Rattle.bk_redo.specs.Chains.{PageSet, IsChain, after_sets, last_path, last_point};
+ghost use Rattle.bk_redo.specs.Laws.{FrontIsEnough, BelowIsEnough, UntouchedStays, MoreLeavesUntouched, RedoLeavesUntouched, RangesJoin, SlicesJoin};
 
 /// The page law: a page as of c that is led to b by the records from `from` on, redone by a log with these records, is the
 /// page as of b. A page that was formatted holds the fresh page, with which all of this begins.
 pub fn page_law()
     ensures redone { (at : PageAt) (path log : List Rec) (c from b : ℕ) → RiseFrom 1 path → Leads at path c from b → records_between from b log ≡ records_between from b path → redone_by at (records_between from b log) (as_of at c path) ≡ as_of at b path }
     ensures fresh { (file number : ℕ) → file < 2 ^ 16 → number < 2 ^ 32 → page_of (fresh_page file number) ≡ fresh }
+{}
+
+/// The page as of a number is that of each front of the log with the records below it. Records that don't touch a page leave it,
+/// as of each number and in redo.
+pub fn front_law()
+    ensures front { FrontIsEnough }
+    ensures below { BelowIsEnough }
+    ensures untouched { UntouchedStays }
+    ensures more { MoreLeavesUntouched }
+    ensures redone { RedoLeavesUntouched }
+{}
+
+/// Redo by two parts of a log, one after the other, is redo by both together: of a page by two ranges of numbers, and of frames by two slices
+/// of the log's bytes.
+pub fn slice_law()
+    ensures ranges { RangesJoin }
+    ensures slices { SlicesJoin }
 {}
 
 /// The chain law: pages that are as of a point, restored by sets of which each follows the one before it, are as of the last

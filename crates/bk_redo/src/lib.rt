@@ -14,10 +14,7 @@ mod worker;
 mod writes;
 
 pub use error::RedoError;
-pub use law::{chain_law, page_law};
+pub use law::{chain_law, front_law, page_law, slice_law};
 pub use place::PageAt;
 pub use redoing::{redo, redo_with};
 pub use turn::Turn;
-
-#[cfg(test)]
-mod tests;

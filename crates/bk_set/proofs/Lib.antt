@@ -1,5 +1,1 @@
 pub mod Readings
-pub mod Forms
-pub mod Laws
-pub mod Founds
-pub mod Kept

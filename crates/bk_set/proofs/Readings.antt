@@ -1,7 +1,7 @@
 -- What a reader that stops has read.
 use Rattle.std.proofs.Common.{◌≡◌, ℕ, ◌-◌, ◌<◌, List, Option}
 use Rattle.bk_bytes.specs.Codec.{times_at}
-use Rattle.bk_bytes.proofs.Loops.{with_front, stops}
+use Rattle.bk_bytes.specs.LoopLaws.{with_front, stops}
 use Rattle.bk_set.specs.declared.unread.Unread.{Unread}
 use Rattle.bk_set.specs.declared.unread.Unread.TheVariants.{NoMemory, NoBody}
 use Rattle.bk_set.specs.Decoding.{Refuses}

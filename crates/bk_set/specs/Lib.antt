@@ -3,3 +3,6 @@ pub mod Spelling
 pub mod Reading
 pub mod Decoding
 pub mod Found
+pub mod FormLaws
+pub mod Laws
+pub mod FoundLaws

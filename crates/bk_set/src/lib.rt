@@ -14,6 +14,3 @@ mod unread;
 pub use body::{SetBody, SetRow};
 pub use encoding::encode_set;
 pub use found::{Found, read_set, set_law};
-
-#[cfg(test)]
-mod tests;

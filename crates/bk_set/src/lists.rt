@@ -8,20 +8,16 @@ ghost use Rattle.bk_set.specs.Decoding.{Reads};
 use crate::body::SetRow;
 use crate::unread::Unread;
 use bk_bytes::{split_str, split_u8, split_u16, split_u32, split_u64};
-use bk_ids::{Name, NameError, Sequence, Text};
+use bk_ids::{Name, Sequence, Text};
 use bk_world::TableSpec;
 use std::alloc::Global;
 
 fn read_name(alloc: Global, bytes: &[u8]) -> Result<(Name, &[u8]), Unread>
     ensures { Reads (λ x. (x.0, x.1.now)) result ((string 1 64).reading bytes.now) }
 {
-    let Some((text, rest)) = split_str(bytes, 1, 64) else {
-        return Err(Unread::NoBody);
-    };
-    match Name::new(alloc, text) {
-        Ok(name) => Ok((name, rest)),
-        Err(NameError::NoMemory) => Err(Unread::NoMemory),
-        Err(NameError::TooLong { .. }) => Err(Unread::NoBody),
+    match bk_fields::read_name(alloc, bytes)? {
+        Some(read) => Ok(read),
+        None => Err(Unread::NoBody),
     }
 }
 

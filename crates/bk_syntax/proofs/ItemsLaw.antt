@@ -3,20 +3,20 @@ use Rattle.std.proofs.Common.{◌≡◌, ℕ, zero, suc, subst, ◌≤◌, ◌<�
 use Rattle.std.specs.Prelude.{codes}
 use Rattle.std.proofs.lemmas.Bool.{both_ways}
 use Rattle.bk_token.specs.declared.token.Token.{Token}
-use Rattle.bk_token.proofs.TokenLemmas.{one_list}
+use Rattle.bk_token.specs.Laws.{one_list}
 use Rattle.bk_items.specs.declared.item.ScriptItem.{ScriptItem}
 use Rattle.bk_items.specs.declared.item.ScriptItem.TheVariants.{Commit, Rollback, Checkpoint, Start, Wait, Syntax}
 use Rattle.bk_items.specs.declared.item.ScriptEntry.{ScriptEntry}
 use Rattle.bk_parse.specs.Parse.{Parsed, ◌>>=◌, stuck, next_is, number_in, Leaves, behind_it}
-use Rattle.bk_parse.proofs.Leaving.{after, either, drop-leaves, number_in-leaves}
+use Rattle.bk_parse.specs.Laws.{after, either, drop-leaves, number_in-leaves}
 use Rattle.bk_forms.specs.Creating.{create_database}
 use Rattle.bk_forms.specs.Rows.{create_table, insert, update, delete, select, bulk_insert, begin, skip_tran, use_database, alter, drop_database}
-use Rattle.bk_forms.proofs.CreatingLeaving.{create_database-leaves}
-use Rattle.bk_forms.proofs.RowsLeaving.{create_table-leaves, insert-leaves, update-leaves, delete-leaves, select-leaves, bulk_insert-leaves, begin-leaves, skip_tran-leaves, use_database-leaves, alter-leaves, drop_database-leaves}
+use Rattle.bk_forms.specs.CreatingLaws.{create_database-leaves}
+use Rattle.bk_forms.specs.RowsLaws.{create_table-leaves, insert-leaves, update-leaves, delete-leaves, select-leaves, bulk_insert-leaves, begin-leaves, skip_tran-leaves, use_database-leaves, alter-leaves, drop_database-leaves}
 use Rattle.bk_media_forms.specs.Media.{backup}
 use Rattle.bk_media_forms.specs.Restore.{restore}
-use Rattle.bk_media_forms.proofs.BackupLeaving.{backup-leaves}
-use Rattle.bk_media_forms.proofs.RestoreLeaving.{restore-leaves}
+use Rattle.bk_media_forms.specs.BackupLaws.{backup-leaves}
+use Rattle.bk_media_forms.specs.RestoreLaws.{restore-leaves}
 use Rattle.bk_token.specs.declared.token.Kind.{Kind}
 use Rattle.bk_token.specs.declared.token.Kind.TheVariants.{Word, Quoted, Text, Number, Sign, Go, Colon, Bad}
 use Rattle.bk_parse.specs.Parse.{number_by, number}

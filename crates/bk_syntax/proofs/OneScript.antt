@@ -3,7 +3,7 @@ use Rattle.std.proofs.Common.{◌≡◌, ℕ, Bool, true, false, List, [], ◌�
 use Rattle.std.specs.Prelude.{MatchBool}
 use Rattle.std.specs.List.{list_all}
 use Rattle.bk_token.specs.Bytes.{is_blank}
-use Rattle.bk_token.proofs.TokenLemmas.{one_list}
+use Rattle.bk_token.specs.Laws.{one_list}
 use Rattle.bk_syntax.specs.Forms.{item_by}
 use Rattle.bk_syntax.specs.Script.{pieces, IsItem, IsStatement, AreStatements, IsScript}
 use Rattle.bk_world.specs.declared.item.Item.{Item}

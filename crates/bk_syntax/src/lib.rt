@@ -28,10 +28,3 @@ pub fn one_item_list()
     ensures one { (src : List ℕ) (entries others : List ScriptEntry) → AreItems src entries → AreItems src others → entries ≡ others }
     ensures some { (src : List ℕ) (tokens : List Token) → (entries : List ScriptEntry) × AreEntries src tokens entries }
 {}
-
-#[cfg(test)]
-mod script_tests;
-#[cfg(test)]
-mod shown;
-#[cfg(test)]
-mod tests;

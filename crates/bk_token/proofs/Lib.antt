@@ -1,5 +1,4 @@
 pub mod OpeningLemmas
-pub mod RunLemmas
 pub mod QuoteLemmas
 pub mod CommentLemmas
 pub mod PieceLemmas

@@ -12,7 +12,7 @@ use Rattle.bk_token.specs.declared.opening.Opening.{Opening}
 use Rattle.bk_token.specs.declared.opening.Opening.TheVariants.{DashComment, SlashComment, Letter, Digit}
 use Rattle.bk_token.specs.declared.token.Kind.{Kind}
 use Rattle.bk_token.specs.declared.token.Kind.TheVariants.{Word, Go, Bad}
-use Rattle.bk_token.proofs.RunLemmas.{prefix_run, prefix_len-some}
+use Rattle.bk_token.specs.RunLaws.{prefix_run, prefix_len-some}
 use Rattle.bk_token.proofs.CommentLemmas.{comment_from-open, comment_from-le}
 
 -- the longest run at the front, by its length
@@ -67,15 +67,6 @@ cuts_bad_quotation kind front close bytes n found unclosed some e is = record {
   within = omega (arith, e, prefix_len-le-length is_within_line bytes);
   piece = inr (is, run_of is_within_line bytes n e, rw (take-append-drop n bytes) unclosed);
 }
-
--- a first byte that is no line feed
-pub one_begins : (x : ℕ) (bytes : List ℕ) → is_within_line x ≡ true → take 1 bytes ≡ x ∷ [] → begins is_within_line bytes ≡ true
-one_begins x [] line e = (cc)
-one_begins x (b ∷ bs) line e = let same : b ≡ x = (cc) in rw same line
-
-pub two_begins : (x y : ℕ) (bytes : List ℕ) → is_within_line x ≡ true → take 2 bytes ≡ x ∷ y ∷ [] → begins is_within_line bytes ≡ true
-two_begins x y [] line e = (cc)
-two_begins x y (b ∷ bs) line e = let same : b ≡ x = (cc) in rw same line
 
 -- a piece by its opening is a piece
 pub cuts : (before bytes : List ℕ) (n : ℕ) (found : Option Kind) (o : Opening) → o ≡ opening bytes → CutsBy o before bytes n found → Cuts before bytes n found

@@ -1,42 +1,13 @@
 -- What closes a quote: the content that is spelled before it, and none other.
 use Rattle.std.proofs.Common.{◌≡◌, ℕ, ◌+◌, ◌<◌, ◌≤◌, Bool, true, false, cond, eqb, List, [], ◌∷◌, ◌++◌, length, take, drop, refl, ap, sym, ◌∙◌, ◌⊎◌, inl, inr, ⊎_elim, subst, IsUtf8, append_assoc, length-append, Some, None, arith}
 use Rattle.std.specs.List.{list_all}
-use Rattle.std.proofs.lemmas.Bool.{and_parts, not-true, eqb-true, eq-eqb}
+use Rattle.std.proofs.lemmas.Bool.{eqb-true}
 use Rattle.std.proofs.lemmas.List.{length-take-le, take-append-drop}
 use Rattle.std.proofs.Math.Seq.{take-append_seam, drop-append_seam}
 use Rattle.bk_token.specs.Bytes.{begins, is_within_line}
-use Rattle.bk_token.specs.Pieces.{doubled, IsClosed, IsUnclosed}
+use Rattle.bk_token.specs.Pieces.{doubled, IsUnclosed}
 use Rattle.bk_token.specs.Reading.{closing, CutsClosed}
-
--- behind the closing quote another byte, or none, follows
-closing-second : (close at : ℕ) (rest : List ℕ) → begins (λ b. eqb b close) rest ≡ false → closing close true at rest ≡ Some at
-closing-second close at [] e = refl
-closing-second close at (b ∷ bs) e = rw e refl
-
--- a quote that closes is read as closing
-closing-quote : (close at : ℕ) (rest : List ℕ) → eqb close 10 ≡ false → begins (λ b. eqb b close) rest ≡ false → closing close false at (close ∷ rest) ≡ Some (at + 1)
-closing-quote close at rest c10 e = let same : eqb close close ≡ true = eq-eqb close close refl in rw (c10, same) (closing-second close (at + 1) rest e)
-
--- one byte of the content is read
-closing-byte : (close at b : ℕ) (rest : List ℕ) (t : Bool) → eqb close 10 ≡ false → eqb b 10 ≡ false → eqb b close ≡ t →
-    closing close false at (cond t (close ∷ close ∷ []) (b ∷ []) ++ rest) ≡ closing close false (at + length (cond t (close ∷ close ∷ []) (b ∷ []))) rest
-closing-byte close at b rest true c10 b10 e = let same : eqb close close ≡ true = eq-eqb close close refl in rw (c10, same) (rw same (ap (λ n. closing close false n rest) (omega arith)))
-closing-byte close at b rest false c10 b10 e = rw (b10, e) refl
-
--- a byte within the line is no line feed
-within_line : (b : ℕ) → is_within_line b ≡ true → eqb b 10 ≡ false
-within_line b e = not-true _ e
-
-pub closing-doubled : (close at : ℕ) (content rest : List ℕ) → eqb close 10 ≡ false → list_all is_within_line content ≡ true → begins (λ b. eqb b close) rest ≡ false →
-    closing close false at (doubled close content ++ close ∷ rest) ≡ Some (at + length (doubled close content) + 1)
-closing-doubled close at [] rest c10 line ends = closing-quote close at rest c10 ends ∙ ap Some (omega arith)
-closing-doubled close at (b ∷ bs) rest c10 line ends =
-    let byte : List ℕ = cond (eqb b close) (close ∷ close ∷ []) (b ∷ []) in
-    let parts = and_parts (is_within_line b) (list_all is_within_line bs) line in
-    rw append_assoc (
-    closing-byte close at b (doubled close bs ++ close ∷ rest) (eqb b close) c10 (within_line b parts.0) refl
-    ∙ closing-doubled close (at + length byte) bs rest c10 parts.1 ends
-    ∙ ap Some (omega (arith, length-append byte (doubled close bs))))
+use Rattle.bk_token.specs.Laws.{closed_closing}
 
 -- what was read up to the quote that closes
 pub record Found (close at : ℕ) (bs : List ℕ) (n : ℕ) : Type 0 where
@@ -108,18 +79,6 @@ found close false at n (b ∷ bs) read = found_first close at b n bs (eqb b 10) 
 pub found_closing : (close n : ℕ) (bs : List ℕ) → closing close false 0 bs ≡ Some n → Found close 0 bs n
 unfolding FoundBy
 found_closing close n bs read = found close false 0 n bs read
-
--- the quote that closes a text is the one that reading finds
-pub closed_closing : (front : List ℕ) (close : ℕ) (text rest : List ℕ) → eqb close 10 ≡ false → IsClosed front close text rest →
-    (n : ℕ) × (closing close false 0 (drop (length front) (text ++ rest)) ≡ Some n) × (length text ≡ length front + n)
-closed_closing front close text rest c10 closed =
-    let D : List ℕ = doubled close closed.content in
-    let whole : text ++ rest ≡ front ++ (D ++ close ∷ rest) = ap (λ l. l ++ rest) closed.spelled ∙ append_assoc front (D ++ close ∷ []) rest ∙ ap (λ l. front ++ l) (append_assoc D (close ∷ []) rest) in
-    let behind : drop (length front) (text ++ rest) ≡ D ++ close ∷ rest = ap (drop (length front)) whole ∙ drop-append_seam front (D ++ close ∷ rest) in (
-      0 + length D + 1,
-      ap (closing close false 0) behind ∙ closing-doubled close 0 closed.content rest c10 closed.one_line closed.ends,
-      ap length closed.spelled ∙ simp length-append (omega arith),
-    )
 
 -- what reading finds is closed
 cut_front : (front content_end rest : List ℕ) (n : ℕ) → n ≡ length front + length content_end → (take n (front ++ (content_end ++ rest)) ≡ front ++ content_end) × (drop n (front ++ (content_end ++ rest)) ≡ rest)

@@ -1,146 +1,19 @@
--- Bytes have one token list, and its spans rise.
-use Rattle.std.proofs.Common.{◌≡◌, ℕ, ◌+◌, ◌-◌, ◌<◌, ◌≤◌, Bool, true, false, cond, eqb, List, [], ◌∷◌, ◌++◌, length, take, drop, refl, ap, sym, ◌∙◌, subst, ⊎_elim, append_assoc, append-nil, length-append, min, Option, Some, None, arith}
+-- The spans of a token list rise, and each token is its slice.
+use Rattle.std.proofs.Common.{◌≡◌, ℕ, ◌+◌, ◌-◌, ◌≤◌, cond, List, [], ◌∷◌, ◌++◌, length, take, drop, ap, sym, ◌∙◌, subst, append_assoc, append-nil, length-append, min, Option, Some, None, arith}
 use Rattle.std.specs.Prelude.{All, count_by}
-use Rattle.std.specs.List.{prefix_len}
 use Rattle.std.proofs.Math.Seq.{take-append_seam, drop-append_seam, drop-append-add}
-use Rattle.std.proofs.lemmas.Bool.{both_ways}
 use Rattle.std.proofs.lemmas.List.{take-append-drop, length-take-le, length-drop, drop-drop}
 use Rattle.std.proofs.Math.Seq.{take-add}
 use Rattle.std.proofs.lemmas.List.Sums.{sum_by-append}
 use Rattle.std.proofs.Math.ListN.{drop_of_length-le}
 use Rattle.std.proofs.lemmas.List.Elements.{All-nil, All-cons}
-use Rattle.bk_token.specs.Bytes.{begins, is_line_feed, is_within_line, IsRun}
-use Rattle.bk_token.specs.Pieces.{opening, is_go, number_kind, first_of_bytes, open_comment_len, IsBlockComment, IsQuotation, IsPieceBy, IsPiece}
-use Rattle.bk_token.specs.Reading.{closing, Opens, Cuts, as_token}
+use Rattle.bk_token.specs.Bytes.{is_line_feed}
+use Rattle.bk_token.specs.Pieces.{IsPiece}
+use Rattle.bk_token.specs.Reading.{Cuts, as_token}
 use Rattle.bk_token.specs.Tokens.{AreTokensFrom, ended, passed, token, AreTokens, SpansRise, IsItsSlice, token_of, line_behind}
-use Rattle.bk_token.specs.declared.opening.Opening.{Opening}
-use Rattle.bk_token.specs.declared.opening.Opening.TheVariants.{Blank, DashComment, SlashComment, Letter, Digit, Quote, NationalQuote, Bracket, DoubleQuote, ColonByte, SignByte, Other}
 use Rattle.bk_token.specs.declared.token.Kind.{Kind}
-use Rattle.bk_token.specs.declared.token.Kind.TheVariants.{Word, Sign, Go}
 use Rattle.bk_token.specs.declared.token.Token.{Token}
-use Rattle.bk_token.proofs.RunLemmas.{prefix_len-run}
-use Rattle.bk_token.proofs.QuoteLemmas.{closed_closing}
-use Rattle.bk_token.proofs.OpeningLemmas.{opens}
-use Rattle.bk_token.proofs.PieceLemmas.{one_begins, two_begins}
-
--- two longest runs at the front have one length
-run_one : (p : ℕ → Bool) (text rest text' rest' : List ℕ) → text ++ rest ≡ text' ++ rest' → IsRun p text rest → IsRun p text' rest' → length text ≡ length text'
-run_one p text rest text' rest' e run run' = sym (prefix_len-run p text rest run) ∙ ap (prefix_len p) e ∙ prefix_len-run p text' rest' run'
-
-comment_one : (text rest text' rest' : List ℕ) → text ++ rest ≡ text' ++ rest' → IsBlockComment text rest → IsBlockComment text' rest' → length text ≡ length text'
-comment_one text rest text' rest' e (more, is, len) (more', is', len') =
-    let whole : 47 ∷ 42 ∷ (more ++ rest) ≡ 47 ∷ 42 ∷ (more' ++ rest') = sym (ap (λ l. l ++ rest) is) ∙ e ∙ ap (λ l. l ++ rest') is' in
-    let behind : more ++ rest ≡ more' ++ rest' = ap (drop 2) whole in
-    omega (arith, len, len', ap (open_comment_len 0) behind, ap length is, ap length is')
-
--- a quotation is one piece of one kind
-quotation_one : (kind : Kind) (front : List ℕ) (close : ℕ) (text rest text' rest' : List ℕ) (k k' : Option Kind) → eqb close 10 ≡ false → text ++ rest ≡ text' ++ rest' →
-    IsQuotation kind front close text rest k → IsQuotation kind front close text' rest' k' → (length text ≡ length text') × (k ≡ k')
-quotation_one kind front close text rest text' rest' k k' c10 e q q' =
-    ⊎_elim
-    (λ closed.
-    ⊎_elim
-    (λ closed'.
-    let one = closed_closing front close text rest c10 closed.1 in
-    let other = closed_closing front close text' rest' c10 closed'.1 in
-    let same : closing close false 0 (drop (length front) (text ++ rest)) ≡ closing close false 0 (drop (length front) (text' ++ rest')) = ap (λ l. closing close false 0 (drop (length front) l)) e in
-    let n_is : one.0 ≡ other.0 = cc (one.1, other.1, same) in
-    (omega (arith, one.2, other.2, n_is), closed.0 ∙ sym closed'.0))
-    (λ bad'. absurd (bad'.2 text rest (sym e) closed.1))
-    q')
-    (λ bad.
-    ⊎_elim
-    (λ closed'. absurd (bad.2 text' rest' e closed'.1))
-    (λ bad'. (run_one is_within_line text rest text' rest' e bad.1 bad'.1, bad.0 ∙ sym bad'.0))
-    q')
-    q
-
--- a kind that the text and its neighbours decide
-decided : (F : List ℕ → List ℕ → Option Kind) (text rest text' rest' : List ℕ) (k k' : Option Kind) → k ≡ F text rest → k' ≡ F text' rest' → text ≡ text' → rest ≡ rest' → k ≡ k'
-decided F text rest text' rest' k k' e e' t r = e ∙ ap (λ l. F l rest) t ∙ ap (F text') r ∙ sym e'
-
-by_one : (o : Opening) (before text rest text' rest' : List ℕ) (k k' : Option Kind) → text ++ rest ≡ text' ++ rest' → IsPieceBy o before text rest k → IsPieceBy o before text' rest' k' →
-    (length text ≡ length text') × (text ≡ text' → rest ≡ rest' → k ≡ k')
-by_one Blank before text rest text' rest' k k' e p p' = (p.1 ∙ sym p'.1, λ t r. p.0 ∙ sym p'.0)
-by_one DashComment before text rest text' rest' k k' e p p' = (run_one _ text rest text' rest' e p.1 p'.1, λ t r. p.0 ∙ sym p'.0)
-by_one SlashComment before text rest text' rest' k k' e p p' = (comment_one text rest text' rest' e p.1 p'.1, λ t r. p.0 ∙ sym p'.0)
-by_one Letter before text rest text' rest' k k' e p p' = (run_one _ text rest text' rest' e p.1 p'.1, λ t r. decided (λ t r. Some (cond (is_go before t r) Go Word)) text rest text' rest' k k' p.0 p'.0 t r)
-by_one Digit before text rest text' rest' k k' e p p' = (run_one _ text rest text' rest' e p.1 p'.1, λ t r. decided (λ t r. Some (number_kind t)) text rest text' rest' k k' p.0 p'.0 t r)
-by_one Quote before text rest text' rest' k k' e p p' = let q = quotation_one _ _ _ text rest text' rest' k k' refl e p p' in (q.0, λ t r. q.1)
-by_one NationalQuote before text rest text' rest' k k' e p p' = let q = quotation_one _ _ _ text rest text' rest' k k' refl e p p' in (q.0, λ t r. q.1)
-by_one Bracket before text rest text' rest' k k' e p p' = let q = quotation_one _ _ _ text rest text' rest' k k' refl e p p' in (q.0, λ t r. q.1)
-by_one DoubleQuote before text rest text' rest' k k' e p p' = let q = quotation_one _ _ _ text rest text' rest' k k' refl e p p' in (q.0, λ t r. q.1)
-by_one ColonByte before text rest text' rest' k k' e p p' = (p.1 ∙ sym p'.1, λ t r. p.0 ∙ sym p'.0)
-by_one SignByte before text rest text' rest' k k' e p p' = (p.1 ∙ sym p'.1, λ t r. decided (λ t r. Some (Sign (first_of_bytes t))) text rest text' rest' k k' p.0 p'.0 t r)
-by_one Other before text rest text' rest' k k' e p p' = (p.1 ∙ sym p'.1, λ t r. p.0 ∙ sym p'.0)
-
--- at one place there is one piece
-pub piece_one : (before text rest text' rest' : List ℕ) (k k' : Option Kind) → text ++ rest ≡ text' ++ rest' → IsPiece before text rest k → IsPiece before text' rest' k' →
-    (text ≡ text') × (rest ≡ rest') × (k ≡ k')
-piece_one before text rest text' rest' k k' e p p' =
-    let moved : IsPieceBy (opening (text ++ rest)) before text' rest' k' = rw e p' in
-    let one = by_one (opening (text ++ rest)) before text rest text' rest' k k' e p moved in
-    let t : text ≡ text' = sym (take-append_seam text rest) ∙ ap (take (length text)) e ∙ ap (λ n. take n (text' ++ rest')) one.0 ∙ take-append_seam text' rest' in
-    let r : rest ≡ rest' = sym (drop-append_seam text rest) ∙ ap (drop (length text)) e ∙ ap (λ n. drop n (text' ++ rest')) one.0 ∙ drop-append_seam text' rest' in
-    (t, r, one.1 t r)
-
--- a run has a byte where the first byte passes
-run_some : (p : ℕ → Bool) (text rest : List ℕ) → begins p (text ++ rest) ≡ true → IsRun p text rest → 0 < length text
-run_some p [] rest e run = absurd (both_ways _ run.ends e)
-run_some p (b ∷ bs) rest e run = omega arith
-
-quotation_some : (kind : Kind) (x : ℕ) (xs : List ℕ) (close : ℕ) (text rest : List ℕ) (k : Option Kind) → begins is_within_line (text ++ rest) ≡ true → IsQuotation kind (x ∷ xs) close text rest k → 0 < length text
-quotation_some kind x xs close text rest k e q =
-    ⊎_elim
-    (λ closed. omega (arith, ap length closed.1.spelled))
-    (λ bad. run_some is_within_line text rest e bad.1)
-    q
-
-by_some : (o : Opening) (before text rest : List ℕ) (k : Option Kind) → Opens o (text ++ rest) → IsPieceBy o before text rest k → 0 < length text
-by_some Blank before text rest k e p = omega (arith, p.1)
-by_some DashComment before text rest k e p = run_some _ text rest e p.1
-by_some SlashComment before text rest k e p = omega (arith, ap length p.1.1)
-by_some Letter before text rest k e p = run_some _ text rest e p.1
-by_some Digit before text rest k e p = run_some _ text rest e p.1
-by_some Quote before text rest k e p = quotation_some _ _ _ _ text rest k (one_begins 39 (text ++ rest) refl e) p
-by_some NationalQuote before text rest k e p = quotation_some _ _ _ _ text rest k (two_begins 78 39 (text ++ rest) refl e) p
-by_some Bracket before text rest k e p = quotation_some _ _ _ _ text rest k (one_begins 91 (text ++ rest) refl e) p
-by_some DoubleQuote before text rest k e p = quotation_some _ _ _ _ text rest k (one_begins 34 (text ++ rest) refl e) p
-by_some ColonByte before text rest k e p = omega (arith, p.1)
-by_some SignByte before text rest k e p = omega (arith, p.1)
-by_some Other before text rest k e p = omega (arith, p.1)
-
--- a piece has a byte
-pub piece_some : (before text rest : List ℕ) (k : Option Kind) → IsPiece before text rest k → 0 < length text
-piece_some before text rest k p = by_some (opening (text ++ rest)) before text rest k (opens (text ++ rest)) p
-
-no_piece : (before text rest : List ℕ) (k : Option Kind) → [] ≡ text ++ rest → IsPiece before text rest k → ⊥
-no_piece before text rest k e p = omega (arith, piece_some before text rest k p, ap length e, length-append text rest)
-
--- what is read at a place is one list
-one_from : {before bytes : List ℕ} {ts us : List Token} → AreTokensFrom before bytes ts → AreTokensFrom before bytes us → ts ≡ us
-one_from ended ended = refl
-one_from ended (passed text rest e p more) = absurd (no_piece _ text rest _ e p)
-one_from ended (token text rest kind e p more) = absurd (no_piece _ text rest _ e p)
-one_from (passed text rest e p more) ended = absurd (no_piece _ text rest _ e p)
-one_from {before} (passed text rest e p more) (passed text' rest' e' p' more') =
-    let one = piece_one before text rest text' rest' None None (sym e ∙ e') p p' in
-    one_from more (rw (one.0, one.1) more')
-one_from {before} (passed text rest e p more) (token text' rest' kind' e' p' more') =
-    let one = piece_one before text rest text' rest' None (Some kind') (sym e ∙ e') p p' in
-    cc one.2
-one_from (token text rest kind e p more) ended = absurd (no_piece _ text rest _ e p)
-one_from {before} (token text rest kind e p more) (passed text' rest' e' p' more') =
-    let one = piece_one before text rest text' rest' (Some kind) None (sym e ∙ e') p p' in
-    cc one.2
-one_from {before} (token {ts = ts} text rest kind e p more) (token text' rest' kind' e' p' more') =
-    let one = piece_one before text rest text' rest' (Some kind) (Some kind') (sym e ∙ e') p p' in
-    let same : kind ≡ kind' = cc one.2 in
-    ap (λ t. token_of before t kind ∷ ts) one.0 ∙ ap (λ k. token_of before text' k ∷ ts) same
-    ∙ ap (λ l. token_of before text' kind' ∷ l) (one_from more (rw (one.0, one.1) more'))
-
-pub one_list : (src : List ℕ) (ts us : List Token) → AreTokens src ts → AreTokens src us → ts ≡ us
-one_list src ts us a b = one_from a b
+use Rattle.bk_token.specs.Laws.{piece_some}
 
 -- spans that rise from a place rise from one before it
 rise_sooner : (from sooner : ℕ) (src : List ℕ) (ts : List Token) → sooner ≤ from → SpansRise from src ts → SpansRise sooner src ts

@@ -3,3 +3,5 @@ pub mod Contents
 pub mod Pieces
 pub mod Reading
 pub mod Tokens
+pub mod RunLaws
+pub mod Laws

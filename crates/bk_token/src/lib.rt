@@ -83,6 +83,3 @@ pub fn slices()
 pub fn contents()
     ensures { (src : List ℕ) (ts : List TokenOf) → AreTokens src ts → All (λ t. SaysBy t.kind (bytes_of src t)) ts }
 {}
-
-#[cfg(test)]
-mod tests;

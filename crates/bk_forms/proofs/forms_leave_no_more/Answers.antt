@@ -1,5 +1,5 @@
-use Rattle.bk_forms.proofs.CreatingLeaving.{create_database-leaves}
-use Rattle.bk_forms.proofs.RowsLeaving.{create_table-leaves, insert-leaves, update-leaves, delete-leaves, select-leaves, bulk_insert-leaves, begin-leaves, use_database-leaves, alter-leaves, drop_database-leaves, skip_tran-leaves}
+use Rattle.bk_forms.specs.CreatingLaws.{create_database-leaves}
+use Rattle.bk_forms.specs.RowsLaws.{create_table-leaves, insert-leaves, update-leaves, delete-leaves, select-leaves, bulk_insert-leaves, begin-leaves, use_database-leaves, alter-leaves, drop_database-leaves, skip_tran-leaves}
 use Rattle.bk_forms.proofs.forms_leave_no_more.Goals as goal
 
 pub returns : goal.returns

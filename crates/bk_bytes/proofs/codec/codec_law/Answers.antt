@@ -1,4 +1,4 @@
-use Rattle.bk_bytes.proofs.Codecs.{number-IsCodec, run-IsCodec, text-IsCodec}
+use Rattle.bk_bytes.specs.CodecLaws.{number-IsCodec, run-IsCodec, text-IsCodec}
 use Rattle.bk_bytes.proofs.codec.codec_law.Goals as goal
 
 pub returns : goal.returns

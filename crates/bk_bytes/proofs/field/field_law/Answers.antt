@@ -1,4 +1,4 @@
-use Rattle.bk_bytes.proofs.Fields.{number_of-bytes_of, bytes_of-number_of, number_of-lt}
+use Rattle.bk_bytes.specs.FieldLaws.{number_of-bytes_of, bytes_of-number_of, number_of-lt}
 use Rattle.bk_bytes.proofs.field.field_law.Goals as goal
 
 pub returns : goal.returns

@@ -1,4 +1,4 @@
-use Rattle.bk_bytes.proofs.Texts.{string_at-some, string_at-none}
+use Rattle.bk_bytes.specs.TextLaws.{string_at-some, string_at-none}
 use Rattle.bk_bytes.proofs.split.split_str.Goals as goal
 
 pub returns-in-Ok : goal.returns-in-Ok

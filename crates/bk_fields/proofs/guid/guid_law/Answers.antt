@@ -1,4 +1,4 @@
-use Rattle.bk_fields.proofs.Laws.{guid_form-IsCodec}
+use Rattle.bk_fields.specs.Laws.{guid_form-IsCodec}
 use Rattle.bk_fields.proofs.guid.guid_law.Goals as goal
 
 pub returns : goal.returns

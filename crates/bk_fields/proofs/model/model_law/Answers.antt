@@ -1,4 +1,4 @@
-use Rattle.bk_fields.proofs.Laws.{model_form-IsCodec}
+use Rattle.bk_fields.specs.Laws.{model_form-IsCodec}
 use Rattle.bk_fields.proofs.model.model_law.Goals as goal
 
 pub returns : goal.returns

@@ -1,6 +1,6 @@
 use Rattle.std.proofs.Common.{arith}
 use Rattle.bk_bytes.specs.Field.{AreBytes}
-use Rattle.bk_header.proofs.Laws.{header_found, header_shorter, header_unread}
+use Rattle.bk_header.specs.Laws.{header_found, header_shorter, header_unread}
 use Rattle.bk_header.proofs.decoding.decode.Goals as goal
 
 pub overflow_sub-result : goal.overflow_sub-result

@@ -1,5 +1,5 @@
 use Rattle.bk_bytes.specs.Codec.{times_at}
-use Rattle.bk_bytes.proofs.Loops.{goes_on, is_done, stops}
+use Rattle.bk_bytes.specs.LoopLaws.{goes_on, is_done, stops}
 use Rattle.bk_header.specs.Reading.{branch_form}
 use Rattle.bk_header.proofs.lists.read_branches.Goals as goal
 

@@ -2,7 +2,7 @@ use Rattle.std.proofs.Common.{◌≡◌, ◌∙◌, sym, ap, suc, get_or, take, 
 use Rattle.std.proofs.Math.Seq.{take-suc}
 use Rattle.bk_ids.specs.declared.path.Branch.{Branch}
 use Rattle.bk_ids.specs.Path.{branch_at}
-use Rattle.bk_ids.proofs.Paths.{branch_at-started, branch_at-not_started}
+use Rattle.bk_ids.specs.Laws.{branch_at-started, branch_at-not_started}
 use Rattle.bk_ids.proofs.path.branch_of.Goals.{then-branch-n, else-branch-n}
 use Rattle.bk_ids.proofs.path.branch_of.Goals as goal
 

@@ -1,4 +1,4 @@
-use Rattle.bk_ids.proofs.Paths.{differ-some, differ-none}
+use Rattle.bk_ids.specs.Laws.{differ-some, differ-none}
 use Rattle.bk_ids.proofs.path.first_differ.Goals as goal
 
 pub returns-then-least-end : goal.returns-then-least-end

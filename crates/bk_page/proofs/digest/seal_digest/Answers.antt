@@ -1,6 +1,6 @@
 use Rattle.std.proofs.Common.{◌≡◌, length, drop, ap, ◌∙◌, arith, length-take, length-drop}
 use Rattle.bk_page.specs.Page.{page_digest}
-use Rattle.bk_page.proofs.Parts.{put-with_field}
+use Rattle.bk_page.specs.PartLaws.{put-with_field}
 use Rattle.bk_page.proofs.digest.seal_digest.Goals as goal
 
 pub returns : goal.returns

@@ -1,5 +1,5 @@
 use Rattle.std.proofs.Common.{sym, ◌∙◌}
-use Rattle.bk_page.proofs.Parts.{number_of-part}
+use Rattle.bk_page.specs.PartLaws.{number_of-part}
 use Rattle.bk_page.proofs.header.page_lsn.Goals as goal
 
 pub returns : goal.returns

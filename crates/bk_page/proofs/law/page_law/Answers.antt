@@ -1,4 +1,4 @@
-use Rattle.bk_page.proofs.Changes.{with_cell-writes, with_lsn-writes, sealed-seals, fresh_page-fresh}
+use Rattle.bk_page.specs.Laws.{with_cell-writes, with_lsn-writes, sealed-seals, fresh_page-fresh}
 use Rattle.bk_page.proofs.law.page_law.Goals as goal
 
 pub returns : goal.returns

@@ -1,6 +1,6 @@
 use Rattle.std.proofs.Common.{[], ◌∷◌, ◌++◌}
 use Rattle.bk_record.specs.View.{record_of}
-use Rattle.bk_record.proofs.WalkSteps.{walked_more}
+use Rattle.bk_record.specs.WalkLaws.{walked_more}
 use Rattle.bk_record.proofs.check.check_log.Goals as goal
 
 pub loop-record-preserved : goal.loop-record-preserved

@@ -1,6 +1,6 @@
 use Rattle.std.proofs.Common.{List}
 use Rattle.bk_ids.specs.declared.record.Rec.{Rec}
-use Rattle.bk_record.proofs.WalkSteps.{Walked}
+use Rattle.bk_record.specs.WalkLaws.{Walked}
 use Rattle.bk_record.proofs.check.check_log.Given as goal
 
 abbrev pub invariant-loop-record : goal.invariant-loop-record

@@ -1,5 +1,5 @@
-use Rattle.bk_record.proofs.Laws.{one_record}
-use Rattle.bk_record.proofs.WalkSteps.{one_log, log_of_records}
+use Rattle.bk_record.specs.Laws.{one_record}
+use Rattle.bk_record.specs.WalkLaws.{one_log, log_of_records}
 use Rattle.bk_record.proofs.check.log_law.Goals as goal
 
 pub returns : goal.returns

@@ -1,5 +1,5 @@
 use Rattle.std.proofs.Common.{arith}
-use Rattle.bk_record.proofs.Laws.{record_given}
+use Rattle.bk_record.specs.Laws.{record_given}
 use Rattle.bk_record.proofs.reading.split_record.Goals as goal
 
 pub returns : goal.returns

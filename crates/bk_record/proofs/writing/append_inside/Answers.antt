@@ -1,5 +1,5 @@
 use Rattle.std.proofs.Common.{arith}
-use Rattle.bk_record.proofs.Lengths.{inside_short}
+use Rattle.bk_record.specs.LengthLaws.{inside_short}
 use Rattle.bk_record.proofs.writing.append_inside.Goals as goal
 
 pub returns-clause-fits : goal.returns-clause-fits

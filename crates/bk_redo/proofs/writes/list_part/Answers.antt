@@ -1,7 +1,7 @@
 use Rattle.std.proofs.Common.{◌≡◌, [], ◌∷◌, ◌++◌, Option, Some, ap, sym, ◌∙◌, append-nil}
 use Rattle.std.specs.Option.{option_to_list}
 use Rattle.bk_record.specs.View.{record_of}
-use Rattle.bk_record.proofs.WalkSteps.{walked_more}
+use Rattle.bk_record.specs.WalkLaws.{walked_more}
 use Rattle.bk_redo.specs.declared.writes.CellWrite.{CellWrite}
 use Rattle.bk_redo.proofs.Listed.{listed_more}
 use Rattle.bk_redo.proofs.writes.list_part.Goals as goal

@@ -1,6 +1,6 @@
 use Rattle.std.proofs.Common.{List}
 use Rattle.bk_ids.specs.declared.record.Rec.{Rec}
-use Rattle.bk_record.proofs.WalkSteps.{Walked}
+use Rattle.bk_record.specs.WalkLaws.{Walked}
 use Rattle.bk_redo.specs.Redo.{records_between}
 use Rattle.bk_redo.specs.CellWrites.{IsListOf}
 use Rattle.bk_redo.proofs.writes.list_part.Given as goal

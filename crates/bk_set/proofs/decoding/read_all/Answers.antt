@@ -1,6 +1,6 @@
 use Rattle.std.proofs.Common.{arith}
 use Rattle.bk_bytes.specs.Field.{AreBytes}
-use Rattle.bk_set.proofs.Laws.{body_read}
+use Rattle.bk_set.specs.Laws.{body_read}
 use Rattle.bk_set.proofs.decoding.read_all.Goals as goal
 
 pub returns-clause-is_body : goal.returns-clause-is_body

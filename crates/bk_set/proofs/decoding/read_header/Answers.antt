@@ -4,7 +4,7 @@ use Rattle.bk_world.specs.declared.header.Header.{Header}
 use Rattle.bk_bytes.specs.Field.{AreBytes}
 use Rattle.bk_header.specs.Found.{BeginsWith, IsNoHeader}
 use Rattle.bk_header.specs.Reading.{header_form}
-use Rattle.bk_header.proofs.Laws.{header_read, header_again}
+use Rattle.bk_header.specs.Laws.{header_read, header_again}
 use Rattle.bk_set.proofs.decoding.read_header.Goals as goal
 
 -- what begins with a header is read as it

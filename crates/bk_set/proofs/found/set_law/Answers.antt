@@ -1,5 +1,5 @@
-use Rattle.bk_set.proofs.Laws.{one_body}
-use Rattle.bk_set.proofs.Founds.{set_found}
+use Rattle.bk_set.specs.Laws.{one_body}
+use Rattle.bk_set.specs.FoundLaws.{set_found}
 use Rattle.bk_set.proofs.found.set_law.Goals as goal
 
 pub returns : goal.returns

@@ -1,6 +1,6 @@
 use Rattle.std.proofs.Common.{◌≡◌, ◌-◌}
 use Rattle.bk_bytes.specs.Codec.{times_at}
-use Rattle.bk_bytes.proofs.Loops.{with_front}
+use Rattle.bk_bytes.specs.LoopLaws.{with_front}
 use Rattle.bk_set.specs.Reading.{row_form}
 use Rattle.bk_set.proofs.lists.read_some_rows.Given as goal
 

@@ -1,5 +1,5 @@
 use Rattle.bk_bytes.specs.CellView.{row_of}
-use Rattle.bk_bytes.proofs.Cells.{cell_read, cell_unread}
+use Rattle.bk_bytes.specs.CellLaws.{cell_read, cell_unread}
 use Rattle.bk_bytes.proofs.cell.Cell.read.Goals as goal
 
 pub returns-in_err-cell : goal.returns-in_err-cell

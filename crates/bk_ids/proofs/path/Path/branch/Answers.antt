@@ -1,6 +1,6 @@
 use Rattle.std.proofs.Common.{◌≡◌, ◌∙◌, sym, ap, None}
 use Rattle.bk_ids.specs.Path.{branch_at}
-use Rattle.bk_ids.proofs.Paths.{branch_at-there}
+use Rattle.bk_ids.specs.Laws.{branch_at-there}
 use Rattle.bk_ids.proofs.path.Path.branch.Goals as goal
 
 pub unreachable-requires : goal.unreachable-requires

@@ -1,6 +1,6 @@
 use Rattle.std.proofs.lemmas.List.{take_rest}
 use Rattle.bk_record.specs.View.{record_of}
-use Rattle.bk_record.proofs.WalkSteps.{after_shorter, step_reads, step_breaks, reads_shorter, breaks_shorter}
+use Rattle.bk_record.specs.WalkLaws.{after_shorter, step_reads, step_breaks, reads_shorter, breaks_shorter}
 use Rattle.bk_record.proofs.walk.LogCursorIterator.next.Goals as goal
 
 pub overflow_sub-self : goal.overflow_sub-self

@@ -1,2 +1,0 @@
-pub mod CreatingLeaving
-pub mod RowsLeaving

@@ -1,2 +1,0 @@
-pub mod BackupLeaving
-pub mod RestoreLeaving
