@@ -1,0 +1,99 @@
+//! What the commands of a case work on.
+
+use crate::beside::redo_beside;
+use crate::framing::answer_frames;
+use crate::grouping::answer_groups;
+use crate::mapping::answer_maps;
+use crate::paging::{answer_page, count_stored, show_digests};
+use crate::records::{append_bytes, append_records};
+use crate::redoing::redo_frames;
+use crate::undoing::show_losers;
+use crate::words::{number, word};
+use bk_frames::Frames;
+use bk_groups::Groups;
+use bk_maps::Maps;
+use cases::Subject;
+use std::alloc::{AllocError, Global};
+use std::thread::Threads;
+
+/// Some frames, change maps, filegroups and a log.
+#[derive(Drop)]
+pub(crate) struct Floor {
+    alloc: Global,
+    frames: Frames,
+    maps: Maps,
+    groups: Groups,
+    log: Vec<u8>,
+}
+
+impl Floor {
+    /// Nothing of all this yet.
+    pub(crate) fn new(alloc: Global) -> Result<Self, AllocError> {
+        Ok(Floor {
+            alloc,
+            frames: Frames::new(alloc, 0)?,
+            maps: Maps::new(alloc, &[])?,
+            groups: Groups::new(alloc, &[])?,
+            log: Vec::new(alloc),
+        })
+    }
+}
+
+/// Does what a command says, by threads where it speaks of them.
+pub(crate) fn answer_command<R: Threads + Sync>(
+    rt: &R,
+    floor: &mut Floor,
+    command: &str,
+    out: &mut String,
+) -> Result<(), AllocError> {
+    let (head, lines) = command.split_once('\n').unwrap_or((command, ""));
+    match word(head, 0) {
+        "frames" => answer_frames(rt, floor.alloc, &mut floor.frames, head, out),
+        "page" => answer_page(&mut floor.frames, head, out),
+        "digests" => show_digests(rt, floor.alloc, &floor.frames, out),
+        "stored" => count_stored(rt, floor.alloc, &floor.frames, out),
+        "maps" => answer_maps(floor.alloc, &mut floor.maps, head, out),
+        "groups" => answer_groups(floor.alloc, &mut floor.groups, head, out),
+        "log" => append_records(floor.alloc, &mut floor.log, lines),
+        "bytes" => append_bytes(&mut floor.log, head),
+        "redo" => redo_frames(rt, floor.alloc, &mut floor.frames, &floor.log, head, out),
+        "beside" => redo_beside(rt, floor.alloc, &mut floor.frames, &floor.log, out),
+        "losers" => show_losers(floor.alloc, &floor.log, number(head, 1), out),
+        _ => out.push_str("no such command\n"),
+    }
+}
+
+/// Nothing, or that memory ran out.
+pub(crate) type Answered = Result<(), AllocError>;
+
+/// What does what a command says.
+pub(crate) type Answering = Box<dyn Fn(&mut Floor, &str, &mut String) -> Answered + Drop>;
+
+/// The floor of the case that runs, and what does what its commands say.
+#[derive(Drop)]
+pub(crate) struct Desk {
+    floor: Floor,
+    answering: Answering,
+    ghost callable: { IsAlwaysCallable answering },
+}
+
+impl Desk {
+    /// With nothing on the floor yet.
+    pub(crate) fn new(alloc: Global, answering: Answering) -> Result<Self, AllocError>
+        requires { IsAlwaysCallable answering }
+    {
+        let floor = Floor::new(alloc)?;
+        Ok(Desk { floor, answering })
+    }
+}
+
+impl Subject for Desk {
+    fn begin(&mut self) -> Result<(), AllocError> {
+        self.floor = Floor::new(self.floor.alloc)?;
+        Ok(())
+    }
+
+    fn answer(&mut self, command: &str, out: &mut String) -> Result<(), AllocError> {
+        (self.answering)(&mut self.floor, command, out)
+    }
+}

@@ -1,0 +1,161 @@
+//! Commands on filegroups.
+
+ghost use Rattle.std.specs.Prelude.{◌≡◌, ◌≤◌, IfOk};
+
+use crate::words::{number, word};
+use bk_groups::Groups;
+use bk_ids::{Name, Place, Text};
+use bk_world::FileSpec;
+use std::alloc::{AllocError, Global};
+
+pub(crate) fn answer_groups(
+    alloc: Global,
+    groups: &mut Groups,
+    command: &str,
+    out: &mut String,
+) -> Result<(), AllocError> {
+    match word(command, 1) {
+        "new" => *groups = groups_of(alloc, command)?,
+        "table" => return add_table(groups, command, out),
+        "touch" => return touch(groups, command, out),
+        "group" => return show_group(groups, command, out),
+        "fresh" => return show_fresh(groups, command, out),
+        "is-free" => return show_free(groups, command, out),
+        "fill" | "put" | "free" | "find" => return answer_row(groups, command, out),
+        _ => return out.push_str("no such command\n"),
+    }
+    Ok(())
+}
+
+// Two files, each of a filegroup, with so many extents.
+fn groups_of(alloc: Global, command: &str) -> Result<Groups, AllocError> {
+    let mut files = Vec::new(alloc);
+    files.push(file(alloc, 1, word(command, 2), word(command, 3))?)?;
+    files.push(file(alloc, 2, word(command, 4), word(command, 5))?)?;
+    Groups::new(alloc, &files)
+}
+
+// The file of this number, of a filegroup and with so many extents, at most 4,096.
+fn file(alloc: Global, number: u16, group: &str, extents: &str) -> Result<FileSpec, AllocError>
+    ensures number { IfOk result (λ file. file.number ≡ number) }
+    ensures extents { IfOk result (λ file. file.extents ≤ 4096) }
+{
+    let extents: u32 = extents.parse().unwrap_or(0);
+    Ok(FileSpec {
+        number,
+        group: group.parse().unwrap_or(0),
+        extents: extents.min(4096),
+        name: Name::new(alloc, "S").map_err(|_| AllocError)?,
+        path: Text::new(String::from_str(alloc, "s")?),
+    })
+}
+
+fn add_table(groups: &mut Groups, command: &str, out: &mut String) -> Result<(), AllocError> {
+    let table = word(command, 2).parse().unwrap_or(0);
+    if groups.group(table).is_some() {
+        return out.push_str("there is such a table\n");
+    }
+    groups.add_table(table, word(command, 3).parse().unwrap_or(0))
+}
+
+fn touch(groups: &mut Groups, command: &str, out: &mut String) -> Result<(), AllocError> {
+    let file = word(command, 2).parse().unwrap_or(0);
+    let extent = word(command, 3).parse().unwrap_or(0);
+    if !groups.has_extent(file, extent) {
+        return out.push_str("no such extent\n");
+    }
+    groups.touch(file, extent);
+    Ok(())
+}
+
+fn show_group(groups: &Groups, command: &str, out: &mut String) -> Result<(), AllocError> {
+    match groups.group(word(command, 2).parse().unwrap_or(0)) {
+        Some(group) => writeln!(out, "filegroup {group}"),
+        None => out.push_str("no such table\n"),
+    }
+}
+
+fn show_fresh(groups: &Groups, command: &str, out: &mut String) -> Result<(), AllocError> {
+    writeln!(
+        out,
+        "{} fresh",
+        groups.fresh(word(command, 2).parse().unwrap_or(0))
+    )
+}
+
+// The place that a command names by its file, page and slot.
+fn place_in(command: &str, i: usize) -> Place
+    requires { i ≤ 4 }
+{
+    Place {
+        file: word(command, i).parse().unwrap_or(0),
+        page: word(command, i + 1).parse().unwrap_or(0),
+        slot: word(command, i + 2).parse().unwrap_or(0),
+    }
+}
+
+fn show_free(groups: &Groups, command: &str, out: &mut String) -> Result<(), AllocError> {
+    out.push_str(if groups.is_free(place_in(command, 2)) {
+        "free\n"
+    } else {
+        "not free\n"
+    })
+}
+
+fn answer_row(groups: &mut Groups, command: &str, out: &mut String) -> Result<(), AllocError> {
+    let table = word(command, 2).parse().unwrap_or(0);
+    let key = number(command, 3);
+    match word(command, 1) {
+        "fill" => fill(groups, table, key, number(command, 4), out),
+        "put" => put(groups, table, key, place_in(command, 4), out),
+        "free" => free(groups, table, key, out),
+        _ => show_place(groups.find(table, key), out),
+    }
+}
+
+// Gives a place to each row of a table with a key from one on and below another, until that is refused.
+fn fill(
+    groups: &mut Groups,
+    table: u32,
+    from: u64,
+    to: u64,
+    out: &mut String,
+) -> Result<(), AllocError> {
+    for key in from..to {
+        if groups.group(table).is_none() || groups.find(table, key).is_some() {
+            return writeln!(out, "key {key}: no such table, or a place already");
+        }
+        if let Err(error) = groups.place(table, key) {
+            return writeln!(out, "key {key}: {error}");
+        }
+    }
+    Ok(())
+}
+
+fn put(
+    groups: &mut Groups,
+    table: u32,
+    key: u64,
+    at: Place,
+    out: &mut String,
+) -> Result<(), AllocError> {
+    if groups.find(table, key).is_some() || !groups.is_free(at) {
+        return out.push_str("has a place, or isn't free\n");
+    }
+    groups.put(table, key, at)
+}
+
+fn free(groups: &mut Groups, table: u32, key: u64, out: &mut String) -> Result<(), AllocError> {
+    if groups.find(table, key).is_none() {
+        return out.push_str("no place\n");
+    }
+    groups.free(table, key);
+    Ok(())
+}
+
+fn show_place(at: Option<Place>, out: &mut String) -> Result<(), AllocError> {
+    match at {
+        Some(at) => writeln!(out, "file {} page {} slot {}", at.file, at.page, at.slot),
+        None => out.push_str("no place\n"),
+    }
+}

@@ -1,0 +1,161 @@
+// The commands.
+
+use crate::bytes::number;
+use crate::changes::Changes;
+use crate::console::{Asked, Console, show_told, told_from};
+use crate::files::Files;
+use crate::line::{line_of, show_with_clap, show_words};
+use crate::trial::Trial;
+use crate::trials::{Cut, Trials};
+use crate::trouble::Trouble;
+use cases::Subject;
+use std::alloc::{AllocError, Global};
+
+/// What the commands of a case are put to.
+#[derive(Drop)]
+pub struct Runs {
+    console: Console,
+    alloc: Global,
+    files: Files,
+    // The number of the next run's source call that fails.
+    fault: Option<u64>,
+    trial: Trial,
+    changes: Changes,
+}
+
+impl Runs {
+    /// A device without files, and no databases.
+    pub fn new(alloc: Global, console: Console) -> Self {
+        Runs {
+            console,
+            alloc,
+            files: Files::new(alloc),
+            fault: None,
+            trial: Trial::new(alloc),
+            changes: Changes::new(alloc),
+        }
+    }
+
+    // Runs a script over the device, and answers what it told and its status.
+    fn run(&mut self, words: &str, script: &[u8], out: &mut String) -> Result<(), AllocError> {
+        let line = line_of(self.alloc, words)?;
+        let asked = Asked {
+            line: &line,
+            script,
+            fault: self.fault.take(),
+        };
+        let before = self.files.device.told().len();
+        let status = self.console.run(&asked, &mut self.files.device)?;
+        show_told(told_from(&self.files.device, before), out)?;
+        writeln!(out, "status {status}")
+    }
+
+    // Runs a script of so many blanks.
+    fn run_blanks(&mut self, words: &str, out: &mut String) -> Result<(), Trouble> {
+        let (count, words) = words.split_once(' ').ok_or(Trouble::NoForm)?;
+        let mut script = Vec::new(self.alloc);
+        for _ in 0..number(count)? {
+            script.push(b' ')?;
+        }
+        self.run(words, &script, out)?;
+        Ok(())
+    }
+
+    // Cuts a run short at each write or call.
+    fn at_each(
+        &mut self,
+        cut: Cut,
+        words: &str,
+        script: &str,
+        out: &mut String,
+    ) -> Result<(), AllocError> {
+        let line = line_of(self.alloc, words)?;
+        let trials = Trials {
+            alloc: self.alloc,
+            console: &self.console,
+            start: &self.files.device,
+            asked: &Asked {
+                line: &line,
+                script: script.as_bytes(),
+                fault: None,
+            },
+            cut,
+        };
+        trials.at_each(&mut self.trial, out)
+    }
+
+    // `run WORDS`: runs the script of the further lines. `at-each-write WORDS` and `at-each-call WORDS`: cuts it short. `look` and `may-show LEAST MOST`:
+    // what may stand behind that. `words WORDS` and `with-clap WORDS`: reads words alone.
+    fn on_script(
+        &mut self,
+        verb: &str,
+        words: &str,
+        more: &str,
+        out: &mut String,
+    ) -> Result<(), AllocError> {
+        match verb {
+            "run" => self.run(words, more.as_bytes(), out),
+            "at-each-write" => self.at_each(Cut::AtWrite, words, more, out),
+            "at-each-call" => self.at_each(Cut::AtCall, words, more, out),
+            "look" => self.trial.set_look(more),
+            "words" => show_words(self.alloc, words, out),
+            "with-clap" => show_with_clap(self.alloc, words, out),
+            "record" => self.files.show_record(out),
+            "databases" => self.changes.show_count(out),
+            _ => out.push_str("no such command\n"),
+        }
+    }
+
+    // `run-blanks N WORDS`: runs a script of so many blanks. `source-fails-at N`: the next run's source fails at this call. The other commands are those
+    // of scripts, files, crashes and changes.
+    fn command(
+        &mut self,
+        verb: &str,
+        words: &str,
+        more: &str,
+        out: &mut String,
+    ) -> Result<(), Trouble> {
+        match verb {
+            "run-blanks" => self.run_blanks(words, out),
+            "source-fails-at" => self.fail_source(words),
+            "may-show" => self.trial.may_show(words, more),
+            "restart" | "stop-at" | "fail-at" => self.files.on_crash(verb, words),
+            "put" | "write" | "lose" | "file" | "holds" => self
+                .files
+                .on_file(verb, words, more, out),
+            "apply" | "respell" | "vary" => self.changes.on_change(verb, more, out),
+            "database" => self.changes.show(words, out),
+            _ => {
+                self.on_script(verb, words, more, out)?;
+                Ok(())
+            }
+        }
+    }
+
+    fn fail_source(&mut self, word: &str) -> Result<(), Trouble> {
+        self.fault = Some(number(word)?);
+        Ok(())
+    }
+}
+
+impl Subject for Runs {
+    fn begin(&mut self) -> Result<(), AllocError> {
+        let alloc = self.alloc;
+        self.files = Files::new(alloc);
+        self.fault = None;
+        self.trial = Trial::new(alloc);
+        self.changes = Changes::new(alloc);
+        Ok(())
+    }
+
+    fn answer(&mut self, command: &str, out: &mut String) -> Result<(), AllocError> {
+        let (line, more) = command.split_once('\n').unwrap_or((command, ""));
+        let (verb, words) = line.split_once(' ').unwrap_or((line, ""));
+        match self.command(verb, words, more, out) {
+            Ok(()) => Ok(()),
+            Err(Trouble::NoMemory) => Err(AllocError),
+            Err(Trouble::NoForm) => out.push_str("no form\n"),
+            Err(Trouble::Fault) => out.push_str("the device failed\n"),
+        }
+    }
+}

@@ -1,0 +1,173 @@
+// Runs that are cut short, each at another write or call, and what stands behind each.
+
+use crate::console::{Asked, Console, show_told};
+use crate::trial::Trial;
+use crate::trouble::Trouble;
+use bk_device::MemDevice;
+use std::alloc::{AllocError, Global};
+
+// Before how many writes or calls a run is to have gone well.
+const MOST: u64 = 2000;
+
+/// How a run is cut short.
+#[derive(Clone, Copy)]
+pub enum Cut {
+    /// The write of a number and all calls from then on fail.
+    AtWrite,
+    /// The call of a number fails.
+    AtCall,
+}
+
+/// A run that is cut short again and again, from the same device on.
+#[derive(Clone, Copy)]
+pub struct Trials<'a> {
+    pub alloc: Global,
+    pub console: &'a Console,
+    pub start: &'a MemDevice,
+    pub asked: &'a Asked<'a>,
+    pub cut: Cut,
+}
+
+// At how many writes or calls a run ended with status 4, where telling failed, and with status 5, where a call on files did.
+#[derive(Clone, Copy)]
+struct Faults {
+    tellings: u32,
+    files: u32,
+}
+
+impl Faults {
+    // One more run ended with this status. Says whether it is one that may be.
+    fn count(&mut self, status: u8) -> bool {
+        match status {
+            4 => self.tellings = self.tellings.saturating_add(1),
+            5 => self.files = self.files.saturating_add(1),
+            _ => return status == 0,
+        }
+        true
+    }
+
+    fn show(self, out: &mut String) -> Result<(), AllocError> {
+        let tellings = self.tellings;
+        let how = if self.files > tellings {
+            "more"
+        } else {
+            "fewer"
+        };
+        writeln!(out, "status 4 at {tellings}, status 5 at {how}")
+    }
+}
+
+// How many lines were told.
+fn lines_told(told: &[u8]) -> u64 {
+    told.iter().filter(|byte| **byte == b'\n').count() as u64
+}
+
+impl Trials<'_> {
+    // What the run tells where nothing cuts it short.
+    fn whole(&self) -> Result<Vec<u8>, AllocError> {
+        let mut device = self.start.copy()?;
+        self.console.run(self.asked, &mut device)?;
+        Vec::from_slice(self.alloc, device.told())
+    }
+
+    // The status of a run over a device that cuts it short there.
+    fn cut_short(&self, device: &mut MemDevice, at: u64) -> Result<u8, AllocError> {
+        match self.cut {
+            Cut::AtWrite => device.stop_at(at),
+            Cut::AtCall => device.fail_at(at)?,
+        }
+        self.console.run(self.asked, device)
+    }
+
+    // What a look over a device shows, and its status where that isn't 0.
+    fn look(&self, script: &str, device: &mut MemDevice) -> Result<String, AllocError> {
+        let asked = Asked {
+            line: &[String::from_str(self.alloc, "d")?],
+            script: script.as_bytes(),
+            fault: None,
+        };
+        let status = self.console.run(&asked, device)?;
+        let mut text = String::new(self.alloc);
+        show_told(device.told(), &mut text)?;
+        if status != 0 {
+            writeln!(text, "status {status}")?;
+        }
+        Ok(text)
+    }
+
+    // Looks twice behind a crash. Says whether it is the same twice, and may be shown, and else answers it.
+    fn looks_well(
+        &self,
+        trial: &mut Trial,
+        lines: u64,
+        device: &MemDevice,
+        out: &mut String,
+    ) -> Result<bool, AllocError> {
+        let mut device = device.copy()?;
+        let first = self.look(trial.look(), &mut device)?;
+        let second = self.look(trial.look(), &mut device.copy()?)?;
+        if first.as_str() == second.as_str() && trial.takes(lines, first.as_str()) {
+            return Ok(true);
+        }
+        out.push_str(&second)?;
+        Ok(false)
+    }
+
+    // Cuts one run short, and looks what stands behind it. Gives its status where all is as it may be.
+    fn try_one(
+        &self,
+        trial: &mut Trial,
+        whole: &[u8],
+        at: u64,
+        keep: bool,
+        out: &mut String,
+    ) -> Result<Option<u8>, AllocError> {
+        let mut device = self.start.copy()?;
+        let status = self.cut_short(&mut device, at)?;
+        let told = device.told();
+        let lines = lines_told(told);
+        let is_front = whole.starts_with(told) && (status != 0 || whole == told);
+        if is_front && self.looks_well(trial, lines, &device.restart(keep), out)? {
+            return Ok(Some(status));
+        }
+        writeln!(out, "cut short at {at}, {lines} lines, status {status}")?;
+        Ok(None)
+    }
+
+    // The same where what wasn't synced is lost, and where it is kept.
+    fn try_both(
+        &self,
+        trial: &mut Trial,
+        whole: &[u8],
+        at: u64,
+        out: &mut String,
+    ) -> Result<Option<u8>, AllocError> {
+        match self.try_one(trial, whole, at, false, out)? {
+            Some(_) => self.try_one(trial, whole, at, true, out),
+            None => Ok(None),
+        }
+    }
+
+    /// Cuts the run short at each write or call, until it goes well. Behind each crash a look shows twice what it may show then. Answers
+    /// at how many calls telling failed, and whether others failed more often; or the first mistake.
+    pub fn at_each(&self, trial: &mut Trial, out: &mut String) -> Result<(), AllocError> {
+        let whole = self.whole()?;
+        let mut faults = Faults {
+            tellings: 0,
+            files: 0,
+        };
+        for at in 1..MOST {
+            let Some(status) = self.try_both(trial, &whole, at, out)? else {
+                return Ok(());
+            };
+            if status == 0 {
+                break;
+            }
+            if !faults.count(status) {
+                writeln!(out, "status {status} at {at}")?;
+            }
+        }
+        faults.show(out)?;
+        trial.show_unseen(out)
+    }
+}

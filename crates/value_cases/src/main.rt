@@ -1,0 +1,33 @@
+//! Cases over the values that are spelled as bytes or texts: fields, names, times, log records, headers, sets and media.
+//!
+//! Each command speaks of the bytes that `bytes` and `more` gave, or of the words behind it. The files of `data/` are the cases.
+#![tactic(auto)]
+
+mod fault;
+mod fields;
+mod headers;
+mod ids;
+mod media;
+mod paths;
+mod records;
+mod sets;
+mod shelf;
+mod spelled;
+mod splits;
+mod times;
+mod values;
+mod words;
+
+use cases::run_cases;
+use std::io;
+use std::process::ExitCode;
+use values::Values;
+
+fn main(rt: HostRuntime) -> io::Result<ExitCode> {
+    let mut values = Values::new(rt.alloc());
+    if run_cases(&rt, &mut values)? {
+        Ok(ExitCode::SUCCESS)
+    } else {
+        Ok(ExitCode::FAILURE)
+    }
+}

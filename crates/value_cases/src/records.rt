@@ -1,0 +1,204 @@
+// Log records.
+ghost use Rattle.std.specs.Prelude.{◌≡◌, ◌<◌, length, IfOk};
+ghost use Rattle.bk_record.specs.Extents.{extents_shown};
+ghost use Rattle.bk_record.specs.Spelling.{IsBody, IsMark, IsRecord};
+ghost use Rattle.bk_record.specs.View.{body_of, mark_of, record_of};
+
+use bk_bytes::Cell;
+use bk_ids::{Body, CellImage, ExtentId, Mark, Name, Rec, Sequence, Text};
+use bk_record::{BodyRef, Extents, MarkRef, RecRef, cursor, encode};
+use std::alloc::{AllocError, Global};
+
+fn name_of(alloc: Global, text: &str) -> Result<Name, AllocError>
+    requires { 0 < length text.now }
+    ensures { IfOk result (λ name. name ≡ text.now) }
+{
+    Name::new(alloc, text).map_err(|_| AllocError)
+}
+
+fn text_of(alloc: Global, text: &str) -> Result<Text, AllocError>
+    ensures { IfOk result (λ own. own ≡ text.now) }
+{
+    Ok(Text::new(String::from_str(alloc, text)?))
+}
+
+// The mark as a value of its own.
+fn owned_mark(alloc: Global, mark: Option<MarkRef<'_>>) -> Result<Option<Mark>, AllocError>
+    requires { IsMark (mark_of mark) }
+    ensures { IfOk result (λ own. own ≡ mark_of mark.entry) }
+{
+    let Some(mark) = mark else {
+        return Ok(None);
+    };
+    let name = name_of(alloc, mark.name)?;
+    let description = match mark.description {
+        None => None,
+        Some(text) => Some(text_of(alloc, text)?),
+    };
+    Ok(Some(Mark { name, description }))
+}
+
+// The extents as a list of its own.
+fn owned_extents(alloc: Global, extents: Extents<'_>) -> Result<Sequence<ExtentId>, AllocError>
+    ensures { IfOk result (λ own. own ≡ extents_shown extents.entry) }
+{
+    Ok(Sequence::new(extents.collect(alloc)?))
+}
+
+// What a record tells, as a value of its own.
+fn owned_body(alloc: Global, body: BodyRef<'_>) -> Result<Body, AllocError>
+    requires { IsBody (body_of body) }
+    ensures { IfOk result (λ own. own ≡ body_of body.entry) }
+{
+    match body {
+        BodyRef::Database {
+            time,
+            family,
+            branch,
+        } => Ok(Body::Database {
+            time,
+            family,
+            branch,
+        }),
+        BodyRef::Table {
+            time,
+            number,
+            name,
+            group,
+        } => {
+            let name = name_of(alloc, name)?;
+            Ok(Body::Table {
+                time,
+                number,
+                name,
+                group,
+            })
+        }
+        BodyRef::Begin => Ok(Body::Begin),
+        BodyRef::Write {
+            place,
+            before,
+            after,
+        } => Ok(Body::Write {
+            place,
+            before: CellImage { bytes: *before },
+            after: CellImage { bytes: *after },
+        }),
+        BodyRef::Commit { time, mark } => {
+            let mark = owned_mark(alloc, mark)?;
+            Ok(Body::Commit { time, mark })
+        }
+        BodyRef::RollbackEnd => Ok(Body::RollbackEnd),
+        BodyRef::Compensation {
+            place,
+            cell,
+            undone,
+        } => Ok(Body::Compensation {
+            place,
+            cell: CellImage { bytes: *cell },
+            undone,
+        }),
+        BodyRef::Checkpoint { time } => Ok(Body::Checkpoint { time }),
+        BodyRef::Stamp { time, set } => Ok(Body::Stamp { time, set }),
+        BodyRef::Model { time, model } => Ok(Body::Model { time, model }),
+        BodyRef::Bulk {
+            table,
+            first,
+            count,
+            value,
+            extents,
+        } => {
+            let value = text_of(alloc, value)?;
+            let extents = owned_extents(alloc, extents)?;
+            Ok(Body::Bulk {
+                table,
+                first,
+                count,
+                value,
+                extents,
+            })
+        }
+        BodyRef::Recovery { branch } => Ok(Body::Recovery { branch }),
+    }
+}
+
+// Appends the spelling of a record.
+fn append(alloc: Global, logged: &RecRef<'_>, out: &mut Vec<u8>) -> Result<(), AllocError>
+    requires { IsRecord (record_of logged.now) }
+{
+    let (lsn, begin) = (logged.lsn, logged.begin);
+    let body = owned_body(alloc, logged.body)?;
+    let own = Rec { lsn, begin, body };
+    encode(alloc, &own, out)
+}
+
+/// The spelling of the records that bytes spell, where they are records alone.
+pub fn spelled_again(alloc: Global, bytes: &[u8]) -> Result<Option<Vec<u8>>, AllocError> {
+    let mut out = Vec::new(alloc);
+    for record in cursor(bytes) {
+        match record {
+            Ok(record) => append(alloc, &record, &mut out)?,
+            Err(_) => return Ok(None),
+        }
+    }
+    Ok(Some(out))
+}
+
+// The extents of a bulk load, a line each.
+fn show_extents(extents: Extents<'_>, out: &mut String) -> Result<(), AllocError> {
+    let count = extents.len();
+    writeln!(out, "{count} extents")?;
+    for extent in extents {
+        writeln!(out, "{extent:?}")?;
+    }
+    Ok(())
+}
+
+fn show_body(body: BodyRef<'_>, out: &mut String) -> Result<(), AllocError> {
+    match body {
+        BodyRef::Write {
+            place,
+            before,
+            after,
+        } => {
+            let (before, after) = (Cell::read(before), Cell::read(after));
+            writeln!(out, "Write {place:?} {before:?} {after:?}")
+        }
+        BodyRef::Compensation {
+            place,
+            cell,
+            undone,
+        } => {
+            let cell = Cell::read(cell);
+            writeln!(out, "Compensation {place:?} {cell:?} {undone}")
+        }
+        BodyRef::Bulk {
+            table,
+            first,
+            count,
+            value,
+            extents,
+        } => {
+            write!(
+                out,
+                "Bulk table {table} first {first} count {count} value {value:?} "
+            )?;
+            show_extents(extents, out)
+        }
+        other => writeln!(out, "{other:?}"),
+    }
+}
+
+/// The records that bytes spell, and where no record is spelled.
+pub fn show(bytes: &[u8], out: &mut String) -> Result<(), AllocError> {
+    for record in cursor(bytes) {
+        match record {
+            Ok(RecRef { lsn, begin, body }) => {
+                write!(out, "{lsn} {begin} ")?;
+                show_body(body, out)?;
+            }
+            Err(bad) => writeln!(out, "{bad}")?,
+        }
+    }
+    Ok(())
+}

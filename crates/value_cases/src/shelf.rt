@@ -1,0 +1,188 @@
+// A device in memory whose media the commands of a case make and read.
+ghost use Rattle.std.specs.Prelude.{IfOk};
+ghost use Rattle.bk_device.specs.Disk.{IsSettled};
+ghost use Rattle.bk_device.specs.Replay.{disk_of};
+
+use crate::fault::Fault;
+use crate::media::{Task, next_task, run};
+use crate::words::{number, word};
+use bk_device::{Device, MemDevice};
+use bk_media::{LoadError, Medium, medium_file};
+use std::alloc::{AllocError, Global};
+use std::str::SplitWhitespace;
+
+// No task has so many calls.
+const CALLS: u64 = 100;
+
+/// A device with media.
+#[derive(Drop)]
+pub struct Shelf {
+    alloc: Global,
+    device: MemDevice,
+}
+
+impl Shelf {
+    /// A device without files.
+    pub fn new(alloc: Global) -> Self {
+        Shelf {
+            alloc,
+            device: MemDevice::new(alloc),
+        }
+    }
+
+    /// Commands on media. `set` are the bytes of a set or of a file.
+    pub fn put(
+        &mut self,
+        command: &str,
+        words: &mut SplitWhitespace<'_>,
+        set: &[u8],
+        out: &mut String,
+    ) -> Result<(), Fault> {
+        match command {
+            "at-each-write" => {
+                let task = next_task(word(words)?, words, set)?;
+                Ok(self.at_each(task, Breach::Stop, out)?)
+            }
+            "at-each-call" => {
+                let task = next_task(word(words)?, words, set)?;
+                Ok(self.at_each(task, Breach::Fail, out)?)
+            }
+            "make" | "add" | "load" | "read" => {
+                let task = next_task(command, words, set)?;
+                Ok(self.act(task, out)?)
+            }
+            _ => self.file(command, words, set, out),
+        }
+    }
+
+    // Does a task.
+    fn act(&mut self, task: Task<'_, '_>, out: &mut String) -> Result<(), AllocError> {
+        let mut device = self.device.copy()?;
+        run(self.alloc, task, &mut device, out)?;
+        self.device = device;
+        Ok(())
+    }
+
+    // The device, on which a call is to fail.
+    fn breached(&self, breach: Breach, n: u64) -> Result<MemDevice, AllocError>
+        ensures { IfOk result (λ device. IsSettled (disk_of device)) }
+    {
+        let mut device = self.device.copy()?;
+        match breach {
+            Breach::Stop => {
+                device.stop_at(n);
+                Ok(device)
+            }
+            Breach::Fail => {
+                device.fail_at(n)?;
+                Ok(device)
+            }
+        }
+    }
+
+    // Does a task again and again on the same device, on which each call in turn fails, or each write and all behind it. A line
+    // says how a crash then leaves the medium, where it isn't the line before. The last line is the answer once no call fails.
+    fn at_each(
+        &self,
+        task: Task<'_, '_>,
+        breach: Breach,
+        out: &mut String,
+    ) -> Result<(), AllocError> {
+        let mut last = String::new(self.alloc);
+        for n in 1..CALLS {
+            let mut device = self.breached(breach, n)?;
+            let mut said = String::new(self.alloc);
+            run(self.alloc, task, &mut device, &mut said)?;
+            if said.as_str() != "the device has failed\n" {
+                return out.push_str(said.as_str());
+            }
+            let left = self.left(task.path, device)?;
+            if left.as_str() != last.as_str() {
+                out.push_str(left.as_str())?;
+            }
+            last = left;
+        }
+        Ok(())
+    }
+
+    // The medium after a crash, with what is pending and without.
+    fn left(&self, path: &str, device: MemDevice) -> Result<String, AllocError> {
+        let mut kept = device.copy()?;
+        let mut lost = device.restart(false);
+        let mut out = String::new(self.alloc);
+        show_medium(self.alloc, &mut kept, path, &mut out)?;
+        out.push_str(", ")?;
+        show_medium(self.alloc, &mut lost, path, &mut out)?;
+        out.push('\n')?;
+        Ok(out)
+    }
+
+    // Commands on files.
+    fn file(
+        &mut self,
+        command: &str,
+        words: &mut SplitWhitespace<'_>,
+        bytes: &[u8],
+        out: &mut String,
+    ) -> Result<(), Fault> {
+        let path = word(words)?;
+        let name = medium_file(self.alloc, path)?;
+        match command {
+            "name-of" => writeln!(out, "{name}")?,
+            "len" => {
+                let len = self.device.len(&name);
+                writeln!(out, "{len:?}")?;
+            }
+            "damage" => self.damage(&name, number(words)?)?,
+            "file" => self.store(&name, bytes)?,
+            _ => return Err(Fault::Misspelled),
+        }
+        Ok(())
+    }
+
+    // Another byte stands at an offset of a file.
+    fn damage(&mut self, name: &str, at: u64) -> Result<(), Fault> {
+        match self.device.len(name) {
+            Ok(Some(len)) if at < len => {
+                self.device.damage(name, at);
+                Ok(())
+            }
+            _ => Err(Fault::Misspelled),
+        }
+    }
+
+    // Puts bytes in place of a file.
+    fn store(&mut self, name: &str, bytes: &[u8]) -> Result<(), Fault> {
+        self.device.lose(name);
+        self.device
+            .write(name, 0, bytes)
+            .map_err(|_| Fault::NoMemory)
+    }
+}
+
+// Which calls are to fail.
+#[derive(Clone, Copy)]
+enum Breach {
+    // The write of a number, and all calls from then on.
+    Stop,
+    // The call of a number alone.
+    Fail,
+}
+
+// How many sets the medium has, or why it is none.
+fn show_medium(
+    alloc: Global,
+    device: &mut MemDevice,
+    path: &str,
+    out: &mut String,
+) -> Result<(), AllocError> {
+    match Medium::load(alloc, device, path) {
+        Ok(medium) => {
+            let count = medium.count();
+            write!(out, "{count} sets")
+        }
+        Err(LoadError::Missing) => out.push_str("no file"),
+        Err(LoadError::NotMedia) => out.push_str("no medium"),
+        Err(error) => write!(out, "{error}"),
+    }
+}

@@ -1,0 +1,165 @@
+// What all of some bytes spell, and what bytes near them do.
+use crate::fault::Fault;
+use crate::words::{bytes_in, number, word};
+use crate::{headers, records, sets};
+use bk_bytes::Cell;
+use bk_record::check_log;
+use std::alloc::{AllocError, Global};
+use std::str::SplitWhitespace;
+
+/// What bytes are to spell.
+#[derive(Clone, Copy, Debug, PartialEq, Eq)]
+pub enum Kind {
+    Cell,
+    Log,
+    Header,
+    Set,
+}
+
+/// The kind that a word names.
+pub fn kind_in(word: &str) -> Option<Kind> {
+    match word {
+        "cell" => Some(Kind::Cell),
+        "log" => Some(Kind::Log),
+        "header" => Some(Kind::Header),
+        "set" => Some(Kind::Set),
+        _ => None,
+    }
+}
+
+// The spelling of the cell that bytes spell.
+fn cell_again(alloc: Global, bytes: &[u8]) -> Result<Option<Vec<u8>>, AllocError> {
+    let Ok(image) = <[u8; 128]>::try_from(bytes) else {
+        return Ok(None);
+    };
+    match Cell::read(&image) {
+        Some(cell) => Ok(Some(cell.image().to_vec(alloc)?)),
+        None => Ok(None),
+    }
+}
+
+// The spelling of what all of these bytes spell, if they spell something.
+fn spelled_again(alloc: Global, kind: Kind, bytes: &[u8]) -> Result<Option<Vec<u8>>, AllocError> {
+    match kind {
+        Kind::Cell => cell_again(alloc, bytes),
+        Kind::Log => records::spelled_again(alloc, bytes),
+        Kind::Header => headers::spelled_again(alloc, bytes),
+        Kind::Set => sets::spelled_again(alloc, bytes),
+    }
+}
+
+fn show_cell(bytes: &[u8], out: &mut String) -> Result<(), AllocError> {
+    match <[u8; 128]>::try_from(bytes) {
+        Ok(image) => {
+            let cell = Cell::read(&image);
+            writeln!(out, "{cell:?}")
+        }
+        Err(_) => Ok(()),
+    }
+}
+
+// Whether the bytes spell something, and whether it is spelled as these bytes again.
+fn show_spelling(
+    alloc: Global,
+    kind: Kind,
+    bytes: &[u8],
+    out: &mut String,
+) -> Result<(), AllocError> {
+    match spelled_again(alloc, kind, bytes)? {
+        Some(again) if again.as_slice() == bytes => writeln!(out, "spelled so"),
+        Some(_) => writeln!(out, "spelled otherwise"),
+        None => writeln!(out, "none"),
+    }
+}
+
+/// What the bytes spell.
+pub fn show(alloc: Global, kind: Kind, bytes: &[u8], out: &mut String) -> Result<(), AllocError> {
+    match kind {
+        Kind::Cell => show_cell(bytes, out)?,
+        Kind::Log => records::show(bytes, out)?,
+        Kind::Header => headers::show(alloc, bytes, out)?,
+        Kind::Set => sets::show(alloc, bytes, out)?,
+    }
+    show_spelling(alloc, kind, bytes, out)
+}
+
+/// The lengths below that of the bytes at which their front spells something.
+pub fn show_fronts(
+    alloc: Global,
+    kind: Kind,
+    bytes: &[u8],
+    out: &mut String,
+) -> Result<(), AllocError> {
+    out.push_str("fronts:")?;
+    for end in 0..bytes.len() {
+        if spelled_again(alloc, kind, &bytes[..end])?.is_some() {
+            write!(out, " {end}")?;
+        }
+    }
+    out.push('\n')
+}
+
+// Whether bytes that were changed at a place spell nothing, or what is spelled as they are. A log may break off at
+// that place or before.
+fn is_harmless(alloc: Global, kind: Kind, bytes: &[u8], at: usize) -> Result<bool, AllocError> {
+    match spelled_again(alloc, kind, bytes)? {
+        Some(again) => Ok(again.as_slice() == bytes),
+        None if kind == Kind::Log => Ok(check_log(bytes).is_err_and(|bad| bad.at <= at)),
+        None => Ok(true),
+    }
+}
+
+/// How many changes of one byte there are, by three values at each place, and how many of them do harm.
+pub fn show_changes(
+    alloc: Global,
+    kind: Kind,
+    bytes: &mut [u8],
+    out: &mut String,
+) -> Result<(), AllocError> {
+    let (mut changes, mut harmful) = (0u64, 0u64);
+    for at in 0..bytes.len() {
+        for change in [1, 0x80, 0xFF] {
+            bytes[at] ^= change;
+            if !is_harmless(alloc, kind, bytes, at)? {
+                harmful = harmful.saturating_add(1);
+            }
+            bytes[at] ^= change;
+            changes = changes.saturating_add(1);
+        }
+    }
+    writeln!(out, "{changes} changes, {harmful} harmful")
+}
+
+/// Writes the bytes of a word over those at a place.
+pub fn edit(alloc: Global, words: &mut SplitWhitespace<'_>, bytes: &mut [u8]) -> Result<(), Fault> {
+    let at = number(words)? as usize;
+    let new = bytes_in(alloc, word(words)?)?;
+    match bytes
+        .get_mut(at..)
+        .and_then(|rest| rest.get_mut(..new.len()))
+    {
+        Some(part) => {
+            part.copy_from_slice(&new);
+            Ok(())
+        }
+        None => Err(Fault::Misspelled),
+    }
+}
+
+/// What the bytes spell once those of a word are written over those at a place, and a set has its digest again. Further
+/// words are a remark.
+pub fn show_with(
+    alloc: Global,
+    kind: Kind,
+    words: &mut SplitWhitespace<'_>,
+    bytes: &[u8],
+    out: &mut String,
+) -> Result<(), Fault> {
+    let mut copy = bytes.to_vec(alloc)?;
+    edit(alloc, words, &mut copy)?;
+    if kind == Kind::Set {
+        sets::seal(&mut copy);
+    }
+    show_spelling(alloc, kind, &copy, out)?;
+    Ok(())
+}
