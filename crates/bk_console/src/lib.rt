@@ -11,6 +11,3 @@ mod status;
 pub use command_line::{Options, WordsError, words};
 pub use console::run;
 pub use status::Status;
-
-#[cfg(test)]
-mod tests;

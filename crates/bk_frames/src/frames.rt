@@ -91,8 +91,8 @@ impl Frames {
     }
 
     /// The pages below a place and those from it on, to be written. The place is at most `len`. The frames then have the pages of
-    /// the one as they were left, and then those of the other. A caller's proof applies this by hand, as `put_behind` in the tests
-    /// does; of `as_mut_slice` and std's `split_at_mut` it learns as much by itself.
+    /// the one as they were left, and then those of the other. A caller's proof applies this by hand; of `as_mut_slice` and std's
+    /// `split_at_mut` it learns as much by itself.
     pub fn split_at_mut(&mut self, mid: usize) -> (FramesMut<'_>, FramesMut<'_>)
         requires { mid ≤ length self.old }
         ensures* writes_back { sem 𝓛 (LendsParts self.entry result) }

@@ -8,7 +8,7 @@ use crate::frames::Page;
 /// Some of the pages of a `Frames`, lent to be written.
 ///
 /// What a caller writes by the field `pages` its own proof learns by itself. The clauses `writes_back` below say the same of
-/// `page_mut`, `as_mut_slice` and `split_at_mut`, but a proof has to apply them by hand: `put` in the tests does.
+/// `page_mut`, `as_mut_slice` and `split_at_mut`, but a proof has to apply them by hand: `put` of `page_cases` does.
 #[derive(Drop)]
 pub struct FramesMut<'a> {
     /// They as a slice.

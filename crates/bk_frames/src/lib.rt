@@ -6,6 +6,3 @@ mod frames_mut;
 
 pub use frames::{Frames, PAGE_BYTES, Page};
 pub use frames_mut::FramesMut;
-
-#[cfg(test)]
-mod tests;

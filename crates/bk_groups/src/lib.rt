@@ -9,6 +9,3 @@ mod groups;
 
 pub use error::PlaceError;
 pub use groups::Groups;
-
-#[cfg(test)]
-mod tests;

@@ -4,13 +4,15 @@ use Rattle.std.specs.Prelude.{slice_get, option_map}
 use Rattle.std.specs.Str.{bytes_eq}
 use Rattle.std.proofs.lemmas.Bool.Decides.{nat_tests}
 use Rattle.std.proofs.lemmas.Slice.Eq.{bytes_eq-Decides}
+use Rattle.std.proofs.lemmas.Option.{same_Some}
 use Rattle.bk_bytes.specs.Codec.{◌>>=◌}
 use Rattle.bk_bytes.specs.Field.{AreBytes}
-use Rattle.bk_bytes.proofs.Codecs.{bind_some, some_is}
+use Rattle.bk_bytes.specs.CodecLaws.{bind_some}
 use Rattle.bk_changes.specs.declared.state.Database.{Database as KeptDatabase}
 use Rattle.bk_changes.specs.Replayed.{replayed, replayed_from, step_of}
 use Rattle.bk_device.specs.Calls.{contents, LeavesSame, CallsOn, ChangesNothing}
 use Rattle.bk_device.specs.Compose.{effect_none, effect_weaken, effect_widen, effect_then, effect_of_nothing, effect_of_sync, keeps_by_nothing, keeps_by_effect}
+use Rattle.bk_device.specs.Laws.{durable_by_nothing}
 use Rattle.bk_device.specs.Disk.{Files, Disk, IsDurable, IsSettled, IsLawful}
 use Rattle.bk_device.specs.Effects.{Effect, MayLeaveOwn, IsName}
 use Rattle.bk_device.specs.Names.{same_or_other, true_or_false}
@@ -47,7 +49,7 @@ one-more first ds new blobs i blob before is steps = rw add-one (by first blobs 
     by : (first : List KeptDatabase) (blobs : List (List ℕ)) (i : ℕ) → replayed_from first (take i blobs) ≡ Some ds → slice_get blobs i ≡ Some blob → replayed_from first (take (suc i) blobs) ≡ Some new
     by first [] i before is = absurd cc
     by first (b ∷ bs) zero before is =
-        let same : step_of b first ≡ Some new = ap (λ d. step_of b d) (some_is first ds before) ∙ ap (λ x. step_of x ds) (some_is b blob is) ∙ steps in
+        let same : step_of b first ≡ Some new = ap (λ d. step_of b d) (same_Some first ds before) ∙ ap (λ x. step_of x ds) (same_Some b blob is) ∙ steps in
         ap (λ (o : Option (List KeptDatabase)). o >>= λ next. Some next) same
     by first (b ∷ bs) (suc i) before is =
         let on = bind_some (step_of b first) (λ next. replayed_from next (take i bs)) ds before in
@@ -58,7 +60,7 @@ pub stuck : (first ds : List KeptDatabase) (blobs : List (List ℕ)) (i : ℕ) (
     → replayed_from first blobs ≡ None
 stuck first ds [] i blob before is none = absurd cc
 stuck first ds (b ∷ bs) zero blob before is none =
-    let same : step_of b first ≡ None = ap (λ d. step_of b d) (some_is first ds before) ∙ ap (λ x. step_of x ds) (some_is b blob is) ∙ none in
+    let same : step_of b first ≡ None = ap (λ d. step_of b d) (same_Some first ds before) ∙ ap (λ x. step_of x ds) (same_Some b blob is) ∙ none in
     ap (λ (o : Option (List KeptDatabase)). o >>= λ next. replayed_from next bs) same
 stuck first ds (b ∷ bs) (suc i) blob before is none =
     let on = bind_some (step_of b first) (λ next. replayed_from next (take i bs)) ds before in
@@ -85,34 +87,9 @@ nothing-none a = record {
   time = record { later = omega arith; nothing_else = λ _ _ _ _ left. inl left; nothing_forgotten = λ _ _ _ _ left. left };
 }
 
--- a file is synced
-pub sync-nothing : {name : List ℕ} {a b : Disk} → CallsOn name LeavesSame a b → b.files name ≡ a.files name → ChangesNothing a b
-sync-nothing {name = name} {a = a} {b = b} call same = record {
-  files = λ other.
-      elim (same_or_other name other) [
-        | inl is ↦ ap b.files is ∙ same ∙ ap a.files (sym is)
-        | inr off ↦ call.others other off
-      ];
-  nothing_more = λ other content may.
-      elim (same_or_other name other) [
-        | inl is ↦
-            let At : List ℕ → Type 0 = λ n. a.may n content in
-            let There : List ℕ → Type 0 = λ n. b.may n content in
-            let one = call.left content (subst There is may) in
-            let Left : Option (List ℕ) → Type 0 = λ file. a.may name file in
-            subst At (sym is) (subst Left (sym one.2) one.1)
-        | inr off ↦ call.others_left other content off may
-      ];
-  told = call.told;
-  time = call.time;
-}
-
--- and another one
+-- a file is synced after an effect
 pub synced-then : {name : List ℕ} {P : Files → Type 0} {a b c : Disk} → IsOwn name → Effect IsOwn P a b → CallsOn name LeavesSame b c → Effect IsOwn P a c
 synced-then own first call = effect_then first (effect_of_sync own (λ image mine. first.now image mine) call)
-
-pub durable-on : {a b : Disk} (name : List ℕ) → ChangesNothing a b → IsDurable a name → IsDurable b name
-durable-on name nothing durable content may = durable content (nothing.nothing_more name content may) ∙ sym (nothing.files name)
 
 pub own-durable : (disk : Disk) → IsDurable disk made_file → IsDurable disk control_file → IsDurable disk rows_file → AreDurable disk
 own-durable disk made control rows name own =
@@ -135,7 +112,7 @@ ours-durable disk home is media name ours =
     ]
 
 pub settled-on : {a b : Disk} → ChangesNothing a b → IsSettled a → IsSettled b
-settled-on nothing settled name = durable-on name nothing (settled name)
+settled-on nothing settled name = durable_by_nothing name nothing (settled name)
 
 pub blobs-on : {a b : Disk} → ChangesNothing a b → blobs_of b.files ≡ blobs_of a.files
 blobs-on {a = a} {b = b} nothing = blobs_same a.files b.files (nothing.files rows_file)
@@ -197,7 +174,7 @@ stands-made number files w r home stands =
     elim stands.holds [
       | inl new ↦ absurd (home.made new.0)
       | inr made ↦
-          let same : stands.«record» ≡ r = some_is stands.«record» r (sym made.home.is ∙ home.is) in
+          let same : stands.«record» ≡ r = same_Some stands.«record» r (sym made.home.is ∙ home.is) in
           let Media : Record → Type 0 = λ x. KeepsMedia w x.making files in
           record {
             kept = stands.kept;
@@ -285,7 +262,7 @@ open-media number a b c settled nothing made new path bytes =
     let calm : IsSettled b = settled-on nothing settled in
     elim (made-or-not b.files) [
       | inl not ↦ media-kept b c path (new not (calm made_file)) (calm (medium_file path))
-      | inr is ↦ durable-on (medium_file path) (made is) (calm (medium_file path))
+      | inr is ↦ durable_by_nothing (medium_file path) (made is) (calm (medium_file path))
     ]
 
 -- The medium that was being made.
@@ -546,7 +523,7 @@ pub instance-stands : (number : ℕ) (i : Instance) (disk : Disk) (w : World) �
 unfolding opened
 instance-stands number i disk w is n counter current none rows stands =
     let made : Made number disk.files w i.home.«record» = stands-made number disk.files w i.home.«record» (home_files is) stands in
-    let same : made.kept ≡ i.kept.databases.items = some_is made.kept i.kept.databases.items (sym made.rows ∙ rows) in
+    let same : made.kept ≡ i.kept.databases.items = same_Some made.kept i.kept.databases.items (sym made.rows ∙ rows) in
     let Kept : List KeptDatabase → Type 0 = λ kept. KeepsDatabases w kept in
     let Media : Option (List ℕ) → Type 0 = λ making. KeepsMedia w making disk.files in
     let to : LeadsTo w (opened w) i.kept.databases.items = keeps-same w (opened w) i.kept.databases.items refl (omega arith) refl refl (subst Kept same made.databases) in

@@ -1,6 +1,6 @@
 // How an instance ends its run.
 ghost use Rattle.std.specs.Prelude.{◌≡◌, ◌≤◌, OnOk, IsErrOf};
-ghost use Rattle.bk_device.specs.Counts.{HasRisen};
+ghost use Rattle.bk_device.specs.Counts.{HasCause};
 ghost use Rattle.bk_device.specs.Effects.{Effect};
 ghost use Rattle.bk_instance.specs.Media.{MediaAreDurable, IfDurable};
 ghost use Rattle.bk_instance.specs.Stands.{IsReady, IsStored, IsOurs, CutsEnd, StandsEnded};
@@ -20,9 +20,7 @@ impl Instance {
         ensures media { D.tells → MediaAreDurable (D.disk dev.old) → OnOk result (MediaAreDurable (D.disk dev.new)) }
         ensures stands { D.tells → OnOk result (StandsEnded self.old (D.disk dev.old) (D.disk dev.new).files) }
         ensures crash { D.tells → Effect IsOurs (IfDurable (D.disk dev.old) (CutsEnd self.old (D.disk dev.old))) (D.disk dev.old) (D.disk dev.new) }
-        ensures cause { IsErrOf result execute.Fault → HasRisen (D.disk_faults dev.old) (D.disk_faults dev.new) }
-        ensures never_falls { D.disk_faults dev.old ≤ D.disk_faults dev.new }
-        ensures tell_faults { D.tell_faults dev.new ≡ D.tell_faults dev.old }
+        ensures cause { HasCause D.disk_faults D.tell_faults dev.old dev.new (IsErrOf result execute.Fault) }
     {
         if self.home.record().counter != self.kept.counter {
             let exact = Record {

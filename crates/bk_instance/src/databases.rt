@@ -14,7 +14,7 @@ use std::alloc::{AllocError, Global};
 
 impl Instance {
     ghost use Rattle.std.specs.Prelude.{◌≡◌, ◌≤◌, ℕ, IfOk, OnOk, IsErrOf};
-    ghost use Rattle.bk_device.specs.Counts.{HasRisen};
+    ghost use Rattle.bk_device.specs.Counts.{HasCause};
     ghost use Rattle.bk_device.specs.Effects.{Effect};
     ghost use Rattle.bk_instance.specs.Media.{MediaAreDurable, IfDurable};
     ghost use Rattle.bk_instance.specs.Stands.{IsReady, IsStored, IsOurs, Answers, Cuts};
@@ -37,9 +37,7 @@ impl Instance {
         ensures number { OnOk result (self.new.kept.number ≡ self.old.kept.number) }
         ensures answers { D.tells → IfOk result (λ reply. Answers self.old (D.disk dev.old) (record { item = CreateDatabase name.now; line = line }) now reply self.new (D.disk dev.new)) }
         ensures crash { D.tells → Effect IsOurs (IfDurable (D.disk dev.old) (Cuts self.old (D.disk dev.old) (record { item = CreateDatabase name.now; line = line }) now)) (D.disk dev.old) (D.disk dev.new) }
-        ensures cause { IsErrOf result Fault → HasRisen (D.disk_faults dev.old) (D.disk_faults dev.new) }
-        ensures never_falls { D.disk_faults dev.old ≤ D.disk_faults dev.new }
-        ensures tell_faults { D.tell_faults dev.new ≡ D.tell_faults dev.old }
+        ensures cause { HasCause D.disk_faults D.tell_faults dev.old dev.new (IsErrOf result Fault) }
     {
         if let Some(rule) = self.kept.broken_create_database(self.alloc, name)? {
             return Ok(Reply::Refused { rule });
@@ -65,9 +63,7 @@ impl Instance {
         ensures number { OnOk result (self.new.kept.number ≡ self.old.kept.number) }
         ensures answers { D.tells → IfOk result (λ reply. Answers self.old (D.disk dev.old) (record { item = DropDatabase name.now; line = line }) now reply self.new (D.disk dev.new)) }
         ensures crash { D.tells → Effect IsOurs (IfDurable (D.disk dev.old) (Cuts self.old (D.disk dev.old) (record { item = DropDatabase name.now; line = line }) now)) (D.disk dev.old) (D.disk dev.new) }
-        ensures cause { IsErrOf result Fault → HasRisen (D.disk_faults dev.old) (D.disk_faults dev.new) }
-        ensures never_falls { D.disk_faults dev.old ≤ D.disk_faults dev.new }
-        ensures tell_faults { D.tell_faults dev.new ≡ D.tell_faults dev.old }
+        ensures cause { HasCause D.disk_faults D.tell_faults dev.old dev.new (IsErrOf result Fault) }
     {
         if let Some(rule) = self.kept.broken_drop(name) {
             return Ok(Reply::Refused { rule });
@@ -93,9 +89,7 @@ impl Instance {
         ensures number { OnOk result (self.new.kept.number ≡ self.old.kept.number) }
         ensures answers { D.tells → IfOk result (λ reply. Answers self.old (D.disk dev.old) (record { item = Use name.now; line = line }) now reply self.new (D.disk dev.new)) }
         ensures crash { D.tells → Effect IsOurs (IfDurable (D.disk dev.old) (Cuts self.old (D.disk dev.old) (record { item = Use name.now; line = line }) now)) (D.disk dev.old) (D.disk dev.new) }
-        ensures cause { IsErrOf result Fault → HasRisen (D.disk_faults dev.old) (D.disk_faults dev.new) }
-        ensures never_falls { D.disk_faults dev.old ≤ D.disk_faults dev.new }
-        ensures tell_faults { D.tell_faults dev.new ≡ D.tell_faults dev.old }
+        ensures cause { HasCause D.disk_faults D.tell_faults dev.old dev.new (IsErrOf result Fault) }
     {
         if let Some(rule) = self.kept.broken_use(name) {
             return Ok(Reply::Refused { rule });

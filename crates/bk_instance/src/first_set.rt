@@ -2,7 +2,7 @@
 
 ghost use Rattle.std.specs.Prelude.{◌≡◌, ◌≤◌, false, IfOk, IsErrOf};
 ghost use Rattle.bk_device.specs.Calls.{ChangesNothing};
-ghost use Rattle.bk_device.specs.Counts.{HasRisen};
+ghost use Rattle.bk_device.specs.Counts.{HasCause};
 ghost use Rattle.bk_media.specs.Media.{ShowsMedium};
 ghost use Rattle.bk_media.specs.Names.{medium_file};
 ghost use Rattle.bk_set.specs.Conditions.{IsBody};
@@ -26,9 +26,7 @@ pub fn first_set<D: Device>(
     ensures first { D.tells → IfOk result (IsFirst ((D.disk dev.old).files (medium_file path.now))) }
     ensures is_body { IfOk result (λ first. IfOk first IsBody) }
     ensures effect { D.tells → ChangesNothing (D.disk dev.old) (D.disk dev.new) }
-    ensures cause { IsErrOf result Fault → HasRisen (D.disk_faults dev.old) (D.disk_faults dev.new) }
-    ensures never_falls { D.disk_faults dev.old ≤ D.disk_faults dev.new }
-    ensures tell_faults { D.tell_faults dev.new ≡ D.tell_faults dev.old }
+    ensures cause { HasCause D.disk_faults D.tell_faults dev.old dev.new (IsErrOf result Fault) }
 {
     match Medium::load(alloc, dev, path) {
         Ok(medium) => set_of(alloc, dev, &medium),
@@ -50,9 +48,7 @@ fn set_of<D: Device>(
     ensures first { D.tells → IfOk result (IsFirst ((D.disk dev.old).files medium.now.name)) }
     ensures is_body { IfOk result (λ first. IfOk first IsBody) }
     ensures effect { D.tells → ChangesNothing (D.disk dev.old) (D.disk dev.new) }
-    ensures cause { IsErrOf result Fault → HasRisen (D.disk_faults dev.old) (D.disk_faults dev.new) }
-    ensures never_falls { D.disk_faults dev.old ≤ D.disk_faults dev.new }
-    ensures tell_faults { D.tell_faults dev.new ≡ D.tell_faults dev.old }
+    ensures cause { HasCause D.disk_faults D.tell_faults dev.old dev.new (IsErrOf result Fault) }
 {
     match medium.set(alloc, dev, 1) {
         Ok(body) => Ok(Ok(body)),

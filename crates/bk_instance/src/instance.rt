@@ -1,6 +1,6 @@
 // An instance.
 ghost use Rattle.std.specs.Prelude.{◌≡◌, ◌≤◌, IfOk, OnOk, IsErrOf};
-ghost use Rattle.bk_device.specs.Counts.{HasRisen};
+ghost use Rattle.bk_device.specs.Counts.{HasCause};
 ghost use Rattle.bk_device.specs.Effects.{Effect};
 ghost use Rattle.bk_instance.specs.Media.{MediaAreDurable, IfDurable};
 ghost use Rattle.bk_instance.specs.Stands.{IsReady, IsStored, IsOurs, Answers, Cuts};
@@ -41,9 +41,7 @@ impl Instance {
         ensures number { OnOk result (self.new.kept.number ≡ self.old.kept.number) }
         ensures answers { D.tells → IfOk result (λ reply. Answers self.old (D.disk dev.old) statement.now now reply self.new (D.disk dev.new)) }
         ensures crash { D.tells → Effect IsOurs (IfDurable (D.disk dev.old) (Cuts self.old (D.disk dev.old) statement.now now)) (D.disk dev.old) (D.disk dev.new) }
-        ensures cause { IsErrOf result execute.Fault → HasRisen (D.disk_faults dev.old) (D.disk_faults dev.new) }
-        ensures never_falls { D.disk_faults dev.old ≤ D.disk_faults dev.new }
-        ensures tell_faults { D.tell_faults dev.new ≡ D.tell_faults dev.old }
+        ensures cause { HasCause D.disk_faults D.tell_faults dev.old dev.new (IsErrOf result execute.Fault) }
     {
         let line = statement.line;
         match &statement.item {

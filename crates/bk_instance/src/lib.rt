@@ -21,6 +21,3 @@ mod unfinished;
 pub use error::{ExecuteError, LoadError};
 pub use instance::Instance;
 pub use laws::{empty_files_stand, events_keep_what_stands};
-
-#[cfg(test)]
-mod tests;

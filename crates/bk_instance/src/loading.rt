@@ -1,7 +1,7 @@
 // How an instance is opened.
-ghost use Rattle.std.specs.Prelude.{◌≡◌, ◌≢◌, ◌≤◌, false, IfOk, OnOk, OnErr, IsErrOf, MatchResult};
+ghost use Rattle.std.specs.Prelude.{◌≡◌, ◌≢◌, ◌≤◌, false, IfOk, OnOk, OnErr, IsErrOf, MatchResult, IsErr};
 ghost use Rattle.bk_device.specs.Calls.{ChangesNothing};
-ghost use Rattle.bk_device.specs.Counts.{HasRisen};
+ghost use Rattle.bk_device.specs.Counts.{HasCause};
 ghost use Rattle.bk_device.specs.Disk.{IsSettled};
 ghost use Rattle.bk_device.specs.Effects.{Effect, MayLeaveOwn};
 ghost use Rattle.bk_home.specs.Home.{AreDurable, IsHome, IsNoInstance, IsOwn};
@@ -26,9 +26,7 @@ fn sync_own<D: Device>(dev: &mut D) -> Result<(), Failed>
     ensures durable { D.tells → OnOk result (AreDurable (D.disk dev.new)) }
     ensures effect { D.tells → OnOk result (ChangesNothing (D.disk dev.old) (D.disk dev.new)) }
     ensures crash { D.tells → Effect IsOwn (MayLeaveOwn IsOwn (D.disk dev.old)) (D.disk dev.old) (D.disk dev.new) }
-    ensures cause { OnErr result (HasRisen (D.disk_faults dev.old) (D.disk_faults dev.new)) }
-    ensures never_falls { D.disk_faults dev.old ≤ D.disk_faults dev.new }
-    ensures tell_faults { D.tell_faults dev.new ≡ D.tell_faults dev.old }
+    ensures cause { HasCause D.disk_faults D.tell_faults dev.old dev.new (IsErr result) }
 {
     dev.sync("sqlbak.made")?;
     dev.sync("sqlbak.control")?;
@@ -47,9 +45,7 @@ fn open_home<D: Device>(alloc: Global, dev: &mut D, number: u64) -> Result<Home,
     ensures no_instance { D.tells → IsNoInstance (D.disk dev.old).files → MatchResult result (λ _. ⊥) (λ e. e ≢ load.Broken) }
     ensures untouched { D.tells → IsErrOf result load.NotAnInstance → ChangesNothing (D.disk dev.old) (D.disk dev.new) }
     ensures broken { D.tells → IsErrOf result load.Broken → (w : World) → Stands number (D.disk dev.old).files w → ⊥ }
-    ensures cause { IsErrOf result load.Fault → HasRisen (D.disk_faults dev.old) (D.disk_faults dev.new) }
-    ensures never_falls { D.disk_faults dev.old ≤ D.disk_faults dev.new }
-    ensures tell_faults { D.tell_faults dev.new ≡ D.tell_faults dev.old }
+    ensures cause { HasCause D.disk_faults D.tell_faults dev.old dev.new (IsErrOf result load.Fault) }
 {
     sync_own(dev)?;
     let home = Home::load(alloc, dev, number)?;
@@ -74,9 +70,7 @@ impl Instance {
         ensures no_instance { D.tells → IsNoInstance (D.disk dev.old).files → MatchResult result (λ _. ⊥) (λ e. e ≢ load.Broken) }
         ensures untouched { D.tells → IsErrOf result load.NotAnInstance → ChangesNothing (D.disk dev.old) (D.disk dev.new) }
         ensures broken { D.tells → IsErrOf result load.Broken → (w : World) → Stands number (D.disk dev.old).files w → ⊥ }
-        ensures cause { IsErrOf result load.Fault → HasRisen (D.disk_faults dev.old) (D.disk_faults dev.new) }
-        ensures never_falls { D.disk_faults dev.old ≤ D.disk_faults dev.new }
-        ensures tell_faults { D.tell_faults dev.new ≡ D.tell_faults dev.old }
+        ensures cause { HasCause D.disk_faults D.tell_faults dev.old dev.new (IsErrOf result load.Fault) }
     {
         let mut home = open_home(alloc, dev, number)?;
         let databases = replay(alloc, dev, &home)?;

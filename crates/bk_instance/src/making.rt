@@ -14,7 +14,7 @@ use std::alloc::{AllocError, Global};
 impl Instance {
     ghost use Rattle.std.specs.Prelude.{◌≡◌, ◌≢◌, ◌<◌, ◌≤◌, ◌+◌, ℕ, List, [], None, Some, false, length, IfOk, OnOk, IsErrOf};
     ghost use Rattle.bk_bytes.specs.Field.{AreBytes};
-    ghost use Rattle.bk_device.specs.Counts.{HasRisen};
+    ghost use Rattle.bk_device.specs.Counts.{HasCause};
     ghost use Rattle.bk_device.specs.Effects.{Effect};
     ghost use Rattle.bk_instance.specs.Media.{MediaAreDurable, IfDurable};
     ghost use Rattle.bk_instance.specs.Stands.{IsReady, IsStored, IsOurs};
@@ -51,9 +51,7 @@ impl Instance {
         ensures sets { D.tells → OnOk result (HasSets [] ((D.disk dev.new).files (medium_file path.now))) }
         ensures others { D.tells → (other : List ℕ) → AreBytes other → medium_file other ≢ medium_file path.now → (D.disk dev.new).files (medium_file other) ≡ (D.disk dev.old).files (medium_file other) }
         ensures crash { D.tells → Effect IsOurs (IfDurable (D.disk dev.old) (Making self.old.kept (D.disk dev.old).files path.now)) (D.disk dev.old) (D.disk dev.new) }
-        ensures cause { IsErrOf result Fault → HasRisen (D.disk_faults dev.old) (D.disk_faults dev.new) }
-        ensures never_falls { D.disk_faults dev.old ≤ D.disk_faults dev.new }
-        ensures tell_faults { D.tell_faults dev.new ≡ D.tell_faults dev.old }
+        ensures cause { HasCause D.disk_faults D.tell_faults dev.old dev.new (IsErrOf result Fault) }
     {
         name_law();
         let alloc = self.alloc;
@@ -85,9 +83,7 @@ impl Instance {
         ensures applied { OnOk result (applied (mark_of body.now) self.old.kept.databases.items ≡ Some self.new.kept.databases.items) }
         ensures same { OnOk result (IsSame self.old self.new) }
         ensures crash { D.tells → Effect IsOwn (Changed (mark_of body.now) self.old.home.record self.old.kept.databases.items) (D.disk dev.old) (D.disk dev.new) }
-        ensures cause { IsErrOf result Fault → HasRisen (D.disk_faults dev.old) (D.disk_faults dev.new) }
-        ensures never_falls { D.disk_faults dev.old ≤ D.disk_faults dev.new }
-        ensures tell_faults { D.tell_faults dev.new ≡ D.tell_faults dev.old }
+        ensures cause { HasCause D.disk_faults D.tell_faults dev.old dev.new (IsErrOf result Fault) }
     {
         let database = body.header.database.copy(self.alloc)?;
         let time = body.header.finish;
@@ -104,9 +100,7 @@ impl Instance {
         ensures applied { OnOk result (applied (base_of body.now) self.old.kept.databases.items ≡ Some self.new.kept.databases.items) }
         ensures same { OnOk result (IsSame self.old self.new) }
         ensures crash { D.tells → Effect IsOwn (Changed (base_of body.now) self.old.home.record self.old.kept.databases.items) (D.disk dev.old) (D.disk dev.new) }
-        ensures cause { IsErrOf result Fault → HasRisen (D.disk_faults dev.old) (D.disk_faults dev.new) }
-        ensures never_falls { D.disk_faults dev.old ≤ D.disk_faults dev.new }
-        ensures tell_faults { D.tell_faults dev.new ≡ D.tell_faults dev.old }
+        ensures cause { HasCause D.disk_faults D.tell_faults dev.old dev.new (IsErrOf result Fault) }
     {
         let database = body.header.database.copy(self.alloc)?;
         let set = body.header.set;
@@ -144,9 +138,7 @@ impl Instance {
         ensures set { D.tells → OnOk result (HasAdded [] body.now ((D.disk dev.new).files (medium_file path.now))) }
         ensures others { D.tells → (other : List ℕ) → AreBytes other → medium_file other ≢ medium_file path.now → (D.disk dev.new).files (medium_file other) ≡ (D.disk dev.old).files (medium_file other) }
         ensures crash { D.tells → Effect IsOurs (IfDurable (D.disk dev.old) (Finishes self.old.home.record self.old.kept.databases.items (D.disk dev.old).files path.now body.now)) (D.disk dev.old) (D.disk dev.new) }
-        ensures cause { IsErrOf result Fault → HasRisen (D.disk_faults dev.old) (D.disk_faults dev.new) }
-        ensures never_falls { D.disk_faults dev.old ≤ D.disk_faults dev.new }
-        ensures tell_faults { D.tell_faults dev.new ≡ D.tell_faults dev.old }
+        ensures cause { HasCause D.disk_faults D.tell_faults dev.old dev.new (IsErrOf result Fault) }
     {
         name_law();
         // Its checkpoint.

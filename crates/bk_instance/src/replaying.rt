@@ -6,7 +6,7 @@ ghost use Rattle.bk_changes.specs.Sound.{AllSound};
 ghost use Rattle.bk_changes.specs.Spelling.{IsChange};
 ghost use Rattle.bk_changes.specs.declared.error.ApplyError.TheVariants.{Unfit};
 ghost use Rattle.bk_device.specs.Calls.{ChangesNothing};
-ghost use Rattle.bk_device.specs.Counts.{HasRisen};
+ghost use Rattle.bk_device.specs.Counts.{HasCause};
 ghost use Rattle.bk_home.specs.Home.{IsHome, blobs_of, count_of};
 ghost use Rattle.bk_instance.specs.declared.error.LoadError.TheVariants.{Broken, Fault, NotAnInstance};
 
@@ -23,7 +23,9 @@ fn applied(alloc: Global, databases: &mut Vec<Database>, change: Change) -> Resu
     ensures unfit { IsErrOf result Unfit → spec.applied change databases.old.items ≡ None }
     ensures sound { AllSound databases.old.items → OnOk result (AllSound databases.new.items) }
 {
-    apply(alloc, databases, &change)
+    let done = apply(alloc, databases, &change);
+    drop(change);
+    done
 }
 
 // Applies the change that these bytes spell.
@@ -56,9 +58,7 @@ fn step<D: Device>(
     ensures sound { AllSound databases.old.items → OnOk result (AllSound databases.new.items) }
     ensures not_an_instance { IsErrOf result NotAnInstance → ⊥ }
     ensures effect { D.tells → ChangesNothing (D.disk dev.old) (D.disk dev.new) }
-    ensures cause { IsErrOf result Fault → HasRisen (D.disk_faults dev.old) (D.disk_faults dev.new) }
-    ensures never_falls { D.disk_faults dev.old ≤ D.disk_faults dev.new }
-    ensures tell_faults { D.tell_faults dev.new ≡ D.tell_faults dev.old }
+    ensures cause { HasCause D.disk_faults D.tell_faults dev.old dev.new (IsErrOf result Fault) }
 {
     let bytes = home.blob(alloc, dev, i)?;
     turn(alloc, databases, &bytes)
@@ -79,9 +79,7 @@ pub(crate) fn replay<D: Device>(
     ensures sound { IfOk result (λ databases. AllSound databases.items) }
     ensures not_an_instance { IsErrOf result NotAnInstance → ⊥ }
     ensures effect { D.tells → ChangesNothing (D.disk dev.old) (D.disk dev.new) }
-    ensures cause { IsErrOf result Fault → HasRisen (D.disk_faults dev.old) (D.disk_faults dev.new) }
-    ensures never_falls { D.disk_faults dev.old ≤ D.disk_faults dev.new }
-    ensures tell_faults { D.tell_faults dev.new ≡ D.tell_faults dev.old }
+    ensures cause { HasCause D.disk_faults D.tell_faults dev.old dev.new (IsErrOf result Fault) }
 {
     let mut databases = Vec::new(alloc);
     let count = home.count();

@@ -30,7 +30,7 @@ impl Instance {
     ghost use Rattle.bk_changes.specs.Applied.{applied};
     ghost use Rattle.bk_changes.specs.Spelling.{KeepsChange};
     ghost use Rattle.bk_changes.specs.declared.change.Change.TheVariants as change;
-    ghost use Rattle.bk_device.specs.Counts.{HasRisen};
+    ghost use Rattle.bk_device.specs.Counts.{HasCause};
     ghost use Rattle.bk_device.specs.Effects.{Effect};
     ghost use Rattle.bk_home.specs.Home.{IsOwn};
     ghost use Rattle.bk_set.specs.Conditions.{IsBody};
@@ -58,9 +58,7 @@ impl Instance {
         ensures applied { OnOk result (applied (change.Replaced name.now body) self.old.kept.databases.items ≡ Some self.new.kept.databases.items) }
         ensures same { OnOk result (IsSame self.old self.new) }
         ensures crash { D.tells → Effect IsOwn (Changed (change.Replaced name.now body) self.old.home.record self.old.kept.databases.items) (D.disk dev.old) (D.disk dev.new) }
-        ensures cause { IsErrOf result Fault → HasRisen (D.disk_faults dev.old) (D.disk_faults dev.new) }
-        ensures never_falls { D.disk_faults dev.old ≤ D.disk_faults dev.new }
-        ensures tell_faults { D.tell_faults dev.new ≡ D.tell_faults dev.old }
+        ensures cause { HasCause D.disk_faults D.tell_faults dev.old dev.new (IsErrOf result Fault) }
     {
         let database = name.copy(self.alloc)?;
         self.change_by(dev, Change::Replaced { database, body })
@@ -76,9 +74,7 @@ impl Instance {
         ensures applied { OnOk result (applied (change.Restored name.now) self.old.kept.databases.items ≡ Some self.new.kept.databases.items) }
         ensures same { OnOk result (IsSame self.old self.new) }
         ensures crash { D.tells → Effect IsOwn (Changed (change.Restored name.now) self.old.home.record self.old.kept.databases.items) (D.disk dev.old) (D.disk dev.new) }
-        ensures cause { IsErrOf result Fault → HasRisen (D.disk_faults dev.old) (D.disk_faults dev.new) }
-        ensures never_falls { D.disk_faults dev.old ≤ D.disk_faults dev.new }
-        ensures tell_faults { D.tell_faults dev.new ≡ D.tell_faults dev.old }
+        ensures cause { HasCause D.disk_faults D.tell_faults dev.old dev.new (IsErrOf result Fault) }
     {
         let database = name.copy(self.alloc)?;
         self.change_by(dev, Change::Restored { database })
@@ -95,9 +91,7 @@ impl Instance {
         ensures media { D.tells → MediaAreDurable (D.disk dev.old) → OnOk result (MediaAreDurable (D.disk dev.new)) }
         ensures done { OnOk result (Draws self.old 1 (change.Recovered name.now (record { high = self.old.kept.number; low = self.old.kept.counter })) self.new) }
         ensures crash { D.tells → Effect IsOwn (Changed (change.Recovered name.now (record { high = self.old.kept.number; low = self.old.kept.counter })) self.old.home.record self.old.kept.databases.items) (D.disk dev.old) (D.disk dev.new) }
-        ensures cause { IsErrOf result Fault → HasRisen (D.disk_faults dev.old) (D.disk_faults dev.new) }
-        ensures never_falls { D.disk_faults dev.old ≤ D.disk_faults dev.new }
-        ensures tell_faults { D.tell_faults dev.new ≡ D.tell_faults dev.old }
+        ensures cause { HasCause D.disk_faults D.tell_faults dev.old dev.new (IsErrOf result Fault) }
     {
         let database = name.copy(self.alloc)?;
         let branch = Guid {
@@ -125,9 +119,7 @@ impl Instance {
         ensures media { D.tells → MediaAreDurable (D.disk dev.old) → OnOk result (MediaAreDurable (D.disk dev.new)) }
         ensures done { OnOk result (DrawsAll self.old 1 (restoring name.now body (record { high = self.old.kept.number; low = self.old.kept.counter })) self.new) }
         ensures crash { D.tells → Effect IsOwn (Reaches self.old.kept (SomeChanges self.old.kept 1 (restoring name.now body (record { high = self.old.kept.number; low = self.old.kept.counter })))) (D.disk dev.old) (D.disk dev.new) }
-        ensures cause { IsErrOf result Fault → HasRisen (D.disk_faults dev.old) (D.disk_faults dev.new) }
-        ensures never_falls { D.disk_faults dev.old ≤ D.disk_faults dev.new }
-        ensures tell_faults { D.tell_faults dev.new ≡ D.tell_faults dev.old }
+        ensures cause { HasCause D.disk_faults D.tell_faults dev.old dev.new (IsErrOf result Fault) }
     {
         self.reserve(dev, 1)?;
         self.replace(dev, name, body)?;
@@ -154,9 +146,7 @@ impl Instance {
         ensures number { OnOk result (self.new.kept.number ≡ self.old.kept.number) }
         ensures answers { D.tells → IfOk result (λ reply. Answers self.old (D.disk dev.old) (record { item = Restore name.now path.now replace; line = line }) now reply self.new (D.disk dev.new)) }
         ensures crash { D.tells → Effect IsOurs (IfDurable (D.disk dev.old) (Cuts self.old (D.disk dev.old) (record { item = Restore name.now path.now replace; line = line }) now)) (D.disk dev.old) (D.disk dev.new) }
-        ensures cause { IsErrOf result Fault → HasRisen (D.disk_faults dev.old) (D.disk_faults dev.new) }
-        ensures never_falls { D.disk_faults dev.old ≤ D.disk_faults dev.new }
-        ensures tell_faults { D.tell_faults dev.new ≡ D.tell_faults dev.old }
+        ensures cause { HasCause D.disk_faults D.tell_faults dev.old dev.new (IsErrOf result Fault) }
     {
         let body = match first_set(self.alloc, dev, path.as_str())? {
             Ok(body) => body,

@@ -10,7 +10,7 @@ impl Instance {
     ghost use Rattle.std.specs.Prelude.{◌≡◌, ◌<◌, ◌≤◌, ◌+◌, Some, OnOk, IsErrOf};
     ghost use Rattle.bk_changes.specs.Applied.{applied};
     ghost use Rattle.bk_changes.specs.Spelling.{KeepsChange};
-    ghost use Rattle.bk_device.specs.Counts.{HasRisen};
+    ghost use Rattle.bk_device.specs.Counts.{HasCause};
     ghost use Rattle.bk_device.specs.Effects.{Effect};
     ghost use Rattle.bk_home.specs.Home.{IsOwn};
     ghost use Rattle.bk_instance.specs.Media.{MediaAreDurable};
@@ -35,9 +35,7 @@ impl Instance {
         ensures applied { OnOk result (applied change.now self.old.kept.databases.items ≡ Some self.new.kept.databases.items) }
         ensures same { OnOk result (IsSame self.old self.new) }
         ensures crash { D.tells → Effect IsOwn (Changed change.now self.old.home.record self.old.kept.databases.items) (D.disk dev.old) (D.disk dev.new) }
-        ensures cause { IsErrOf result Fault → HasRisen (D.disk_faults dev.old) (D.disk_faults dev.new) }
-        ensures never_falls { D.disk_faults dev.old ≤ D.disk_faults dev.new }
-        ensures tell_faults { D.tell_faults dev.new ≡ D.tell_faults dev.old }
+        ensures cause { HasCause D.disk_faults D.tell_faults dev.old dev.new (IsErrOf result Fault) }
     {
         changes_law();
         let bytes = encode_change(self.alloc, change)?;
@@ -61,11 +59,11 @@ impl Instance {
         ensures applied { OnOk result (applied change self.old.kept.databases.items ≡ Some self.new.kept.databases.items) }
         ensures same { OnOk result (IsSame self.old self.new) }
         ensures crash { D.tells → Effect IsOwn (Changed change self.old.home.record self.old.kept.databases.items) (D.disk dev.old) (D.disk dev.new) }
-        ensures cause { IsErrOf result Fault → HasRisen (D.disk_faults dev.old) (D.disk_faults dev.new) }
-        ensures never_falls { D.disk_faults dev.old ≤ D.disk_faults dev.new }
-        ensures tell_faults { D.tell_faults dev.new ≡ D.tell_faults dev.old }
+        ensures cause { HasCause D.disk_faults D.tell_faults dev.old dev.new (IsErrOf result Fault) }
     {
-        self.change(dev, &change)
+        let done = self.change(dev, &change);
+        drop(change);
+        done
     }
 
     /// Reserves so many GUIDs beyond those that were drawn, where they aren't reserved yet.
@@ -80,9 +78,7 @@ impl Instance {
         ensures kept { self.new.kept ≡ self.old.kept }
         ensures reserved { OnOk result (self.old.kept.counter + n ≤ self.new.home.record.counter) }
         ensures crash { D.tells → Effect IsOwn (Reaches self.old.kept (Unchanged self.old.kept)) (D.disk dev.old) (D.disk dev.new) }
-        ensures cause { IsErrOf result Fault → HasRisen (D.disk_faults dev.old) (D.disk_faults dev.new) }
-        ensures never_falls { D.disk_faults dev.old ≤ D.disk_faults dev.new }
-        ensures tell_faults { D.tell_faults dev.new ≡ D.tell_faults dev.old }
+        ensures cause { HasCause D.disk_faults D.tell_faults dev.old dev.new (IsErrOf result Fault) }
     {
         let drawn = self.kept.counter;
         if drawn + n <= self.home.record().counter {
@@ -114,9 +110,7 @@ impl Instance {
         ensures media { D.tells → MediaAreDurable (D.disk dev.old) → OnOk result (MediaAreDurable (D.disk dev.new)) }
         ensures done { OnOk result (Draws self.old n change.now self.new) }
         ensures crash { D.tells → Effect IsOwn (Reaches self.old.kept (OneChange self.old.kept n change.now)) (D.disk dev.old) (D.disk dev.new) }
-        ensures cause { IsErrOf result Fault → HasRisen (D.disk_faults dev.old) (D.disk_faults dev.new) }
-        ensures never_falls { D.disk_faults dev.old ≤ D.disk_faults dev.new }
-        ensures tell_faults { D.tell_faults dev.new ≡ D.tell_faults dev.old }
+        ensures cause { HasCause D.disk_faults D.tell_faults dev.old dev.new (IsErrOf result Fault) }
     {
         self.reserve(dev, n)?;
         self.change(dev, change)?;
@@ -141,10 +135,10 @@ impl Instance {
         ensures media { D.tells → MediaAreDurable (D.disk dev.old) → OnOk result (MediaAreDurable (D.disk dev.new)) }
         ensures done { OnOk result (Draws self.old n change self.new) }
         ensures crash { D.tells → Effect IsOwn (Reaches self.old.kept (OneChange self.old.kept n change)) (D.disk dev.old) (D.disk dev.new) }
-        ensures cause { IsErrOf result Fault → HasRisen (D.disk_faults dev.old) (D.disk_faults dev.new) }
-        ensures never_falls { D.disk_faults dev.old ≤ D.disk_faults dev.new }
-        ensures tell_faults { D.tell_faults dev.new ≡ D.tell_faults dev.old }
+        ensures cause { HasCause D.disk_faults D.tell_faults dev.old dev.new (IsErrOf result Fault) }
     {
-        self.log(dev, n, &change)
+        let done = self.log(dev, n, &change);
+        drop(change);
+        done
     }
 }

@@ -9,7 +9,7 @@ use bk_world::Reply;
 
 impl Instance {
     ghost use Rattle.std.specs.Prelude.{◌≡◌, ◌≤◌, ℕ, IfOk, OnOk, IsErrOf};
-    ghost use Rattle.bk_device.specs.Counts.{HasRisen};
+    ghost use Rattle.bk_device.specs.Counts.{HasCause};
     ghost use Rattle.bk_device.specs.Effects.{Effect};
     ghost use Rattle.bk_instance.specs.Media.{MediaAreDurable, IfDurable};
     ghost use Rattle.bk_instance.specs.Stands.{IsReady, IsStored, IsOurs, Answers, Cuts};
@@ -32,9 +32,7 @@ impl Instance {
         ensures number { OnOk result (self.new.kept.number ≡ self.old.kept.number) }
         ensures answers { D.tells → IfOk result (λ reply. Answers self.old (D.disk dev.old) (record { item = CreateTable name.now; line = line }) now reply self.new (D.disk dev.new)) }
         ensures crash { D.tells → Effect IsOurs (IfDurable (D.disk dev.old) (Cuts self.old (D.disk dev.old) (record { item = CreateTable name.now; line = line }) now)) (D.disk dev.old) (D.disk dev.new) }
-        ensures cause { IsErrOf result Fault → HasRisen (D.disk_faults dev.old) (D.disk_faults dev.new) }
-        ensures never_falls { D.disk_faults dev.old ≤ D.disk_faults dev.new }
-        ensures tell_faults { D.tell_faults dev.new ≡ D.tell_faults dev.old }
+        ensures cause { HasCause D.disk_faults D.tell_faults dev.old dev.new (IsErrOf result Fault) }
     {
         if let Some(rule) = self.kept.broken_create_table(name, line) {
             return Ok(Reply::Refused { rule });
@@ -62,9 +60,7 @@ impl Instance {
         ensures number { OnOk result (self.new.kept.number ≡ self.old.kept.number) }
         ensures answers { D.tells → IfOk result (λ reply. Answers self.old (D.disk dev.old) (record { item = Insert table.now key value.now; line = line }) now reply self.new (D.disk dev.new)) }
         ensures crash { D.tells → Effect IsOurs (IfDurable (D.disk dev.old) (Cuts self.old (D.disk dev.old) (record { item = Insert table.now key value.now; line = line }) now)) (D.disk dev.old) (D.disk dev.new) }
-        ensures cause { IsErrOf result Fault → HasRisen (D.disk_faults dev.old) (D.disk_faults dev.new) }
-        ensures never_falls { D.disk_faults dev.old ≤ D.disk_faults dev.new }
-        ensures tell_faults { D.tell_faults dev.new ≡ D.tell_faults dev.old }
+        ensures cause { HasCause D.disk_faults D.tell_faults dev.old dev.new (IsErrOf result Fault) }
     {
         if let Some(rule) = self.kept.broken_insert(table, key, value, line) {
             return Ok(Reply::Refused { rule });
@@ -90,9 +86,7 @@ impl Instance {
         ensures number { OnOk result (self.new.kept.number ≡ self.old.kept.number) }
         ensures answers { D.tells → IfOk result (λ reply. Answers self.old (D.disk _dev.old) (record { item = Select table.now; line = line }) now reply self.new (D.disk _dev.new)) }
         ensures crash { D.tells → Effect IsOurs (IfDurable (D.disk _dev.old) (Cuts self.old (D.disk _dev.old) (record { item = Select table.now; line = line }) now)) (D.disk _dev.old) (D.disk _dev.new) }
-        ensures cause { IsErrOf result Fault → HasRisen (D.disk_faults _dev.old) (D.disk_faults _dev.new) }
-        ensures never_falls { D.disk_faults _dev.old ≤ D.disk_faults _dev.new }
-        ensures tell_faults { D.tell_faults _dev.new ≡ D.tell_faults _dev.old }
+        ensures cause { HasCause D.disk_faults D.tell_faults _dev.old _dev.new (IsErrOf result Fault) }
     {
         match self.kept.table(table) {
             Ok(table) => Ok(Reply::Selected {

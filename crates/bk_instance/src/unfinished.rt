@@ -2,7 +2,7 @@
 ghost use Rattle.std.specs.Prelude.{◌≡◌, ◌≤◌, None, false, IfOk, OnOk, IsErrOf};
 ghost use Rattle.bk_bytes.specs.Field.{AreBytes};
 ghost use Rattle.bk_device.specs.Calls.{ChangesNothing};
-ghost use Rattle.bk_device.specs.Counts.{HasRisen};
+ghost use Rattle.bk_device.specs.Counts.{HasCause};
 ghost use Rattle.bk_device.specs.Disk.{IsDurable};
 ghost use Rattle.bk_device.specs.Effects.{Effect, IsName};
 ghost use Rattle.bk_gate.specs.Blobs.{sealed};
@@ -27,9 +27,7 @@ fn is_begun<D: Device>(alloc: Global, dev: &mut D, file: &str) -> Result<bool, L
     ensures effect { D.tells → ChangesNothing (D.disk dev.old) (D.disk dev.new) }
     ensures not_an_instance { IsErrOf result NotAnInstance → ⊥ }
     ensures broken { IsErrOf result Broken → ⊥ }
-    ensures cause { IsErrOf result Fault → HasRisen (D.disk_faults dev.old) (D.disk_faults dev.new) }
-    ensures never_falls { D.disk_faults dev.old ≤ D.disk_faults dev.new }
-    ensures tell_faults { D.tell_faults dev.new ≡ D.tell_faults dev.old }
+    ensures cause { HasCause D.disk_faults D.tell_faults dev.old dev.new (IsErrOf result Fault) }
 {
     match Gate::load(alloc, dev, file) {
         Ok(gate) => Ok(gate.count() == 0),
@@ -47,9 +45,7 @@ fn clear<D: Device>(alloc: Global, dev: &mut D, path: &str) -> Result<(), LoadEr
     ensures crash { D.tells → Effect (IsName (names.medium_file path.now)) (λ image. LeavesCleared ((D.disk dev.old).may (names.medium_file path.now)) ((D.disk dev.old).files (names.medium_file path.now)) (image (names.medium_file path.now))) (D.disk dev.old) (D.disk dev.new) }
     ensures not_an_instance { IsErrOf result NotAnInstance → ⊥ }
     ensures broken { IsErrOf result Broken → ⊥ }
-    ensures cause { IsErrOf result Fault → HasRisen (D.disk_faults dev.old) (D.disk_faults dev.new) }
-    ensures never_falls { D.disk_faults dev.old ≤ D.disk_faults dev.new }
-    ensures tell_faults { D.tell_faults dev.new ≡ D.tell_faults dev.old }
+    ensures cause { HasCause D.disk_faults D.tell_faults dev.old dev.new (IsErrOf result Fault) }
 {
     let file = medium_file(alloc, path)?;
     if is_begun(alloc, dev, &file)? {
@@ -77,9 +73,7 @@ pub(crate) fn let_go<D: Device>(
     ensures crash { D.tells → Effect IsOurs (IfDurable (D.disk dev.old) (LetsGo home.old.record (D.disk dev.old).files)) (D.disk dev.old) (D.disk dev.new) }
     ensures not_an_instance { IsErrOf result NotAnInstance → ⊥ }
     ensures broken { IsErrOf result Broken → ⊥ }
-    ensures cause { IsErrOf result Fault → HasRisen (D.disk_faults dev.old) (D.disk_faults dev.new) }
-    ensures never_falls { D.disk_faults dev.old ≤ D.disk_faults dev.new }
-    ensures tell_faults { D.tell_faults dev.new ≡ D.tell_faults dev.old }
+    ensures cause { HasCause D.disk_faults D.tell_faults dev.old dev.new (IsErrOf result Fault) }
 {
     name_law();
     let record = home.record();

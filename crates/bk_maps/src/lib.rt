@@ -7,6 +7,3 @@ mod maps;
 
 pub use law::maps_law;
 pub use maps::Maps;
-
-#[cfg(test)]
-mod tests;

@@ -56,6 +56,3 @@ fn english(bytes: &[u8]) -> Option<u64>
     let time = clock::english_clock(rest)?;
     Some(start + time)
 }
-
-#[cfg(test)]
-mod tests;

@@ -4,6 +4,7 @@
 use bk_console::{Status, WordsError, run, words};
 use bk_device::{FileDevice, StdinSource, SystemClock};
 use std::alloc::AllocError;
+use std::fs::File;
 use std::process::ExitCode;
 use std::rt::{Clock, Env, Files};
 use std::thread::Threads;
@@ -28,7 +29,7 @@ fn command_line<R: Env + AllocGlobal>(rt: &R) -> Result<Vec<String>, AllocError>
 // Makes the outside, and runs the console over it.
 fn console<R>(rt: &R) -> Result<u8, AllocError>
 where
-    R: AllocGlobal + Clock + Env + Files + Input + Print + Threads + Sync,
+    R: AllocGlobal + Clock + Env + Files<File = File> + Input + Print + Threads + Sync,
 {
     let alloc = rt.alloc();
     let line = command_line(rt)?;

@@ -1,5 +1,5 @@
 use Rattle.std.proofs.Common.{List, ℕ, Option, IfOk, refl, subst, ap, ◌∙◌}
-use Rattle.bk_media.specs.Laws.{nothing_then}
+use Rattle.bk_device.specs.Laws.{nothing_then}
 use Rattle.bk_media.specs.Names.{medium_file}
 use Rattle.bk_instance.specs.Media.{IsFirst}
 use Rattle.bk_instance.proofs.FirstSets.{first-missing, first-no_medium}

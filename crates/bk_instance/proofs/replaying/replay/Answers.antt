@@ -2,10 +2,9 @@ use Rattle.std.proofs.Common.{◌≡◌, ◌∙◌, List, ℕ, length, ap, sym, 
 use Rattle.std.specs.Prelude.{slice_get}
 use Rattle.std.proofs.lemmas.Result.{err_from_is_err_and}
 use Rattle.bk_device.specs.Compose.{keeps_by_nothing}
+use Rattle.bk_device.specs.Laws.{nothing_then, cause_then}
 use Rattle.bk_home.specs.Home.{blobs_of, count_of}
-use Rattle.bk_home.specs.Laws.{home_kept, home_count}
-use Rattle.bk_home.proofs.Steps.{same_error}
-use Rattle.bk_media.specs.Laws.{nothing_then}
+use Rattle.bk_home.specs.Laws.{home_kept, home_count, same_error}
 use Rattle.bk_instance.proofs.Loads.{one-more, stuck, whole, blobs-on}
 use Rattle.bk_instance.specs.declared.error.LoadError.TheVariants.{Broken}
 use Rattle.bk_instance.proofs.replaying.replay.Goals as goal
@@ -32,8 +31,7 @@ loop-i-preserved g c = record {
       one-more _ c.loop-i.databases.items c.step.new.databases.items (blobs_of (g.D.Device.disk c.args.dev.now).files) c.loop-i.i blob.0 (c.loop-i.invariant.rows t)
       (ap (λ (blobs : List (List ℕ)). slice_get blobs c.loop-i.i) (sym (blobs-on (c.loop-i.invariant.nothing t))) ∙ blob.1) blob.2;
   sound = c.in_ok-step.ensures.sound c.loop-i.invariant.sound;
-  never_falls = omega (arith, c.loop-i.invariant.never_falls, c.step.ensures.never_falls);
-  tell_faults = c.step.ensures.tell_faults ∙ c.loop-i.invariant.tell_faults;
+  cause = cause_then c.loop-i.invariant.cause c.step.ensures.cause (λ none. absurd none);
 }
 
 pub returns-clause-rows : goal.returns-clause-rows

@@ -3,8 +3,7 @@ use Rattle.std.proofs.lemmas.Result.{err_from_is_err_and}
 use Rattle.bk_device.specs.Compose.{keeps_by_nothing}
 use Rattle.bk_changes.specs.Replayed.{replayed}
 use Rattle.bk_home.specs.declared.record.Record.{Record}
-use Rattle.bk_home.specs.Laws.{home_kept}
-use Rattle.bk_home.proofs.Steps.{same_error}
+use Rattle.bk_home.specs.Laws.{home_kept, same_error}
 use Rattle.bk_instance.specs.declared.error.LoadError.TheVariants.{Broken}
 use Rattle.bk_instance.proofs.Covering.{media-on-nothing}
 use Rattle.bk_instance.proofs.Loads.{blobs-on, read-crash, load-crash, load-stands, broken-rows, load-number, instance-stands}
