@@ -166,69 +166,64 @@ fn joins(o: &BackupOptions, word: BackupWord) -> bool
     }
 }
 
+// Each of these takes one more option into those that are there. At an error they are of no further use.
 #[tactic(auto, unfolding(crate::specs::Backup::named))]
 fn named<'t>(
     alloc: Global,
     src: &[u8],
-    o: BackupOptions,
+    o: &mut BackupOptions,
     tokens: &'t [Token],
-) -> Result<(BackupOptions, &'t [Token]), Stop>
-    ensures { Parses (λ x. (x.0, x.1.now)) result (spec.named src.now o tokens.now) }
+) -> Result<&'t [Token], Stop>
+    ensures { Parses (λ x. (o.new, x.now)) result (spec.named src.now o.old tokens.now) }
 {
     let (name, rest) = equal_text(alloc, src, tokens)?;
-    Ok((
-        BackupOptions {
-            name: Some(name),
-            ..o
-        },
-        rest,
-    ))
+    o.name = Some(name);
+    Ok(rest)
 }
 
 #[tactic(auto, unfolding(crate::specs::Backup::expiring))]
 fn expiring<'t>(
     alloc: Global,
     src: &[u8],
-    o: BackupOptions,
+    o: &mut BackupOptions,
     tokens: &'t [Token],
-) -> Result<(BackupOptions, &'t [Token]), Stop>
-    ensures { Parses (λ x. (x.0, x.1.now)) result (spec.expiring src.now o tokens.now) }
+) -> Result<&'t [Token], Stop>
+    ensures { Parses (λ x. (o.new, x.now)) result (spec.expiring src.now o.old tokens.now) }
 {
     let (ms, rest) = equal_time(alloc, src, tokens)?;
-    let expire = Some(ms);
-    Ok((BackupOptions { expire, ..o }, rest))
+    o.expire = Some(ms);
+    Ok(rest)
 }
 
 #[tactic(auto, unfolding(crate::specs::Backup::retained))]
-fn retained<'t>(o: BackupOptions, tokens: &'t [Token]) -> Result<(BackupOptions, &'t [Token]), Stop>
-    ensures { Parses (λ x. (x.0, x.1.now)) result (spec.retained o tokens.now) }
+fn retained<'t>(o: &mut BackupOptions, tokens: &'t [Token]) -> Result<&'t [Token], Stop>
+    ensures { Parses (λ x. (o.new, x.now)) result (spec.retained o.old tokens.now) }
 {
     let (days, rest) = equal_number(tokens)?;
-    let retain = Some(days);
-    Ok((BackupOptions { retain, ..o }, rest))
+    o.retain = Some(days);
+    Ok(rest)
 }
 
 #[tactic(auto, unfolding(crate::specs::Backup::idled))]
 fn idled<'t>(
     alloc: Global,
     src: &[u8],
-    o: BackupOptions,
+    o: &mut BackupOptions,
     option: IdleOption,
     tokens: &'t [Token],
-) -> Result<(BackupOptions, &'t [Token]), Stop>
-    ensures { Parses (λ x. (x.0, x.1.now)) result (spec.idled src.now o option tokens.now) }
+) -> Result<&'t [Token], Stop>
+    ensures { Parses (λ x. (o.new, x.now)) result (spec.idled src.now o.old option tokens.now) }
 {
     let rest = skip_value(alloc, src, option, tokens)?;
-    let idle = with_mark(o.idle, option);
-    Ok((BackupOptions { idle, ..o }, rest))
+    o.idle = with_mark(o.idle, option);
+    Ok(rest)
 }
 
-// The options with a word that has no value.
+// The option with a word that has no value.
 #[tactic(auto, unfolding(crate::specs::Backup::switched))]
-fn switched(o: BackupOptions, word: BackupWord) -> BackupOptions
-    ensures { result ≡ spec.switched o word }
+fn switched(o: &mut BackupOptions, word: BackupWord)
+    ensures { o.new ≡ spec.switched o.old word }
 {
-    let mut o = o;
     match word {
         BackupWord::Init => o.init = Some(true),
         BackupWord::NoInit => o.init = Some(false),
@@ -244,25 +239,27 @@ fn switched(o: BackupOptions, word: BackupWord) -> BackupOptions
         BackupWord::NoTruncate => o.no_truncate = true,
         _ => {}
     }
-    o
 }
 
 #[tactic(auto, unfolding(crate::specs::Backup::joined))]
 fn joined<'t>(
     alloc: Global,
     src: &[u8],
-    o: BackupOptions,
+    o: &mut BackupOptions,
     word: BackupWord,
     tokens: &'t [Token],
-) -> Result<(BackupOptions, &'t [Token]), Stop>
-    ensures { Parses (λ x. (x.0, x.1.now)) result (spec.joined src.now o word tokens.now) }
+) -> Result<&'t [Token], Stop>
+    ensures { Parses (λ x. (o.new, x.now)) result (spec.joined src.now o.old word tokens.now) }
 {
     match word {
         BackupWord::Name => named(alloc, src, o, tokens),
         BackupWord::ExpireDate => expiring(alloc, src, o, tokens),
         BackupWord::RetainDays => retained(o, tokens),
         BackupWord::Idle(option) => idled(alloc, src, o, option, tokens),
-        _ => Ok((switched(o, word), tokens)),
+        _ => {
+            switched(o, word);
+            Ok(tokens)
+        }
     }
 }
 
@@ -271,14 +268,14 @@ fn one_more<'t>(
     alloc: Global,
     src: &[u8],
     log: bool,
-    o: BackupOptions,
+    o: &mut BackupOptions,
     tokens: &'t [Token],
-) -> Result<(BackupOptions, &'t [Token]), Stop>
-    ensures { Parses (λ x. (x.0, x.1.now)) result (spec.one_more src.now log o tokens.now) }
+) -> Result<&'t [Token], Stop>
+    ensures { Parses (λ x. (o.new, x.now)) result (spec.one_more src.now log o.old tokens.now) }
 {
     match backup_word(src, log, tokens) {
         Some(word) => {
-            if joins(&o, word) {
+            if joins(o, word) {
                 joined(alloc, src, o, word, behind(tokens))
             } else {
                 Err(stuck(tokens))
@@ -308,7 +305,31 @@ fn no_options() -> BackupOptions
 }
 
 // Options with commas between; each takes a token, so that the tokens bound their number.
-#[tactic(auto, unfolding(crate::specs::Backup::options, crate::specs::Backup::options_from))]
+#[tactic(auto, unfolding(crate::specs::Backup::options_from))]
+fn options_from<'t>(
+    alloc: Global,
+    src: &[u8],
+    log: bool,
+    o: &mut BackupOptions,
+    tokens: &'t [Token],
+) -> Result<&'t [Token], Stop>
+    ensures { Parses (λ x. (o.new, x.now)) result (spec.options_from src.now log tokens.now o.old tokens.now) }
+{
+    let mut rest = tokens;
+    let mut left = tokens;
+    while let [_, more @ ..] = left {
+        let after = one_more(alloc, src, log, o, rest)?;
+        if !next_sign(after, b',') {
+            return Ok(after);
+        }
+        rest = behind(after);
+        left = more;
+    }
+    Err(stuck(rest))
+}
+
+// `options_from` with none before.
+#[tactic(auto, unfolding(crate::specs::Backup::options))]
 fn options<'t>(
     alloc: Global,
     src: &[u8],
@@ -318,18 +339,8 @@ fn options<'t>(
     ensures { Parses (λ x. (x.0, x.1.now)) result (spec.options src.now log tokens.now) }
 {
     let mut found = no_options();
-    let mut rest = tokens;
-    let mut left = tokens;
-    while let [_, more @ ..] = left {
-        let (with, after) = one_more(alloc, src, log, found, rest)?;
-        if !next_sign(after, b',') {
-            return Ok((with, after));
-        }
-        found = with;
-        rest = behind(after);
-        left = more;
-    }
-    Err(stuck(rest))
+    let rest = options_from(alloc, src, log, &mut found, tokens)?;
+    Ok((found, rest))
 }
 
 /// `WITH` options of BACKUP, or nothing; `log` says that the log is backed up.

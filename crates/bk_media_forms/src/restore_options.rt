@@ -1,6 +1,6 @@
 //! The options of RESTORE.
 
-ghost use Rattle.std.specs.Prelude.{◌≡◌, ◌++◌, ◌∷◌, [], IfOk};
+ghost use Rattle.std.specs.Prelude.{◌≡◌, ◌++◌, ◌∷◌, [], OnOk};
 ghost use Rattle.bk_parse.specs.Parse.{Parses};
 ghost use Rattle.bk_media_forms.specs.Restore as spec;
 
@@ -13,6 +13,7 @@ use bk_parse::{
 };
 use bk_token::Token;
 use std::alloc::{AllocError, Global};
+use std::mem;
 
 /// An option of RESTORE, by its word.
 #[derive(Clone, Copy)]
@@ -131,69 +132,70 @@ fn joins(o: &RestoreOptions, word: RestoreWord) -> bool
     }
 }
 
+// Each of these takes one more option into those that are there. At an error they are of no further use.
 #[tactic(auto, unfolding(crate::specs::Restore::filed))]
-fn filed<'t>(o: RestoreOptions, tokens: &'t [Token]) -> Result<(RestoreOptions, &'t [Token]), Stop>
-    ensures { Parses (λ x. (x.0, x.1.now)) result (spec.filed o tokens.now) }
+fn filed<'t>(o: &mut RestoreOptions, tokens: &'t [Token]) -> Result<&'t [Token], Stop>
+    ensures { Parses (λ x. (o.new, x.now)) result (spec.filed o.old tokens.now) }
 {
     let (n, rest) = equal_number(tokens)?;
-    let file = Some(n);
-    Ok((RestoreOptions { file, ..o }, rest))
+    o.file = Some(n);
+    Ok(rest)
 }
 
 #[tactic(auto, unfolding(crate::specs::Restore::standing))]
 fn standing<'t>(
     alloc: Global,
     src: &[u8],
-    o: RestoreOptions,
+    o: &mut RestoreOptions,
     tokens: &'t [Token],
-) -> Result<(RestoreOptions, &'t [Token]), Stop>
-    ensures { Parses (λ x. (x.0, x.1.now)) result (spec.standing src.now o tokens.now) }
+) -> Result<&'t [Token], Stop>
+    ensures { Parses (λ x. (o.new, x.now)) result (spec.standing src.now o.old tokens.now) }
 {
     let (path, rest) = equal_filled(alloc, src, tokens)?;
-    let ending = Some(Ending::Standby { path });
-    Ok((RestoreOptions { ending, ..o }, rest))
+    o.ending = Some(Ending::Standby { path });
+    Ok(rest)
 }
 
 #[tactic(auto, unfolding(crate::specs::Restore::stopped_at))]
 fn stopped_at<'t>(
     alloc: Global,
     src: &[u8],
-    o: RestoreOptions,
+    o: &mut RestoreOptions,
     tokens: &'t [Token],
-) -> Result<(RestoreOptions, &'t [Token]), Stop>
-    ensures { Parses (λ x. (x.0, x.1.now)) result (spec.stopped_at src.now o tokens.now) }
+) -> Result<&'t [Token], Stop>
+    ensures { Parses (λ x. (o.new, x.now)) result (spec.stopped_at src.now o.old tokens.now) }
 {
     let (stop, rest) = moment(alloc, src, tokens)?;
-    let stop = Some(stop);
-    Ok((RestoreOptions { stop, ..o }, rest))
+    o.stop = Some(stop);
+    Ok(rest)
 }
 
 #[tactic(auto, unfolding(crate::specs::Restore::stopped_at_mark))]
 fn stopped_at_mark<'t>(
     alloc: Global,
     src: &[u8],
-    o: RestoreOptions,
+    o: &mut RestoreOptions,
     tokens: &'t [Token],
-) -> Result<(RestoreOptions, &'t [Token]), Stop>
-    ensures { Parses (λ x. (x.0, x.1.now)) result (spec.stopped_at_mark src.now o tokens.now) }
+) -> Result<&'t [Token], Stop>
+    ensures { Parses (λ x. (o.new, x.now)) result (spec.stopped_at_mark src.now o.old tokens.now) }
 {
     let (stop, rest) = at_mark(alloc, src, tokens)?;
-    let stop = Some(stop);
-    Ok((RestoreOptions { stop, ..o }, rest))
+    o.stop = Some(stop);
+    Ok(rest)
 }
 
 #[tactic(auto, unfolding(crate::specs::Restore::stopped_before))]
 fn stopped_before<'t>(
     alloc: Global,
     src: &[u8],
-    o: RestoreOptions,
+    o: &mut RestoreOptions,
     tokens: &'t [Token],
-) -> Result<(RestoreOptions, &'t [Token]), Stop>
-    ensures { Parses (λ x. (x.0, x.1.now)) result (spec.stopped_before src.now o tokens.now) }
+) -> Result<&'t [Token], Stop>
+    ensures { Parses (λ x. (o.new, x.now)) result (spec.stopped_before src.now o.old tokens.now) }
 {
     let (stop, rest) = before_mark(alloc, src, tokens)?;
-    let stop = Some(stop);
-    Ok((RestoreOptions { stop, ..o }, rest))
+    o.stop = Some(stop);
+    Ok(rest)
 }
 
 #[tactic(auto, unfolding(crate::specs::Restore::file_move))]
@@ -210,49 +212,50 @@ fn file_move<'t>(
     Ok((FileMove { name, path }, rest))
 }
 
-fn pushed(moves: Sequence<FileMove>, one: FileMove) -> Result<Sequence<FileMove>, AllocError>
-    ensures { IfOk result (λ v. v ≡ moves ++ one ∷ []) }
+// At an error the moves are none.
+fn push_move(alloc: Global, moves: &mut Sequence<FileMove>, one: FileMove) -> Result<(), AllocError>
+    ensures { OnOk result (moves.new ≡ moves.old ++ one ∷ []) }
 {
-    let mut list = moves.into_vec();
+    let mut list = mem::replace(moves, Sequence::new(Vec::new(alloc))).into_vec();
     list.push(one)?;
-    Ok(Sequence::new(list))
+    *moves = Sequence::new(list);
+    Ok(())
 }
 
 #[tactic(auto, unfolding(crate::specs::Restore::moved))]
 fn moved<'t>(
     alloc: Global,
     src: &[u8],
-    o: RestoreOptions,
+    o: &mut RestoreOptions,
     tokens: &'t [Token],
-) -> Result<(RestoreOptions, &'t [Token]), Stop>
-    ensures { Parses (λ x. (x.0, x.1.now)) result (spec.moved src.now o tokens.now) }
+) -> Result<&'t [Token], Stop>
+    ensures { Parses (λ x. (o.new, x.now)) result (spec.moved src.now o.old tokens.now) }
 {
     let (one, rest) = file_move(alloc, src, tokens)?;
-    let moves = pushed(o.moves, one)?;
-    Ok((RestoreOptions { moves, ..o }, rest))
+    push_move(alloc, &mut o.moves, one)?;
+    Ok(rest)
 }
 
 #[tactic(auto, unfolding(crate::specs::Restore::idled))]
 fn idled<'t>(
     alloc: Global,
     src: &[u8],
-    o: RestoreOptions,
+    o: &mut RestoreOptions,
     option: IdleOption,
     tokens: &'t [Token],
-) -> Result<(RestoreOptions, &'t [Token]), Stop>
-    ensures { Parses (λ x. (x.0, x.1.now)) result (spec.idled src.now o option tokens.now) }
+) -> Result<&'t [Token], Stop>
+    ensures { Parses (λ x. (o.new, x.now)) result (spec.idled src.now o.old option tokens.now) }
 {
     let rest = skip_value(alloc, src, option, tokens)?;
-    let idle = with_mark(o.idle, option);
-    Ok((RestoreOptions { idle, ..o }, rest))
+    o.idle = with_mark(o.idle, option);
+    Ok(rest)
 }
 
-// The options with a word that has no value.
+// The option with a word that has no value.
 #[tactic(auto, unfolding(crate::specs::Restore::switched))]
-fn switched(o: RestoreOptions, word: RestoreWord) -> RestoreOptions
-    ensures { result ≡ spec.switched o word }
+fn switched(o: &mut RestoreOptions, word: RestoreWord)
+    ensures { o.new ≡ spec.switched o.old word }
 {
-    let mut o = o;
     match word {
         RestoreWord::Recovery => o.ending = Some(Ending::Recovery),
         RestoreWord::NoRecovery => o.ending = Some(Ending::NoRecovery),
@@ -262,18 +265,17 @@ fn switched(o: RestoreOptions, word: RestoreWord) -> RestoreOptions
         RestoreWord::NoChecksum => o.checksum = Some(false),
         _ => {}
     }
-    o
 }
 
 #[tactic(auto, unfolding(crate::specs::Restore::joined))]
 fn joined<'t>(
     alloc: Global,
     src: &[u8],
-    o: RestoreOptions,
+    o: &mut RestoreOptions,
     word: RestoreWord,
     tokens: &'t [Token],
-) -> Result<(RestoreOptions, &'t [Token]), Stop>
-    ensures { Parses (λ x. (x.0, x.1.now)) result (spec.joined src.now o word tokens.now) }
+) -> Result<&'t [Token], Stop>
+    ensures { Parses (λ x. (o.new, x.now)) result (spec.joined src.now o.old word tokens.now) }
 {
     match word {
         RestoreWord::File => filed(o, tokens),
@@ -283,7 +285,10 @@ fn joined<'t>(
         RestoreWord::StopBeforeMark => stopped_before(alloc, src, o, tokens),
         RestoreWord::Move => moved(alloc, src, o, tokens),
         RestoreWord::Idle(option) => idled(alloc, src, o, option, tokens),
-        _ => Ok((switched(o, word), tokens)),
+        _ => {
+            switched(o, word);
+            Ok(tokens)
+        }
     }
 }
 
@@ -292,14 +297,14 @@ fn one_more<'t>(
     alloc: Global,
     src: &[u8],
     from: bool,
-    o: RestoreOptions,
+    o: &mut RestoreOptions,
     tokens: &'t [Token],
-) -> Result<(RestoreOptions, &'t [Token]), Stop>
-    ensures { Parses (λ x. (x.0, x.1.now)) result (spec.one_more src.now from o tokens.now) }
+) -> Result<&'t [Token], Stop>
+    ensures { Parses (λ x. (o.new, x.now)) result (spec.one_more src.now from o.old tokens.now) }
 {
     match restore_word(src, from, tokens) {
         Some(word) => {
-            if joins(&o, word) {
+            if joins(o, word) {
                 joined(alloc, src, o, word, behind(tokens))
             } else {
                 Err(stuck(tokens))
@@ -325,7 +330,31 @@ fn no_options(alloc: Global) -> RestoreOptions
 }
 
 // Options with commas between; each takes a token, so that the tokens bound their number.
-#[tactic(auto, unfolding(crate::specs::Restore::options, crate::specs::Restore::options_from))]
+#[tactic(auto, unfolding(crate::specs::Restore::options_from))]
+fn options_from<'t>(
+    alloc: Global,
+    src: &[u8],
+    from: bool,
+    o: &mut RestoreOptions,
+    tokens: &'t [Token],
+) -> Result<&'t [Token], Stop>
+    ensures { Parses (λ x. (o.new, x.now)) result (spec.options_from src.now from tokens.now o.old tokens.now) }
+{
+    let mut rest = tokens;
+    let mut left = tokens;
+    while let [_, more @ ..] = left {
+        let after = one_more(alloc, src, from, o, rest)?;
+        if !next_sign(after, b',') {
+            return Ok(after);
+        }
+        rest = behind(after);
+        left = more;
+    }
+    Err(stuck(rest))
+}
+
+// `options_from` with none before.
+#[tactic(auto, unfolding(crate::specs::Restore::options))]
 fn options<'t>(
     alloc: Global,
     src: &[u8],
@@ -335,18 +364,8 @@ fn options<'t>(
     ensures { Parses (λ x. (x.0, x.1.now)) result (spec.options src.now from tokens.now) }
 {
     let mut found = no_options(alloc);
-    let mut rest = tokens;
-    let mut left = tokens;
-    while let [_, more @ ..] = left {
-        let (with, after) = one_more(alloc, src, from, found, rest)?;
-        if !next_sign(after, b',') {
-            return Ok((with, after));
-        }
-        found = with;
-        rest = behind(after);
-        left = more;
-    }
-    Err(stuck(rest))
+    let rest = options_from(alloc, src, from, &mut found, tokens)?;
+    Ok((found, rest))
 }
 
 /// `WITH` options of RESTORE, or nothing; `from` says that the RESTORE names a medium.
