@@ -195,8 +195,8 @@ impl MemDevice {
         ensures err { OnErr result (IsStill self.old self.new) }
         ensures counts { KeepsCounts self.old self.new }
     {
-        let call = Call::write(self.files.alloc, name, at, bytes)?;
         self.done.reserve(1)?;
+        let call = Call::write(self.files.alloc, name, at, bytes)?;
         self.files.write(name, at as usize, bytes)?;
         push_reserved(&mut self.done, call);
         Ok(())
@@ -207,8 +207,8 @@ impl MemDevice {
         ensures err { OnErr result (IsStill self.old self.new) }
         ensures counts { KeepsCounts self.old self.new }
     {
-        let call = Call::cut(self.files.alloc, name, len)?;
         self.done.reserve(1)?;
+        let call = Call::cut(self.files.alloc, name, len)?;
         self.files.cut(name, len as usize)?;
         push_reserved(&mut self.done, call);
         Ok(())
@@ -241,8 +241,8 @@ impl MemDevice {
         ensures err { OnErr result (IsStill self.old self.new) }
         ensures counts { KeepsCounts self.old self.new }
     {
-        let call = Call::tell(self.files.alloc, bytes)?;
         self.done.reserve(1)?;
+        let call = Call::tell(self.files.alloc, bytes)?;
         self.told.extend_from_slice(bytes)?;
         push_reserved(&mut self.done, call);
         Ok(())

@@ -1,6 +1,7 @@
 // Calls on a device, and what they answer.
 use crate::words::{number, shown, word};
-use bk_device::{Device, Failed, FileDevice};
+use bk_device::{Device, Failed};
+use bk_system::FileDevice;
 use std::alloc::{AllocError, Global};
 use std::fs::File;
 use std::rt::Files;

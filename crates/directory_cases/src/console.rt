@@ -1,6 +1,7 @@
 // Runs of the console over one directory.
 use bk_console::run;
-use bk_device::{Device, FileDevice, FixedClock, MemSource};
+use bk_device::{Device, FixedClock, MemSource};
+use bk_system::FileDevice;
 use std::alloc::{AllocError, Global};
 use std::fs::{self, File};
 use std::io;

@@ -1,7 +1,7 @@
 // The directory of a case.
 use crate::words::{number, word};
 use crate::{calls, letters, outside};
-use bk_device::FileDevice;
+use bk_system::FileDevice;
 use cases::Subject;
 use std::alloc::{AllocError, Global};
 use std::fs::File;

@@ -1,7 +1,8 @@
 // Files of letters: the alphabet, again and again.
 ghost use Rattle.std.specs.Prelude.{◌≤◌, length};
 
-use bk_device::{Device, Failed, FileDevice};
+use bk_device::{Device, Failed};
+use bk_system::FileDevice;
 use std::alloc::{AllocError, Global};
 use std::fs::File;
 use std::rt::Files;

@@ -1,6 +1,7 @@
 // The standard input and the system's clock.
 use crate::words::shown;
-use bk_device::{Clock, Source, StdinSource, SystemClock};
+use bk_device::{Clock, Source};
+use bk_system::{StdinSource, SystemClock};
 use std::alloc::AllocError;
 
 // 2020-01-01 00:00:00.000 UTC, in milliseconds since 1970-01-01 00:00:00 UTC.

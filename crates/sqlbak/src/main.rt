@@ -2,7 +2,7 @@
 #![tactic(auto)]
 
 use bk_console::{Status, WordsError, run, words};
-use bk_device::{FileDevice, StdinSource, SystemClock};
+use bk_system::{FileDevice, StdinSource, SystemClock};
 use std::alloc::AllocError;
 use std::fs::File;
 use std::process::ExitCode;

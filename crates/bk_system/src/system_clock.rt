@@ -1,5 +1,5 @@
 // The clock of the system. Nothing is claimed of its times.
-use crate::Clock;
+use bk_device::Clock;
 
 /// The clock of the system. It shows 0 where it can't be read.
 #[derive(Drop)]

@@ -1,7 +1,7 @@
 // The standard input. Nothing is claimed of its bytes.
 ghost use Rattle.std.specs.Prelude.{[]};
 
-use crate::{Failed, Source};
+use bk_device::{Failed, Source};
 use std::io::Read;
 
 /// The standard input.

@@ -4,7 +4,7 @@ ghost use Rattle.bk_device.specs.Counts.{HasRisen, one_more};
 ghost use Rattle.bk_device.specs.Disk.{unknown_disk};
 
 use crate::directory::Directory;
-use crate::{Device, Failed};
+use bk_device::{Device, Failed};
 use std::alloc::{AllocError, Global};
 use std::fs::File;
 use std::io;
