@@ -4,3 +4,4 @@ pub mod Asking
 pub mod Answering
 pub mod Running
 pub mod Taking
+pub mod Causes

@@ -1,4 +1,5 @@
 pub mod Answers
+pub mod Causes
 pub mod Given
 pub mod Run
 pub mod Words

@@ -1,10 +1,10 @@
 // Answering statements, one after the other.
-ghost use Rattle.std.specs.Prelude.{◌≡◌, ◌≤◌, IfOk, OnOk, OnErr, IsErrOf};
-ghost use Rattle.bk_device.specs.Counts.{HasRisen};
+ghost use Rattle.std.specs.Prelude.{◌≡◌, IfOk, OnOk, OnErr, IsErrOf};
 ghost use Rattle.bk_device.specs.Effects.{KeepsFiles};
 ghost use Rattle.bk_instance.specs.Stands.{IsReady, IsStored};
 ghost use Rattle.bk_console.specs.Answers as spec;
 ghost use Rattle.bk_console.specs.Answers.{NotOurs, Answered, CutShort, AnsweredBy, CutAll, executed_error};
+ghost use Rattle.bk_console.specs.Causes.{HasCauses};
 ghost use Rattle.bk_console.specs.declared.answers.AnswerError.TheVariants as answer_error;
 
 use crate::report;
@@ -91,10 +91,7 @@ pub fn answer<D: Device, C: Clock>(
     ensures ready { OnOk result (IsReady instance.new) }
     ensures stored { D.tells → OnOk result (IsStored (D.disk device.new) instance.new) }
     ensures others { D.tells → KeepsFiles NotOurs (D.disk device.old) (D.disk device.new) }
-    ensures device_fault { IsErrOf result answer_error.Device → HasRisen (D.disk_faults device.old) (D.disk_faults device.new) }
-    ensures console_fault { IsErrOf result answer_error.Console → HasRisen (D.tell_faults device.old) (D.tell_faults device.new) }
-    ensures disk_faults { D.disk_faults device.old ≤ D.disk_faults device.new }
-    ensures tell_faults { D.tell_faults device.old ≤ D.tell_faults device.new }
+    ensures causes { HasCauses D.disk_faults D.tell_faults device.old device.new (IsErrOf result answer_error.Device) (IsErrOf result answer_error.Console) }
 {
     let now = clock.now();
     let reply = instance.execute(device, statement, now)?;
@@ -123,10 +120,7 @@ pub fn answer_all<D: Device, C: Clock>(
     ensures ready { OnOk result (IsReady instance.new) }
     ensures stored { D.tells → OnOk result (IsStored (D.disk device.new) instance.new) }
     ensures others { D.tells → KeepsFiles NotOurs (D.disk device.old) (D.disk device.new) }
-    ensures device_fault { IsErrOf result answer_error.Device → HasRisen (D.disk_faults device.old) (D.disk_faults device.new) }
-    ensures console_fault { IsErrOf result answer_error.Console → HasRisen (D.tell_faults device.old) (D.tell_faults device.new) }
-    ensures disk_faults { D.disk_faults device.old ≤ D.disk_faults device.new }
-    ensures tell_faults { D.tell_faults device.old ≤ D.tell_faults device.new }
+    ensures causes { HasCauses D.disk_faults D.tell_faults device.old device.new (IsErrOf result answer_error.Device) (IsErrOf result answer_error.Console) }
 {
     for statement in statements {
         let refused = answer(alloc, instance, statement, device, clock)?;

@@ -6,6 +6,7 @@ ghost use Rattle.bk_device.specs.Counts.{HasRisen};
 ghost use Rattle.bk_device.specs.Effects.{KeepsFiles};
 ghost use Rattle.bk_home.specs.Home.{IsNoInstance};
 ghost use Rattle.bk_console.specs.Answers.{NotOurs};
+ghost use Rattle.bk_console.specs.Causes.{HasCauses};
 ghost use Rattle.bk_console.specs.Words.{options_of, as_asked};
 ghost use Rattle.bk_console.specs.Run.{code_of, status_of, Executed, Ran};
 
@@ -43,8 +44,7 @@ pub fn run<R: Threads + Sync, D: Device, S: Source, C: Clock>(
     ensures statuses { (status : Status) × (result ≡ code_of status) }
     ensures usage { (result ≡ 2) ↔ (options_of (map string_bytes words.now) ≡ None) }
     ensures source_fault { result ≡ 3 → HasRisen (S.read_faults source.old) (S.read_faults source.new) }
-    ensures console_fault { result ≡ 4 → HasRisen (D.tell_faults device.old) (D.tell_faults device.new) }
-    ensures device_fault { result ≡ 5 → HasRisen (D.disk_faults device.old) (D.disk_faults device.new) }
+    ensures causes { HasCauses D.disk_faults D.tell_faults device.old device.new (result ≡ 5) (result ≡ 4) }
     ensures not_an_instance { D.tells → result ≡ 7 → IsNoInstance (D.disk device.old).files }
     ensures no_instance { D.tells → IsNoInstance (D.disk device.old).files → (result ≡ 0) ⊎ (result ≡ 1) ⊎ (result ≡ 4) → ⊥ }
 
@@ -53,8 +53,6 @@ pub fn run<R: Threads + Sync, D: Device, S: Source, C: Clock>(
     ensures untouched { (result ≡ 2) ⊎ (result ≡ 3) ⊎ (result ≡ 8) → device.new ≡ device.old }
     ensures unchanged { D.tells → result ≡ 7 → ChangesNothing (D.disk device.old) (D.disk device.new) }
     ensures others { D.tells → KeepsFiles NotOurs (D.disk device.old) (D.disk device.new) }
-    ensures disk_faults { D.disk_faults device.old ≤ D.disk_faults device.new }
-    ensures tell_faults { D.tell_faults device.old ≤ D.tell_faults device.new }
     ensures read_faults { S.read_faults source.old ≤ S.read_faults source.new }
 {
     match console(alloc, words, source, device, clock) {
@@ -75,16 +73,13 @@ fn console<D: Device, S: Source, C: Clock>(
         D.tells (D.disk device.old) (D.disk device.new) (code_of (status_of result)) }
     ensures usage { (status_of result ≡ Status.Usage) ↔ (options_of (map string_bytes words.now) ≡ None) }
     ensures source_fault { status_of result ≡ Status.SourceFault → HasRisen (S.read_faults source.old) (S.read_faults source.new) }
-    ensures console_fault { status_of result ≡ Status.ConsoleFault → HasRisen (D.tell_faults device.old) (D.tell_faults device.new) }
-    ensures device_fault { status_of result ≡ Status.DeviceFault → HasRisen (D.disk_faults device.old) (D.disk_faults device.new) }
+    ensures causes { HasCauses D.disk_faults D.tell_faults device.old device.new (status_of result ≡ Status.DeviceFault) (status_of result ≡ Status.ConsoleFault) }
     ensures not_an_instance { D.tells → status_of result ≡ Status.NotAnInstance → IsNoInstance (D.disk device.old).files }
     ensures no_instance { D.tells → IsNoInstance (D.disk device.old).files → (status_of result ≡ Status.Done) ⊎ (status_of result ≡ Status.StoppedAtRefusal) ⊎ (status_of result ≡ Status.ConsoleFault) → ⊥ }
     ensures unread { status_of result ≡ Status.Usage → source.new ≡ source.old }
     ensures untouched { (status_of result ≡ Status.Usage) ⊎ (status_of result ≡ Status.SourceFault) ⊎ (status_of result ≡ Status.ScriptTooLong) → device.new ≡ device.old }
     ensures unchanged { D.tells → status_of result ≡ Status.NotAnInstance → ChangesNothing (D.disk device.old) (D.disk device.new) }
     ensures others { D.tells → KeepsFiles NotOurs (D.disk device.old) (D.disk device.new) }
-    ensures disk_faults { D.disk_faults device.old ≤ D.disk_faults device.new }
-    ensures tell_faults { D.tell_faults device.old ≤ D.tell_faults device.new }
     ensures read_faults { S.read_faults source.old ≤ S.read_faults source.new }
 {
     let options = command_line::words(alloc, words)?;
@@ -104,14 +99,11 @@ fn over_instance<D: Device, C: Clock>(
     ensures executed { Executed (Some (as_asked options.now)) statements.now C.tells (C.coming clock.old) (C.coming clock.new)
         D.tells (D.disk device.old) (D.disk device.new) (code_of (status_of result)) }
     ensures begun { (status_of result ≡ Status.Usage) ⊎ (status_of result ≡ Status.SourceFault) ⊎ (status_of result ≡ Status.ScriptTooLong) → ⊥ }
-    ensures console_fault { status_of result ≡ Status.ConsoleFault → HasRisen (D.tell_faults device.old) (D.tell_faults device.new) }
-    ensures device_fault { status_of result ≡ Status.DeviceFault → HasRisen (D.disk_faults device.old) (D.disk_faults device.new) }
+    ensures causes { HasCauses D.disk_faults D.tell_faults device.old device.new (status_of result ≡ Status.DeviceFault) (status_of result ≡ Status.ConsoleFault) }
     ensures not_an_instance { D.tells → status_of result ≡ Status.NotAnInstance → IsNoInstance (D.disk device.old).files }
     ensures no_instance { D.tells → IsNoInstance (D.disk device.old).files → (status_of result ≡ Status.Done) ⊎ (status_of result ≡ Status.StoppedAtRefusal) ⊎ (status_of result ≡ Status.ConsoleFault) → ⊥ }
     ensures unchanged { D.tells → status_of result ≡ Status.NotAnInstance → ChangesNothing (D.disk device.old) (D.disk device.new) }
     ensures others { D.tells → KeepsFiles NotOurs (D.disk device.old) (D.disk device.new) }
-    ensures disk_faults { D.disk_faults device.old ≤ D.disk_faults device.new }
-    ensures tell_faults { D.tell_faults device.old ≤ D.tell_faults device.new }
 {
     let mut instance = Instance::load(alloc, device, options.instance)?;
     let ended = answer_all(

@@ -6,6 +6,7 @@ use Rattle.bk_console.specs.Answers.{AnsweredFront}
 use Rattle.bk_console.specs.declared.answers.AnswerError.TheVariants.{Console}
 use Rattle.bk_console.proofs.Asking.{OnErr-from, keeps-same}
 use Rattle.bk_console.proofs.Answering.{front-more, front-none, not-stopped, Stopped-from, CutAll-from}
+use Rattle.bk_console.proofs.Causes.{causes-none, causes-then}
 use Rattle.bk_console.proofs.answers.answer_all.Goals as goal
 
 pub loop-statement-init : goal.loop-statement-init
@@ -14,8 +15,7 @@ loop-statement-init g c = record {
   ready = c.requires.ready;
   stored = c.requires.stored;
   others = λ t. keeps-same _ _;
-  disk_faults = omega arith;
-  tell_faults = omega arith;
+  causes = causes-none _;
 }
 
 pub loop-statement-preserved : goal.loop-statement-preserved
@@ -33,8 +33,7 @@ loop-statement-preserved g c =
       ready = now.ready;
       stored = now.stored;
       others = λ t. keeps_then (before.others t) (now.others t);
-      disk_faults = omega (arith, now.disk_faults, before.disk_faults);
-      tell_faults = omega (arith, now.tell_faults, before.tell_faults);
+      causes = causes-then before.causes now.causes;
     }
 
 pub returns-then-stop-clause-answered : goal.returns-then-stop-clause-answered

@@ -1,7 +1,8 @@
-use Rattle.std.proofs.Common.{◌≤◌, take}
+use Rattle.std.proofs.Common.{take}
 use Rattle.bk_device.specs.Effects.{KeepsFiles}
 use Rattle.bk_instance.specs.Stands.{IsReady, IsStored}
 use Rattle.bk_console.specs.Answers.{NotOurs, AnsweredFront}
+use Rattle.bk_console.specs.Causes.{HasCauses}
 use Rattle.bk_console.proofs.answers.answer_all.Given as goal
 
 abbrev pub invariant-loop-statement : goal.invariant-loop-statement
@@ -11,6 +12,5 @@ invariant-loop-statement g l = record {
   ready : IsReady l.instance;
   stored : g.D.Device.tells → IsStored (g.D.Device.disk l.device) l.instance;
   others : g.D.Device.tells → KeepsFiles NotOurs (g.D.Device.disk l.fn.device) (g.D.Device.disk l.device);
-  disk_faults : g.D.Device.disk_faults l.fn.device ≤ g.D.Device.disk_faults l.device;
-  tell_faults : g.D.Device.tell_faults l.fn.device ≤ g.D.Device.tell_faults l.device;
+  causes : HasCauses g.D.Device.disk_faults g.D.Device.tell_faults l.fn.device l.device ⊥ ⊥;
 }
