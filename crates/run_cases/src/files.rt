@@ -94,7 +94,9 @@ impl Files {
     /// `record`: answers the record of the instance, as a run would find it.
     pub fn show_record(&self, out: &mut String) -> Result<(), AllocError> {
         let mut device = self.device.copy()?;
-        match record(self.alloc, &mut device) {
+        let found = record(self.alloc, &mut device);
+        drop(device);
+        match found {
             Ok((number, counter)) => writeln!(out, "instance {number}, counter {counter}"),
             Err(_) => out.push_str("no instance\n"),
         }

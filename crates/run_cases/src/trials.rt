@@ -5,6 +5,7 @@ use crate::trial::Trial;
 use crate::trouble::Trouble;
 use bk_device::MemDevice;
 use std::alloc::{AllocError, Global};
+use std::mem;
 
 // Before how many writes or calls a run is to have gone well.
 const MOST: u64 = 2000;
@@ -66,7 +67,14 @@ impl Trials<'_> {
     // What the run tells where nothing cuts it short.
     fn whole(&self) -> Result<Vec<u8>, AllocError> {
         let mut device = self.start.copy()?;
-        self.console.run(self.asked, &mut device)?;
+        let told = self.told_over(&mut device);
+        drop(device);
+        told
+    }
+
+    // All that a device has told behind the run.
+    fn told_over(&self, device: &mut MemDevice) -> Result<Vec<u8>, AllocError> {
+        self.console.run(self.asked, device)?;
         Vec::from_slice(self.alloc, device.told())
     }
 
@@ -95,22 +103,47 @@ impl Trials<'_> {
         Ok(text)
     }
 
-    // Looks twice behind a crash. Says whether it is the same twice, and may be shown, and else answers it.
-    fn looks_well(
+    // What a look over a copy of a device shows.
+    fn look_aside(&self, script: &str, device: &MemDevice) -> Result<String, AllocError> {
+        let mut device = device.copy()?;
+        let text = self.look(script, &mut device);
+        drop(device);
+        text
+    }
+
+    // Looks twice at a device that has told nothing. Says whether it is the same twice, and may be shown, and else answers it.
+    fn looks_same(
         &self,
         trial: &mut Trial,
         lines: u64,
-        device: &MemDevice,
+        device: &mut MemDevice,
         out: &mut String,
     ) -> Result<bool, AllocError> {
-        let mut device = device.copy()?;
-        let first = self.look(trial.look(), &mut device)?;
-        let second = self.look(trial.look(), &mut device.copy()?)?;
+        let first = self.look(trial.look(), device)?;
+        let second = self.look_aside(trial.look(), device)?;
         if first.as_str() == second.as_str() && trial.takes(lines, first.as_str()) {
             return Ok(true);
         }
         out.push_str(&second)?;
         Ok(false)
+    }
+
+    // Looks twice behind a crash of the device, which has no file afterwards.
+    fn looks_well(
+        &self,
+        trial: &mut Trial,
+        lines: u64,
+        keep: bool,
+        device: &mut MemDevice,
+        out: &mut String,
+    ) -> Result<bool, AllocError> {
+        let crashed = mem::replace(device, MemDevice::new(self.alloc)).restart(keep);
+        let copied = crashed.copy();
+        drop(crashed);
+        let mut left = copied?;
+        let is_well = self.looks_same(trial, lines, &mut left, out);
+        drop(left);
+        is_well
     }
 
     // Cuts one run short, and looks what stands behind it. Gives its status where all is as it may be.
@@ -123,11 +156,26 @@ impl Trials<'_> {
         out: &mut String,
     ) -> Result<Option<u8>, AllocError> {
         let mut device = self.start.copy()?;
-        let status = self.cut_short(&mut device, at)?;
+        let status = self.try_over(&mut device, trial, whole, at, keep, out);
+        drop(device);
+        status
+    }
+
+    // The same over a device, which has no file afterwards.
+    fn try_over(
+        &self,
+        device: &mut MemDevice,
+        trial: &mut Trial,
+        whole: &[u8],
+        at: u64,
+        keep: bool,
+        out: &mut String,
+    ) -> Result<Option<u8>, AllocError> {
+        let status = self.cut_short(device, at)?;
         let told = device.told();
         let lines = lines_told(told);
         let is_front = whole.starts_with(told) && (status != 0 || whole == told);
-        if is_front && self.looks_well(trial, lines, &device.restart(keep), out)? {
+        if is_front && self.looks_well(trial, lines, keep, device, out)? {
             return Ok(Some(status));
         }
         writeln!(out, "cut short at {at}, {lines} lines, status {status}")?;
