@@ -206,7 +206,8 @@ by_some Other before text rest k e p = omega (arith, p.1)
 pub piece_some : (before text rest : List ℕ) (k : Option Kind) → IsPiece before text rest k → 0 < length text
 piece_some before text rest k p = by_some (opening (text ++ rest)) before text rest k (opens (text ++ rest)) p
 
-no_piece : (before text rest : List ℕ) (k : Option Kind) → [] ≡ text ++ rest → IsPiece before text rest k → ⊥
+-- without bytes there is no piece
+pub no_piece : (before text rest : List ℕ) (k : Option Kind) → [] ≡ text ++ rest → IsPiece before text rest k → ⊥
 no_piece before text rest k e p = omega (arith, piece_some before text rest k p, ap length e, length-append text rest)
 
 -- what is read at a place is one list
