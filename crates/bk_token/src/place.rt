@@ -1,6 +1,6 @@
 //! Tokens from a place of the script on, one after the other.
 
-ghost use Rattle.std.specs.Prelude.{◌≡◌, ◌<◌, ◌≤◌, List, length, None};
+ghost use Rattle.std.specs.Prelude.{◌≡◌, ◌<◌, ◌≤◌, List, length, MatchOption};
 ghost use Rattle.bk_token.specs.declared.token.Token.{Token as TokenOf};
 ghost use Rattle.bk_token.specs.Places.{IsPlace, AreTokensAt, IsNext, IsNextPiece};
 
@@ -59,8 +59,7 @@ pub fn next_token(src: &[u8], place: &mut Place) -> Option<Token>
     requires { IsPlace src.now place.old }
     ensures place { IsPlace src.now place.new }
     ensures next { (ts : List TokenOf) → AreTokensAt src.now place.old ts → IsNext src.now result ts place.new }
-    ensures goes_on { place.old.at < length src.now → place.old.at < place.new.at }
-    ensures over { result ≡ None → length src.now ≤ place.new.at }
+    ensures goes_on { MatchOption result (length src.now ≤ place.new.at) (λ _. place.old.at < place.new.at) }
 {
     while place.at < src.len() {
         let (token, behind) = next_piece(src, place);
