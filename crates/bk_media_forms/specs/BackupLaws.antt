@@ -17,22 +17,22 @@ use Rattle.bk_media_forms.specs.Idle.{bare_word, value_word, skip_text, skip_num
 use Rattle.bk_media_forms.specs.Backup.{timed, time, equal_time, medium_word, set_word, valued_word, backup_word, joins, named, expiring, retained, idled, joined, joined_by, one_more, options_from, no_options, options, with_options}
 use Rattle.bk_media_forms.specs.Media.{disk, unit, units_from, some_units, units, backup_database, backup_log, backup, with_file, query_medium}
 
-skip_text-ahead : (src : List ℕ) (more ts : List Token) → Agrees left_over more (length ts) (skip_text src ts) (skip_text src (ts ++ more))
+skip_text-ahead : (src : List ℕ) (more ts : List Token) → Agrees left_over more ts (skip_text src ts) (skip_text src (ts ++ more))
 unfolding skip_text
 skip_text-ahead src more ts =
     and_then _ _ (equal_text-ahead src more ts) (λ a h. done)
 
-skip_number-ahead : (more ts : List Token) → Agrees left_over more (length ts) (skip_number ts) (skip_number (ts ++ more))
+skip_number-ahead : (more ts : List Token) → Agrees left_over more ts (skip_number ts) (skip_number (ts ++ more))
 unfolding skip_number
 skip_number-ahead more ts =
     and_then _ _ (equal_number-ahead more ts) (λ a h. done)
 
-skip_share-ahead : (more ts : List Token) → Agrees left_over more (length ts) (skip_share ts) (skip_share (ts ++ more))
+skip_share-ahead : (more ts : List Token) → Agrees left_over more ts (skip_share ts) (skip_share (ts ++ more))
 unfolding skip_share
 skip_share-ahead more ts =
     if_next ts (λ us. next_sign us 61) (λ t u us. refl) (skip_number-ahead more ts) done
 
-pub skip_value-ahead : (src : List ℕ) (w : IdleOption) (more ts : List Token) → Agrees left_over more (length ts) (skip_value src w ts) (skip_value src w (ts ++ more))
+pub skip_value-ahead : (src : List ℕ) (w : IdleOption) (more ts : List Token) → Agrees left_over more ts (skip_value src w ts) (skip_value src w (ts ++ more))
 unfolding skip_value
 skip_value-ahead src Stats more ts = skip_share-ahead more ts
 skip_value-ahead src Rewind more ts = done
@@ -52,37 +52,37 @@ timed-one : (found : Option ℕ) (more : List Token) (t : Token) (ts : List Toke
 timed-one None more t ts = not_taken
 timed-one (Some ms) more t ts = taken ms
 
-pub time-ahead : (src : List ℕ) (more ts : List Token) → Agrees behind_it more (length ts) (time src ts) (time src (ts ++ more))
+pub time-ahead : (src : List ℕ) (more ts : List Token) → Agrees behind_it more ts (time src ts) (time src (ts ++ more))
 unfolding time text
 time-ahead src more [] = at_end
 time-ahead src more (t ∷ ts) = one-ahead (one_then _ _ (text-one src more t ts) (λ x. timed-one (time_of x) more t ts))
 
-equal_time-ahead : (src : List ℕ) (more ts : List Token) → Agrees behind_it more (length ts) (equal_time src ts) (equal_time src (ts ++ more))
+equal_time-ahead : (src : List ℕ) (more ts : List Token) → Agrees behind_it more ts (equal_time src ts) (equal_time src (ts ++ more))
 unfolding equal_time
 equal_time-ahead src more ts =
     and_then _ _ (sign-ahead 61 more ts) (λ a h. time-ahead src more a)
 
-named-ahead : (src : List ℕ) (o : BackupOptions) (more ts : List Token) → Agrees behind_it more (length ts) (named src o ts) (named src o (ts ++ more))
+named-ahead : (src : List ℕ) (o : BackupOptions) (more ts : List Token) → Agrees behind_it more ts (named src o ts) (named src o (ts ++ more))
 unfolding named
 named-ahead src o more ts =
     and_then _ _ (equal_text-ahead src more ts) (λ a h. done)
 
-expiring-ahead : (src : List ℕ) (o : BackupOptions) (more ts : List Token) → Agrees behind_it more (length ts) (expiring src o ts) (expiring src o (ts ++ more))
+expiring-ahead : (src : List ℕ) (o : BackupOptions) (more ts : List Token) → Agrees behind_it more ts (expiring src o ts) (expiring src o (ts ++ more))
 unfolding expiring
 expiring-ahead src o more ts =
     and_then _ _ (equal_time-ahead src more ts) (λ a h. done)
 
-retained-ahead : (o : BackupOptions) (more ts : List Token) → Agrees behind_it more (length ts) (retained o ts) (retained o (ts ++ more))
+retained-ahead : (o : BackupOptions) (more ts : List Token) → Agrees behind_it more ts (retained o ts) (retained o (ts ++ more))
 unfolding retained
 retained-ahead o more ts =
     and_then _ _ (equal_number-ahead more ts) (λ a h. done)
 
-idled-ahead : (src : List ℕ) (o : BackupOptions) (w : IdleOption) (more ts : List Token) → Agrees behind_it more (length ts) (idled src o w ts) (idled src o w (ts ++ more))
+idled-ahead : (src : List ℕ) (o : BackupOptions) (w : IdleOption) (more ts : List Token) → Agrees behind_it more ts (idled src o w ts) (idled src o w (ts ++ more))
 unfolding idled
 idled-ahead src o w more ts =
     and_then _ _ (skip_value-ahead src w more ts) (λ a h. done)
 
-joined-ahead : (src : List ℕ) (o : BackupOptions) (w : BackupWord) (more ts : List Token) → Agrees behind_it more (length ts) (joined src o w ts) (joined src o w (ts ++ more))
+joined-ahead : (src : List ℕ) (o : BackupOptions) (w : BackupWord) (more ts : List Token) → Agrees behind_it more ts (joined src o w ts) (joined src o w (ts ++ more))
 unfolding joined
 joined-ahead src o Init more ts = done
 joined-ahead src o NoInit more ts = done
@@ -101,17 +101,17 @@ joined-ahead src o NoRecovery more ts = done
 joined-ahead src o NoTruncate more ts = done
 joined-ahead src o (Idle w) more ts = idled-ahead src o w more ts
 
-joined_by-ahead : (src : List ℕ) (o : BackupOptions) (found : Option BackupWord) (more ts : List Token) → Agrees behind_it more (length ts) (joined_by src o found ts) (joined_by src o found (ts ++ more))
+joined_by-ahead : (src : List ℕ) (o : BackupOptions) (found : Option BackupWord) (more ts : List Token) → Agrees behind_it more ts (joined_by src o found ts) (joined_by src o found (ts ++ more))
 joined_by-ahead src o None more ts = stuck-ahead behind_it more ts
 joined_by-ahead src o (Some w) more ts = branch (joins o w) (behind_next ts (joined src o w) (joined-ahead src o w more)) (stuck-ahead behind_it more ts)
 
-one_more-ahead : (src : List ℕ) (log : Bool) (o : BackupOptions) (more ts : List Token) → Agrees behind_it more (length ts) (one_more src log o ts) (one_more src log o (ts ++ more))
+one_more-ahead : (src : List ℕ) (log : Bool) (o : BackupOptions) (more ts : List Token) → Agrees behind_it more ts (one_more src log o ts) (one_more src log o (ts ++ more))
 unfolding one_more medium_word set_word valued_word bare_word value_word
 one_more-ahead src log o more [] = quiet (omega arith) (joined_by-ahead src o (backup_word src log []) more [])
 one_more-ahead src log o more (t ∷ ts) = joined_by-ahead src o (backup_word src log (t ∷ ts)) more (t ∷ ts)
 
 options_from-ahead : (src : List ℕ) (log : Bool) (left : List Token) (o : BackupOptions) (more ts : List Token) → length ts ≤ length left →
-    Agrees behind_it more (length ts) (options_from src log left o ts) (options_from src log (left ++ more) o (ts ++ more))
+    Agrees behind_it more ts (options_from src log left o ts) (options_from src log (left ++ more) o (ts ++ more))
 unfolding options_from
 options_from-ahead src log [] o more ts few = quiet (omega (arith, few)) (stuck-ahead behind_it more ts)
 options_from-ahead src log (x ∷ left) o more ts few =
@@ -120,21 +120,21 @@ options_from-ahead src log (x ∷ left) o more ts few =
     (behind_by a.1 (options_from src log left a.0) (options_from src log (left ++ more) a.0)
     (options_from-ahead src log left a.0 more (drop 1 a.1) (omega (arith, few, h, length-drop 1 a.1)))) done)
 
-options-ahead : (src : List ℕ) (log : Bool) (more ts : List Token) → Agrees behind_it more (length ts) (options src log ts) (options src log (ts ++ more))
+options-ahead : (src : List ℕ) (log : Bool) (more ts : List Token) → Agrees behind_it more ts (options src log ts) (options src log (ts ++ more))
 unfolding options
 options-ahead src log more ts = options_from-ahead src log ts no_options more ts (omega arith)
 
-with_options-ahead : (src : List ℕ) (log : Bool) (more ts : List Token) → Agrees behind_it more (length ts) (with_options src log ts) (with_options src log (ts ++ more))
+with_options-ahead : (src : List ℕ) (log : Bool) (more ts : List Token) → Agrees behind_it more ts (with_options src log ts) (with_options src log (ts ++ more))
 unfolding with_options
 with_options-ahead src log more ts =
     if_next ts (λ us. next_is src us (codes "WITH")) (λ t u us. refl) (behind_next ts (options src log) (options-ahead src log more)) done
 
-pub disk-ahead : (src : List ℕ) (more ts : List Token) → Agrees behind_it more (length ts) (disk src ts) (disk src (ts ++ more))
+pub disk-ahead : (src : List ℕ) (more ts : List Token) → Agrees behind_it more ts (disk src ts) (disk src (ts ++ more))
 unfolding disk
 disk-ahead src more ts =
     and_then _ _ (keyword-ahead src (codes "DISK") more ts) (λ a h. equal_filled-ahead src more a)
 
-unit-ahead : (src : List ℕ) (more ts : List Token) → Agrees behind_it more (length ts) (unit src ts) (unit src (ts ++ more))
+unit-ahead : (src : List ℕ) (more ts : List Token) → Agrees behind_it more ts (unit src ts) (unit src (ts ++ more))
 unfolding unit
 unit-ahead src more ts =
     if_next ts (λ us. next_is src us (codes "FILE")) (λ t u us. refl)
@@ -143,7 +143,7 @@ unit-ahead src more ts =
     (and_then _ _ (behind_next ts (equal_filled src) (equal_filled-ahead src more)) (λ a h. done)) (stuck-ahead behind_it more ts))
 
 units_from-ahead : (src : List ℕ) (left : List Token) (found : List UnitName) (more ts : List Token) → length ts ≤ length left →
-    Agrees behind_it more (length ts) (units_from src left found ts) (units_from src (left ++ more) found (ts ++ more))
+    Agrees behind_it more ts (units_from src left found ts) (units_from src (left ++ more) found (ts ++ more))
 unfolding units_from
 units_from-ahead src [] found more ts few = quiet (omega (arith, few)) (stuck-ahead behind_it more ts)
 units_from-ahead src (x ∷ left) found more ts few =
@@ -152,16 +152,16 @@ units_from-ahead src (x ∷ left) found more ts few =
     (behind_by a.1 (units_from src left (found ++ a.0 ∷ [])) (units_from src (left ++ more) (found ++ a.0 ∷ []))
     (units_from-ahead src left (found ++ a.0 ∷ []) more (drop 1 a.1) (omega (arith, few, h, length-drop 1 a.1)))) done)
 
-some_units-ahead : (src : List ℕ) (more ts : List Token) → Agrees behind_it more (length ts) (some_units src ts) (some_units src (ts ++ more))
+some_units-ahead : (src : List ℕ) (more ts : List Token) → Agrees behind_it more ts (some_units src ts) (some_units src (ts ++ more))
 unfolding some_units
 some_units-ahead src more ts = units_from-ahead src ts [] more ts (omega arith)
 
-pub units-ahead : (src : List ℕ) (more ts : List Token) → Agrees behind_it more (length ts) (units src ts) (units src (ts ++ more))
+pub units-ahead : (src : List ℕ) (more ts : List Token) → Agrees behind_it more ts (units src ts) (units src (ts ++ more))
 unfolding units
 units-ahead src more ts =
     if_next ts (λ us. next_is src us (codes "FILE") || next_is src us (codes "FILEGROUP")) (λ t u us. refl) (some_units-ahead src more ts) done
 
-backup_database-ahead : (src : List ℕ) (more ts : List Token) → Agrees behind_it more (length ts) (backup_database src ts) (backup_database src (ts ++ more))
+backup_database-ahead : (src : List ℕ) (more ts : List Token) → Agrees behind_it more ts (backup_database src ts) (backup_database src (ts ++ more))
 unfolding backup_database
 backup_database-ahead src more ts =
     and_then _ _ (name-ahead src more ts) (λ a h.
@@ -170,7 +170,7 @@ backup_database-ahead src more ts =
     and_then _ _ (disk-ahead src more c) (λ d h.
     and_then _ _ (with_options-ahead src false more d.1) (λ e h. done)))))
 
-backup_log-ahead : (src : List ℕ) (more ts : List Token) → Agrees behind_it more (length ts) (backup_log src ts) (backup_log src (ts ++ more))
+backup_log-ahead : (src : List ℕ) (more ts : List Token) → Agrees behind_it more ts (backup_log src ts) (backup_log src (ts ++ more))
 unfolding backup_log
 backup_log-ahead src more ts =
     and_then _ _ (name-ahead src more ts) (λ a h.
@@ -178,20 +178,20 @@ backup_log-ahead src more ts =
     and_then _ _ (disk-ahead src more c) (λ d h.
     and_then _ _ (with_options-ahead src true more d.1) (λ e h. done))))
 
-pub backup-ahead : (src : List ℕ) (more ts : List Token) → Agrees behind_it more (length ts) (backup src ts) (backup src (ts ++ more))
+pub backup-ahead : (src : List ℕ) (more ts : List Token) → Agrees behind_it more ts (backup src ts) (backup src (ts ++ more))
 unfolding backup
 backup-ahead src more ts =
     if_next ts (λ us. next_is src us (codes "DATABASE")) (λ t u us. refl) (behind_next ts (backup_database src) (backup_database-ahead src more))
     (if_next ts (λ us. next_is src us (codes "LOG")) (λ t u us. refl) (behind_next ts (backup_log src) (backup_log-ahead src more)) (stuck-ahead behind_it more ts))
 
-with_file-ahead : (src : List ℕ) (more ts : List Token) → Agrees behind_it more (length ts) (with_file src ts) (with_file src (ts ++ more))
+with_file-ahead : (src : List ℕ) (more ts : List Token) → Agrees behind_it more ts (with_file src ts) (with_file src (ts ++ more))
 unfolding with_file
 with_file-ahead src more ts =
     if_next ts (λ us. next_is src us (codes "WITH")) (λ t u us. refl)
     (and_then _ _ (behind_next ts (keyword src (codes "FILE")) (keyword-ahead src (codes "FILE") more)) (λ a h.
     and_then _ _ (equal_number-ahead more a) (λ b h. done))) done
 
-pub query_medium-ahead : (query : MediumQuery) (src : List ℕ) (more ts : List Token) → Agrees behind_it more (length ts) (query_medium query src ts) (query_medium query src (ts ++ more))
+pub query_medium-ahead : (query : MediumQuery) (src : List ℕ) (more ts : List Token) → Agrees behind_it more ts (query_medium query src ts) (query_medium query src (ts ++ more))
 unfolding query_medium
 query_medium-ahead query src more ts =
     and_then _ _ (keyword-ahead src (codes "FROM") more ts) (λ a h.

@@ -27,11 +27,20 @@ abbrev pub grown_by : {A : Type 0} → Rest A → List Token → Parsed A → Pa
 grown_by rest more (Ok x) = Ok (rest.grown more x)
 grown_by rest more (Err left) = Err (left + length more)
 
--- What is read of tokens leaves at most so many, and where it leaves two or more, the same is read of the tokens with more behind.
-pub record Agrees {A : Type 0} (rest : Rest A) (more : List Token) (most : ℕ) (read whole : Parsed A) : Type 0 where
-  pub fewer : left_of rest read ≤ most
+-- these tokens stand at the end of those
+abbrev pub IsEnd : List Token → List Token → Type 0
+IsEnd ts behind = (taken : List Token) × (ts ≡ taken ++ behind)
+
+-- the tokens behind what is read stand at the end of these, or a form can't go on at one of them or at their end
+abbrev pub LeavesEnd : {A : Type 0} → Rest A → List Token → Parsed A → Type 0
+LeavesEnd rest ts (Ok x) = IsEnd ts (rest.tokens x)
+LeavesEnd rest ts (Err left) = left ≤ length ts
+
+-- What is read of these tokens leaves their end, and where it leaves two or more, the same is read of them with more behind.
+pub record Agrees {A : Type 0} (rest : Rest A) (more ts : List Token) (read whole : Parsed A) : Type 0 where
+  pub ends : LeavesEnd rest ts read
   pub same : 1 < left_of rest read → whole ≡ grown_by rest more read
 
--- a form leaves no more tokens than there are, and looks at most two tokens ahead
+-- a form leaves the end of the tokens, and looks at most two tokens ahead
 abbrev pub LooksAhead : {A : Type 0} → Rest A → (List Token → Parsed A) → Type 0
-LooksAhead rest form = (more ts : List Token) → Agrees rest more (length ts) (form ts) (form (ts ++ more))
+LooksAhead rest form = (more ts : List Token) → Agrees rest more ts (form ts) (form (ts ++ more))

@@ -1,9 +1,8 @@
 -- Reading on from a place, piece by piece.
-use Rattle.std.proofs.Common.{◌≡◌, ℕ, ◌+◌, ◌≤◌, cond, List, [], ◌∷◌, ◌++◌, length, take, drop, refl, ap, sym, ◌∙◌, min, Option, Some, None, arith}
+use Rattle.std.proofs.Common.{◌≡◌, ℕ, ◌+◌, cond, List, ◌∷◌, ◌++◌, length, take, drop, ap, sym, ◌∙◌, min, Option, Some, None, arith}
 use Rattle.std.specs.Prelude.{count_by}
 use Rattle.std.proofs.Math.Seq.{take-add}
 use Rattle.std.proofs.lemmas.List.{take-append-drop, length-take-le, length-drop, drop-drop}
-use Rattle.std.proofs.Math.ListN.{drop_of_length-le}
 use Rattle.std.proofs.lemmas.List.Sums.{sum_by-append}
 use Rattle.bk_token.specs.Bytes.{is_line_feed}
 use Rattle.bk_token.specs.Pieces.{IsPiece}
@@ -79,13 +78,3 @@ token_next src p q len start last line kind ts place cut at s e l tokens =
     let text_size : length (take len (drop p.at src)) ≡ len = length-take-le len (drop p.at src) cut.within in
     let same = token_is (take p.at src) (take len (drop p.at src)) kind start last line (omega (arith, s, size)) (omega (arith, e, size, text_size)) (l ∙ ap (λ n. min (n + 1) 4294967295) place.counted) in
     (found.0, found.1 ∙ ap (λ t. t ∷ found.0) (sym same), rw (sym (before_next src p q len at)) found.2)
-
--- where there are no bytes there are no tokens
-none_from : {before bytes : List ℕ} {ts : List Token} → AreTokensFrom before bytes ts → bytes ≡ [] → ts ≡ []
-none_from ended e = refl
-none_from {before} (passed text rest is p more) e = absurd (no_piece before text rest None (sym e ∙ is) p)
-none_from {before} (token text rest kind is p more) e = absurd (no_piece before text rest (Some kind) (sym e ∙ is) p)
-
--- at the end there are no tokens
-pub none_left : (src : List ℕ) (p : Place) (ts : List Token) → length src ≤ p.at → AreTokensAt src p ts → ts ≡ []
-none_left src p ts past tokens = none_from tokens (drop_of_length-le src past)

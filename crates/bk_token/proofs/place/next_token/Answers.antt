@@ -1,4 +1,4 @@
-use Rattle.bk_token.proofs.PlaceLemmas.{none_left}
+use Rattle.bk_token.specs.Laws.{none_left}
 use Rattle.bk_token.proofs.place.next_token.Goals as goal
 
 pub returns-clause-next : goal.returns-clause-next
