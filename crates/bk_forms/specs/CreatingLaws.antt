@@ -1,142 +1,163 @@
--- What CREATE DATABASE reads leaves no more tokens than there were.
-use Rattle.std.proofs.Common.{ℕ, ◌≤◌, ◌&&◌, Bool, true, false, if◌then◌else◌, List, [], ◌∷◌, ◌++◌, length, drop, Option, Some, None, Ok, Err}
+-- CREATE DATABASE looks at most two tokens ahead.
+use Rattle.std.proofs.Common.{ℕ, ◌≤◌, ◌&&◌, Bool, true, false, if◌then◌else◌, List, [], ◌∷◌, ◌++◌, length, drop, Option, Some, None, Ok, Err, arith, refl, length-drop}
 use Rattle.std.specs.Prelude.{codes}
 use Rattle.bk_token.specs.declared.token.Token.{Token}
 use Rattle.bk_items.specs.declared.item.SizeUnit.{SizeUnit}
 use Rattle.bk_items.specs.declared.item.NewFile.{NewFile}
 use Rattle.bk_items.specs.declared.item.NewGroup.{NewGroup}
-use Rattle.bk_parse.specs.Parse.{Parsed, next_is, next_sign, keyword, skip, sign, name, equal_filled, equal_number, Leaves, behind_it, left_over}
-use Rattle.bk_parse.specs.Laws.{after, either, drop-leaves, keyword-leaves, skip-leaves, sign-leaves, name-leaves, filled_text-leaves, equal_filled-leaves, equal_number-leaves, skip_by}
+use Rattle.bk_parse.specs.Parse.{Parsed, ◌>>=◌, next_is, next_sign, keyword, skip, sign, name, filled_text, equal_filled, equal_number}
+use Rattle.bk_parse.specs.Ahead.{Agrees, behind_it, left_over}
+use Rattle.bk_parse.specs.Laws.{quiet, later, done, stuck-ahead, and_then, if_next, behind_by, behind_next, skipped-ahead, OneToken, taken, not_taken, one-ahead, name-one, keyword-ahead, skip-ahead, sign-ahead, name-ahead, filled_text-ahead, equal_filled-ahead, equal_number-ahead}
 use Rattle.bk_forms.specs.Creating.{or_text, name_or_text, unit_word, sized, size, next_unit, skip_unit, maximum, growth, more_growth, maximum_or_growth, more_limits, settings, more_settings, file_name, file, next_file, next_group, files_from, files, group, groups_from, groups, on_files, log_on, create_database}
 
-or_text-leaves : (n : ℕ) (read : Parsed (List ℕ × List Token)) (src : List ℕ) (ts : List Token) → Leaves behind_it n read → length ts ≤ n → Leaves behind_it n (or_text read src ts)
-or_text-leaves n (Ok x) src ts r h = r
-or_text-leaves n (Err left) src ts r h = filled_text-leaves n src ts h
+or_text-ahead : (src : List ℕ) (more : List Token) (t : Token) (ts : List Token) {p q : Parsed (List ℕ × List Token)} → OneToken more t ts p q →
+    Agrees behind_it more (t ∷ ts) (or_text p src (t ∷ ts)) (or_text q src (t ∷ (ts ++ more)))
+or_text-ahead src more t ts (taken x) = one-ahead {t = t} (taken x)
+or_text-ahead src more t ts not_taken = filled_text-ahead src more (t ∷ ts)
 
-name_or_text-leaves : (n : ℕ) (src : List ℕ) (ts : List Token) → length ts ≤ n → Leaves behind_it n (name_or_text src ts)
-unfolding name_or_text
-name_or_text-leaves n src ts h = or_text-leaves n (name src ts) src ts (name-leaves n src ts h) h
+name_or_text-ahead : (src : List ℕ) (more ts : List Token) → Agrees behind_it more ts (name_or_text src ts) (name_or_text src (ts ++ more))
+unfolding name_or_text name
+name_or_text-ahead src more [] = quiet (omega arith) (filled_text-ahead src more [])
+name_or_text-ahead src more (t ∷ ts) = or_text-ahead src more t ts (name-one src more t ts)
 
-sized-leaves : (n count : ℕ) (found : Option SizeUnit) (ts : List Token) → length ts ≤ n → length (sized count found ts).1 ≤ n
-sized-leaves n count None ts h = h
-sized-leaves n count (Some u) ts h = drop-leaves n ts h
+sized-ahead : (count : ℕ) (found : Option SizeUnit) (more : List Token) (t : Token) (ts : List Token) →
+    Agrees behind_it more (t ∷ ts) (Ok (sized count found (t ∷ ts))) (Ok (sized count found (t ∷ (ts ++ more))))
+sized-ahead count None more t ts = done
+sized-ahead count (Some u) more t ts = later done
 
-size-leaves : (n : ℕ) (src : List ℕ) (ts : List Token) → length ts ≤ n → Leaves behind_it n (size src ts)
+with_unit-ahead : (count : ℕ) (src : List ℕ) (more ts : List Token) → Agrees behind_it more ts (Ok (sized count (unit_word src ts) ts)) (Ok (sized count (unit_word src (ts ++ more)) (ts ++ more)))
+unfolding unit_word
+with_unit-ahead count src more [] = quiet (omega arith) done
+with_unit-ahead count src more (t ∷ ts) = sized-ahead count (unit_word src (t ∷ ts)) more t ts
+
+size-ahead : (src : List ℕ) (more ts : List Token) → Agrees behind_it more ts (size src ts) (size src (ts ++ more))
 unfolding size
-size-leaves n src ts h = after behind_it behind_it n (equal_number ts) _ (equal_number-leaves n ts h) (λ a ha. sized-leaves n a.0 (unit_word src a.1) a.1 ha)
+size-ahead src more ts = and_then _ _ (equal_number-ahead more ts) (λ a h. with_unit-ahead a.0 src more a.1)
 
-skip_unit-leaves : (n : ℕ) (src : List ℕ) (ts : List Token) → length ts ≤ n → length (skip_unit src ts) ≤ n
-skip_unit-leaves n src ts h = skip_by n (next_unit src ts) ts h
+skip_unit-ahead : (src : List ℕ) (more ts : List Token) → Agrees left_over more ts (Ok (skip_unit src ts)) (Ok (skip_unit src (ts ++ more)))
+skip_unit-ahead src more ts = skipped-ahead ts (λ us. next_unit src us) (λ t u us. refl)
 
-maximum-leaves : (n : ℕ) (src : List ℕ) (ts : List Token) → length ts ≤ n → Leaves left_over n (maximum src ts)
+maximum-ahead : (src : List ℕ) (more ts : List Token) → Agrees left_over more ts (maximum src ts) (maximum src (ts ++ more))
 unfolding maximum
-maximum-leaves n src ts h =
-    either left_over n (next_sign ts 61 && next_is src (drop 1 ts) (codes "UNLIMITED")) (Ok (drop 1 (drop 1 ts))) _ (drop-leaves n (drop 1 ts) (drop-leaves n ts h))
-    (after behind_it left_over n (equal_number ts) _ (equal_number-leaves n ts h) (λ a ha. skip_unit-leaves n src a.1 ha))
+maximum-ahead src more ts =
+    if_next ts (λ us. next_sign us 61 && next_is src (drop 1 us) (codes "UNLIMITED")) (λ t u us. refl)
+    (behind_next ts (λ us. Ok (drop 1 us)) (λ us. behind_next us Ok (λ vs. done)))
+    (and_then _ _ (equal_number-ahead more ts) (λ a h. skip_unit-ahead src more a.1))
 
-one_of : (n : ℕ) (b : Bool) (ts us : List Token) → length ts ≤ n → length us ≤ n → length (if b then ts else us) ≤ n
-one_of n true ts us h k = h
-one_of n false ts us h k = k
+passed-ahead : (a b : Bool) (more : List Token) (t : Token) (ts : List Token) →
+    Agrees left_over more (t ∷ ts) (Ok (if a then ts else (if b then ts else t ∷ ts))) (Ok (if a then ts ++ more else (if b then ts ++ more else t ∷ (ts ++ more))))
+passed-ahead true b more t ts = later done
+passed-ahead false true more t ts = later done
+passed-ahead false false more t ts = done
 
-growth-leaves : (n : ℕ) (src : List ℕ) (ts : List Token) → length ts ≤ n → Leaves left_over n (growth src ts)
+share_or_unit-ahead : (src : List ℕ) (more ts : List Token) →
+    Agrees left_over more ts (Ok (if next_sign ts 37 then drop 1 ts else skip_unit src ts)) (Ok (if next_sign (ts ++ more) 37 then drop 1 (ts ++ more) else skip_unit src (ts ++ more)))
+share_or_unit-ahead src more [] = quiet (omega arith) done
+share_or_unit-ahead src more (t ∷ ts) = passed-ahead (next_sign (t ∷ ts) 37) (next_unit src (t ∷ ts)) more t ts
+
+growth-ahead : (src : List ℕ) (more ts : List Token) → Agrees left_over more ts (growth src ts) (growth src (ts ++ more))
 unfolding growth
-growth-leaves n src ts h =
-    after left_over left_over n (keyword src (codes "FILEGROWTH") ts) _ (keyword-leaves n src (codes "FILEGROWTH") ts h) (λ a ha.
-    after behind_it left_over n (equal_number a) _ (equal_number-leaves n a ha) (λ b hb.
-    one_of n (next_sign b.1 37) (drop 1 b.1) (skip_unit src b.1) (drop-leaves n b.1 hb) (skip_unit-leaves n src b.1 hb)))
+growth-ahead src more ts =
+    and_then _ _ (keyword-ahead src (codes "FILEGROWTH") more ts) (λ a h.
+    and_then _ _ (equal_number-ahead more a) (λ b h. share_or_unit-ahead src more b.1))
 
-more_growth-leaves : (n : ℕ) (src : List ℕ) (ts : List Token) → length ts ≤ n → Leaves left_over n (more_growth src ts)
+more_growth-ahead : (src : List ℕ) (more ts : List Token) → Agrees left_over more ts (more_growth src ts) (more_growth src (ts ++ more))
 unfolding more_growth
-more_growth-leaves n src ts h = either left_over n (next_sign ts 44) (growth src (drop 1 ts)) (Ok ts) (growth-leaves n src (drop 1 ts) (drop-leaves n ts h)) h
+more_growth-ahead src more ts =
+    if_next ts (λ us. next_sign us 44) (λ t u us. refl) (behind_next ts (growth src) (growth-ahead src more)) done
 
-maximum_or_growth-leaves : (n : ℕ) (src : List ℕ) (ts : List Token) → length ts ≤ n → Leaves left_over n (maximum_or_growth src ts)
+maximum_or_growth-ahead : (src : List ℕ) (more ts : List Token) → Agrees left_over more ts (maximum_or_growth src ts) (maximum_or_growth src (ts ++ more))
 unfolding maximum_or_growth
-maximum_or_growth-leaves n src ts h =
-    either left_over n (next_is src ts (codes "MAXSIZE")) _ (growth src ts)
-    (after left_over left_over n (maximum src (drop 1 ts)) _ (maximum-leaves n src (drop 1 ts) (drop-leaves n ts h)) (λ a ha. more_growth-leaves n src a ha))
-    (growth-leaves n src ts h)
+maximum_or_growth-ahead src more ts =
+    if_next ts (λ us. next_is src us (codes "MAXSIZE")) (λ t u us. refl)
+    (and_then _ _ (behind_next ts (maximum src) (maximum-ahead src more)) (λ a h. more_growth-ahead src more a)) (growth-ahead src more ts)
 
-more_limits-leaves : (n : ℕ) (src : List ℕ) (ts : List Token) → length ts ≤ n → Leaves left_over n (more_limits src ts)
+more_limits-ahead : (src : List ℕ) (more ts : List Token) → Agrees left_over more ts (more_limits src ts) (more_limits src (ts ++ more))
 unfolding more_limits
-more_limits-leaves n src ts h = either left_over n (next_sign ts 44) (maximum_or_growth src (drop 1 ts)) (Ok ts) (maximum_or_growth-leaves n src (drop 1 ts) (drop-leaves n ts h)) h
+more_limits-ahead src more ts =
+    if_next ts (λ us. next_sign us 44) (λ t u us. refl) (behind_next ts (maximum_or_growth src) (maximum_or_growth-ahead src more)) done
 
-settings-leaves : (n : ℕ) (src : List ℕ) (ts : List Token) → length ts ≤ n → Leaves behind_it n (settings src ts)
+settings-ahead : (src : List ℕ) (more ts : List Token) → Agrees behind_it more ts (settings src ts) (settings src (ts ++ more))
 unfolding settings
-settings-leaves n src ts h =
-    either behind_it n (next_is src ts (codes "SIZE")) _ _
-    (after behind_it behind_it n (size src (drop 1 ts)) _ (size-leaves n src (drop 1 ts) (drop-leaves n ts h)) (λ a ha.
-    after left_over behind_it n (more_limits src a.1) _ (more_limits-leaves n src a.1 ha) (λ b hb. hb)))
-    (after left_over behind_it n (maximum_or_growth src ts) _ (maximum_or_growth-leaves n src ts h) (λ a ha. ha))
+settings-ahead src more ts =
+    if_next ts (λ us. next_is src us (codes "SIZE")) (λ t u us. refl)
+    (and_then _ _ (behind_next ts (size src) (size-ahead src more)) (λ a h.
+    and_then _ _ (more_limits-ahead src more a.1) (λ b h. done))) (and_then _ _ (maximum_or_growth-ahead src more ts) (λ a h. done))
 
-more_settings-leaves : (n : ℕ) (src : List ℕ) (ts : List Token) → length ts ≤ n → Leaves behind_it n (more_settings src ts)
+more_settings-ahead : (src : List ℕ) (more ts : List Token) → Agrees behind_it more ts (more_settings src ts) (more_settings src (ts ++ more))
 unfolding more_settings
-more_settings-leaves n src ts h = either behind_it n (next_sign ts 44) (settings src (drop 1 ts)) (Ok (None, ts)) (settings-leaves n src (drop 1 ts) (drop-leaves n ts h)) h
+more_settings-ahead src more ts =
+    if_next ts (λ us. next_sign us 44) (λ t u us. refl) (behind_next ts (settings src) (settings-ahead src more)) done
 
-file_name-leaves : (n : ℕ) (src : List ℕ) (ts : List Token) → length ts ≤ n → Leaves behind_it n (file_name src ts)
+file_name-ahead : (src : List ℕ) (more ts : List Token) → Agrees behind_it more ts (file_name src ts) (file_name src (ts ++ more))
 unfolding file_name
-file_name-leaves n src ts h =
-    after left_over behind_it n (sign 40 ts) _ (sign-leaves n 40 ts h) (λ a ha.
-    after left_over behind_it n (keyword src (codes "NAME") a) _ (keyword-leaves n src (codes "NAME") a ha) (λ b hb.
-    after left_over behind_it n (sign 61 b) _ (sign-leaves n 61 b hb) (λ c hc. name_or_text-leaves n src c hc)))
+file_name-ahead src more ts =
+    and_then _ _ (sign-ahead 40 more ts) (λ a h.
+    and_then _ _ (keyword-ahead src (codes "NAME") more a) (λ b h.
+    and_then _ _ (sign-ahead 61 more b) (λ c h. name_or_text-ahead src more c)))
 
-file-leaves : (n : ℕ) (src : List ℕ) (ts : List Token) → length ts ≤ n → Leaves behind_it n (file src ts)
+file-ahead : (src : List ℕ) (more ts : List Token) → Agrees behind_it more ts (file src ts) (file src (ts ++ more))
 unfolding file
-file-leaves n src ts h =
-    after behind_it behind_it n (file_name src ts) _ (file_name-leaves n src ts h) (λ a ha.
-    after left_over behind_it n (sign 44 a.1) _ (sign-leaves n 44 a.1 ha) (λ b hb.
-    after left_over behind_it n (keyword src (codes "FILENAME") b) _ (keyword-leaves n src (codes "FILENAME") b hb) (λ c hc.
-    after behind_it behind_it n (equal_filled src c) _ (equal_filled-leaves n src c hc) (λ d hd.
-    after behind_it behind_it n (more_settings src d.1) _ (more_settings-leaves n src d.1 hd) (λ e he.
-    after left_over behind_it n (sign 41 e.1) _ (sign-leaves n 41 e.1 he) (λ f hf. hf))))))
+file-ahead src more ts =
+    and_then _ _ (file_name-ahead src more ts) (λ a h.
+    and_then _ _ (sign-ahead 44 more a.1) (λ b h.
+    and_then _ _ (keyword-ahead src (codes "FILENAME") more b) (λ c h.
+    and_then _ _ (equal_filled-ahead src more c) (λ d h.
+    and_then _ _ (more_settings-ahead src more d.1) (λ e h.
+    and_then _ _ (sign-ahead 41 more e.1) (λ f h. done))))))
 
-files_from-leaves : (n : ℕ) (src : List ℕ) (left : List Token) (found : List NewFile) (ts : List Token) → length ts ≤ n → Leaves behind_it n (files_from src left found ts)
+-- the tokens where a list begins bound it, and so do more tokens
+files_from-ahead : (src : List ℕ) (left : List Token) (found : List NewFile) (more ts : List Token) → length ts ≤ length left →
+    Agrees behind_it more ts (files_from src left found ts) (files_from src (left ++ more) found (ts ++ more))
 unfolding files_from
-files_from-leaves n src [] found ts h = tt
-files_from-leaves n src (x ∷ left) found ts h =
-    after behind_it behind_it n (file src ts) _ (file-leaves n src ts h) (λ a ha.
-    either behind_it n (next_file src a.1) (files_from src left (found ++ a.0 ∷ []) (drop 1 a.1)) (Ok (found ++ a.0 ∷ [], a.1))
-    (files_from-leaves n src left (found ++ a.0 ∷ []) (drop 1 a.1) (drop-leaves n a.1 ha)) ha)
+files_from-ahead src [] found more ts few = quiet (omega (arith, few)) (stuck-ahead behind_it more ts)
+files_from-ahead src (x ∷ left) found more ts few =
+    and_then _ _ (file-ahead src more ts) (λ a h.
+    if_next a.1 (λ us. next_file src us) (λ t u us. refl)
+    (behind_by a.1 (files_from src left (found ++ a.0 ∷ [])) (files_from src (left ++ more) (found ++ a.0 ∷ []))
+    (files_from-ahead src left (found ++ a.0 ∷ []) more (drop 1 a.1) (omega (arith, few, h, length-drop 1 a.1)))) done)
 
-files-leaves : (n : ℕ) (src : List ℕ) (ts : List Token) → length ts ≤ n → Leaves behind_it n (files src ts)
+files-ahead : (src : List ℕ) (more ts : List Token) → Agrees behind_it more ts (files src ts) (files src (ts ++ more))
 unfolding files
-files-leaves n src ts h = files_from-leaves n src ts [] ts h
+files-ahead src more ts = files_from-ahead src ts [] more ts (omega arith)
 
-group-leaves : (n : ℕ) (src : List ℕ) (ts : List Token) → length ts ≤ n → Leaves behind_it n (group src ts)
+group-ahead : (src : List ℕ) (more ts : List Token) → Agrees behind_it more ts (group src ts) (group src (ts ++ more))
 unfolding group
-group-leaves n src ts h =
-    after left_over behind_it n (keyword src (codes "FILEGROUP") ts) _ (keyword-leaves n src (codes "FILEGROUP") ts h) (λ a ha.
-    after behind_it behind_it n (name src a) _ (name-leaves n src a ha) (λ b hb.
-    after behind_it behind_it n (files src b.1) _ (files-leaves n src b.1 hb) (λ c hc. hc)))
+group-ahead src more ts =
+    and_then _ _ (keyword-ahead src (codes "FILEGROUP") more ts) (λ a h.
+    and_then _ _ (name-ahead src more a) (λ b h.
+    and_then _ _ (files-ahead src more b.1) (λ c h. done)))
 
-groups_from-leaves : (n : ℕ) (src : List ℕ) (left : List Token) (found : List NewGroup) (ts : List Token) → length ts ≤ n → Leaves behind_it n (groups_from src left found ts)
+groups_from-ahead : (src : List ℕ) (left : List Token) (found : List NewGroup) (more ts : List Token) → length ts ≤ length left →
+    Agrees behind_it more ts (groups_from src left found ts) (groups_from src (left ++ more) found (ts ++ more))
 unfolding groups_from
-groups_from-leaves n src [] found ts h = h
-groups_from-leaves n src (x ∷ left) found ts h =
-    either behind_it n (next_group src ts) _ (Ok (found, ts))
-    (after behind_it behind_it n (group src (drop 1 ts)) _ (group-leaves n src (drop 1 ts) (drop-leaves n ts h)) (λ a ha.
-    groups_from-leaves n src left (found ++ a.0 ∷ []) a.1 ha)) h
+groups_from-ahead src [] found more ts few = let x : List NewGroup × List Token = (found, ts) in quiet (omega (arith, few)) (done {x = x})
+groups_from-ahead src (x ∷ left) found more ts few =
+    if_next ts (λ us. next_group src us) (λ t u us. refl)
+    (behind_by ts (λ us. group src us >>= λ g. groups_from src left (found ++ g.0 ∷ []) g.1) (λ us. group src us >>= λ g. groups_from src (left ++ more) (found ++ g.0 ∷ []) g.1)
+    (and_then _ _ (group-ahead src more (drop 1 ts)) (λ a h. groups_from-ahead src left (found ++ a.0 ∷ []) more a.1 (omega (arith, few, h, length-drop 1 ts))))) done
 
-groups-leaves : (n : ℕ) (src : List ℕ) (ts : List Token) → length ts ≤ n → Leaves behind_it n (groups src ts)
+groups-ahead : (src : List ℕ) (more ts : List Token) → Agrees behind_it more ts (groups src ts) (groups src (ts ++ more))
 unfolding groups
-groups-leaves n src ts h = groups_from-leaves n src ts [] ts h
+groups-ahead src more ts = groups_from-ahead src ts [] more ts (omega arith)
 
-on_files-leaves : (n : ℕ) (src : List ℕ) (ts : List Token) → length ts ≤ n → Leaves behind_it n (on_files src ts)
+on_files-ahead : (src : List ℕ) (more ts : List Token) → Agrees behind_it more ts (on_files src ts) (on_files src (ts ++ more))
 unfolding on_files
-on_files-leaves n src ts h =
-    either behind_it n (next_is src ts (codes "ON")) _ (Ok (([], []), ts))
-    (after behind_it behind_it n (files src (skip src (codes "PRIMARY") (drop 1 ts))) _ (files-leaves n src (skip src (codes "PRIMARY") (drop 1 ts)) (skip-leaves n src (codes "PRIMARY") (drop 1 ts) (drop-leaves n ts h))) (λ a ha.
-    after behind_it behind_it n (groups src a.1) _ (groups-leaves n src a.1 ha) (λ b hb. hb))) h
+on_files-ahead src more ts =
+    if_next ts (λ us. next_is src us (codes "ON")) (λ t u us. refl)
+    (and_then _ _ (behind_next ts (λ us. files src (skip src (codes "PRIMARY") us)) (λ us. skip-ahead src (codes "PRIMARY") more us (files src) (files-ahead src more))) (λ a h.
+    and_then _ _ (groups-ahead src more a.1) (λ b h. done))) done
 
-log_on-leaves : (n : ℕ) (src : List ℕ) (ts : List Token) → length ts ≤ n → Leaves behind_it n (log_on src ts)
+log_on-ahead : (src : List ℕ) (more ts : List Token) → Agrees behind_it more ts (log_on src ts) (log_on src (ts ++ more))
 unfolding log_on
-log_on-leaves n src ts h =
-    either behind_it n (next_is src ts (codes "LOG")) _ (Ok (None, ts))
-    (after left_over behind_it n (keyword src (codes "ON") (drop 1 ts)) _ (keyword-leaves n src (codes "ON") (drop 1 ts) (drop-leaves n ts h)) (λ a ha.
-    after behind_it behind_it n (file src a) _ (file-leaves n src a ha) (λ b hb. hb))) h
+log_on-ahead src more ts =
+    if_next ts (λ us. next_is src us (codes "LOG")) (λ t u us. refl)
+    (and_then _ _ (behind_next ts (keyword src (codes "ON")) (keyword-ahead src (codes "ON") more)) (λ a h.
+    and_then _ _ (file-ahead src more a) (λ b h. done))) done
 
-pub create_database-leaves : (n : ℕ) (src : List ℕ) (ts : List Token) → length ts ≤ n → Leaves behind_it n (create_database src ts)
+pub create_database-ahead : (src : List ℕ) (more ts : List Token) → Agrees behind_it more ts (create_database src ts) (create_database src (ts ++ more))
 unfolding create_database
-create_database-leaves n src ts h =
-    after behind_it behind_it n (name src ts) _ (name-leaves n src ts h) (λ a ha.
-    after behind_it behind_it n (on_files src a.1) _ (on_files-leaves n src a.1 ha) (λ b hb.
-    after behind_it behind_it n (log_on src b.1) _ (log_on-leaves n src b.1 hb) (λ c hc. hc)))
+create_database-ahead src more ts =
+    and_then _ _ (name-ahead src more ts) (λ a h.
+    and_then _ _ (on_files-ahead src more a.1) (λ b h.
+    and_then _ _ (log_on-ahead src more b.1) (λ c h. done)))

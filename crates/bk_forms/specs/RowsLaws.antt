@@ -1,236 +1,250 @@
--- What the forms on tables, rows and transactions read leaves no more tokens than there were.
-use Rattle.std.proofs.Common.{ℕ, ◌≤◌, ◌&&◌, List, length, drop, Option, Some, None, Ok, Err}
+-- The forms on tables, rows and transactions look at most two tokens ahead.
+use Rattle.std.proofs.Common.{ℕ, ◌≤◌, ◌&&◌, List, [], ◌∷◌, ◌++◌, length, drop, Option, Some, None, Ok, Err, arith, refl}
 use Rattle.std.specs.Prelude.{codes}
 use Rattle.bk_ids.specs.Name.{same_name}
 use Rattle.bk_token.specs.declared.token.Token.{Token}
 use Rattle.bk_items.specs.declared.item.Catalog.{Catalog}
+use Rattle.bk_items.specs.declared.item.ScriptItem.TheVariants.{Commit}
 use Rattle.bk_ids.specs.declared.record.RecoveryModel.TheVariants.{Full, Simple, BulkLogged}
-use Rattle.bk_items.specs.declared.item.Marking.TheVariants.{Unmarked}
-use Rattle.bk_parse.specs.Parse.{Parsed, stuck, next_is, next_sign, keyword, skip, sign, number, number_in, name, fixed, text, Leaves, behind_it, left_over}
-use Rattle.bk_parse.specs.Laws.{after, either, drop-leaves, keyword-leaves, skip-leaves, sign-leaves, number-leaves, number_in-leaves, name-leaves, fixed-leaves, text-leaves, skip_by}
+use Rattle.bk_parse.specs.Parse.{Parsed, ◌>>=◌, stuck, next_is, next_sign, keyword, skip, sign, number, number_in, name, fixed, text}
+use Rattle.bk_parse.specs.Ahead.{Agrees, behind_it, left_over}
+use Rattle.bk_parse.specs.Laws.{quiet, later, done, stuck-ahead, and_then, if_next, behind_next, skip_if, OneToken, taken, not_taken, one-ahead, one_then, at_end, name-one, text-one, keyword-ahead, skip-ahead, sign-ahead, number-ahead, number_in-ahead, name-ahead, fixed-ahead, text-ahead}
 use Rattle.bk_forms.specs.Rows.{owned, table, not_null, key_column, value_column, columns, on_group, create_table, column_names, row, insert, where_key, assignment, update, delete, maybe_key, history_of, selected, history, select_rows, select_all, system_view, select_databases, select, rows, bulk_insert, next_tran, described, marking, transaction_by, begin, skip_tran, use_database, model_by, alter, drop_database}
 
-owned-leaves : (n : ℕ) (src found : List ℕ) (ts : List Token) → length ts ≤ n → Leaves behind_it n (owned src found ts)
+owned-ahead : (src found : List ℕ) (more ts : List Token) → Agrees behind_it more ts (owned src found ts) (owned src found (ts ++ more))
 unfolding owned
-owned-leaves n src found ts h =
-    either behind_it n (same_name found (codes "dbo") && next_sign ts 46) (name src (drop 1 ts)) (Ok (found, ts)) (name-leaves n src (drop 1 ts) (drop-leaves n ts h)) h
+owned-ahead src found more ts =
+    if_next ts (λ us. same_name found (codes "dbo") && next_sign us 46) (λ t u us. refl) (behind_next ts (name src) (name-ahead src more)) done
 
-table-leaves : (n : ℕ) (src : List ℕ) (ts : List Token) → length ts ≤ n → Leaves behind_it n (table src ts)
+table-ahead : (src : List ℕ) (more ts : List Token) → Agrees behind_it more ts (table src ts) (table src (ts ++ more))
 unfolding table
-table-leaves n src ts h = after behind_it behind_it n (name src ts) _ (name-leaves n src ts h) (λ x k. owned-leaves n src x.0 x.1 k)
+table-ahead src more ts =
+    and_then _ _ (name-ahead src more ts) (λ x h. owned-ahead src x.0 more x.1)
 
-not_null-leaves : (n : ℕ) (src : List ℕ) (ts : List Token) → length ts ≤ n → Leaves left_over n (not_null src ts)
+not_null-ahead : (src : List ℕ) (more ts : List Token) → Agrees left_over more ts (not_null src ts) (not_null src (ts ++ more))
 unfolding not_null
-not_null-leaves n src ts h =
-    either left_over n (next_is src ts (codes "NOT")) (keyword src (codes "NULL") (drop 1 ts)) (Ok ts) (keyword-leaves n src (codes "NULL") (drop 1 ts) (drop-leaves n ts h)) h
+not_null-ahead src more ts =
+    if_next ts (λ us. next_is src us (codes "NOT")) (λ t u us. refl) (behind_next ts (keyword src (codes "NULL")) (keyword-ahead src (codes "NULL") more)) done
 
-key_column-leaves : (n : ℕ) (src : List ℕ) (ts : List Token) → length ts ≤ n → Leaves left_over n (key_column src ts)
+key_column-ahead : (src : List ℕ) (more ts : List Token) → Agrees left_over more ts (key_column src ts) (key_column src (ts ++ more))
 unfolding key_column
-key_column-leaves n src ts h =
-    after left_over left_over n (fixed src (codes "k") ts) _ (fixed-leaves n src (codes "k") ts h) (λ a ha.
-    after left_over left_over n (keyword src (codes "BIGINT") a) _ (keyword-leaves n src (codes "BIGINT") a ha) (λ b hb.
-    after left_over left_over n (not_null src b) _ (not_null-leaves n src b hb) (λ c hc.
-    after left_over left_over n (keyword src (codes "PRIMARY") c) _ (keyword-leaves n src (codes "PRIMARY") c hc) (λ d hd.
-    keyword-leaves n src (codes "KEY") d hd))))
+key_column-ahead src more ts =
+    and_then _ _ (fixed-ahead src (codes "k") more ts) (λ a h.
+    and_then _ _ (keyword-ahead src (codes "BIGINT") more a) (λ b h.
+    and_then _ _ (not_null-ahead src more b) (λ c h.
+    and_then _ _ (keyword-ahead src (codes "PRIMARY") more c) (λ d h. keyword-ahead src (codes "KEY") more d))))
 
-value_column-leaves : (n : ℕ) (src : List ℕ) (ts : List Token) → length ts ≤ n → Leaves left_over n (value_column src ts)
+value_column-ahead : (src : List ℕ) (more ts : List Token) → Agrees left_over more ts (value_column src ts) (value_column src (ts ++ more))
 unfolding value_column
-value_column-leaves n src ts h =
-    after left_over left_over n (fixed src (codes "v") ts) _ (fixed-leaves n src (codes "v") ts h) (λ a ha.
-    after left_over left_over n (keyword src (codes "VARCHAR") a) _ (keyword-leaves n src (codes "VARCHAR") a ha) (λ b hb.
-    after left_over left_over n (sign 40 b) _ (sign-leaves n 40 b hb) (λ c hc.
-    after behind_it left_over n (number_in 112 112 c) _ (number_in-leaves n 112 112 c hc) (λ d hd.
-    after left_over left_over n (sign 41 d.1) _ (sign-leaves n 41 d.1 hd) (λ e he.
-    not_null-leaves n src e he)))))
+value_column-ahead src more ts =
+    and_then _ _ (fixed-ahead src (codes "v") more ts) (λ a h.
+    and_then _ _ (keyword-ahead src (codes "VARCHAR") more a) (λ b h.
+    and_then _ _ (sign-ahead 40 more b) (λ c h.
+    and_then _ _ (number_in-ahead 112 112 more c) (λ d h.
+    and_then _ _ (sign-ahead 41 more d.1) (λ e h. not_null-ahead src more e)))))
 
-columns-leaves : (n : ℕ) (src : List ℕ) (ts : List Token) → length ts ≤ n → Leaves left_over n (columns src ts)
+columns-ahead : (src : List ℕ) (more ts : List Token) → Agrees left_over more ts (columns src ts) (columns src (ts ++ more))
 unfolding columns
-columns-leaves n src ts h =
-    after left_over left_over n (sign 40 ts) _ (sign-leaves n 40 ts h) (λ a ha.
-    after left_over left_over n (key_column src a) _ (key_column-leaves n src a ha) (λ b hb.
-    after left_over left_over n (sign 44 b) _ (sign-leaves n 44 b hb) (λ c hc.
-    after left_over left_over n (value_column src c) _ (value_column-leaves n src c hc) (λ d hd.
-    sign-leaves n 41 d hd))))
+columns-ahead src more ts =
+    and_then _ _ (sign-ahead 40 more ts) (λ a h.
+    and_then _ _ (key_column-ahead src more a) (λ b h.
+    and_then _ _ (sign-ahead 44 more b) (λ c h.
+    and_then _ _ (value_column-ahead src more c) (λ d h. sign-ahead 41 more d))))
 
-on_group-leaves : (n : ℕ) (src : List ℕ) (ts : List Token) → length ts ≤ n → Leaves behind_it n (on_group src ts)
+on_group-ahead : (src : List ℕ) (more ts : List Token) → Agrees behind_it more ts (on_group src ts) (on_group src (ts ++ more))
 unfolding on_group
-on_group-leaves n src ts h =
-    either behind_it n (next_is src ts (codes "ON")) _ (Ok (None, ts))
-    (after behind_it behind_it n (name src (drop 1 ts)) _ (name-leaves n src (drop 1 ts) (drop-leaves n ts h)) (λ x k. k)) h
+on_group-ahead src more ts =
+    if_next ts (λ us. next_is src us (codes "ON")) (λ t u us. refl)
+    (and_then _ _ (behind_next ts (name src) (name-ahead src more)) (λ x h. done)) done
 
-pub create_table-leaves : (n : ℕ) (src : List ℕ) (ts : List Token) → length ts ≤ n → Leaves behind_it n (create_table src ts)
+pub create_table-ahead : (src : List ℕ) (more ts : List Token) → Agrees behind_it more ts (create_table src ts) (create_table src (ts ++ more))
 unfolding create_table
-create_table-leaves n src ts h =
-    after behind_it behind_it n (table src ts) _ (table-leaves n src ts h) (λ a ha.
-    after left_over behind_it n (columns src a.1) _ (columns-leaves n src a.1 ha) (λ b hb.
-    after behind_it behind_it n (on_group src b) _ (on_group-leaves n src b hb) (λ c hc. hc)))
+create_table-ahead src more ts =
+    and_then _ _ (table-ahead src more ts) (λ a h.
+    and_then _ _ (columns-ahead src more a.1) (λ b h.
+    and_then _ _ (on_group-ahead src more b) (λ c h. done)))
 
-column_names-leaves : (n : ℕ) (src : List ℕ) (ts : List Token) → length ts ≤ n → Leaves left_over n (column_names src ts)
+column_names-ahead : (src : List ℕ) (more ts : List Token) → Agrees left_over more ts (column_names src ts) (column_names src (ts ++ more))
 unfolding column_names
-column_names-leaves n src ts h =
-    either left_over n (next_sign ts 40) _ (Ok ts)
-    (after left_over left_over n (fixed src (codes "k") (drop 1 ts)) _ (fixed-leaves n src (codes "k") (drop 1 ts) (drop-leaves n ts h)) (λ a ha.
-    after left_over left_over n (sign 44 a) _ (sign-leaves n 44 a ha) (λ b hb.
-    after left_over left_over n (fixed src (codes "v") b) _ (fixed-leaves n src (codes "v") b hb) (λ c hc.
-    sign-leaves n 41 c hc)))) h
+column_names-ahead src more ts =
+    if_next ts (λ us. next_sign us 40) (λ t u us. refl)
+    (and_then _ _ (behind_next ts (fixed src (codes "k")) (fixed-ahead src (codes "k") more)) (λ a h.
+    and_then _ _ (sign-ahead 44 more a) (λ b h.
+    and_then _ _ (fixed-ahead src (codes "v") more b) (λ c h. sign-ahead 41 more c)))) done
 
-row-leaves : (n : ℕ) (src : List ℕ) (ts : List Token) → length ts ≤ n → Leaves behind_it n (row src ts)
+row-ahead : (src : List ℕ) (more ts : List Token) → Agrees behind_it more ts (row src ts) (row src (ts ++ more))
 unfolding row
-row-leaves n src ts h =
-    after left_over behind_it n (sign 40 ts) _ (sign-leaves n 40 ts h) (λ a ha.
-    after behind_it behind_it n (number a) _ (number-leaves n a ha) (λ b hb.
-    after left_over behind_it n (sign 44 b.1) _ (sign-leaves n 44 b.1 hb) (λ c hc.
-    after behind_it behind_it n (text src c) _ (text-leaves n src c hc) (λ d hd.
-    after left_over behind_it n (sign 41 d.1) _ (sign-leaves n 41 d.1 hd) (λ e he. he)))))
+row-ahead src more ts =
+    and_then _ _ (sign-ahead 40 more ts) (λ a h.
+    and_then _ _ (number-ahead more a) (λ b h.
+    and_then _ _ (sign-ahead 44 more b.1) (λ c h.
+    and_then _ _ (text-ahead src more c) (λ d h.
+    and_then _ _ (sign-ahead 41 more d.1) (λ e h. done)))))
 
-pub insert-leaves : (n : ℕ) (src : List ℕ) (ts : List Token) → length ts ≤ n → Leaves behind_it n (insert src ts)
+pub insert-ahead : (src : List ℕ) (more ts : List Token) → Agrees behind_it more ts (insert src ts) (insert src (ts ++ more))
 unfolding insert
-insert-leaves n src ts h =
-    after behind_it behind_it n (table src (skip src (codes "INTO") ts)) _ (table-leaves n src (skip src (codes "INTO") ts) (skip-leaves n src (codes "INTO") ts h)) (λ a ha.
-    after left_over behind_it n (column_names src a.1) _ (column_names-leaves n src a.1 ha) (λ b hb.
-    after left_over behind_it n (keyword src (codes "VALUES") b) _ (keyword-leaves n src (codes "VALUES") b hb) (λ c hc.
-    after behind_it behind_it n (row src c) _ (row-leaves n src c hc) (λ d hd. hd))))
+insert-ahead src more ts =
+    and_then _ _ (skip-ahead src (codes "INTO") more ts (table src) (table-ahead src more)) (λ a h.
+    and_then _ _ (column_names-ahead src more a.1) (λ b h.
+    and_then _ _ (keyword-ahead src (codes "VALUES") more b) (λ c h.
+    and_then _ _ (row-ahead src more c) (λ d h. done))))
 
-where_key-leaves : (n : ℕ) (src : List ℕ) (ts : List Token) → length ts ≤ n → Leaves behind_it n (where_key src ts)
+where_key-ahead : (src : List ℕ) (more ts : List Token) → Agrees behind_it more ts (where_key src ts) (where_key src (ts ++ more))
 unfolding where_key
-where_key-leaves n src ts h =
-    after left_over behind_it n (keyword src (codes "WHERE") ts) _ (keyword-leaves n src (codes "WHERE") ts h) (λ a ha.
-    after left_over behind_it n (fixed src (codes "k") a) _ (fixed-leaves n src (codes "k") a ha) (λ b hb.
-    after left_over behind_it n (sign 61 b) _ (sign-leaves n 61 b hb) (λ c hc. number-leaves n c hc)))
+where_key-ahead src more ts =
+    and_then _ _ (keyword-ahead src (codes "WHERE") more ts) (λ a h.
+    and_then _ _ (fixed-ahead src (codes "k") more a) (λ b h.
+    and_then _ _ (sign-ahead 61 more b) (λ c h. number-ahead more c)))
 
-assignment-leaves : (n : ℕ) (src : List ℕ) (ts : List Token) → length ts ≤ n → Leaves behind_it n (assignment src ts)
+assignment-ahead : (src : List ℕ) (more ts : List Token) → Agrees behind_it more ts (assignment src ts) (assignment src (ts ++ more))
 unfolding assignment
-assignment-leaves n src ts h =
-    after left_over behind_it n (fixed src (codes "v") ts) _ (fixed-leaves n src (codes "v") ts h) (λ a ha.
-    after left_over behind_it n (sign 61 a) _ (sign-leaves n 61 a ha) (λ b hb. text-leaves n src b hb))
+assignment-ahead src more ts =
+    and_then _ _ (fixed-ahead src (codes "v") more ts) (λ a h.
+    and_then _ _ (sign-ahead 61 more a) (λ b h. text-ahead src more b))
 
-pub update-leaves : (n : ℕ) (src : List ℕ) (ts : List Token) → length ts ≤ n → Leaves behind_it n (update src ts)
+pub update-ahead : (src : List ℕ) (more ts : List Token) → Agrees behind_it more ts (update src ts) (update src (ts ++ more))
 unfolding update
-update-leaves n src ts h =
-    after behind_it behind_it n (table src ts) _ (table-leaves n src ts h) (λ a ha.
-    after left_over behind_it n (keyword src (codes "SET") a.1) _ (keyword-leaves n src (codes "SET") a.1 ha) (λ b hb.
-    after behind_it behind_it n (assignment src b) _ (assignment-leaves n src b hb) (λ c hc.
-    after behind_it behind_it n (where_key src c.1) _ (where_key-leaves n src c.1 hc) (λ d hd. hd))))
+update-ahead src more ts =
+    and_then _ _ (table-ahead src more ts) (λ a h.
+    and_then _ _ (keyword-ahead src (codes "SET") more a.1) (λ b h.
+    and_then _ _ (assignment-ahead src more b) (λ c h.
+    and_then _ _ (where_key-ahead src more c.1) (λ d h. done))))
 
-pub delete-leaves : (n : ℕ) (src : List ℕ) (ts : List Token) → length ts ≤ n → Leaves behind_it n (delete src ts)
+pub delete-ahead : (src : List ℕ) (more ts : List Token) → Agrees behind_it more ts (delete src ts) (delete src (ts ++ more))
 unfolding delete
-delete-leaves n src ts h =
-    after behind_it behind_it n (table src (skip src (codes "FROM") ts)) _ (table-leaves n src (skip src (codes "FROM") ts) (skip-leaves n src (codes "FROM") ts h)) (λ a ha.
-    after behind_it behind_it n (where_key src a.1) _ (where_key-leaves n src a.1 ha) (λ b hb. hb))
+delete-ahead src more ts =
+    and_then _ _ (skip-ahead src (codes "FROM") more ts (table src) (table-ahead src more)) (λ a h.
+    and_then _ _ (where_key-ahead src more a.1) (λ b h. done))
 
-maybe_key-leaves : (n : ℕ) (src : List ℕ) (ts : List Token) → length ts ≤ n → Leaves behind_it n (maybe_key src ts)
+maybe_key-ahead : (src : List ℕ) (more ts : List Token) → Agrees behind_it more ts (maybe_key src ts) (maybe_key src (ts ++ more))
 unfolding maybe_key
-maybe_key-leaves n src ts h =
-    either behind_it n (next_is src ts (codes "WHERE")) _ (Ok (None, ts))
-    (after behind_it behind_it n (where_key src ts) _ (where_key-leaves n src ts h) (λ a ha. ha)) h
+maybe_key-ahead src more ts =
+    if_next ts (λ us. next_is src us (codes "WHERE")) (λ t u us. refl)
+    (and_then _ _ (where_key-ahead src more ts) (λ a h. done)) done
 
-selected-leaves : (n : ℕ) (found : Option Catalog) (ts rest : List Token) → length rest ≤ n → Leaves behind_it n (selected found ts rest)
-selected-leaves n None ts rest h = tt
-selected-leaves n (Some catalog) ts rest h = h
+selected-one : (found : Option Catalog) (more : List Token) (t : Token) (ts : List Token) → OneToken more t ts (selected found (t ∷ ts) ts) (selected found (t ∷ (ts ++ more)) (ts ++ more))
+selected-one None more t ts = not_taken
+selected-one (Some catalog) more t ts = taken _
 
-history-leaves : (n : ℕ) (src : List ℕ) (ts : List Token) → length ts ≤ n → Leaves behind_it n (history src ts)
+history_name-ahead : (src : List ℕ) (more ts : List Token) →
+    Agrees behind_it more ts (name src ts >>= λ n. selected (history_of n.0) ts n.1) (name src (ts ++ more) >>= λ n. selected (history_of n.0) (ts ++ more) n.1)
+unfolding name
+history_name-ahead src more [] = at_end
+history_name-ahead src more (t ∷ ts) = one-ahead (one_then _ _ (name-one src more t ts) (λ n. selected-one (history_of n) more t ts))
+
+history-ahead : (src : List ℕ) (more ts : List Token) → Agrees behind_it more ts (history src ts) (history src (ts ++ more))
 unfolding history
-history-leaves n src ts h =
-    after left_over behind_it n (fixed src (codes "dbo") ts) _ (fixed-leaves n src (codes "dbo") ts h) (λ a ha.
-    after left_over behind_it n (sign 46 a) _ (sign-leaves n 46 a ha) (λ b hb.
-    after behind_it behind_it n (name src b) _ (name-leaves n src b hb) (λ c hc. selected-leaves n (history_of c.0) b c.1 hc)))
+history-ahead src more ts =
+    and_then _ _ (fixed-ahead src (codes "dbo") more ts) (λ a h.
+    and_then _ _ (sign-ahead 46 more a) (λ b h. history_name-ahead src more b))
 
-select_rows-leaves : (n : ℕ) (src found : List ℕ) (ts : List Token) → length ts ≤ n → Leaves behind_it n (select_rows src found ts)
+select_rows-ahead : (src found : List ℕ) (more ts : List Token) → Agrees behind_it more ts (select_rows src found ts) (select_rows src found (ts ++ more))
 unfolding select_rows
-select_rows-leaves n src found ts h =
-    after behind_it behind_it n (owned src found ts) _ (owned-leaves n src found ts h) (λ a ha.
-    after behind_it behind_it n (maybe_key src a.1) _ (maybe_key-leaves n src a.1 ha) (λ b hb. hb))
+select_rows-ahead src found more ts =
+    and_then _ _ (owned-ahead src found more ts) (λ a h.
+    and_then _ _ (maybe_key-ahead src more a.1) (λ b h. done))
 
-select_all-leaves : (n : ℕ) (src : List ℕ) (ts : List Token) → length ts ≤ n → Leaves behind_it n (select_all src ts)
+select_all-ahead : (src : List ℕ) (more ts : List Token) → Agrees behind_it more ts (select_all src ts) (select_all src (ts ++ more))
 unfolding select_all
-select_all-leaves n src ts h =
-    after left_over behind_it n (keyword src (codes "FROM") ts) _ (keyword-leaves n src (codes "FROM") ts h) (λ a ha.
-    after behind_it behind_it n (name src a) _ (name-leaves n src a ha) (λ b hb.
-    either behind_it n (same_name b.0 (codes "msdb") && next_sign b.1 46) (history src (drop 1 b.1)) (select_rows src b.0 b.1)
-    (history-leaves n src (drop 1 b.1) (drop-leaves n b.1 hb)) (select_rows-leaves n src b.0 b.1 hb)))
+select_all-ahead src more ts =
+    and_then _ _ (keyword-ahead src (codes "FROM") more ts) (λ a h.
+    and_then _ _ (name-ahead src more a) (λ b h. if_next b.1 (λ us. same_name b.0 (codes "msdb") && next_sign us 46) (λ t u us. refl) (behind_next b.1 (history src) (history-ahead src more)) (select_rows-ahead src b.0 more b.1)))
 
-system_view-leaves : (n : ℕ) (src : List ℕ) (ts : List Token) → length ts ≤ n → Leaves left_over n (system_view src ts)
+system_view-ahead : (src : List ℕ) (more ts : List Token) → Agrees left_over more ts (system_view src ts) (system_view src (ts ++ more))
 unfolding system_view
-system_view-leaves n src ts h =
-    after left_over left_over n (fixed src (codes "sys") ts) _ (fixed-leaves n src (codes "sys") ts h) (λ a ha.
-    after left_over left_over n (sign 46 a) _ (sign-leaves n 46 a ha) (λ b hb. fixed-leaves n src (codes "databases") b hb))
+system_view-ahead src more ts =
+    and_then _ _ (fixed-ahead src (codes "sys") more ts) (λ a h.
+    and_then _ _ (sign-ahead 46 more a) (λ b h. fixed-ahead src (codes "databases") more b))
 
-select_databases-leaves : (n : ℕ) (src : List ℕ) (ts : List Token) → length ts ≤ n → Leaves behind_it n (select_databases src ts)
+select_databases-ahead : (src : List ℕ) (more ts : List Token) → Agrees behind_it more ts (select_databases src ts) (select_databases src (ts ++ more))
 unfolding select_databases
-select_databases-leaves n src ts h =
-    after left_over behind_it n (fixed src (codes "name") ts) _ (fixed-leaves n src (codes "name") ts h) (λ a ha.
-    after left_over behind_it n (sign 44 a) _ (sign-leaves n 44 a ha) (λ b hb.
-    after left_over behind_it n (fixed src (codes "state_desc") b) _ (fixed-leaves n src (codes "state_desc") b hb) (λ c hc.
-    after left_over behind_it n (keyword src (codes "FROM") c) _ (keyword-leaves n src (codes "FROM") c hc) (λ d hd.
-    after left_over behind_it n (system_view src d) _ (system_view-leaves n src d hd) (λ e he. he)))))
+select_databases-ahead src more ts =
+    and_then _ _ (fixed-ahead src (codes "name") more ts) (λ a h.
+    and_then _ _ (sign-ahead 44 more a) (λ b h.
+    and_then _ _ (fixed-ahead src (codes "state_desc") more b) (λ c h.
+    and_then _ _ (keyword-ahead src (codes "FROM") more c) (λ d h.
+    and_then _ _ (system_view-ahead src more d) (λ e h. done)))))
 
-pub select-leaves : (n : ℕ) (src : List ℕ) (ts : List Token) → length ts ≤ n → Leaves behind_it n (select src ts)
+pub select-ahead : (src : List ℕ) (more ts : List Token) → Agrees behind_it more ts (select src ts) (select src (ts ++ more))
 unfolding select
-select-leaves n src ts h =
-    either behind_it n (next_sign ts 42) (select_all src (drop 1 ts)) (select_databases src ts) (select_all-leaves n src (drop 1 ts) (drop-leaves n ts h)) (select_databases-leaves n src ts h)
+select-ahead src more ts =
+    if_next ts (λ us. next_sign us 42) (λ t u us. refl) (behind_next ts (select_all src) (select_all-ahead src more)) (select_databases-ahead src more ts)
 
-rows-leaves : (n : ℕ) (src : List ℕ) (ts : List Token) → length ts ≤ n → Leaves behind_it n (rows src ts)
+rows-ahead : (src : List ℕ) (more ts : List Token) → Agrees behind_it more ts (rows src ts) (rows src (ts ++ more))
 unfolding rows
-rows-leaves n src ts h =
-    after left_over behind_it n (keyword src (codes "ROWS") ts) _ (keyword-leaves n src (codes "ROWS") ts h) (λ a ha.
-    after behind_it behind_it n (number a) _ (number-leaves n a ha) (λ b hb.
-    after left_over behind_it n (sign 44 b.1) _ (sign-leaves n 44 b.1 hb) (λ c hc.
-    after behind_it behind_it n (number_in 1 18446744073709551615 c) _ (number_in-leaves n 1 18446744073709551615 c hc) (λ d hd. hd))))
+rows-ahead src more ts =
+    and_then _ _ (keyword-ahead src (codes "ROWS") more ts) (λ a h.
+    and_then _ _ (number-ahead more a) (λ b h.
+    and_then _ _ (sign-ahead 44 more b.1) (λ c h.
+    and_then _ _ (number_in-ahead 1 18446744073709551615 more c) (λ d h. done))))
 
-pub bulk_insert-leaves : (n : ℕ) (src : List ℕ) (ts : List Token) → length ts ≤ n → Leaves behind_it n (bulk_insert src ts)
+pub bulk_insert-ahead : (src : List ℕ) (more ts : List Token) → Agrees behind_it more ts (bulk_insert src ts) (bulk_insert src (ts ++ more))
 unfolding bulk_insert
-bulk_insert-leaves n src ts h =
-    after left_over behind_it n (keyword src (codes "INSERT") ts) _ (keyword-leaves n src (codes "INSERT") ts h) (λ a ha.
-    after behind_it behind_it n (table src a) _ (table-leaves n src a ha) (λ b hb.
-    after behind_it behind_it n (rows src b.1) _ (rows-leaves n src b.1 hb) (λ c hc.
-    after left_over behind_it n (sign 44 c.1) _ (sign-leaves n 44 c.1 hc) (λ d hd.
-    after behind_it behind_it n (text src d) _ (text-leaves n src d hd) (λ e he. he)))))
+bulk_insert-ahead src more ts =
+    and_then _ _ (keyword-ahead src (codes "INSERT") more ts) (λ a h.
+    and_then _ _ (table-ahead src more a) (λ b h.
+    and_then _ _ (rows-ahead src more b.1) (λ c h.
+    and_then _ _ (sign-ahead 44 more c.1) (λ d h.
+    and_then _ _ (text-ahead src more d) (λ e h. done)))))
 
-described-leaves : (n : ℕ) (read : Parsed (List ℕ × List Token)) (ts : List Token) → Leaves behind_it n read → length ts ≤ n → length (described read ts).1 ≤ n
-described-leaves n (Ok t) ts r h = r
-described-leaves n (Err left) ts r h = h
+described-ahead : (more : List Token) (t : Token) (ts : List Token) {p q : Parsed (List ℕ × List Token)} → OneToken more t ts p q →
+    Agrees behind_it more (t ∷ ts) (Ok (described p (t ∷ ts))) (Ok (described q (t ∷ (ts ++ more))))
+described-ahead more t ts (taken x) = later done
+described-ahead more t ts not_taken = done
 
-marking-leaves : (n : ℕ) (src : List ℕ) (ts : List Token) → length ts ≤ n → Leaves behind_it n (marking src ts)
+description-ahead : (src : List ℕ) (more ts : List Token) → Agrees behind_it more ts (Ok (described (text src ts) ts)) (Ok (described (text src (ts ++ more)) (ts ++ more)))
+unfolding text
+description-ahead src more [] = quiet (omega arith) done
+description-ahead src more (t ∷ ts) = described-ahead more t ts (text-one src more t ts)
+
+marking-ahead : (src : List ℕ) (more ts : List Token) → Agrees behind_it more ts (marking src ts) (marking src (ts ++ more))
 unfolding marking
-marking-leaves n src ts h =
-    either behind_it n (next_is src ts (codes "WITH")) _ (Ok (Unmarked, ts))
-    (after left_over behind_it n (keyword src (codes "MARK") (drop 1 ts)) _ (keyword-leaves n src (codes "MARK") (drop 1 ts) (drop-leaves n ts h)) (λ a ha.
-    described-leaves n (text src a) a (text-leaves n src a ha) ha)) h
+marking-ahead src more ts =
+    if_next ts (λ us. next_is src us (codes "WITH")) (λ t u us. refl)
+    (and_then _ _ (behind_next ts (keyword src (codes "MARK")) (keyword-ahead src (codes "MARK") more)) (λ a h. description-ahead src more a)) done
 
-transaction-leaves : (n : ℕ) (src : List ℕ) (read : Parsed (List ℕ × List Token)) (ts : List Token) → Leaves behind_it n read → length ts ≤ n → Leaves behind_it n (transaction_by src read ts)
-transaction-leaves n src (Ok x) ts r h = after behind_it behind_it n (marking src x.1) _ (marking-leaves n src x.1 r) (λ a ha. ha)
-transaction-leaves n src (Err left) ts r h = h
+transaction_by-ahead : (src : List ℕ) (more : List Token) (t : Token) (ts : List Token) {p q : Parsed (List ℕ × List Token)} → OneToken more t ts p q →
+    Agrees behind_it more (t ∷ ts) (transaction_by src p (t ∷ ts)) (transaction_by src q (t ∷ (ts ++ more)))
+transaction_by-ahead src more t ts (taken x) = later (and_then _ _ (marking-ahead src more ts) (λ a h. done))
+transaction_by-ahead src more t ts not_taken = done
 
-pub begin-leaves : (n : ℕ) (src : List ℕ) (ts : List Token) → length ts ≤ n → Leaves behind_it n (begin src ts)
+transaction-ahead : (src : List ℕ) (more ts : List Token) → Agrees behind_it more ts (transaction_by src (name src ts) ts) (transaction_by src (name src (ts ++ more)) (ts ++ more))
+unfolding name
+transaction-ahead src more [] = quiet (omega arith) done
+transaction-ahead src more (t ∷ ts) = transaction_by-ahead src more t ts (name-one src more t ts)
+
+pub begin-ahead : (src : List ℕ) (more ts : List Token) → Agrees behind_it more ts (begin src ts) (begin src (ts ++ more))
 unfolding begin
-begin-leaves n src ts h =
-    either behind_it n (next_tran src ts) (transaction_by src (name src (drop 1 ts)) (drop 1 ts)) (stuck ts)
-    (transaction-leaves n src (name src (drop 1 ts)) (drop 1 ts) (name-leaves n src (drop 1 ts) (drop-leaves n ts h)) (drop-leaves n ts h)) tt
+begin-ahead src more ts =
+    if_next ts (λ us. next_tran src us) (λ t u us. refl)
+    (behind_next ts (λ us. transaction_by src (name src us) us) (transaction-ahead src more)) (stuck-ahead behind_it more ts)
 
-pub skip_tran-leaves : (n : ℕ) (src : List ℕ) (ts : List Token) → length ts ≤ n → length (skip_tran src ts) ≤ n
-skip_tran-leaves n src ts h = skip_by n (next_tran src ts) ts h
+-- an item, and TRAN or TRANSACTION, if it is there
+pub skip_tran-ahead : {A : Type 0} (x : A) (src : List ℕ) (more ts : List Token) → Agrees behind_it more ts (Ok (x, skip_tran src ts)) (Ok (x, skip_tran src (ts ++ more)))
+skip_tran-ahead x src more ts = skip_if ts (λ us. next_tran src us) (λ us. Ok (x, us)) (λ t u us. refl) (λ us. done)
 
-pub use_database-leaves : (n : ℕ) (src : List ℕ) (ts : List Token) → length ts ≤ n → Leaves behind_it n (use_database src ts)
+pub use_database-ahead : (src : List ℕ) (more ts : List Token) → Agrees behind_it more ts (use_database src ts) (use_database src (ts ++ more))
 unfolding use_database
-use_database-leaves n src ts h = after behind_it behind_it n (name src ts) _ (name-leaves n src ts h) (λ a ha. ha)
+use_database-ahead src more ts =
+    and_then _ _ (name-ahead src more ts) (λ a h. done)
 
-model_by-leaves : (n : ℕ) (src : List ℕ) (ts : List Token) → length ts ≤ n → Leaves behind_it n (model_by src ts)
-model_by-leaves n src ts h =
-    either behind_it n (next_is src ts (codes "FULL")) (Ok (Full, drop 1 ts)) _ (drop-leaves n ts h)
-    (either behind_it n (next_is src ts (codes "SIMPLE")) (Ok (Simple, drop 1 ts)) _ (drop-leaves n ts h)
-    (either behind_it n (next_is src ts (codes "BULK_LOGGED")) (Ok (BulkLogged, drop 1 ts)) (stuck ts) (drop-leaves n ts h) tt))
+model_by-ahead : (src : List ℕ) (more ts : List Token) → Agrees behind_it more ts (model_by src ts) (model_by src (ts ++ more))
+model_by-ahead src more ts =
+    if_next ts (λ us. next_is src us (codes "FULL")) (λ t u us. refl) (behind_next ts (λ us. Ok (Full, us)) (λ us. done))
+    (if_next ts (λ us. next_is src us (codes "SIMPLE")) (λ t u us. refl) (behind_next ts (λ us. Ok (Simple, us)) (λ us. done))
+    (if_next ts (λ us. next_is src us (codes "BULK_LOGGED")) (λ t u us. refl) (behind_next ts (λ us. Ok (BulkLogged, us)) (λ us. done)) (stuck-ahead behind_it more ts)))
 
-pub alter-leaves : (n : ℕ) (src : List ℕ) (ts : List Token) → length ts ≤ n → Leaves behind_it n (alter src ts)
+pub alter-ahead : (src : List ℕ) (more ts : List Token) → Agrees behind_it more ts (alter src ts) (alter src (ts ++ more))
 unfolding alter
-alter-leaves n src ts h =
-    after left_over behind_it n (keyword src (codes "DATABASE") ts) _ (keyword-leaves n src (codes "DATABASE") ts h) (λ a ha.
-    after behind_it behind_it n (name src a) _ (name-leaves n src a ha) (λ b hb.
-    after left_over behind_it n (keyword src (codes "SET") b.1) _ (keyword-leaves n src (codes "SET") b.1 hb) (λ c hc.
-    after left_over behind_it n (keyword src (codes "RECOVERY") c) _ (keyword-leaves n src (codes "RECOVERY") c hc) (λ d hd.
-    after behind_it behind_it n (model_by src d) _ (model_by-leaves n src d hd) (λ e he. he)))))
+alter-ahead src more ts =
+    and_then _ _ (keyword-ahead src (codes "DATABASE") more ts) (λ a h.
+    and_then _ _ (name-ahead src more a) (λ b h.
+    and_then _ _ (keyword-ahead src (codes "SET") more b.1) (λ c h.
+    and_then _ _ (keyword-ahead src (codes "RECOVERY") more c) (λ d h.
+    and_then _ _ (model_by-ahead src more d) (λ e h. done)))))
 
-pub drop_database-leaves : (n : ℕ) (src : List ℕ) (ts : List Token) → length ts ≤ n → Leaves behind_it n (drop_database src ts)
+pub drop_database-ahead : (src : List ℕ) (more ts : List Token) → Agrees behind_it more ts (drop_database src ts) (drop_database src (ts ++ more))
 unfolding drop_database
-drop_database-leaves n src ts h =
-    after left_over behind_it n (keyword src (codes "DATABASE") ts) _ (keyword-leaves n src (codes "DATABASE") ts h) (λ a ha.
-    after behind_it behind_it n (name src a) _ (name-leaves n src a ha) (λ b hb. hb))
+drop_database-ahead src more ts =
+    and_then _ _ (keyword-ahead src (codes "DATABASE") more ts) (λ a h.
+    and_then _ _ (name-ahead src more a) (λ b h. done))

@@ -1,5 +1,5 @@
--- What BACKUP reads leaves no more tokens than there were, and so do the queries on media.
-use Rattle.std.proofs.Common.{ℕ, ◌≤◌, ◌||◌, Bool, true, false, List, [], ◌∷◌, ◌++◌, length, drop, Option, Some, None, Ok}
+-- BACKUP looks at most two tokens ahead, and so do the queries on media.
+use Rattle.std.proofs.Common.{ℕ, ◌≤◌, ◌||◌, Bool, true, false, List, [], ◌∷◌, ◌++◌, length, drop, Option, Some, None, Ok, Err, arith, refl, length-drop}
 use Rattle.std.specs.Prelude.{codes}
 use Rattle.bk_time.specs.Times.{time_of}
 use Rattle.bk_token.specs.declared.token.Token.{Token}
@@ -8,177 +8,192 @@ use Rattle.bk_items.specs.declared.item.UnitName.{UnitName}
 use Rattle.bk_items.specs.declared.options.BackupOptions.{BackupOptions}
 use Rattle.bk_items.specs.declared.options.IdleOption.{IdleOption}
 use Rattle.bk_items.specs.declared.options.IdleOption.TheVariants.{Stats, Rewind, NoRewind, Unload, NoUnload, Description, MediaName, MediaDescription, BufferCount, MaxTransferSize, BlockSize, StopOnError, NoCompression}
-use Rattle.bk_parse.specs.Parse.{stuck, next_is, next_sign, keyword, sign, name, text, equal_text, equal_filled, equal_number, Leaves, behind_it, left_over}
-use Rattle.bk_parse.specs.Laws.{after, either, drop-leaves, keyword-leaves, sign-leaves, name-leaves, text-leaves, equal_text-leaves, equal_filled-leaves, equal_number-leaves}
+use Rattle.bk_parse.specs.Parse.{stuck, next_is, next_sign, keyword, sign, name, text, equal_text, equal_filled, equal_number}
+use Rattle.bk_parse.specs.Ahead.{Agrees, behind_it, left_over}
+use Rattle.bk_parse.specs.Laws.{quiet, done, stuck-ahead, and_then, branch, if_next, behind_by, behind_next, OneToken, taken, not_taken, one-ahead, one_then, at_end, text-one, keyword-ahead, sign-ahead, name-ahead, text-ahead, equal_text-ahead, equal_filled-ahead, equal_number-ahead}
 use Rattle.bk_media_forms.specs.declared.backup_options.BackupWord.{BackupWord}
 use Rattle.bk_media_forms.specs.declared.backup_options.BackupWord.TheVariants.{Init, NoInit, Format, NoFormat, Skip, NoSkip, Checksum, NoChecksum, Name, ExpireDate, RetainDays, CopyOnly, Differential, NoRecovery, NoTruncate, Idle}
-use Rattle.bk_media_forms.specs.Idle.{skip_text, skip_number, skip_share, skip_value}
-use Rattle.bk_media_forms.specs.Backup.{timed, time, equal_time, backup_word, joins, named, expiring, retained, idled, joined, joined_by, one_more, options_from, no_options, options, with_options}
+use Rattle.bk_media_forms.specs.Idle.{bare_word, value_word, skip_text, skip_number, skip_share, skip_value}
+use Rattle.bk_media_forms.specs.Backup.{timed, time, equal_time, medium_word, set_word, valued_word, backup_word, joins, named, expiring, retained, idled, joined, joined_by, one_more, options_from, no_options, options, with_options}
 use Rattle.bk_media_forms.specs.Media.{disk, unit, units_from, some_units, units, backup_database, backup_log, backup, with_file, query_medium}
 
-skip_text-leaves : (n : ℕ) (src : List ℕ) (ts : List Token) → length ts ≤ n → Leaves left_over n (skip_text src ts)
+skip_text-ahead : (src : List ℕ) (more ts : List Token) → Agrees left_over more ts (skip_text src ts) (skip_text src (ts ++ more))
 unfolding skip_text
-skip_text-leaves n src ts h = after behind_it left_over n (equal_text src ts) _ (equal_text-leaves n src ts h) (λ a ha. ha)
+skip_text-ahead src more ts =
+    and_then _ _ (equal_text-ahead src more ts) (λ a h. done)
 
-skip_number-leaves : (n : ℕ) (ts : List Token) → length ts ≤ n → Leaves left_over n (skip_number ts)
+skip_number-ahead : (more ts : List Token) → Agrees left_over more ts (skip_number ts) (skip_number (ts ++ more))
 unfolding skip_number
-skip_number-leaves n ts h = after behind_it left_over n (equal_number ts) _ (equal_number-leaves n ts h) (λ a ha. ha)
+skip_number-ahead more ts =
+    and_then _ _ (equal_number-ahead more ts) (λ a h. done)
 
-skip_share-leaves : (n : ℕ) (ts : List Token) → length ts ≤ n → Leaves left_over n (skip_share ts)
+skip_share-ahead : (more ts : List Token) → Agrees left_over more ts (skip_share ts) (skip_share (ts ++ more))
 unfolding skip_share
-skip_share-leaves n ts h = either left_over n (next_sign ts 61) (skip_number ts) (Ok ts) (skip_number-leaves n ts h) h
+skip_share-ahead more ts =
+    if_next ts (λ us. next_sign us 61) (λ t u us. refl) (skip_number-ahead more ts) done
 
-pub skip_value-leaves : (n : ℕ) (src : List ℕ) (w : IdleOption) (ts : List Token) → length ts ≤ n → Leaves left_over n (skip_value src w ts)
+pub skip_value-ahead : (src : List ℕ) (w : IdleOption) (more ts : List Token) → Agrees left_over more ts (skip_value src w ts) (skip_value src w (ts ++ more))
 unfolding skip_value
-skip_value-leaves n src Stats ts h = skip_share-leaves n ts h
-skip_value-leaves n src Rewind ts h = h
-skip_value-leaves n src NoRewind ts h = h
-skip_value-leaves n src Unload ts h = h
-skip_value-leaves n src NoUnload ts h = h
-skip_value-leaves n src Description ts h = skip_text-leaves n src ts h
-skip_value-leaves n src MediaName ts h = skip_text-leaves n src ts h
-skip_value-leaves n src MediaDescription ts h = skip_text-leaves n src ts h
-skip_value-leaves n src BufferCount ts h = skip_number-leaves n ts h
-skip_value-leaves n src MaxTransferSize ts h = skip_number-leaves n ts h
-skip_value-leaves n src BlockSize ts h = skip_number-leaves n ts h
-skip_value-leaves n src StopOnError ts h = h
-skip_value-leaves n src NoCompression ts h = h
+skip_value-ahead src Stats more ts = skip_share-ahead more ts
+skip_value-ahead src Rewind more ts = done
+skip_value-ahead src NoRewind more ts = done
+skip_value-ahead src Unload more ts = done
+skip_value-ahead src NoUnload more ts = done
+skip_value-ahead src Description more ts = skip_text-ahead src more ts
+skip_value-ahead src MediaName more ts = skip_text-ahead src more ts
+skip_value-ahead src MediaDescription more ts = skip_text-ahead src more ts
+skip_value-ahead src BufferCount more ts = skip_number-ahead more ts
+skip_value-ahead src MaxTransferSize more ts = skip_number-ahead more ts
+skip_value-ahead src BlockSize more ts = skip_number-ahead more ts
+skip_value-ahead src StopOnError more ts = done
+skip_value-ahead src NoCompression more ts = done
 
-timed-leaves : (n : ℕ) (found : Option ℕ) (ts rest : List Token) → length rest ≤ n → Leaves behind_it n (timed found ts rest)
-timed-leaves n None ts rest h = tt
-timed-leaves n (Some ms) ts rest h = h
+timed-one : (found : Option ℕ) (more : List Token) (t : Token) (ts : List Token) → OneToken more t ts (timed found (t ∷ ts) ts) (timed found (t ∷ (ts ++ more)) (ts ++ more))
+timed-one None more t ts = not_taken
+timed-one (Some ms) more t ts = taken ms
 
-pub time-leaves : (n : ℕ) (src : List ℕ) (ts : List Token) → length ts ≤ n → Leaves behind_it n (time src ts)
-unfolding time
-time-leaves n src ts h = after behind_it behind_it n (text src ts) _ (text-leaves n src ts h) (λ a ha. timed-leaves n (time_of a.0) ts a.1 ha)
+pub time-ahead : (src : List ℕ) (more ts : List Token) → Agrees behind_it more ts (time src ts) (time src (ts ++ more))
+unfolding time text
+time-ahead src more [] = at_end
+time-ahead src more (t ∷ ts) = one-ahead (one_then _ _ (text-one src more t ts) (λ x. timed-one (time_of x) more t ts))
 
-equal_time-leaves : (n : ℕ) (src : List ℕ) (ts : List Token) → length ts ≤ n → Leaves behind_it n (equal_time src ts)
+equal_time-ahead : (src : List ℕ) (more ts : List Token) → Agrees behind_it more ts (equal_time src ts) (equal_time src (ts ++ more))
 unfolding equal_time
-equal_time-leaves n src ts h = after left_over behind_it n (sign 61 ts) _ (sign-leaves n 61 ts h) (λ a ha. time-leaves n src a ha)
+equal_time-ahead src more ts =
+    and_then _ _ (sign-ahead 61 more ts) (λ a h. time-ahead src more a)
 
-named-leaves : (n : ℕ) (src : List ℕ) (o : BackupOptions) (ts : List Token) → length ts ≤ n → Leaves behind_it n (named src o ts)
+named-ahead : (src : List ℕ) (o : BackupOptions) (more ts : List Token) → Agrees behind_it more ts (named src o ts) (named src o (ts ++ more))
 unfolding named
-named-leaves n src o ts h = after behind_it behind_it n (equal_text src ts) _ (equal_text-leaves n src ts h) (λ a ha. ha)
+named-ahead src o more ts =
+    and_then _ _ (equal_text-ahead src more ts) (λ a h. done)
 
-expiring-leaves : (n : ℕ) (src : List ℕ) (o : BackupOptions) (ts : List Token) → length ts ≤ n → Leaves behind_it n (expiring src o ts)
+expiring-ahead : (src : List ℕ) (o : BackupOptions) (more ts : List Token) → Agrees behind_it more ts (expiring src o ts) (expiring src o (ts ++ more))
 unfolding expiring
-expiring-leaves n src o ts h = after behind_it behind_it n (equal_time src ts) _ (equal_time-leaves n src ts h) (λ a ha. ha)
+expiring-ahead src o more ts =
+    and_then _ _ (equal_time-ahead src more ts) (λ a h. done)
 
-retained-leaves : (n : ℕ) (o : BackupOptions) (ts : List Token) → length ts ≤ n → Leaves behind_it n (retained o ts)
+retained-ahead : (o : BackupOptions) (more ts : List Token) → Agrees behind_it more ts (retained o ts) (retained o (ts ++ more))
 unfolding retained
-retained-leaves n o ts h = after behind_it behind_it n (equal_number ts) _ (equal_number-leaves n ts h) (λ a ha. ha)
+retained-ahead o more ts =
+    and_then _ _ (equal_number-ahead more ts) (λ a h. done)
 
-idled-leaves : (n : ℕ) (src : List ℕ) (o : BackupOptions) (w : IdleOption) (ts : List Token) → length ts ≤ n → Leaves behind_it n (idled src o w ts)
+idled-ahead : (src : List ℕ) (o : BackupOptions) (w : IdleOption) (more ts : List Token) → Agrees behind_it more ts (idled src o w ts) (idled src o w (ts ++ more))
 unfolding idled
-idled-leaves n src o w ts h = after left_over behind_it n (skip_value src w ts) _ (skip_value-leaves n src w ts h) (λ a ha. ha)
+idled-ahead src o w more ts =
+    and_then _ _ (skip_value-ahead src w more ts) (λ a h. done)
 
-joined-leaves : (n : ℕ) (src : List ℕ) (o : BackupOptions) (w : BackupWord) (ts : List Token) → length ts ≤ n → Leaves behind_it n (joined src o w ts)
+joined-ahead : (src : List ℕ) (o : BackupOptions) (w : BackupWord) (more ts : List Token) → Agrees behind_it more ts (joined src o w ts) (joined src o w (ts ++ more))
 unfolding joined
-joined-leaves n src o Init ts h = h
-joined-leaves n src o NoInit ts h = h
-joined-leaves n src o Format ts h = h
-joined-leaves n src o NoFormat ts h = h
-joined-leaves n src o Skip ts h = h
-joined-leaves n src o NoSkip ts h = h
-joined-leaves n src o Checksum ts h = h
-joined-leaves n src o NoChecksum ts h = h
-joined-leaves n src o Name ts h = named-leaves n src o ts h
-joined-leaves n src o ExpireDate ts h = expiring-leaves n src o ts h
-joined-leaves n src o RetainDays ts h = retained-leaves n o ts h
-joined-leaves n src o CopyOnly ts h = h
-joined-leaves n src o Differential ts h = h
-joined-leaves n src o NoRecovery ts h = h
-joined-leaves n src o NoTruncate ts h = h
-joined-leaves n src o (Idle w) ts h = idled-leaves n src o w ts h
+joined-ahead src o Init more ts = done
+joined-ahead src o NoInit more ts = done
+joined-ahead src o Format more ts = done
+joined-ahead src o NoFormat more ts = done
+joined-ahead src o Skip more ts = done
+joined-ahead src o NoSkip more ts = done
+joined-ahead src o Checksum more ts = done
+joined-ahead src o NoChecksum more ts = done
+joined-ahead src o Name more ts = named-ahead src o more ts
+joined-ahead src o ExpireDate more ts = expiring-ahead src o more ts
+joined-ahead src o RetainDays more ts = retained-ahead o more ts
+joined-ahead src o CopyOnly more ts = done
+joined-ahead src o Differential more ts = done
+joined-ahead src o NoRecovery more ts = done
+joined-ahead src o NoTruncate more ts = done
+joined-ahead src o (Idle w) more ts = idled-ahead src o w more ts
 
-joined_by-leaves : (n : ℕ) (src : List ℕ) (o : BackupOptions) (found : Option BackupWord) (ts : List Token) → length ts ≤ n → Leaves behind_it n (joined_by src o found ts)
-joined_by-leaves n src o None ts h = tt
-joined_by-leaves n src o (Some w) ts h = either behind_it n (joins o w) (joined src o w (drop 1 ts)) (stuck ts) (joined-leaves n src o w (drop 1 ts) (drop-leaves n ts h)) tt
+joined_by-ahead : (src : List ℕ) (o : BackupOptions) (found : Option BackupWord) (more ts : List Token) → Agrees behind_it more ts (joined_by src o found ts) (joined_by src o found (ts ++ more))
+joined_by-ahead src o None more ts = stuck-ahead behind_it more ts
+joined_by-ahead src o (Some w) more ts = branch (joins o w) (behind_next ts (joined src o w) (joined-ahead src o w more)) (stuck-ahead behind_it more ts)
 
-one_more-leaves : (n : ℕ) (src : List ℕ) (log : Bool) (o : BackupOptions) (ts : List Token) → length ts ≤ n → Leaves behind_it n (one_more src log o ts)
-unfolding one_more
-one_more-leaves n src log o ts h = joined_by-leaves n src o (backup_word src log ts) ts h
+one_more-ahead : (src : List ℕ) (log : Bool) (o : BackupOptions) (more ts : List Token) → Agrees behind_it more ts (one_more src log o ts) (one_more src log o (ts ++ more))
+unfolding one_more medium_word set_word valued_word bare_word value_word
+one_more-ahead src log o more [] = quiet (omega arith) (joined_by-ahead src o (backup_word src log []) more [])
+one_more-ahead src log o more (t ∷ ts) = joined_by-ahead src o (backup_word src log (t ∷ ts)) more (t ∷ ts)
 
-options_from-leaves : (n : ℕ) (src : List ℕ) (log : Bool) (left : List Token) (o : BackupOptions) (ts : List Token) → length ts ≤ n → Leaves behind_it n (options_from src log left o ts)
+options_from-ahead : (src : List ℕ) (log : Bool) (left : List Token) (o : BackupOptions) (more ts : List Token) → length ts ≤ length left →
+    Agrees behind_it more ts (options_from src log left o ts) (options_from src log (left ++ more) o (ts ++ more))
 unfolding options_from
-options_from-leaves n src log [] o ts h = tt
-options_from-leaves n src log (x ∷ left) o ts h =
-    after behind_it behind_it n (one_more src log o ts) _ (one_more-leaves n src log o ts h) (λ a ha.
-    either behind_it n (next_sign a.1 44) (options_from src log left a.0 (drop 1 a.1)) (Ok (a.0, a.1))
-    (options_from-leaves n src log left a.0 (drop 1 a.1) (drop-leaves n a.1 ha)) ha)
+options_from-ahead src log [] o more ts few = quiet (omega (arith, few)) (stuck-ahead behind_it more ts)
+options_from-ahead src log (x ∷ left) o more ts few =
+    and_then _ _ (one_more-ahead src log o more ts) (λ a h.
+    if_next a.1 (λ us. next_sign us 44) (λ t u us. refl)
+    (behind_by a.1 (options_from src log left a.0) (options_from src log (left ++ more) a.0)
+    (options_from-ahead src log left a.0 more (drop 1 a.1) (omega (arith, few, h, length-drop 1 a.1)))) done)
 
-options-leaves : (n : ℕ) (src : List ℕ) (log : Bool) (ts : List Token) → length ts ≤ n → Leaves behind_it n (options src log ts)
+options-ahead : (src : List ℕ) (log : Bool) (more ts : List Token) → Agrees behind_it more ts (options src log ts) (options src log (ts ++ more))
 unfolding options
-options-leaves n src log ts h = options_from-leaves n src log ts no_options ts h
+options-ahead src log more ts = options_from-ahead src log ts no_options more ts (omega arith)
 
-with_options-leaves : (n : ℕ) (src : List ℕ) (log : Bool) (ts : List Token) → length ts ≤ n → Leaves behind_it n (with_options src log ts)
+with_options-ahead : (src : List ℕ) (log : Bool) (more ts : List Token) → Agrees behind_it more ts (with_options src log ts) (with_options src log (ts ++ more))
 unfolding with_options
-with_options-leaves n src log ts h =
-    either behind_it n (next_is src ts (codes "WITH")) (options src log (drop 1 ts)) (Ok (no_options, ts)) (options-leaves n src log (drop 1 ts) (drop-leaves n ts h)) h
+with_options-ahead src log more ts =
+    if_next ts (λ us. next_is src us (codes "WITH")) (λ t u us. refl) (behind_next ts (options src log) (options-ahead src log more)) done
 
-pub disk-leaves : (n : ℕ) (src : List ℕ) (ts : List Token) → length ts ≤ n → Leaves behind_it n (disk src ts)
+pub disk-ahead : (src : List ℕ) (more ts : List Token) → Agrees behind_it more ts (disk src ts) (disk src (ts ++ more))
 unfolding disk
-disk-leaves n src ts h =
-    after left_over behind_it n (keyword src (codes "DISK") ts) _ (keyword-leaves n src (codes "DISK") ts h) (λ a ha. equal_filled-leaves n src a ha)
+disk-ahead src more ts =
+    and_then _ _ (keyword-ahead src (codes "DISK") more ts) (λ a h. equal_filled-ahead src more a)
 
-unit-leaves : (n : ℕ) (src : List ℕ) (ts : List Token) → length ts ≤ n → Leaves behind_it n (unit src ts)
+unit-ahead : (src : List ℕ) (more ts : List Token) → Agrees behind_it more ts (unit src ts) (unit src (ts ++ more))
 unfolding unit
-unit-leaves n src ts h =
-    either behind_it n (next_is src ts (codes "FILE")) _ _
-    (after behind_it behind_it n (equal_filled src (drop 1 ts)) _ (equal_filled-leaves n src (drop 1 ts) (drop-leaves n ts h)) (λ a ha. ha))
-    (either behind_it n (next_is src ts (codes "FILEGROUP")) _ (stuck ts)
-    (after behind_it behind_it n (equal_filled src (drop 1 ts)) _ (equal_filled-leaves n src (drop 1 ts) (drop-leaves n ts h)) (λ a ha. ha)) tt)
+unit-ahead src more ts =
+    if_next ts (λ us. next_is src us (codes "FILE")) (λ t u us. refl)
+    (and_then _ _ (behind_next ts (equal_filled src) (equal_filled-ahead src more)) (λ a h. done))
+    (if_next ts (λ us. next_is src us (codes "FILEGROUP")) (λ t u us. refl)
+    (and_then _ _ (behind_next ts (equal_filled src) (equal_filled-ahead src more)) (λ a h. done)) (stuck-ahead behind_it more ts))
 
-units_from-leaves : (n : ℕ) (src : List ℕ) (left : List Token) (found : List UnitName) (ts : List Token) → length ts ≤ n → Leaves behind_it n (units_from src left found ts)
+units_from-ahead : (src : List ℕ) (left : List Token) (found : List UnitName) (more ts : List Token) → length ts ≤ length left →
+    Agrees behind_it more ts (units_from src left found ts) (units_from src (left ++ more) found (ts ++ more))
 unfolding units_from
-units_from-leaves n src [] found ts h = tt
-units_from-leaves n src (x ∷ left) found ts h =
-    after behind_it behind_it n (unit src ts) _ (unit-leaves n src ts h) (λ a ha.
-    either behind_it n (next_sign a.1 44) (units_from src left (found ++ a.0 ∷ []) (drop 1 a.1)) (Ok (found ++ a.0 ∷ [], a.1))
-    (units_from-leaves n src left (found ++ a.0 ∷ []) (drop 1 a.1) (drop-leaves n a.1 ha)) ha)
+units_from-ahead src [] found more ts few = quiet (omega (arith, few)) (stuck-ahead behind_it more ts)
+units_from-ahead src (x ∷ left) found more ts few =
+    and_then _ _ (unit-ahead src more ts) (λ a h.
+    if_next a.1 (λ us. next_sign us 44) (λ t u us. refl)
+    (behind_by a.1 (units_from src left (found ++ a.0 ∷ [])) (units_from src (left ++ more) (found ++ a.0 ∷ []))
+    (units_from-ahead src left (found ++ a.0 ∷ []) more (drop 1 a.1) (omega (arith, few, h, length-drop 1 a.1)))) done)
 
-some_units-leaves : (n : ℕ) (src : List ℕ) (ts : List Token) → length ts ≤ n → Leaves behind_it n (some_units src ts)
+some_units-ahead : (src : List ℕ) (more ts : List Token) → Agrees behind_it more ts (some_units src ts) (some_units src (ts ++ more))
 unfolding some_units
-some_units-leaves n src ts h = units_from-leaves n src ts [] ts h
+some_units-ahead src more ts = units_from-ahead src ts [] more ts (omega arith)
 
-pub units-leaves : (n : ℕ) (src : List ℕ) (ts : List Token) → length ts ≤ n → Leaves behind_it n (units src ts)
+pub units-ahead : (src : List ℕ) (more ts : List Token) → Agrees behind_it more ts (units src ts) (units src (ts ++ more))
 unfolding units
-units-leaves n src ts h =
-    either behind_it n (next_is src ts (codes "FILE") || next_is src ts (codes "FILEGROUP")) (some_units src ts) (Ok ([], ts)) (some_units-leaves n src ts h) h
+units-ahead src more ts =
+    if_next ts (λ us. next_is src us (codes "FILE") || next_is src us (codes "FILEGROUP")) (λ t u us. refl) (some_units-ahead src more ts) done
 
-backup_database-leaves : (n : ℕ) (src : List ℕ) (ts : List Token) → length ts ≤ n → Leaves behind_it n (backup_database src ts)
+backup_database-ahead : (src : List ℕ) (more ts : List Token) → Agrees behind_it more ts (backup_database src ts) (backup_database src (ts ++ more))
 unfolding backup_database
-backup_database-leaves n src ts h =
-    after behind_it behind_it n (name src ts) _ (name-leaves n src ts h) (λ a ha.
-    after behind_it behind_it n (units src a.1) _ (units-leaves n src a.1 ha) (λ b hb.
-    after left_over behind_it n (keyword src (codes "TO") b.1) _ (keyword-leaves n src (codes "TO") b.1 hb) (λ c hc.
-    after behind_it behind_it n (disk src c) _ (disk-leaves n src c hc) (λ d hd.
-    after behind_it behind_it n (with_options src false d.1) _ (with_options-leaves n src false d.1 hd) (λ e he. he)))))
+backup_database-ahead src more ts =
+    and_then _ _ (name-ahead src more ts) (λ a h.
+    and_then _ _ (units-ahead src more a.1) (λ b h.
+    and_then _ _ (keyword-ahead src (codes "TO") more b.1) (λ c h.
+    and_then _ _ (disk-ahead src more c) (λ d h.
+    and_then _ _ (with_options-ahead src false more d.1) (λ e h. done)))))
 
-backup_log-leaves : (n : ℕ) (src : List ℕ) (ts : List Token) → length ts ≤ n → Leaves behind_it n (backup_log src ts)
+backup_log-ahead : (src : List ℕ) (more ts : List Token) → Agrees behind_it more ts (backup_log src ts) (backup_log src (ts ++ more))
 unfolding backup_log
-backup_log-leaves n src ts h =
-    after behind_it behind_it n (name src ts) _ (name-leaves n src ts h) (λ a ha.
-    after left_over behind_it n (keyword src (codes "TO") a.1) _ (keyword-leaves n src (codes "TO") a.1 ha) (λ c hc.
-    after behind_it behind_it n (disk src c) _ (disk-leaves n src c hc) (λ d hd.
-    after behind_it behind_it n (with_options src true d.1) _ (with_options-leaves n src true d.1 hd) (λ e he. he))))
+backup_log-ahead src more ts =
+    and_then _ _ (name-ahead src more ts) (λ a h.
+    and_then _ _ (keyword-ahead src (codes "TO") more a.1) (λ c h.
+    and_then _ _ (disk-ahead src more c) (λ d h.
+    and_then _ _ (with_options-ahead src true more d.1) (λ e h. done))))
 
-pub backup-leaves : (n : ℕ) (src : List ℕ) (ts : List Token) → length ts ≤ n → Leaves behind_it n (backup src ts)
+pub backup-ahead : (src : List ℕ) (more ts : List Token) → Agrees behind_it more ts (backup src ts) (backup src (ts ++ more))
 unfolding backup
-backup-leaves n src ts h =
-    either behind_it n (next_is src ts (codes "DATABASE")) (backup_database src (drop 1 ts)) _ (backup_database-leaves n src (drop 1 ts) (drop-leaves n ts h))
-    (either behind_it n (next_is src ts (codes "LOG")) (backup_log src (drop 1 ts)) (stuck ts) (backup_log-leaves n src (drop 1 ts) (drop-leaves n ts h)) tt)
+backup-ahead src more ts =
+    if_next ts (λ us. next_is src us (codes "DATABASE")) (λ t u us. refl) (behind_next ts (backup_database src) (backup_database-ahead src more))
+    (if_next ts (λ us. next_is src us (codes "LOG")) (λ t u us. refl) (behind_next ts (backup_log src) (backup_log-ahead src more)) (stuck-ahead behind_it more ts))
 
-with_file-leaves : (n : ℕ) (src : List ℕ) (ts : List Token) → length ts ≤ n → Leaves behind_it n (with_file src ts)
+with_file-ahead : (src : List ℕ) (more ts : List Token) → Agrees behind_it more ts (with_file src ts) (with_file src (ts ++ more))
 unfolding with_file
-with_file-leaves n src ts h =
-    either behind_it n (next_is src ts (codes "WITH")) _ (Ok (None, ts))
-    (after left_over behind_it n (keyword src (codes "FILE") (drop 1 ts)) _ (keyword-leaves n src (codes "FILE") (drop 1 ts) (drop-leaves n ts h)) (λ a ha.
-    after behind_it behind_it n (equal_number a) _ (equal_number-leaves n a ha) (λ b hb. hb))) h
+with_file-ahead src more ts =
+    if_next ts (λ us. next_is src us (codes "WITH")) (λ t u us. refl)
+    (and_then _ _ (behind_next ts (keyword src (codes "FILE")) (keyword-ahead src (codes "FILE") more)) (λ a h.
+    and_then _ _ (equal_number-ahead more a) (λ b h. done))) done
 
-pub query_medium-leaves : (n : ℕ) (query : MediumQuery) (src : List ℕ) (ts : List Token) → length ts ≤ n → Leaves behind_it n (query_medium query src ts)
+pub query_medium-ahead : (query : MediumQuery) (src : List ℕ) (more ts : List Token) → Agrees behind_it more ts (query_medium query src ts) (query_medium query src (ts ++ more))
 unfolding query_medium
-query_medium-leaves n query src ts h =
-    after left_over behind_it n (keyword src (codes "FROM") ts) _ (keyword-leaves n src (codes "FROM") ts h) (λ a ha.
-    after behind_it behind_it n (disk src a) _ (disk-leaves n src a ha) (λ b hb.
-    after behind_it behind_it n (with_file src b.1) _ (with_file-leaves n src b.1 hb) (λ c hc. hc)))
+query_medium-ahead query src more ts =
+    and_then _ _ (keyword-ahead src (codes "FROM") more ts) (λ a h.
+    and_then _ _ (disk-ahead src more a) (λ b h.
+    and_then _ _ (with_file-ahead src more b.1) (λ c h. done)))

@@ -1,5 +1,5 @@
--- What RESTORE reads leaves no more tokens than there were.
-use Rattle.std.proofs.Common.{ℕ, ◌≤◌, Bool, false, List, [], ◌∷◌, length, drop, Option, Some, None, Ok}
+-- RESTORE looks at most two tokens ahead.
+use Rattle.std.proofs.Common.{ℕ, ◌≤◌, Bool, true, false, List, [], ◌∷◌, ◌++◌, length, drop, Option, Some, None, Ok, Err, arith, refl, length-drop}
 use Rattle.std.specs.Prelude.{codes, is_some}
 use Rattle.bk_time.specs.Times.{time_of}
 use Rattle.bk_token.specs.declared.token.Token.{Token}
@@ -7,168 +7,186 @@ use Rattle.bk_items.specs.declared.item.MediumQuery.TheVariants.{Headers, FileLi
 use Rattle.bk_items.specs.declared.item.PageName.{PageName}
 use Rattle.bk_items.specs.declared.options.RestoreOptions.{RestoreOptions}
 use Rattle.bk_items.specs.declared.options.IdleOption.{IdleOption}
-use Rattle.bk_parse.specs.Parse.{stuck, next_is, next_sign, keyword, sign, name, text, filled_text, equal_text, equal_filled, equal_number, Leaves, behind_it, left_over}
-use Rattle.bk_parse.specs.Laws.{after, either, drop-leaves, keyword-leaves, sign-leaves, name-leaves, text-leaves, filled_text-leaves, equal_text-leaves, equal_filled-leaves, equal_number-leaves}
+use Rattle.bk_parse.specs.Parse.{◌>>=◌, stuck, next_is, next_sign, keyword, sign, name, text, filled_text, equal_text, equal_filled, equal_number}
+use Rattle.bk_parse.specs.Ahead.{Agrees, behind_it, left_over}
+use Rattle.bk_parse.specs.Laws.{quiet, done, stuck-ahead, and_then, branch, if_next, behind_by, behind_next, OneToken, taken, not_taken, one-ahead, one_then, at_end, text-one, keyword-ahead, sign-ahead, name-ahead, text-ahead, filled_text-ahead, equal_text-ahead, equal_filled-ahead, equal_number-ahead}
 use Rattle.bk_media_forms.specs.declared.restore_options.RestoreWord.{RestoreWord}
 use Rattle.bk_media_forms.specs.declared.restore_options.RestoreWord.TheVariants.{File, Recovery, NoRecovery, Standby, StopAt, StopAtMark, StopBeforeMark, Replace, Partial, Move, Checksum, NoChecksum, Idle}
-use Rattle.bk_media_forms.specs.Idle.{skip_value}
+use Rattle.bk_media_forms.specs.Idle.{bare_word, value_word, skip_value}
 use Rattle.bk_media_forms.specs.Backup.{time}
 use Rattle.bk_media_forms.specs.Media.{disk, units, query_medium}
 use Rattle.bk_media_forms.specs.Pages.{pages_of}
 use Rattle.bk_media_forms.specs.Stops.{after_time, mark, moment_by, moment, at_mark, before_mark}
-use Rattle.bk_media_forms.specs.Restore.{restore_word, joins, filed, standing, stopped_at, stopped_at_mark, stopped_before, file_move, moved, idled, joined, joined_by, one_more, options_from, no_options, options, with_options, paged, page_list, restored_units, lists_units, origin, restore_database, restore_log, restore}
-use Rattle.bk_media_forms.specs.BackupLaws.{skip_value-leaves, time-leaves, disk-leaves, units-leaves, query_medium-leaves}
+use Rattle.bk_media_forms.specs.Restore.{ending_word, stop_word, change_word, restore_word, joins, filed, standing, stopped_at, stopped_at_mark, stopped_before, file_move, moved, idled, joined, joined_by, one_more, options_from, no_options, options, with_options, paged, page_list, restored_units, lists_units, origin, restore_database, restore_log, restore}
+use Rattle.bk_media_forms.specs.BackupLaws.{skip_value-ahead, time-ahead, disk-ahead, units-ahead, query_medium-ahead}
 
-after_time-leaves : (n : ℕ) (src : List ℕ) (ts : List Token) → length ts ≤ n → Leaves behind_it n (after_time src ts)
+after_time-ahead : (src : List ℕ) (more ts : List Token) → Agrees behind_it more ts (after_time src ts) (after_time src (ts ++ more))
 unfolding after_time
-after_time-leaves n src ts h =
-    either behind_it n (next_is src ts (codes "AFTER")) _ (Ok (None, ts))
-    (after behind_it behind_it n (time src (drop 1 ts)) _ (time-leaves n src (drop 1 ts) (drop-leaves n ts h)) (λ a ha. ha)) h
+after_time-ahead src more ts =
+    if_next ts (λ us. next_is src us (codes "AFTER")) (λ t u us. refl)
+    (and_then _ _ (behind_next ts (time src) (time-ahead src more)) (λ a h. done)) done
 
-mark-leaves : (n : ℕ) (src : List ℕ) (ts : List Token) → length ts ≤ n → Leaves behind_it n (mark src ts)
+mark-ahead : (src : List ℕ) (more ts : List Token) → Agrees behind_it more ts (mark src ts) (mark src (ts ++ more))
 unfolding mark
-mark-leaves n src ts h =
-    after behind_it behind_it n (equal_text src ts) _ (equal_text-leaves n src ts h) (λ a ha.
-    after behind_it behind_it n (after_time src a.1) _ (after_time-leaves n src a.1 ha) (λ b hb. hb))
+mark-ahead src more ts =
+    and_then _ _ (equal_text-ahead src more ts) (λ a h.
+    and_then _ _ (after_time-ahead src more a.1) (λ b h. done))
 
-moment_by-leaves : (n : ℕ) (t : List ℕ) (found : Option ℕ) (ts rest : List Token) → length rest ≤ n → Leaves behind_it n (moment_by t found ts rest)
-moment_by-leaves n t None ts rest h = tt
-moment_by-leaves n t (Some ms) ts rest h = h
+moment_by-one : (text : List ℕ) (found : Option ℕ) (more : List Token) (t : Token) (ts : List Token) → OneToken more t ts (moment_by text found (t ∷ ts) ts) (moment_by text found (t ∷ (ts ++ more)) (ts ++ more))
+moment_by-one text None more t ts = not_taken
+moment_by-one text (Some ms) more t ts = taken _
 
-moment-leaves : (n : ℕ) (src : List ℕ) (ts : List Token) → length ts ≤ n → Leaves behind_it n (moment src ts)
+moment_text-ahead : (src : List ℕ) (more ts : List Token) →
+    Agrees behind_it more ts (text src ts >>= λ x. moment_by x.0 (time_of x.0) ts x.1) (text src (ts ++ more) >>= λ x. moment_by x.0 (time_of x.0) (ts ++ more) x.1)
+unfolding text
+moment_text-ahead src more [] = at_end
+moment_text-ahead src more (t ∷ ts) = one-ahead (one_then _ _ (text-one src more t ts) (λ x. moment_by-one x (time_of x) more t ts))
+
+moment-ahead : (src : List ℕ) (more ts : List Token) → Agrees behind_it more ts (moment src ts) (moment src (ts ++ more))
 unfolding moment
-moment-leaves n src ts h =
-    after left_over behind_it n (sign 61 ts) _ (sign-leaves n 61 ts h) (λ a ha.
-    after behind_it behind_it n (text src a) _ (text-leaves n src a ha) (λ b hb. moment_by-leaves n b.0 (time_of b.0) a b.1 hb))
+moment-ahead src more ts = and_then _ _ (sign-ahead 61 more ts) (λ a h. moment_text-ahead src more a)
 
-at_mark-leaves : (n : ℕ) (src : List ℕ) (ts : List Token) → length ts ≤ n → Leaves behind_it n (at_mark src ts)
+at_mark-ahead : (src : List ℕ) (more ts : List Token) → Agrees behind_it more ts (at_mark src ts) (at_mark src (ts ++ more))
 unfolding at_mark
-at_mark-leaves n src ts h = after behind_it behind_it n (mark src ts) _ (mark-leaves n src ts h) (λ a ha. ha)
+at_mark-ahead src more ts =
+    and_then _ _ (mark-ahead src more ts) (λ a h. done)
 
-before_mark-leaves : (n : ℕ) (src : List ℕ) (ts : List Token) → length ts ≤ n → Leaves behind_it n (before_mark src ts)
+before_mark-ahead : (src : List ℕ) (more ts : List Token) → Agrees behind_it more ts (before_mark src ts) (before_mark src (ts ++ more))
 unfolding before_mark
-before_mark-leaves n src ts h = after behind_it behind_it n (mark src ts) _ (mark-leaves n src ts h) (λ a ha. ha)
+before_mark-ahead src more ts =
+    and_then _ _ (mark-ahead src more ts) (λ a h. done)
 
-filed-leaves : (n : ℕ) (o : RestoreOptions) (ts : List Token) → length ts ≤ n → Leaves behind_it n (filed o ts)
+filed-ahead : (o : RestoreOptions) (more ts : List Token) → Agrees behind_it more ts (filed o ts) (filed o (ts ++ more))
 unfolding filed
-filed-leaves n o ts h = after behind_it behind_it n (equal_number ts) _ (equal_number-leaves n ts h) (λ a ha. ha)
+filed-ahead o more ts =
+    and_then _ _ (equal_number-ahead more ts) (λ a h. done)
 
-standing-leaves : (n : ℕ) (src : List ℕ) (o : RestoreOptions) (ts : List Token) → length ts ≤ n → Leaves behind_it n (standing src o ts)
+standing-ahead : (src : List ℕ) (o : RestoreOptions) (more ts : List Token) → Agrees behind_it more ts (standing src o ts) (standing src o (ts ++ more))
 unfolding standing
-standing-leaves n src o ts h = after behind_it behind_it n (equal_filled src ts) _ (equal_filled-leaves n src ts h) (λ a ha. ha)
+standing-ahead src o more ts =
+    and_then _ _ (equal_filled-ahead src more ts) (λ a h. done)
 
-stopped_at-leaves : (n : ℕ) (src : List ℕ) (o : RestoreOptions) (ts : List Token) → length ts ≤ n → Leaves behind_it n (stopped_at src o ts)
+stopped_at-ahead : (src : List ℕ) (o : RestoreOptions) (more ts : List Token) → Agrees behind_it more ts (stopped_at src o ts) (stopped_at src o (ts ++ more))
 unfolding stopped_at
-stopped_at-leaves n src o ts h = after behind_it behind_it n (moment src ts) _ (moment-leaves n src ts h) (λ a ha. ha)
+stopped_at-ahead src o more ts =
+    and_then _ _ (moment-ahead src more ts) (λ a h. done)
 
-stopped_at_mark-leaves : (n : ℕ) (src : List ℕ) (o : RestoreOptions) (ts : List Token) → length ts ≤ n → Leaves behind_it n (stopped_at_mark src o ts)
+stopped_at_mark-ahead : (src : List ℕ) (o : RestoreOptions) (more ts : List Token) → Agrees behind_it more ts (stopped_at_mark src o ts) (stopped_at_mark src o (ts ++ more))
 unfolding stopped_at_mark
-stopped_at_mark-leaves n src o ts h = after behind_it behind_it n (at_mark src ts) _ (at_mark-leaves n src ts h) (λ a ha. ha)
+stopped_at_mark-ahead src o more ts =
+    and_then _ _ (at_mark-ahead src more ts) (λ a h. done)
 
-stopped_before-leaves : (n : ℕ) (src : List ℕ) (o : RestoreOptions) (ts : List Token) → length ts ≤ n → Leaves behind_it n (stopped_before src o ts)
+stopped_before-ahead : (src : List ℕ) (o : RestoreOptions) (more ts : List Token) → Agrees behind_it more ts (stopped_before src o ts) (stopped_before src o (ts ++ more))
 unfolding stopped_before
-stopped_before-leaves n src o ts h = after behind_it behind_it n (before_mark src ts) _ (before_mark-leaves n src ts h) (λ a ha. ha)
+stopped_before-ahead src o more ts =
+    and_then _ _ (before_mark-ahead src more ts) (λ a h. done)
 
-file_move-leaves : (n : ℕ) (src : List ℕ) (ts : List Token) → length ts ≤ n → Leaves behind_it n (file_move src ts)
+file_move-ahead : (src : List ℕ) (more ts : List Token) → Agrees behind_it more ts (file_move src ts) (file_move src (ts ++ more))
 unfolding file_move
-file_move-leaves n src ts h =
-    after behind_it behind_it n (filled_text src ts) _ (filled_text-leaves n src ts h) (λ a ha.
-    after left_over behind_it n (keyword src (codes "TO") a.1) _ (keyword-leaves n src (codes "TO") a.1 ha) (λ b hb.
-    after behind_it behind_it n (filled_text src b) _ (filled_text-leaves n src b hb) (λ c hc. hc)))
+file_move-ahead src more ts =
+    and_then _ _ (filled_text-ahead src more ts) (λ a h.
+    and_then _ _ (keyword-ahead src (codes "TO") more a.1) (λ b h.
+    and_then _ _ (filled_text-ahead src more b) (λ c h. done)))
 
-moved-leaves : (n : ℕ) (src : List ℕ) (o : RestoreOptions) (ts : List Token) → length ts ≤ n → Leaves behind_it n (moved src o ts)
+moved-ahead : (src : List ℕ) (o : RestoreOptions) (more ts : List Token) → Agrees behind_it more ts (moved src o ts) (moved src o (ts ++ more))
 unfolding moved
-moved-leaves n src o ts h = after behind_it behind_it n (file_move src ts) _ (file_move-leaves n src ts h) (λ a ha. ha)
+moved-ahead src o more ts =
+    and_then _ _ (file_move-ahead src more ts) (λ a h. done)
 
-idled-leaves : (n : ℕ) (src : List ℕ) (o : RestoreOptions) (w : IdleOption) (ts : List Token) → length ts ≤ n → Leaves behind_it n (idled src o w ts)
+idled-ahead : (src : List ℕ) (o : RestoreOptions) (w : IdleOption) (more ts : List Token) → Agrees behind_it more ts (idled src o w ts) (idled src o w (ts ++ more))
 unfolding idled
-idled-leaves n src o w ts h = after left_over behind_it n (skip_value src w ts) _ (skip_value-leaves n src w ts h) (λ a ha. ha)
+idled-ahead src o w more ts =
+    and_then _ _ (skip_value-ahead src w more ts) (λ a h. done)
 
-joined-leaves : (n : ℕ) (src : List ℕ) (o : RestoreOptions) (w : RestoreWord) (ts : List Token) → length ts ≤ n → Leaves behind_it n (joined src o w ts)
+joined-ahead : (src : List ℕ) (o : RestoreOptions) (w : RestoreWord) (more ts : List Token) → Agrees behind_it more ts (joined src o w ts) (joined src o w (ts ++ more))
 unfolding joined
-joined-leaves n src o File ts h = filed-leaves n o ts h
-joined-leaves n src o Recovery ts h = h
-joined-leaves n src o NoRecovery ts h = h
-joined-leaves n src o Standby ts h = standing-leaves n src o ts h
-joined-leaves n src o StopAt ts h = stopped_at-leaves n src o ts h
-joined-leaves n src o StopAtMark ts h = stopped_at_mark-leaves n src o ts h
-joined-leaves n src o StopBeforeMark ts h = stopped_before-leaves n src o ts h
-joined-leaves n src o Replace ts h = h
-joined-leaves n src o Partial ts h = h
-joined-leaves n src o Move ts h = moved-leaves n src o ts h
-joined-leaves n src o Checksum ts h = h
-joined-leaves n src o NoChecksum ts h = h
-joined-leaves n src o (Idle w) ts h = idled-leaves n src o w ts h
+joined-ahead src o File more ts = filed-ahead o more ts
+joined-ahead src o Recovery more ts = done
+joined-ahead src o NoRecovery more ts = done
+joined-ahead src o Standby more ts = standing-ahead src o more ts
+joined-ahead src o StopAt more ts = stopped_at-ahead src o more ts
+joined-ahead src o StopAtMark more ts = stopped_at_mark-ahead src o more ts
+joined-ahead src o StopBeforeMark more ts = stopped_before-ahead src o more ts
+joined-ahead src o Replace more ts = done
+joined-ahead src o Partial more ts = done
+joined-ahead src o Move more ts = moved-ahead src o more ts
+joined-ahead src o Checksum more ts = done
+joined-ahead src o NoChecksum more ts = done
+joined-ahead src o (Idle w) more ts = idled-ahead src o w more ts
 
-joined_by-leaves : (n : ℕ) (src : List ℕ) (o : RestoreOptions) (found : Option RestoreWord) (ts : List Token) → length ts ≤ n → Leaves behind_it n (joined_by src o found ts)
-joined_by-leaves n src o None ts h = tt
-joined_by-leaves n src o (Some w) ts h = either behind_it n (joins o w) (joined src o w (drop 1 ts)) (stuck ts) (joined-leaves n src o w (drop 1 ts) (drop-leaves n ts h)) tt
+joined_by-ahead : (src : List ℕ) (o : RestoreOptions) (found : Option RestoreWord) (more ts : List Token) → Agrees behind_it more ts (joined_by src o found ts) (joined_by src o found (ts ++ more))
+joined_by-ahead src o None more ts = stuck-ahead behind_it more ts
+joined_by-ahead src o (Some w) more ts = branch (joins o w) (behind_next ts (joined src o w) (joined-ahead src o w more)) (stuck-ahead behind_it more ts)
 
-one_more-leaves : (n : ℕ) (src : List ℕ) (from : Bool) (o : RestoreOptions) (ts : List Token) → length ts ≤ n → Leaves behind_it n (one_more src from o ts)
-unfolding one_more
-one_more-leaves n src from o ts h = joined_by-leaves n src o (restore_word src from ts) ts h
+one_more-ahead : (src : List ℕ) (from : Bool) (o : RestoreOptions) (more ts : List Token) → Agrees behind_it more ts (one_more src from o ts) (one_more src from o (ts ++ more))
+unfolding one_more ending_word stop_word change_word bare_word value_word
+one_more-ahead src from o more [] = quiet (omega arith) (joined_by-ahead src o (restore_word src from []) more [])
+one_more-ahead src from o more (t ∷ ts) = joined_by-ahead src o (restore_word src from (t ∷ ts)) more (t ∷ ts)
 
-options_from-leaves : (n : ℕ) (src : List ℕ) (from : Bool) (left : List Token) (o : RestoreOptions) (ts : List Token) → length ts ≤ n → Leaves behind_it n (options_from src from left o ts)
+options_from-ahead : (src : List ℕ) (from : Bool) (left : List Token) (o : RestoreOptions) (more ts : List Token) → length ts ≤ length left →
+    Agrees behind_it more ts (options_from src from left o ts) (options_from src from (left ++ more) o (ts ++ more))
 unfolding options_from
-options_from-leaves n src from [] o ts h = tt
-options_from-leaves n src from (x ∷ left) o ts h =
-    after behind_it behind_it n (one_more src from o ts) _ (one_more-leaves n src from o ts h) (λ a ha.
-    either behind_it n (next_sign a.1 44) (options_from src from left a.0 (drop 1 a.1)) (Ok (a.0, a.1))
-    (options_from-leaves n src from left a.0 (drop 1 a.1) (drop-leaves n a.1 ha)) ha)
+options_from-ahead src from [] o more ts few = quiet (omega (arith, few)) (stuck-ahead behind_it more ts)
+options_from-ahead src from (x ∷ left) o more ts few =
+    and_then _ _ (one_more-ahead src from o more ts) (λ a h.
+    if_next a.1 (λ us. next_sign us 44) (λ t u us. refl)
+    (behind_by a.1 (options_from src from left a.0) (options_from src from (left ++ more) a.0)
+    (options_from-ahead src from left a.0 more (drop 1 a.1) (omega (arith, few, h, length-drop 1 a.1)))) done)
 
-options-leaves : (n : ℕ) (src : List ℕ) (from : Bool) (ts : List Token) → length ts ≤ n → Leaves behind_it n (options src from ts)
+options-ahead : (src : List ℕ) (from : Bool) (more ts : List Token) → Agrees behind_it more ts (options src from ts) (options src from (ts ++ more))
 unfolding options
-options-leaves n src from ts h = options_from-leaves n src from ts no_options ts h
+options-ahead src from more ts = options_from-ahead src from ts no_options more ts (omega arith)
 
-with_options-leaves : (n : ℕ) (src : List ℕ) (from : Bool) (ts : List Token) → length ts ≤ n → Leaves behind_it n (with_options src from ts)
+with_options-ahead : (src : List ℕ) (from : Bool) (more ts : List Token) → Agrees behind_it more ts (with_options src from ts) (with_options src from (ts ++ more))
 unfolding with_options
-with_options-leaves n src from ts h =
-    either behind_it n (next_is src ts (codes "WITH")) (options src from (drop 1 ts)) (Ok (no_options, ts)) (options-leaves n src from (drop 1 ts) (drop-leaves n ts h)) h
+with_options-ahead src from more ts =
+    if_next ts (λ us. next_is src us (codes "WITH")) (λ t u us. refl) (behind_next ts (options src from) (options-ahead src from more)) done
 
-paged-leaves : (n : ℕ) (found : Option (List PageName)) (ts rest : List Token) → length rest ≤ n → Leaves behind_it n (paged found ts rest)
-paged-leaves n None ts rest h = tt
-paged-leaves n (Some pages) ts rest h = h
+paged-one : (found : Option (List PageName)) (more : List Token) (t : Token) (ts : List Token) → OneToken more t ts (paged found (t ∷ ts) ts) (paged found (t ∷ (ts ++ more)) (ts ++ more))
+paged-one None more t ts = not_taken
+paged-one (Some pages) more t ts = taken _
 
-page_list-leaves : (n : ℕ) (src : List ℕ) (ts : List Token) → length ts ≤ n → Leaves behind_it n (page_list src ts)
+page_text-ahead : (src : List ℕ) (more ts : List Token) →
+    Agrees behind_it more ts (text src ts >>= λ x. paged (pages_of x.0) ts x.1) (text src (ts ++ more) >>= λ x. paged (pages_of x.0) (ts ++ more) x.1)
+unfolding text
+page_text-ahead src more [] = at_end
+page_text-ahead src more (t ∷ ts) = one-ahead (one_then _ _ (text-one src more t ts) (λ x. paged-one (pages_of x) more t ts))
+
+page_list-ahead : (src : List ℕ) (more ts : List Token) → Agrees behind_it more ts (page_list src ts) (page_list src (ts ++ more))
 unfolding page_list
-page_list-leaves n src ts h =
-    after left_over behind_it n (sign 61 ts) _ (sign-leaves n 61 ts h) (λ a ha.
-    after behind_it behind_it n (text src a) _ (text-leaves n src a ha) (λ b hb. paged-leaves n (pages_of b.0) a b.1 hb))
+page_list-ahead src more ts = and_then _ _ (sign-ahead 61 more ts) (λ a h. page_text-ahead src more a)
 
-restored_units-leaves : (n : ℕ) (src : List ℕ) (ts : List Token) → length ts ≤ n → Leaves behind_it n (restored_units src ts)
+restored_units-ahead : (src : List ℕ) (more ts : List Token) → Agrees behind_it more ts (restored_units src ts) (restored_units src (ts ++ more))
 unfolding restored_units
-restored_units-leaves n src ts h =
-    either behind_it n (next_is src ts (codes "PAGE")) (page_list src (drop 1 ts)) _ (page_list-leaves n src (drop 1 ts) (drop-leaves n ts h))
-    (after behind_it behind_it n (units src ts) _ (units-leaves n src ts h) (λ a ha. ha))
+restored_units-ahead src more ts =
+    if_next ts (λ us. next_is src us (codes "PAGE")) (λ t u us. refl) (behind_next ts (page_list src) (page_list-ahead src more)) (and_then _ _ (units-ahead src more ts) (λ a h. done))
 
-origin-leaves : (n : ℕ) (src : List ℕ) (needed : Bool) (ts : List Token) → length ts ≤ n → Leaves behind_it n (origin src needed ts)
+origin-ahead : (src : List ℕ) (needed : Bool) (more ts : List Token) → Agrees behind_it more ts (origin src needed ts) (origin src needed (ts ++ more))
 unfolding origin
-origin-leaves n src needed ts h =
-    either behind_it n (next_is src ts (codes "FROM")) _ _
-    (after behind_it behind_it n (disk src (drop 1 ts)) _ (disk-leaves n src (drop 1 ts) (drop-leaves n ts h)) (λ a ha. ha))
-    (either behind_it n needed (stuck ts) (Ok (None, ts)) tt h)
+origin-ahead src needed more ts =
+    if_next ts (λ us. next_is src us (codes "FROM")) (λ t u us. refl)
+    (and_then _ _ (behind_next ts (disk src) (disk-ahead src more)) (λ a h. done)) (branch needed (stuck-ahead behind_it more ts) done)
 
-restore_database-leaves : (n : ℕ) (src : List ℕ) (ts : List Token) → length ts ≤ n → Leaves behind_it n (restore_database src ts)
+restore_database-ahead : (src : List ℕ) (more ts : List Token) → Agrees behind_it more ts (restore_database src ts) (restore_database src (ts ++ more))
 unfolding restore_database
-restore_database-leaves n src ts h =
-    after behind_it behind_it n (name src ts) _ (name-leaves n src ts h) (λ a ha.
-    after behind_it behind_it n (restored_units src a.1) _ (restored_units-leaves n src a.1 ha) (λ b hb.
-    after behind_it behind_it n (origin src (lists_units b.0) b.1) _ (origin-leaves n src (lists_units b.0) b.1 hb) (λ c hc.
-    after behind_it behind_it n (with_options src (is_some c.0) c.1) _ (with_options-leaves n src (is_some c.0) c.1 hc) (λ d hd. hd))))
+restore_database-ahead src more ts =
+    and_then _ _ (name-ahead src more ts) (λ a h.
+    and_then _ _ (restored_units-ahead src more a.1) (λ b h.
+    and_then _ _ (origin-ahead src (lists_units b.0) more b.1) (λ c h.
+    and_then _ _ (with_options-ahead src (is_some c.0) more c.1) (λ d h. done))))
 
-restore_log-leaves : (n : ℕ) (src : List ℕ) (ts : List Token) → length ts ≤ n → Leaves behind_it n (restore_log src ts)
+restore_log-ahead : (src : List ℕ) (more ts : List Token) → Agrees behind_it more ts (restore_log src ts) (restore_log src (ts ++ more))
 unfolding restore_log
-restore_log-leaves n src ts h =
-    after behind_it behind_it n (name src ts) _ (name-leaves n src ts h) (λ a ha.
-    after behind_it behind_it n (origin src false a.1) _ (origin-leaves n src false a.1 ha) (λ c hc.
-    after behind_it behind_it n (with_options src (is_some c.0) c.1) _ (with_options-leaves n src (is_some c.0) c.1 hc) (λ d hd. hd)))
+restore_log-ahead src more ts =
+    and_then _ _ (name-ahead src more ts) (λ a h.
+    and_then _ _ (origin-ahead src false more a.1) (λ c h.
+    and_then _ _ (with_options-ahead src (is_some c.0) more c.1) (λ d h. done)))
 
-pub restore-leaves : (n : ℕ) (src : List ℕ) (ts : List Token) → length ts ≤ n → Leaves behind_it n (restore src ts)
+pub restore-ahead : (src : List ℕ) (more ts : List Token) → Agrees behind_it more ts (restore src ts) (restore src (ts ++ more))
 unfolding restore
-restore-leaves n src ts h =
-    let behind : length (drop 1 ts) ≤ n = drop-leaves n ts h in
-    either behind_it n (next_is src ts (codes "DATABASE")) (restore_database src (drop 1 ts)) _ (restore_database-leaves n src (drop 1 ts) behind)
-    (either behind_it n (next_is src ts (codes "LOG")) (restore_log src (drop 1 ts)) _ (restore_log-leaves n src (drop 1 ts) behind)
-    (either behind_it n (next_is src ts (codes "HEADERONLY")) (query_medium Headers src (drop 1 ts)) _ (query_medium-leaves n Headers src (drop 1 ts) behind)
-    (either behind_it n (next_is src ts (codes "FILELISTONLY")) (query_medium FileList src (drop 1 ts)) _ (query_medium-leaves n FileList src (drop 1 ts) behind)
-    (either behind_it n (next_is src ts (codes "VERIFYONLY")) (query_medium Verify src (drop 1 ts)) (stuck ts) (query_medium-leaves n Verify src (drop 1 ts) behind) tt))))
+restore-ahead src more ts =
+    if_next ts (λ us. next_is src us (codes "DATABASE")) (λ t u us. refl) (behind_next ts (restore_database src) (restore_database-ahead src more))
+    (if_next ts (λ us. next_is src us (codes "LOG")) (λ t u us. refl) (behind_next ts (restore_log src) (restore_log-ahead src more))
+    (if_next ts (λ us. next_is src us (codes "HEADERONLY")) (λ t u us. refl) (behind_next ts (query_medium Headers src) (query_medium-ahead Headers src more))
+    (if_next ts (λ us. next_is src us (codes "FILELISTONLY")) (λ t u us. refl) (behind_next ts (query_medium FileList src) (query_medium-ahead FileList src more))
+    (if_next ts (λ us. next_is src us (codes "VERIFYONLY")) (λ t u us. refl) (behind_next ts (query_medium Verify src) (query_medium-ahead Verify src more)) (stuck-ahead behind_it more ts)))))

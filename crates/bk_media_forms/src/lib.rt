@@ -1,9 +1,8 @@
 //! The forms of BACKUP and RESTORE, behind these words.
 #![tactic(auto)]
 
-ghost use Rattle.std.specs.Prelude.{ℕ, List, ◌≤◌, length};
-ghost use Rattle.bk_token.specs.declared.token.Token.{Token};
-ghost use Rattle.bk_parse.specs.Parse.{Leaves, behind_it};
+ghost use Rattle.std.specs.Prelude.{ℕ, List};
+ghost use Rattle.bk_parse.specs.Ahead.{LooksAhead, behind_it};
 ghost use Rattle.bk_media_forms.specs.Media as media_spec;
 ghost use Rattle.bk_media_forms.specs.Restore as restore_spec;
 
@@ -18,8 +17,8 @@ mod stops;
 pub use media::backup;
 pub use restoring::restore;
 
-/// What a form reads leaves no more tokens than there were.
-pub fn media_forms_leave_no_more()
-    ensures backup { (n : ℕ) (src : List ℕ) (ts : List Token) → length ts ≤ n → Leaves behind_it n (media_spec.backup src ts) }
-    ensures restore { (n : ℕ) (src : List ℕ) (ts : List Token) → length ts ≤ n → Leaves behind_it n (restore_spec.restore src ts) }
+/// No form leaves more tokens than there were, and none looks further ahead than two tokens.
+pub fn media_forms_look_ahead()
+    ensures backup { (src : List ℕ) → LooksAhead behind_it (media_spec.backup src) }
+    ensures restore { (src : List ℕ) → LooksAhead behind_it (restore_spec.restore src) }
 {}

@@ -121,16 +121,3 @@ unfoldable pub equal_number : List Token → Parsed (ℕ × List Token)
 equal_number ts = do
   equal ← sign 61 ts
   number equal
-
--- what is read leaves at most so many tokens
-abbrev pub Leaves : {A : Type 0} → (A → List Token) → ℕ → Parsed A → Type 0
-Leaves rest most (Ok x) = length (rest x) ≤ most
-Leaves rest most (Err left) = Unit {0}
-
--- the tokens behind what is read
-abbrev pub behind_it : {A : Type 0} → A × List Token → List Token
-behind_it x = x.1
-
--- the tokens that are left
-abbrev pub left_over : List Token → List Token
-left_over ts = ts

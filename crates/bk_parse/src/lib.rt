@@ -3,9 +3,8 @@
 //! Each part gives what it read and the tokens behind it, or says where it can't go on.
 #![tactic(auto)]
 
-ghost use Rattle.std.specs.Prelude.{ℕ, List, ◌≤◌, length};
-ghost use Rattle.bk_token.specs.declared.token.Token.{Token};
-ghost use Rattle.bk_parse.specs.Parse.{Leaves, behind_it, left_over};
+ghost use Rattle.std.specs.Prelude.{ℕ, List};
+ghost use Rattle.bk_parse.specs.Ahead.{LooksAhead, behind_it, left_over};
 ghost use Rattle.bk_parse.specs.Parse as spec;
 
 mod parse;
@@ -17,11 +16,11 @@ pub use parse::{
 };
 pub use stop::Stop;
 
-/// No part leaves more tokens than there were.
-pub fn parts_leave_no_more()
-    ensures keyword { (n : ℕ) (src word : List ℕ) (ts : List Token) → length ts ≤ n → Leaves left_over n (spec.keyword src word ts) }
-    ensures sign { (n b : ℕ) (ts : List Token) → length ts ≤ n → Leaves left_over n (spec.sign b ts) }
-    ensures number { (n : ℕ) (ts : List Token) → length ts ≤ n → Leaves behind_it n (spec.number ts) }
-    ensures name { (n : ℕ) (src : List ℕ) (ts : List Token) → length ts ≤ n → Leaves behind_it n (spec.name src ts) }
-    ensures text { (n : ℕ) (src : List ℕ) (ts : List Token) → length ts ≤ n → Leaves behind_it n (spec.text src ts) }
+/// No part leaves more tokens than there were, and none looks further ahead than two tokens.
+pub fn parts_look_ahead()
+    ensures keyword { (src word : List ℕ) → LooksAhead left_over (spec.keyword src word) }
+    ensures sign { (b : ℕ) → LooksAhead left_over (spec.sign b) }
+    ensures number { LooksAhead behind_it spec.number }
+    ensures name { (src : List ℕ) → LooksAhead behind_it (spec.name src) }
+    ensures text { (src : List ℕ) → LooksAhead behind_it (spec.text src) }
 {}

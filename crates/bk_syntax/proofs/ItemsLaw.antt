@@ -1,144 +1,18 @@
 -- The entries of tokens: there is exactly one list of them.
-use Rattle.std.proofs.Common.{◌≡◌, ℕ, zero, suc, subst, ◌≤◌, ◌<◌, ◌-◌, Bool, true, false, if◌then◌else◌, List, [], ◌∷◌, length, drop, Ok, Err, arith, refl, ap, sym, ◌∙◌, length-drop}
-use Rattle.std.specs.Prelude.{codes}
+use Rattle.std.proofs.Common.{◌≡◌, ℕ, zero, suc, ◌≤◌, ◌<◌, ◌-◌, Bool, true, false, if◌then◌else◌, List, [], ◌∷◌, length, drop, Ok, Err, arith, refl, ap, subst, sym, ◌∙◌, length-drop}
 use Rattle.std.proofs.lemmas.Bool.{both_ways}
 use Rattle.bk_token.specs.declared.token.Token.{Token}
+use Rattle.bk_token.specs.Tokens.{AreTokens}
 use Rattle.bk_token.specs.Laws.{one_list}
 use Rattle.bk_items.specs.declared.item.ScriptItem.{ScriptItem}
-use Rattle.bk_items.specs.declared.item.ScriptItem.TheVariants.{Commit, Rollback, Checkpoint, Start, Wait, Syntax}
+use Rattle.bk_items.specs.declared.item.ScriptItem.TheVariants.{Commit}
 use Rattle.bk_items.specs.declared.item.ScriptEntry.{ScriptEntry}
-use Rattle.bk_parse.specs.Parse.{Parsed, ◌>>=◌, stuck, next_is, number_in, Leaves, behind_it}
-use Rattle.bk_parse.specs.Laws.{after, either, drop-leaves, number_in-leaves}
-use Rattle.bk_forms.specs.Creating.{create_database}
-use Rattle.bk_forms.specs.Rows.{create_table, insert, update, delete, select, bulk_insert, begin, skip_tran, use_database, alter, drop_database}
-use Rattle.bk_forms.specs.CreatingLaws.{create_database-leaves}
-use Rattle.bk_forms.specs.RowsLaws.{create_table-leaves, insert-leaves, update-leaves, delete-leaves, select-leaves, bulk_insert-leaves, begin-leaves, skip_tran-leaves, use_database-leaves, alter-leaves, drop_database-leaves}
-use Rattle.bk_media_forms.specs.Media.{backup}
-use Rattle.bk_media_forms.specs.Restore.{restore}
-use Rattle.bk_media_forms.specs.BackupLaws.{backup-leaves}
-use Rattle.bk_media_forms.specs.RestoreLaws.{restore-leaves}
-use Rattle.bk_token.specs.declared.token.Kind.{Kind}
-use Rattle.bk_token.specs.declared.token.Kind.TheVariants.{Word, Quoted, Text, Number, Sign, Go, Colon, Bad}
-use Rattle.bk_parse.specs.Parse.{number_by, number}
-use Rattle.std.specs.Prelude.{nat_le, ◌&&◌, ◌++◌}
-use Rattle.std.proofs.Common.{append-nil, append_assoc}
-use Rattle.bk_syntax.specs.Items.{AreEntries, ended, between, statement as statement_entry, fault, read_entry, fault_entry, from_place, line_at, measured, AreItems}
+use Rattle.bk_parse.specs.Parse.{Parsed}
+use Rattle.bk_syntax.specs.Items.{AreEntries, ended, between, statement as statement_entry, fault, read_entry, fault_entry, from_place, AreItems}
 use Rattle.bk_syntax.specs.Limits.{ends, recovered}
-use Rattle.bk_syntax.specs.Next.{IsInFront, EntriesSoFar, IsTurn}
-use Rattle.bk_syntax.specs.Statement.{create, database_statement, transaction_statement, statement, console_line, next_colon, line_or_statement}
-
-create-leaves : (n : ℕ) (src : List ℕ) (ts : List Token) → length ts ≤ n → Leaves behind_it n (create src ts)
-unfolding create
-create-leaves n src ts h =
-    let behind : length (drop 1 ts) ≤ n = drop-leaves n ts h in
-    either behind_it n (next_is src ts (codes "DATABASE")) (create_database src (drop 1 ts)) _ (create_database-leaves n src (drop 1 ts) behind)
-    (either behind_it n (next_is src ts (codes "TABLE")) (create_table src (drop 1 ts)) (stuck ts) (create_table-leaves n src (drop 1 ts) behind) tt)
-
--- behind its first keyword a statement leaves no more than stood there
-database-leaves : (n : ℕ) (src : List ℕ) (ts : List Token) → length (drop 1 ts) ≤ n → Leaves behind_it n (database_statement src ts)
-unfolding database_statement
-database-leaves n src ts h =
-    either behind_it n (next_is src ts (codes "CREATE")) (create src (drop 1 ts)) _ (create-leaves n src (drop 1 ts) h)
-    (either behind_it n (next_is src ts (codes "ALTER")) (alter src (drop 1 ts)) _ (alter-leaves n src (drop 1 ts) h)
-    (either behind_it n (next_is src ts (codes "DROP")) (drop_database src (drop 1 ts)) _ (drop_database-leaves n src (drop 1 ts) h)
-    (either behind_it n (next_is src ts (codes "USE")) (use_database src (drop 1 ts)) _ (use_database-leaves n src (drop 1 ts) h)
-    (either behind_it n (next_is src ts (codes "BACKUP")) (backup src (drop 1 ts)) _ (backup-leaves n src (drop 1 ts) h)
-    (either behind_it n (next_is src ts (codes "RESTORE")) (restore src (drop 1 ts)) (stuck ts) (restore-leaves n src (drop 1 ts) h) tt)))))
-
-transaction-leaves : (n : ℕ) (src : List ℕ) (ts : List Token) → length (drop 1 ts) ≤ n → Leaves behind_it n (transaction_statement src ts)
-unfolding transaction_statement
-transaction-leaves n src ts h =
-    either behind_it n (next_is src ts (codes "BEGIN")) (begin src (drop 1 ts)) _ (begin-leaves n src (drop 1 ts) h)
-    (either behind_it n (next_is src ts (codes "COMMIT")) (Ok (Commit, skip_tran src (drop 1 ts))) _ (skip_tran-leaves n src (drop 1 ts) h)
-    (either behind_it n (next_is src ts (codes "ROLLBACK")) (Ok (Rollback, skip_tran src (drop 1 ts))) _ (skip_tran-leaves n src (drop 1 ts) h)
-    (either behind_it n (next_is src ts (codes "CHECKPOINT")) (Ok (Checkpoint, drop 1 ts)) (database_statement src ts) h (database-leaves n src ts h))))
-
-statement-leaves : (n : ℕ) (src : List ℕ) (ts : List Token) → length (drop 1 ts) ≤ n → Leaves behind_it n (statement src ts)
-unfolding statement
-statement-leaves n src ts h =
-    either behind_it n (next_is src ts (codes "INSERT")) (insert src (drop 1 ts)) _ (insert-leaves n src (drop 1 ts) h)
-    (either behind_it n (next_is src ts (codes "UPDATE")) (update src (drop 1 ts)) _ (update-leaves n src (drop 1 ts) h)
-    (either behind_it n (next_is src ts (codes "DELETE")) (delete src (drop 1 ts)) _ (delete-leaves n src (drop 1 ts) h)
-    (either behind_it n (next_is src ts (codes "SELECT")) (select src (drop 1 ts)) _ (select-leaves n src (drop 1 ts) h)
-    (either behind_it n (next_is src ts (codes "BULK")) (bulk_insert src (drop 1 ts)) (transaction_statement src ts) (bulk_insert-leaves n src (drop 1 ts) h) (transaction-leaves n src ts h)))))
-
-console-leaves : (n : ℕ) (src : List ℕ) (ts : List Token) → length ts ≤ n → Leaves behind_it n (console_line src ts)
-unfolding console_line
-console-leaves n src ts h =
-    let behind : length (drop 1 ts) ≤ n = drop-leaves n ts h in
-    either behind_it n (next_is src ts (codes "SESSION")) _ _
-    (after behind_it behind_it n (number_in 1 32 (drop 1 ts)) _ (number_in-leaves n 1 32 (drop 1 ts) behind) (λ a ha. ha))
-    (either behind_it n (next_is src ts (codes "STEP")) _ _
-    (after behind_it behind_it n (number_in 1 18446744073709551615 (drop 1 ts)) _ (number_in-leaves n 1 18446744073709551615 (drop 1 ts) behind) (λ a ha. ha))
-    (either behind_it n (next_is src ts (codes "START")) (Ok (Start, drop 1 ts)) _ behind
-    (either behind_it n (next_is src ts (codes "WAIT")) (Ok (Wait, drop 1 ts)) (stuck ts) behind tt)))
-
--- a statement or a console line takes at least a token
-line-leaves : (src : List ℕ) (t : Token) (ts : List Token) → Leaves behind_it (length ts) (line_or_statement src (t ∷ ts))
-unfolding line_or_statement
-line-leaves src t ts =
-    let whole : length (drop 1 (t ∷ ts)) ≤ length ts = omega arith in
-    either behind_it (length ts) (next_colon (t ∷ ts)) (console_line src (drop 1 (t ∷ ts))) (statement src (t ∷ ts)) (console-leaves (length ts) src ts whole) (statement-leaves (length ts) src (t ∷ ts) whole)
-
-leaves_read : (n : ℕ) (read : Parsed (ScriptItem × List Token)) (item : ScriptItem) (rest : List Token) → Leaves behind_it n read → read ≡ Ok (item, rest) → length rest ≤ n
-leaves_read n read item rest h e = let P : Parsed (ScriptItem × List Token) → Type 0 = λ r. Leaves behind_it n r in subst P e h
-
-pub fewer_behind : (src : List ℕ) (t : Token) (ts : List Token) (item : ScriptItem) (rest : List Token) → line_or_statement src (t ∷ ts) ≡ Ok (item, rest) → length rest < length (t ∷ ts)
-fewer_behind src t ts item rest e = omega (arith, leaves_read (length ts) (line_or_statement src (t ∷ ts)) item rest (line-leaves src t ts) e)
-
--- where it can't go on, at most so many tokens are left
-abbrev Sticks : {A : Type 0} → ℕ → Parsed A → Type 0
-Sticks most (Ok x) = Unit {0}
-Sticks most (Err left) = left ≤ most
-
-after-sticks : {A B : Type 0} (first : A → List Token) (n : ℕ) (p : Parsed A) (f : A → Parsed B) → Sticks n p → ((x : A) → Sticks n (f x)) → Sticks n (p >>= f)
-after-sticks first n (Ok x) f h k = k x
-after-sticks first n (Err left) f h k = h
-
-either-sticks : {A : Type 0} (n : ℕ) (b : Bool) (p q : Parsed A) → Sticks n p → Sticks n q → Sticks n (if b then p else q)
-either-sticks n true p q h k = h
-either-sticks n false p q h k = k
-
-number_by-sticks : (n : ℕ) (kind : Kind) (ts : List Token) → length ts ≤ n → Sticks n (number_by kind ts)
-number_by-sticks n (Number v) ts h = tt
-number_by-sticks n Word ts h = h
-number_by-sticks n Quoted ts h = h
-number_by-sticks n Text ts h = h
-number_by-sticks n (Sign b) ts h = h
-number_by-sticks n Go ts h = h
-number_by-sticks n Colon ts h = h
-number_by-sticks n Bad ts h = h
-
-number-sticks : (n : ℕ) (ts : List Token) → length ts ≤ n → Sticks n (number ts)
-unfolding number
-number-sticks n [] h = omega arith
-number-sticks n (t ∷ ts) h = number_by-sticks n t.kind (t ∷ ts) h
-
-number_in-sticks : (n low high : ℕ) (ts : List Token) → length ts ≤ n → Sticks n (number_in low high ts)
-unfolding number_in
-number_in-sticks n low high ts h =
-    after-sticks behind_it n (number ts) _ (number-sticks n ts h) (λ x. either-sticks n (nat_le low x.0 && nat_le x.0 high) (Ok x) (stuck ts) tt h)
-
-console-sticks : (n : ℕ) (src : List ℕ) (ts : List Token) → length ts ≤ n → Sticks n (console_line src ts)
-unfolding console_line
-console-sticks n src ts h =
-    let behind : length (drop 1 ts) ≤ n = drop-leaves n ts h in
-    either-sticks n (next_is src ts (codes "SESSION")) _ _
-    (after-sticks behind_it n (number_in 1 32 (drop 1 ts)) _ (number_in-sticks n 1 32 (drop 1 ts) behind) (λ a. tt))
-    (either-sticks n (next_is src ts (codes "STEP")) _ _
-    (after-sticks behind_it n (number_in 1 18446744073709551615 (drop 1 ts)) _ (number_in-sticks n 1 18446744073709551615 (drop 1 ts) behind) (λ a. tt))
-    (either-sticks n (next_is src ts (codes "START")) (Ok (Start, drop 1 ts)) _ tt
-    (either-sticks n (next_is src ts (codes "WAIT")) (Ok (Wait, drop 1 ts)) (stuck ts) tt h)))
-
-sticks_read : (n : ℕ) (read : Parsed (ScriptItem × List Token)) (left : ℕ) → Sticks n read → read ≡ Err left → left ≤ n
-sticks_read n read left h e = let P : Parsed (ScriptItem × List Token) → Type 0 = λ r. Sticks n r in subst P e h
-
--- a console line goes on behind its colon
-console_left : (src : List ℕ) (t : Token) (ts : List Token) (left : ℕ) → next_colon (t ∷ ts) ≡ true → line_or_statement src (t ∷ ts) ≡ Err left → left ≤ length ts
-unfolding line_or_statement
-console_left src t ts left colon e =
-    let whole : length (drop 1 (t ∷ ts)) ≤ length ts = omega arith in
-    sticks_read (length ts) (console_line src (drop 1 (t ∷ ts))) left (console-sticks (length ts) src (drop 1 (t ∷ ts)) whole) (rw colon at e)
+use Rattle.bk_syntax.specs.Reader.{StandsInFront}
+use Rattle.bk_syntax.specs.Statement.{next_colon, line_or_statement}
+use Rattle.bk_syntax.proofs.StatementLaws.{fewer_behind, console_left}
 
 pick : (n : ℕ) (a b : Bool) (xs ys zs : List Token) → length xs ≤ n → length ys ≤ n → length zs ≤ n → length (if a then xs else (if b then ys else zs)) ≤ n
 pick n true b xs ys zs h k l = h
@@ -232,60 +106,30 @@ pub some_entries : (src : List ℕ) (ts : List Token) → (es : List ScriptEntry
 some_entries src ts = some_from src (length ts) ts (omega arith)
 
 -- the entry in front where a statement or a console line is read
-pub read_in_front : (src : List ℕ) (t : Token) (ts : List Token) (item : ScriptItem) (rest : List Token) → ends t.kind ≡ false → line_or_statement src (t ∷ ts) ≡ Ok (item, rest) →
-    IsInFront src (t ∷ ts) (read_entry t ts rest item) rest
-read_in_front src t ts item rest e r = record {
-  others = λ es more. statement_entry item rest e r more;
-  fewer = fewer_behind src t ts item rest r;
-}
+pub stands_read : (src : List ℕ) (t : Token) (ts : List Token) (item : ScriptItem) (rest : List Token) → ends t.kind ≡ false → line_or_statement src (t ∷ ts) ≡ Ok (item, rest) →
+    StandsInFront src (t ∷ ts) (read_entry t ts rest item) rest
+stands_read src t ts item rest e r es entries =
+    let others = some_entries src rest in
+    (others.0, one_from entries (statement_entry item rest e r others.1), others.1)
 
 -- the entry in front where nothing can go on
-pub fault_in_front : (src : List ℕ) (t : Token) (ts : List Token) (left : ℕ) → ends t.kind ≡ false → line_or_statement src (t ∷ ts) ≡ Err left →
-    IsInFront src (t ∷ ts) (fault_entry src t ts left) (recovered (from_place left (t ∷ ts)))
-fault_in_front src t ts left e r = record {
-  others = λ es more. fault left e r more;
-  fewer = fewer_recovered src t ts left e r;
-}
-
--- the same of tokens that begin with this one
-pub read_at : (src : List ℕ) (tokens : List Token) (t : Token) (others rest : List Token) (item shown : ScriptItem) → tokens ≡ t ∷ others → ends t.kind ≡ false →
-    line_or_statement src tokens ≡ Ok (item, rest) → shown ≡ measured tokens rest item → IsInFront src tokens (record { item = shown; line = t.line }) rest
-read_at src tokens t others rest item shown e n r s =
-    let P : List Token → Type 0 = λ ts. line_or_statement src ts ≡ Ok (item, rest) → shown ≡ measured ts rest item → IsInFront src ts (record { item = shown; line = t.line }) rest in
-    let Q : ScriptItem → Type 0 = λ i. IsInFront src (t ∷ others) (record { item = i; line = t.line }) rest in
-    let front : P (t ∷ others) = λ r' s'. subst Q (sym s') (read_in_front src t others item rest n r') in
-    subst P (sym e) front r s
-
-pub fault_at : (src : List ℕ) (tokens : List Token) (t : Token) (others stuck_there next : List Token) (left line : ℕ) → tokens ≡ t ∷ others → ends t.kind ≡ false →
-    line_or_statement src tokens ≡ Err left → stuck_there ≡ from_place left tokens → line ≡ line_at src stuck_there → next ≡ recovered stuck_there →
-    IsInFront src tokens (record { item = Syntax line; line = t.line }) next
-fault_at src tokens t others stuck_there next left line e n r p l a =
-    let P : List Token → Type 0 = λ ts. line_or_statement src ts ≡ Err left → stuck_there ≡ from_place left ts → IsInFront src ts (record { item = Syntax line; line = t.line }) next in
-    let front : P (t ∷ others) = λ r' p'.
-    let here : line ≡ line_at src (from_place left (t ∷ others)) = l ∙ ap (line_at src) p' in
-    let there : next ≡ recovered (from_place left (t ∷ others)) = a ∙ ap recovered p' in
-    let Q : ℕ → Type 0 = λ m. IsInFront src (t ∷ others) (record { item = Syntax m; line = t.line }) next in
-    let R : List Token → Type 0 = λ ts. IsInFront src (t ∷ others) (fault_entry src t others left) ts in
-    subst Q (sym here) (subst R (sym there) (fault_in_front src t others left n r')) in
-    subst P (sym e) front r p
+pub stands_stuck : (src : List ℕ) (t : Token) (ts : List Token) (left : ℕ) → ends t.kind ≡ false → line_or_statement src (t ∷ ts) ≡ Err left →
+    StandsInFront src (t ∷ ts) (fault_entry src t ts left) (recovered (from_place left (t ∷ ts)))
+stands_stuck src t ts left e r es entries =
+    let others = some_entries src (recovered (from_place left (t ∷ ts))) in
+    (others.0, one_from entries (fault left e r others.1), others.1)
 
 -- a token that ends a statement is passed over
-pub pass_over : (src : List ℕ) (found : List ScriptEntry) (t : Token) (rest : List Token) (tokens : List Token) → tokens ≡ t ∷ rest → ends t.kind ≡ true → IsTurn src tokens found found rest
-pass_over src found t rest tokens is e =
-    let P : List Token → Type 0 = λ ts. IsTurn src ts found found rest in
-    subst P (sym is) (record {
-      goes_on = λ ts so_far es more. so_far es (between e more);
-      fewer = omega arith;
-    })
-
--- one entry more
-pub one_entry : (src : List ℕ) (found : List ScriptEntry) (rest : List Token) (entry : ScriptEntry) (next : List Token) → IsInFront src rest entry next → IsTurn src rest found (found ++ entry ∷ []) next
-one_entry src found rest entry next front = record {
-  goes_on = λ ts so_far es more. rw append_assoc (so_far (entry ∷ es) (front.others es more));
-  fewer = front.fewer;
-}
+pub passed_end : (src : List ℕ) (t : Token) (ts : List Token) (es : List ScriptEntry) → ends t.kind ≡ true → AreEntries src (t ∷ ts) es → AreEntries src ts es
+passed_end src t ts es e entries =
+    let others = some_entries src ts in
+    let same : others.0 ≡ es = one_from (between e others.1) entries in
+    subst (AreEntries src ts) same others.1
 
 -- no token is left
-pub all_read : (src : List ℕ) (ts : List Token) (found : List ScriptEntry) (rest : List Token) → length rest < 1 → EntriesSoFar src ts found rest → AreEntries src ts found
-all_read src ts found [] few so_far = rw (← append-nil found) (so_far [] ended)
-all_read src ts found (t ∷ rest) few so_far = absurd (omega arith)
+pub none_left : (src : List ℕ) (es : List ScriptEntry) → AreEntries src [] es → es ≡ []
+none_left src es entries = one_from entries ended
+
+-- bytes have items
+pub some_items : (src : List ℕ) (ts : List Token) → AreTokens src ts → (es : List ScriptEntry) × AreItems src es
+some_items src ts tokens = let entries = some_entries src ts in (entries.0, (ts, tokens, entries.1))

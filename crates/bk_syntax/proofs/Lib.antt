@@ -1,3 +1,6 @@
 pub mod CutLemmas
+pub mod StatementLaws
 pub mod ItemsLaw
+pub mod FrontLaws
+pub mod ReaderLaws
 pub mod OneScript

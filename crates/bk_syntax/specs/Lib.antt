@@ -1,7 +1,7 @@
 pub mod Forms
 pub mod Items
 pub mod Limits
-pub mod Next
+pub mod Reader
 pub mod Reading
 pub mod Script
 pub mod Statement

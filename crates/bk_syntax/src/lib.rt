@@ -11,20 +11,27 @@ ghost use Rattle.bk_world.specs.declared.item.Statement.{Statement};
 mod cut;
 mod entries;
 mod forms;
+mod front;
 mod limits;
+mod reader;
 mod statement;
 mod stuck;
 
+use bk_token::one_token_list;
 pub use cut::statements;
 pub use entries::items;
+pub use reader::Reader;
 
 /// Bytes are the script of exactly one list of statements.
 pub fn one_statement_list()
     ensures { (src : List ℕ) (statements others : List Statement) → IsScript src statements → IsScript src others → statements ≡ others }
 {}
 
-/// Bytes have at most one list of items, and each token list has one.
+/// Bytes have exactly one list of items, and each token list has one.
 pub fn one_item_list()
     ensures one { (src : List ℕ) (entries others : List ScriptEntry) → AreItems src entries → AreItems src others → entries ≡ others }
-    ensures some { (src : List ℕ) (tokens : List Token) → (entries : List ScriptEntry) × AreEntries src tokens entries }
-{}
+    ensures some { (src : List ℕ) → (entries : List ScriptEntry) × AreItems src entries }
+    ensures of_tokens { (src : List ℕ) (tokens : List Token) → (entries : List ScriptEntry) × AreEntries src tokens entries }
+{
+    one_token_list();
+}

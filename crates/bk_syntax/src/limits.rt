@@ -4,7 +4,6 @@ ghost use Rattle.std.specs.Prelude.{◌≡◌};
 ghost use Rattle.std.specs.List.{list_any};
 ghost use Rattle.bk_syntax.specs.Limits as spec;
 
-use crate::statement::next_colon;
 use bk_ids::Text;
 use bk_items::{
     Ending, FileMove, NewFile, NewGroup, RestoreOptions, RestoredUnits, ScriptItem, UnitName,
@@ -176,23 +175,6 @@ pub fn ends(token: &Token) -> bool
     ensures { result ≡ spec.ends token.now.kind }
 {
     token.kind == Kind::Sign(b';') || token.kind == Kind::Go
-}
-
-/// Where reading goes on behind a fault.
-pub fn recovered(tokens: &[Token]) -> &[Token]
-    ensures { result.now ≡ spec.recovered tokens.now }
-{
-    let mut rest = tokens;
-    while let [token, after @ ..] = rest {
-        if ends(token) {
-            return after;
-        }
-        if next_colon(rest) {
-            return rest;
-        }
-        rest = after;
-    }
-    rest
 }
 
 /// The tokens before the rest take more than 65,536 bytes, from the first to the last.

@@ -119,12 +119,19 @@ fn console_line<'t>(src: &[u8], tokens: &'t [Token]) -> Result<(ScriptItem, &'t 
     }
 }
 
+/// The token is a colon that begins a line.
+pub fn is_colon(token: &Token) -> bool
+    ensures { result ≡ spec.is_colon token.now.kind }
+{
+    token.kind == Kind::Colon
+}
+
 /// The next token is the colon of a console line.
 pub fn next_colon(tokens: &[Token]) -> bool
     ensures { result ≡ spec.next_colon tokens.now }
 {
     match tokens {
-        [token, ..] => token.kind == Kind::Colon,
+        [token, ..] => is_colon(token),
         [] => false,
     }
 }

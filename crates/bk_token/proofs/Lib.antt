@@ -5,3 +5,5 @@ pub mod PieceLemmas
 pub mod TokenLemmas
 pub mod ContentLemmas
 pub mod ContentLaw
+pub mod PlaceLemmas
+pub mod SomeTokens

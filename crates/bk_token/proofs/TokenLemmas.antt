@@ -72,7 +72,7 @@ all_read src found at feeds past so_far =
     rw (← append-nil found) (so_far.goes_on [] last)
 
 -- a token by its fields
-token_is : (before text : List ℕ) (kind : Kind) (start last line : ℕ) → start ≡ length before → last ≡ length before + length text → line ≡ line_behind before →
+pub token_is : (before text : List ℕ) (kind : Kind) (start last line : ℕ) → start ≡ length before → last ≡ length before + length text → line ≡ line_behind before →
     (let t : Token = record { kind = kind; start = start; «end» = last; line = line } in t ≡ token_of before text kind)
 token_is before text kind start last line s e l = λ i. record { kind = kind; start = s i; «end» = e i; line = l i }
 

@@ -1,8 +1,9 @@
 -- Bytes have one token list.
-use Rattle.std.proofs.Common.{◌≡◌, ℕ, ◌+◌, ◌<◌, Bool, true, false, cond, eqb, List, [], ◌∷◌, ◌++◌, length, take, drop, refl, ap, sym, ◌∙◌, ⊎_elim, append_assoc, length-append, Some, None, arith, ◌&&◌, Option}
+use Rattle.std.proofs.Common.{◌≡◌, ℕ, ◌+◌, ◌<◌, ◌≤◌, Bool, true, false, cond, eqb, List, [], ◌∷◌, ◌++◌, length, take, drop, refl, ap, sym, ◌∙◌, ⊎_elim, append_assoc, length-append, Some, None, arith, ◌&&◌, Option}
 use Rattle.std.specs.List.{list_all, prefix_len}
 use Rattle.std.proofs.lemmas.Bool.{and_parts, not-true, eq-eqb, both_ways}
 use Rattle.std.proofs.Math.Seq.{take-append_seam, drop-append_seam}
+use Rattle.std.proofs.Math.ListN.{drop_of_length-le}
 use Rattle.bk_token.specs.Bytes.{begins, is_within_line, is_blank, begins_word, is_sign, IsRun}
 use Rattle.bk_token.specs.Pieces.{doubled, IsClosed, opening, opening_mark, is_go, number_kind, open_comment_len, first_of_bytes, IsBlockComment, IsQuotation, IsPieceBy, IsPiece}
 use Rattle.bk_token.specs.Reading.{closing, Opens}
@@ -14,7 +15,9 @@ use Rattle.bk_token.specs.declared.token.Kind.{Kind}
 use Rattle.bk_token.specs.declared.token.Kind.TheVariants.{Word, Go, Sign}
 use Rattle.bk_token.specs.RunLaws.{prefix_len-run}
 use Rattle.bk_token.specs.Tokens.{AreTokensFrom, ended, passed, token, AreTokens, token_of}
+use Rattle.bk_token.specs.declared.place.Place.{Place}
 use Rattle.bk_token.specs.declared.token.Token.{Token}
+use Rattle.bk_token.specs.Places.{AreTokensAt}
 
 -- ---- quotes
 
@@ -206,7 +209,8 @@ by_some Other before text rest k e p = omega (arith, p.1)
 pub piece_some : (before text rest : List ℕ) (k : Option Kind) → IsPiece before text rest k → 0 < length text
 piece_some before text rest k p = by_some (opening (text ++ rest)) before text rest k (opens (text ++ rest)) p
 
-no_piece : (before text rest : List ℕ) (k : Option Kind) → [] ≡ text ++ rest → IsPiece before text rest k → ⊥
+-- without bytes there is no piece
+pub no_piece : (before text rest : List ℕ) (k : Option Kind) → [] ≡ text ++ rest → IsPiece before text rest k → ⊥
 no_piece before text rest k e p = omega (arith, piece_some before text rest k p, ap length e, length-append text rest)
 
 -- what is read at a place is one list
@@ -233,3 +237,13 @@ one_from {before} (token {ts = ts} text rest kind e p more) (token text' rest' k
 
 pub one_list : (src : List ℕ) (ts us : List Token) → AreTokens src ts → AreTokens src us → ts ≡ us
 one_list src ts us a b = one_from a b
+
+-- where there are no bytes there are no tokens
+none_from : {before bytes : List ℕ} {ts : List Token} → AreTokensFrom before bytes ts → bytes ≡ [] → ts ≡ []
+none_from ended e = refl
+none_from {before} (passed text rest is p more) e = absurd (no_piece before text rest None (sym e ∙ is) p)
+none_from {before} (token text rest kind is p more) e = absurd (no_piece before text rest (Some kind) (sym e ∙ is) p)
+
+-- at the end there are no tokens
+pub none_left : (src : List ℕ) (p : Place) (ts : List Token) → length src ≤ p.at → AreTokensAt src p ts → ts ≡ []
+none_left src p ts past tokens = none_from tokens (drop_of_length-le src past)

@@ -9,6 +9,7 @@ ghost use Rattle.bk_token.specs.declared.token.Token.{Token as TokenOf};
 
 mod opening;
 mod piece;
+mod place;
 mod plain;
 mod runs;
 mod token;
@@ -16,6 +17,7 @@ mod words;
 
 pub use opening::is_blank;
 use piece::{Piece, first_piece};
+pub use place::{Place, next_token};
 pub use plain::{all_blank, is_plain};
 pub use runs::{decimal, digits_len, line_feeds};
 use std::alloc::{AllocError, Global};
@@ -66,7 +68,8 @@ pub fn tokens(alloc: Global, src: &[u8]) -> Result<Vec<Token>, AllocError>
 
 /// Bytes have exactly one token list.
 pub fn one_token_list()
-    ensures { (src : List ℕ) (ts us : List TokenOf) → AreTokens src ts → AreTokens src us → ts ≡ us }
+    ensures one { (src : List ℕ) (ts us : List TokenOf) → AreTokens src ts → AreTokens src us → ts ≡ us }
+    ensures some { (src : List ℕ) → (ts : List TokenOf) × AreTokens src ts }
 {}
 
 /// The spans of tokens rise, and lie within the bytes.

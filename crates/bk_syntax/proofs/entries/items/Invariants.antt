@@ -1,9 +1,9 @@
-use Rattle.std.proofs.Common.{length}
-use Rattle.bk_syntax.specs.Next.{EntriesSoFar}
+use Rattle.bk_syntax.specs.Reader.{work}
+use Rattle.bk_syntax.proofs.ReaderLaws.{ReadSoFar}
 use Rattle.bk_syntax.proofs.entries.items.Given as goal
 
-abbrev pub invariant-loop-rest : goal.invariant-loop-rest
-invariant-loop-rest l = EntriesSoFar l.src l.initial.rest l.found.items l.rest
+abbrev pub invariant-loop-found : goal.invariant-loop-found
+invariant-loop-found l = ReadSoFar l.src l.reader l.found.items
 
-abbrev pub decreases-loop-rest : goal.decreases-loop-rest
-decreases-loop-rest l = length l.rest
+abbrev pub decreases-loop-found : goal.decreases-loop-found
+decreases-loop-found l = work l.src l.reader

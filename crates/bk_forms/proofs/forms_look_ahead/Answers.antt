@@ -1,0 +1,18 @@
+use Rattle.bk_forms.specs.CreatingLaws.{create_database-ahead}
+use Rattle.bk_forms.specs.RowsLaws.{create_table-ahead, insert-ahead, update-ahead, delete-ahead, select-ahead, bulk_insert-ahead, begin-ahead, use_database-ahead, alter-ahead, drop_database-ahead}
+use Rattle.bk_forms.proofs.forms_look_ahead.Goals as goal
+
+pub returns : goal.returns
+returns c = record {
+  create_database = create_database-ahead;
+  create_table = create_table-ahead;
+  insert = insert-ahead;
+  update = update-ahead;
+  delete = delete-ahead;
+  select = select-ahead;
+  bulk_insert = bulk_insert-ahead;
+  begin = begin-ahead;
+  use_database = use_database-ahead;
+  alter = alter-ahead;
+  drop_database = drop_database-ahead;
+}
