@@ -1,0 +1,18 @@
+pub mod Named
+pub mod Histories
+pub mod ActsLogs
+pub mod ActsStay
+pub mod ActsSays
+pub mod ActsPlain
+pub mod Forking
+pub mod ActsBegin
+pub mod Acting
+mod Kept
+mod Opened
+mod Lost
+mod Left
+mod Crashed
+mod Joined
+mod Happened
+mod Lasting
+pub mod statements

@@ -1,0 +1,203 @@
+-- BACKUP DATABASE seals a sound set.
+use Rattle.std.proofs.Common.{◌≡◌, ◌≢◌, ◌<◌, ◌≤◌, ◌⊎◌, inl, inr, ℕ, ◌+◌, true, List, [], ◌∷◌, ◌++◌, map, Option, None, Some, refl, sym, ◌∙◌, ap, subst, arith}
+use Rattle.std.specs.Prelude.{◌||◌, is_some, not, Ok}
+use Rattle.std.specs.List.{AllByRecursion}
+use Rattle.bk_ids.specs.declared.guid.Guid.{Guid}
+use Rattle.bk_ids.specs.declared.path.Branch.{Branch}
+use Rattle.bk_ids.specs.Path.{branch_at, last_branch}
+use Rattle.bk_items.specs.declared.item.UnitName.{UnitName}
+use Rattle.bk_items.specs.declared.options.BackupOptions.{BackupOptions}
+use Rattle.bk_world.specs.declared.database.FileSpec.{FileSpec}
+use Rattle.bk_world.specs.declared.database.Status.TheVariants.{Online}
+use Rattle.bk_world.specs.declared.header.Header.{Header}
+use Rattle.bk_world.specs.declared.rule.Rule.TheVariants.{NoSuchDatabase, NotBuilt}
+use Rattle.bk_world.proofs.Saying.{line_of-appended}
+use Rattle.bk_world.specs.Lines.{MayGoOn, RecordLine, RecordLines, line_on, log_below, said_on_last}
+use Rattle.bk_world.specs.Medium.{medium_at}
+use Rattle.bk_world.specs.Records.{Logged, Said, checkpointed, more, numbered, stamped}
+use Rattle.bk_world.specs.Says.{alone}
+use Rattle.bk_world.specs.Telling.{model, telling, time}
+use Rattle.bk_machine.specs.Acts.{based, done, drawn, gone_on, logged, medium_made, said_time, says, set_sealed}
+use Rattle.bk_machine.specs.Checks.{limit, online, or_refuse, refuse_if, used_up}
+use Rattle.bk_machine.specs.MayDo.{MayDoAll}
+use Rattle.bk_machine.specs.Sound.{AreIdle, AreNumbered, IsHeld, IsLog, IsPassed, IsReached, IsSound, IsSoundSet, files_of_set}
+use Rattle.bk_machine.specs.World.{World, Database, database_named, log_of}
+use Rattle.bk_machine.specs.statements.Backup.{check_backup, full_backup, full_header, is_whole_backup}
+use Rattle.bk_machine.proofs.Acting.{act-sound}
+use Rattle.bk_machine.proofs.Named.{named-own}
+use Rattle.bk_machine.proofs.statements.Checking.{Up, passed, was-found, was-online}
+use Rattle.bk_machine.proofs.statements.Idling.{idle-done}
+use Rattle.bk_machine.proofs.statements.Ready.{IsReady, ready}
+use Rattle.bk_machine.proofs.statements.Said.{MayTell, done-is, idle-after, log-after, may-do, ready-after, sound-after}
+use Rattle.bk_machine.proofs.statements.Telling.{TellsOn, tells-checkpoint, tells-stamp}
+
+-- ---- what was checked
+
+-- a database that is online, found by its own name
+record IsUp (w : World) (db : Database) : Type 0 where
+  named : database_named w.databases db.name ≡ Some db
+  up : db.status ≡ Online
+
+checked : (w : World) (line : ℕ) (name : List ℕ) (units : List UnitName) (path : List ℕ) (options : BackupOptions) (db : Database) → check_backup w line name units path options ≡ Ok db → IsUp w db
+unfolding check_backup
+checked w line name units path options db e =
+    let one = passed (refuse_if (not (is_whole_backup units options) || is_some (medium_at w.media path)) (NotBuilt line)) _ db e in
+    let two = passed (or_refuse (database_named w.databases name) NoSuchDatabase) _ db one.then in
+    let three = passed (online two.found) _ db two.then in
+    let four = passed (limit (used_up three.found.end || used_up w.counter)) _ db three.then in
+    let up : Up two.found three.found = was-online two.found three.found three.is in
+    let last = four.then in
+    let same : three.found ≡ db = cc in
+    let whole : two.found ≡ db = up.is ∙ same in
+    record {
+      named = named-own w.databases name db (was-found (database_named w.databases name) NoSuchDatabase two.found two.is ∙ ap (λ (d : Database). Some d) whole);
+      up = subst (λ (d : Database). d.status ≡ Online) whole up.online;
+    }
+
+-- ---- records that change nothing
+
+checkpoint-tells : (w : World) (db : Database) (at : ℕ) (r : IsReady w db) → MayTell w db (alone (checkpointed at))
+checkpoint-tells w db at r =
+    let t = tells-checkpoint (log_of w.history db) db.end at in
+    record { may = record { online = r.up; may = (tt, tt); tables = subst (AreNumbered 1) (sym t.tables) r.whole.log.tables; places = (tt, tt) }; none = t.pending ∙ r.none }
+
+stamp-tells : (w : World) (db : Database) (at : ℕ) (set : Guid) (r : IsReady w db) → MayTell w db (alone (stamped at set))
+stamp-tells w db at set r =
+    let t = tells-stamp (log_of w.history db) db.end at set in
+    record { may = record { online = r.up; may = (tt, tt); tables = subst (AreNumbered 1) (sym t.tables) r.whole.log.tables; places = (tt, tt) }; none = t.pending ∙ r.none }
+
+-- ---- what is held
+
+-- an entry that comes last reaches each number up to its own
+reached-last : (rs : List Logged) (r : Logged) (k : ℕ) → k ≤ r.lsn → telling r.deed ≢ None → IsReached (rs ++ r ∷ []) k
+reached-last [] r k le told = inl (le, told)
+reached-last (s ∷ rs) r k le told = inr (reached-last rs r k le told)
+
+-- behind an entry that is said at the end of a path, its last branch passed each number up to it
+passed-last : (h : RecordLines) (db : Database) (on : MayGoOn h db.path db.end) (s : Said) (k : ℕ) → k ≤ db.end → telling s.deed ≢ None → IsPassed (said_on_last h (last_branch db.path) (numbered db.end (s ∷ []))) (last_branch db.path) k
+passed-last h db on s k le told =
+    subst (λ (b : Option Guid). IsPassed (said_on_last h b (numbered db.end (s ∷ []))) b k) (sym on.last)
+    (subst (λ (line : RecordLine). IsReached line.records k) (sym (line_of-appended h on.branch (numbered db.end (s ∷ [])) on.there)) (reached-last (line_on h on.branch).records _ k le told))
+
+-- ---- the set
+
+files-same : (h : Header) (files : List FileSpec) → files_of_set (record h { files = map (λ file. record { spec = file; in_set = true }) files }) ≡ files
+files-same h [] = refl
+files-same h (f ∷ files) = ap (λ (rest : List FileSpec). f ∷ rest) (files-same h files)
+
+-- ---- the parts
+
+module _ (w : World) (db : Database) (path : List ℕ) (now : ℕ) (sound : IsSound w) (idle : AreIdle w) (r : IsReady w db) where
+  abbrev at : ℕ
+  at = said_time w db now
+
+  abbrev set : Guid
+  set = drawn w w.counter
+
+  abbrev header : Header
+  header = full_header w db (drawn w w.counter) (said_time w db now)
+
+  -- behind the medium
+  abbrev made : World
+  made = done w (medium_made path)
+
+  made-sound : IsSound (done w (medium_made path))
+  made-sound = act-sound w (medium_made path) sound tt
+
+  made-idle : AreIdle (done w (medium_made path))
+  made-idle = idle-done w (medium_made path) idle tt
+
+  made-ready : IsReady (done w (medium_made path)) db
+  unfolding done
+  made-ready = ready (done w (medium_made path)) db made-sound made-idle r.named r.up
+
+  -- behind the checkpoint at its start
+  abbrev start_said : List Said
+  start_said = alone (checkpointed at)
+
+  start-tells : MayTell made db start_said
+  start-tells = checkpoint-tells made db at made-ready
+
+  abbrev started : World
+  started = says made db start_said db.transactions
+
+  abbrev started_db : Database
+  started_db = gone_on (model (log_of made.history db)) start_said db.transactions db
+
+  started-sound : IsSound started
+  started-sound = sound-after made db start_said made-sound made-idle made-ready start-tells
+
+  started-idle : AreIdle started
+  started-idle = idle-after made db start_said made-sound made-idle made-ready start-tells
+
+  started-ready : IsReady started started_db
+  started-ready = ready-after made db start_said made-sound made-idle made-ready start-tells refl r.up
+
+  -- behind the stamp at its finish
+  abbrev finish_said : List Said
+  finish_said = alone (stamped at set)
+
+  finish-tells : MayTell started started_db finish_said
+  finish-tells = stamp-tells started started_db at set started-ready
+
+  abbrev finished : World
+  finished = says started started_db finish_said db.transactions
+
+  abbrev finished_db : Database
+  finished_db = gone_on (model (log_of started.history started_db)) finish_said db.transactions started_db
+
+  finished-ready : IsReady finished finished_db
+  finished-ready = ready-after started started_db finish_said started-sound started-idle started-ready finish-tells refl r.up
+
+  finished-log : log_of finished.history finished_db ≡ more (more (log_of w.history db) db.end start_said) started_db.end finish_said
+  unfolding done
+  finished-log =
+      log-after started started_db finish_said started-sound started-idle started-ready finish-tells
+      ∙ ap (λ rs. more rs started_db.end finish_said) (log-after made db start_said made-sound made-idle made-ready start-tells)
+
+  -- what it shows is held: its last branch passed the stamp
+  finished-held : IsHeld finished.history db.path finished_db.end
+  unfolding says
+  finished-held k positive lt = by (finished-ready.whole.held k positive lt)
+    where
+      by : ((finished_db.status ≡ Online) × (branch_at finished_db.path k ≡ last_branch finished_db.path)) ⊎ IsPassed finished.history (branch_at finished_db.path k) k → IsPassed finished.history (branch_at db.path k) k
+      by (inl last) = subst (λ b. IsPassed finished.history b k) (sym last.1) (passed-last started.history started_db (started-ready.whole.online r.up).goes_on _ k (omega (arith, lt)) (λ e. absurd cc))
+      by (inr is) = is
+
+  sealed : IsSoundSet finished header
+  unfolding full_header log_of says done
+  sealed =
+      let end : finished_db.end ≡ db.end + 2 = omega arith in
+      let one : TellsOn (log_of w.history db) (more (log_of w.history db) db.end start_said) at = tells-checkpoint (log_of w.history db) db.end at in
+      let two : TellsOn (more (log_of w.history db) db.end start_said) (more (more (log_of w.history db) db.end start_said) started_db.end finish_said) at = tells-stamp (more (log_of w.history db) db.end start_said) started_db.end at set in
+      let log : log_below finished.history db.path (db.end + 2) ≡ more (more (log_of w.history db) db.end start_said) started_db.end finish_said = ap (log_below finished.history db.path) (sym end) ∙ finished-log in record {
+        log = subst (λ files. IsLog files (log_below finished.history db.path (db.end + 2)) (db.end + 2)) (sym (files-same header db.files))
+            (subst (λ n. IsLog db.files (log_below finished.history db.path n) n) end finished-ready.whole.log);
+        path = finished-ready.whole.path;
+        starts = subst (λ n. AllByRecursion (λ (b : Branch). b.start < n) db.path) end finished-ready.whole.starts;
+        drawn = finished-ready.whole.drawn;
+        set = λ own. omega arith;
+        family = finished-ready.whole.family;
+        held = subst (IsHeld finished.history db.path) end finished-held;
+        model = sym (ap model log ∙ two.model ∙ one.model);
+        finish = sym (ap time log ∙ two.time);
+      }
+
+  -- each part may be done
+  pub backs-up : MayDoAll w (full_backup db path (full_header w db (drawn w w.counter) (said_time w db now)))
+  unfolding full_header
+  backs-up =
+      let seal : MayDoAll finished (set_sealed path header ∷ based db.name header ∷ []) = (sealed, (tt, tt)) in
+      let stamp : MayDoAll started (logged db.name finish_said db.transactions ∷ set_sealed path header ∷ based db.name header ∷ []) = (
+        may-do started started_db finish_said started-sound started-idle started-ready finish-tells,
+        subst (λ v. MayDoAll v (set_sealed path header ∷ based db.name header ∷ [])) (sym (done-is started started_db finish_said started-sound started-idle started-ready finish-tells)) seal,
+      ) in (
+        tt,
+        (
+          may-do made db start_said made-sound made-idle made-ready start-tells,
+          subst (λ v. MayDoAll v (logged db.name finish_said db.transactions ∷ set_sealed path header ∷ based db.name header ∷ [])) (sym (done-is made db start_said made-sound made-idle made-ready start-tells)) stamp,
+        ),
+      )
+
+pub its-ready : (w : World) (line : ℕ) (name : List ℕ) (units : List UnitName) (path : List ℕ) (options : BackupOptions) (db : Database) → IsSound w → AreIdle w → check_backup w line name units path options ≡ Ok db → IsReady w db
+its-ready w line name units path options db sound idle e = let its : IsUp w db = checked w line name units path options db e in ready w db sound idle its.named its.up

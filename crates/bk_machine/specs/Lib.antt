@@ -1,0 +1,13 @@
+pub mod World
+pub mod Checks
+pub mod Acts
+pub mod Outcome
+pub mod Seen
+pub mod Room
+pub mod statements
+pub mod Machine
+pub mod Run
+pub mod Sound
+pub mod Crash
+pub mod Events
+pub mod MayDo

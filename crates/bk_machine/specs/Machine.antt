@@ -1,0 +1,37 @@
+-- The machine: what each statement of a script may come to.
+use Rattle.std.specs.Prelude.{◌≡◌, ℕ}
+use Rattle.bk_items.specs.declared.item.ScriptEntry.{ScriptEntry}
+use Rattle.bk_items.specs.declared.item.ScriptItem.{ScriptItem}
+use Rattle.bk_items.specs.declared.item.ScriptItem.TheVariants.{CreateDatabase, DropDatabase, Use, CreateTable, Insert, Select, BackupDatabase, RestoreDatabase}
+use Rattle.bk_world.specs.declared.rule.Rule.TheVariants.{NotBuilt}
+use Rattle.bk_machine.specs.Acts.{done_all}
+use Rattle.bk_machine.specs.Outcome.{Outcome, ComesTo, refused}
+use Rattle.bk_machine.specs.World.{World}
+use Rattle.bk_machine.specs.statements.CreateDatabase.{check_create_database, DoesCreateDatabase}
+use Rattle.bk_machine.specs.statements.DropDatabase.{check_drop_database, DoesDropDatabase}
+use Rattle.bk_machine.specs.statements.Use.{check_use, DoesUse}
+use Rattle.bk_machine.specs.statements.CreateTable.{check_create_table, DoesCreateTable}
+use Rattle.bk_machine.specs.statements.Insert.{check_insert, DoesInsert}
+use Rattle.bk_machine.specs.statements.Select.{check_select, DoesSelect}
+use Rattle.bk_machine.specs.statements.Backup.{check_backup, DoesBackup}
+use Rattle.bk_machine.specs.statements.Restore.{check_restore, DoesRestore}
+
+-- what an item on this line may come to at a moment
+abbrev pub ItemMay : World → ℕ → ScriptItem → ℕ → Outcome → Type 0
+ItemMay w line (CreateDatabase name primary groups log) now = ComesTo (check_create_database w line name primary groups log) (DoesCreateDatabase w name now)
+ItemMay w line (DropDatabase name) now = ComesTo (check_drop_database w name) DoesDropDatabase
+ItemMay w line (Use name) now = ComesTo (check_use w name) DoesUse
+ItemMay w line (CreateTable name group) now = ComesTo (check_create_table w line group) (DoesCreateTable w name now)
+ItemMay w line (Insert table key value) now = ComesTo (check_insert w line table key value) (DoesInsert w key value now)
+ItemMay w line (Select table key) now = ComesTo (check_select w line table key) DoesSelect
+ItemMay w line (BackupDatabase name units disk options) now = ComesTo (check_backup w line name units disk options) (DoesBackup w disk now)
+ItemMay w line (RestoreDatabase name units disk options) now = ComesTo (check_restore w line name units disk options) (DoesRestore w name)
+ItemMay w line _ now = λ outcome. outcome ≡ refused (NotBuilt line)
+
+-- what a statement may come to
+unfoldable pub May : World → ScriptEntry → ℕ → Outcome → Type 0
+May w s now outcome = ItemMay w s.line s.item now outcome
+
+-- the world behind an outcome
+abbrev pub behind : World → Outcome → World
+behind w outcome = done_all w outcome.acts

@@ -1,0 +1,58 @@
+-- Which acts may be done to a sound world, so that it stays sound.
+use Rattle.std.specs.Prelude.{◌≡◌, ◌<◌, ◌≤◌, ◌+◌, List, [], ◌∷◌, length, Option, Some, None}
+use Rattle.bk_world.specs.declared.database.Status.TheVariants.{Online, Down}
+use Rattle.bk_world.specs.Records.{Said, more, numbered}
+use Rattle.bk_world.specs.SoundLogs.{MayFollow}
+use Rattle.bk_world.specs.Telling.{tables}
+use Rattle.bk_machine.specs.Acts.{Act, Creation, Recovery, turned, created, dropped, logged, medium_made, set_sealed, based, replaced, restored, recovered, done, drawn}
+use Rattle.bk_machine.specs.Sound.{AreNumbered, AreOpen, ArePlaced, IsSoundSet}
+use Rattle.bk_machine.specs.World.{World, Database, Open, database_named, log_of, log_to}
+use Rattle.bk_machine.specs.statements.Restore.{Recovers}
+
+-- the two next GUIDs, and a name that no database has
+pub record MayCreate (w : World) (c : Creation) : Type 0 where
+  pub family : c.family ≡ drawn w w.counter
+  pub branch : c.branch ≡ drawn w (w.counter + 1)
+  pub new : database_named w.databases c.name ≡ None
+
+-- a database that is online may say this: each record may come, and rows get cells of their groups
+pub record MaySay (w : World) (db : Database) (said : List Said) : Type 0 where
+  pub online : db.status ≡ Online
+  pub may : MayFollow (log_of w.history db) (numbered db.end said)
+  pub tables : AreNumbered 1 (tables (more (log_of w.history db) db.end said))
+  pub places : ArePlaced db.files (log_of w.history db) (numbered db.end said)
+
+-- and these transactions are open then
+pub record MayLog (w : World) (db : Database) (said : List Said) (transactions : List Open) : Type 0 where
+  pub says : MaySay w db said
+  pub opens : AreOpen (more (log_of w.history db) db.end said) (db.end + length said) transactions
+
+-- A database that is down may be recovered at a number of its log, on the next GUID as its branch.
+pub record MayRecover (w : World) (db : Database) (r : Recovery) : Type 0 where
+  pub down : db.status ≡ Down
+  pub some : 0 < r.at
+  pub within : r.at ≤ db.end
+  pub branch : r.branch ≡ drawn w w.counter
+  pub recovers : Recovers (log_to w.history db r.at) r
+
+-- this holds of the database of a name
+abbrev pub HoldsOf : Option Database → (Database → Type 0) → Type 0
+HoldsOf None P = ⊥
+HoldsOf (Some db) P = P db
+
+abbrev pub MayDo : World → Act → Type 0
+MayDo w (turned name) = Unit {0}
+MayDo w (created c) = MayCreate w c
+MayDo w (dropped name) = Unit {0}
+MayDo w (logged name said transactions) = HoldsOf (database_named w.databases name) (λ db. MayLog w db said transactions)
+MayDo w (medium_made path) = Unit {0}
+MayDo w (set_sealed path header) = IsSoundSet w header
+MayDo w (based name header) = Unit {0}
+MayDo w (replaced name header) = IsSoundSet w header
+MayDo w (restored name base redo) = Unit {0}
+MayDo w (recovered name r) = HoldsOf (database_named w.databases name) (λ db. MayRecover w db r)
+
+-- some acts may be done one after another
+abbrev pub MayDoAll : World → List Act → Type 0
+MayDoAll w [] = Unit {0}
+MayDoAll w (act ∷ acts) = MayDo w act × MayDoAll (done w act) acts

@@ -1,0 +1,189 @@
+-- What every reachable world keeps.
+use Rattle.std.specs.Prelude.{◌≡◌, ◌≢◌, ◌⊎◌, ◌<◌, ◌≤◌, ℕ, ◌+◌, ◌==◌, Bool, true, false, List, [], ◌∷◌, ◌++◌, Option, Some, None, Contains}
+use Rattle.std.specs.List.{AllByRecursion, list_any, find}
+use Rattle.bk_ids.specs.declared.guid.Guid.{Guid}
+use Rattle.bk_ids.specs.declared.path.Branch.{Branch}
+use Rattle.bk_ids.specs.Name.{lowered}
+use Rattle.bk_ids.specs.Path.{branch_at, last_branch, IsPath}
+use Rattle.bk_world.specs.declared.database.FileSpec.{FileSpec}
+use Rattle.bk_world.specs.declared.database.Status.TheVariants.{Online}
+use Rattle.bk_world.specs.declared.database.TableSpec.{TableSpec}
+use Rattle.bk_world.specs.declared.header.Header.{Header}
+use Rattle.bk_world.specs.declared.header.HeaderFile.{HeaderFile}
+use Rattle.bk_world.specs.Lines.{RecordLine, RecordLines, has_record_line, line_on, log_below, MayGoOn}
+use Rattle.bk_world.specs.Medium.{Slot, Reading, readable, damaged, no_set, not_media, medium}
+use Rattle.bk_world.specs.Pending.{Pending, pending}
+use Rattle.bk_world.specs.Places.{IsCellOf}
+use Rattle.bk_world.specs.Records.{Deed, Logged, Counts, written}
+use Rattle.bk_world.specs.SoundLogs.{IsSound as IsSoundLog, NoLoadPends}
+use Rattle.bk_world.specs.Telling.{telling, tables, model, time}
+use Rattle.bk_machine.specs.World.{World, Database, Open, log_of}
+
+-- The history.
+
+-- each branch has one line
+abbrev pub IsOnce : RecordLines → Type 0
+IsOnce [] = Unit {0}
+IsOnce (line ∷ lines) = (has_record_line lines line.branch ≡ false) × IsOnce lines
+
+-- records rise by their numbers, from above a number on
+abbrev pub RiseFrom : ℕ → List Logged → Type 0
+RiseFrom n [] = Unit {0}
+RiseFrom n (r ∷ rs) = (n < r.lsn) × RiseFrom r.lsn rs
+
+-- a GUID isn't one that this instance will draw
+abbrev pub IsNotToCome : World → Guid → Type 0
+IsNotToCome w guid = guid.high ≡ w.instance → guid.low < w.counter
+
+-- a line's branch is drawn, and its records rise
+pub record IsSoundLine (w : World) (line : RecordLine) : Type 0 where
+  pub drawn : IsNotToCome w line.branch
+  pub rises : RiseFrom 0 line.records
+
+-- one of some records at a number or above tells an entry
+abbrev pub IsReached : List Logged → ℕ → Type 0
+IsReached [] n = ⊥
+IsReached (r ∷ rs) n = ((n ≤ r.lsn) × (telling r.deed ≢ None)) ⊎ IsReached rs n
+
+-- a branch has an entry at a number or above: no crash loses what lies there
+abbrev pub IsPassed : RecordLines → Option Guid → ℕ → Type 0
+IsPassed lines None n = Unit {0}
+IsPassed lines (Some branch) n = IsReached (line_on lines branch).records n
+
+-- what a path shows below n is held: each of these numbers is passed on its branch
+abbrev pub IsHeld : RecordLines → List Branch → ℕ → Type 0
+IsHeld lines path n = (k : ℕ) → 0 < k → k < n → IsPassed lines (branch_at path k) k
+
+-- Logs.
+
+-- a row is written in a cell of its table's group
+abbrev pub IsPlaced : List FileSpec → List TableSpec → Deed → Type 0
+IsPlaced files tables (written at before c) = (t : TableSpec) × (find (λ (made : TableSpec). made.number == c.table) tables ≡ Some t) × IsCellOf files t.group at
+IsPlaced files tables _ = Unit {0}
+
+-- and so is each row of some records behind others, by the tables that were made before it
+abbrev pub ArePlaced : List FileSpec → List Logged → List Logged → Type 0
+ArePlaced files before [] = Unit {0}
+ArePlaced files before (r ∷ rs) = IsPlaced files (tables before) r.deed × ArePlaced files (before ++ r ∷ []) rs
+
+-- tables are numbered in the order in which they were made
+abbrev pub AreNumbered : ℕ → List TableSpec → Type 0
+AreNumbered n [] = Unit {0}
+AreNumbered n (t ∷ tables) = (t.number ≡ n) × AreNumbered (n + 1) tables
+
+-- A log up to an end: it has each number once, each of its records may come behind those before it, and rows lie in cells of these files.
+pub record IsLog (files : List FileSpec) (rs : List Logged) (end : ℕ) : Type 0 where
+  pub counts : Counts 1 rs end
+  pub sound : IsSoundLog rs
+  pub tables : AreNumbered 1 (tables rs)
+  pub places : ArePlaced files [] rs
+
+-- Databases.
+
+-- each transaction is another session's, and began at another number
+pub record Apart (a b : Open) : Type 0 where
+  pub session : a.session ≢ b.session
+  pub begin : a.begin ≢ b.begin
+
+abbrev pub AreApart : List Open → Type 0
+AreApart [] = Unit {0}
+AreApart (t ∷ transactions) = AllByRecursion (Apart t) transactions × AreApart transactions
+
+-- a transaction with this first record is open
+abbrev pub has_begin : List Open → ℕ → Bool
+has_begin transactions begin = list_any (λ (t : Open). t.begin == begin) transactions
+
+-- what is pending in a log that ends here is of these open transactions, and no minimal load is pending
+pub record AreOpen (rs : List Logged) (end : ℕ) (transactions : List Open) : Type 0 where
+  pub pending : AllByRecursion (λ (w : Pending). has_begin transactions w.begin ≡ true) (pending rs)
+  pub loads : NoLoadPends rs
+  pub apart : AreApart transactions
+  pub begins : AllByRecursion (λ (t : Open). (0 < t.begin) × (t.begin < end)) transactions
+
+-- nothing is open, and no job runs
+pub record IsIdle (db : Database) : Type 0 where
+  pub job : db.job ≡ None
+  pub transactions : db.transactions ≡ []
+
+-- a database that is online has open transactions, and another one is idle
+pub record OpenBy (lines : RecordLines) (db : Database) : Type 0 where
+  pub online : db.status ≡ Online → AreOpen (log_of lines db) db.end db.transactions
+  pub offline : db.status ≢ Online → IsIdle db
+
+-- A database that is online goes on. A record that is of no transaction, so that no crash loses it, lies on its last branch.
+pub record IsOnline (lines : RecordLines) (db : Database) : Type 0 where
+  pub goes_on : MayGoOn lines db.path db.end
+  pub anchor : (r : Logged) × Contains (log_of lines db) r × (r.begin ≡ 0) × AllByRecursion (λ (b : Branch). b.start ≤ r.lsn) db.path
+
+-- what a database shows is held, but on the last branch of one that is online, which goes on
+abbrev pub IsHeldOf : RecordLines → Database → Type 0
+IsHeldOf lines db = (k : ℕ) → 0 < k → k < db.end → ((db.status ≡ Online) × (branch_at db.path k ≡ last_branch db.path)) ⊎ IsPassed lines (branch_at db.path k) k
+
+-- a database, but for what is open in it
+pub record IsWholeDatabase (w : World) (db : Database) : Type 0 where
+  pub log : IsLog db.files (log_of w.history db) db.end
+  pub path : IsPath db.path
+  pub starts : AllByRecursion (λ (b : Branch). b.start < db.end) db.path
+  pub drawn : AllByRecursion (λ (b : Branch). IsNotToCome w b.guid) db.path
+  pub family : IsNotToCome w db.family
+  pub held : IsHeldOf w.history db
+  pub online : db.status ≡ Online → IsOnline w.history db
+
+-- two databases have different names, and where both are online they write on different branches
+pub record Differ (a b : Database) : Type 0 where
+  pub names : lowered a.name ≢ lowered b.name
+  pub branches : a.status ≡ Online → b.status ≡ Online → last_branch a.path ≢ last_branch b.path
+
+-- each of some databases differs from all behind it
+abbrev pub AreDifferent : List Database → Type 0
+AreDifferent [] = Unit {0}
+AreDifferent (db ∷ databases) = AllByRecursion (Differ db) databases × AreDifferent databases
+
+-- Media.
+
+-- the files of a set's database
+abbrev pub files_of_set : Header → List FileSpec
+files_of_set header = specs_of header.files
+  where
+    specs_of : List HeaderFile → List FileSpec
+    specs_of [] = []
+    specs_of (file ∷ files) = file.spec ∷ specs_of files
+
+-- a set: the log of its path is whole below its end, and held
+pub record IsSoundSet (w : World) (header : Header) : Type 0 where
+  pub log : IsLog (files_of_set header) (log_below w.history header.path header.last) header.last
+  pub path : IsPath header.path
+  pub starts : AllByRecursion (λ (b : Branch). b.start < header.last) header.path
+  pub drawn : AllByRecursion (λ (b : Branch). IsNotToCome w b.guid) header.path
+  pub set : IsNotToCome w header.set
+  pub family : IsNotToCome w header.family
+  pub held : IsHeld w.history header.path header.last
+  pub model : header.model ≡ model (log_below w.history header.path header.last)
+  pub finish : header.finish ≡ time (log_below w.history header.path header.last)
+
+abbrev pub IsSoundSlot : World → Slot → Type 0
+IsSoundSlot w (readable header) = IsSoundSet w header
+IsSoundSlot w (damaged stored found) = Unit {0}
+IsSoundSlot w no_set = Unit {0}
+
+abbrev pub IsSoundReading : World → Reading → Type 0
+IsSoundReading w not_media = Unit {0}
+IsSoundReading w (medium slots) = AllByRecursion (IsSoundSlot w) slots
+
+-- Worlds.
+
+-- a world, but for what is open in it
+pub record IsWhole (w : World) : Type 0 where
+  pub once : IsOnce w.history
+  pub lines : AllByRecursion (IsSoundLine w) w.history
+  pub databases : AllByRecursion (IsWholeDatabase w) w.databases
+  pub different : AreDifferent w.databases
+  pub media : AllByRecursion (λ (m : List ℕ × Reading). IsSoundReading w m.1) w.media
+
+pub record IsSound (w : World) : Type 0 where
+  pub whole : IsWhole w
+  pub opens : AllByRecursion (OpenBy w.history) w.databases
+
+-- nothing is open in any database, as it is until statements begin transactions
+abbrev pub AreIdle : World → Type 0
+AreIdle w = AllByRecursion IsIdle w.databases

@@ -1,0 +1,9 @@
+-- Statements, one a file: which rules each checks in which order, what it then does, and what it answers.
+pub mod CreateDatabase
+pub mod DropDatabase
+pub mod Use
+pub mod CreateTable
+pub mod Insert
+pub mod Select
+pub mod Backup
+pub mod Restore

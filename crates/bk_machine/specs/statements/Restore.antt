@@ -1,0 +1,164 @@
+-- RESTORE DATABASE, until media hold several sets: a whole restore from the first set of a medium, with recovery.
+-- SQL Server: RESTORE (Transact-SQL); "Complete Database Restores"; "Tail-Log Backups"; "Recovery Paths".
+use Rattle.std.specs.Prelude.{◌≡◌, ◌≤◌, ℕ, min, Bool, true, false, not, ◌&&◌, ◌||◌, List, [], ◌∷◌, length, map, nat_lt, nat_le, Option, Some, None, is_none, Ok, Err, if◌then◌else◌}
+use Rattle.std.specs.List.{AllByRecursion, count_by}
+use Rattle.bk_ids.specs.declared.guid.Guid.{Guid}
+use Rattle.bk_items.specs.declared.item.RestoredUnits.{RestoredUnits}
+use Rattle.bk_items.specs.declared.item.RestoredUnits.TheVariants.{Named, Pages}
+use Rattle.bk_items.specs.declared.options.Ending.{Ending}
+use Rattle.bk_items.specs.declared.options.Ending.TheVariants.{Recovery as EndRecovery}
+use Rattle.bk_items.specs.declared.options.FileMove.{FileMove}
+use Rattle.bk_items.specs.declared.options.RestoreOptions.{RestoreOptions}
+use Rattle.bk_world.specs.declared.database.Base.{Base}
+use Rattle.bk_world.specs.declared.database.Status.{Status}
+use Rattle.bk_world.specs.declared.database.Status.TheVariants as status
+use Rattle.bk_world.specs.declared.header.Header.{Header}
+use Rattle.bk_world.specs.declared.reply.Reply.TheVariants.{Recovered}
+use Rattle.bk_world.specs.declared.rule.Limit.TheVariants.{Databases}
+use Rattle.bk_world.specs.declared.rule.Rule.TheVariants.{MediaMissing, NotMedia, NoSuchSet, SetDamaged, OtherFamily, TailNotBackedUp, PathFull, LimitReached, NotBuilt}
+use Rattle.bk_world.specs.History.{is_guid}
+use Rattle.bk_world.specs.Lines.{log_below}
+use Rattle.bk_world.specs.Medium.{Slot, Reading, readable, damaged, no_set, not_media, medium, medium_at}
+use Rattle.bk_world.specs.Pending.{pending}
+use Rattle.bk_world.specs.Records.{Deed, Logged, Said, more, numbered, undone, rolled_back, recovered as recovery_deed}
+use Rattle.bk_world.specs.SoundLogs.{MayFollow}
+use Rattle.bk_world.specs.Telling.{model}
+use Rattle.bk_machine.specs.Acts.{Act, Recovery, replaced, restored, recovered, drawn, is_simple}
+use Rattle.bk_machine.specs.Checks.{Checked, ◌>>=◌, refuse_if, limit, used_up, most_databases, paths_of, others, free_paths, different_paths}
+use Rattle.bk_machine.specs.Outcome.{Outcome}
+use Rattle.bk_machine.specs.World.{World, Database, database_named, log_of}
+use Rattle.bk_machine.specs.statements.Backup.{is_idle}
+
+-- Which of them are built.
+
+abbrev pub is_recovery : Option Ending → Bool
+is_recovery None = true
+is_recovery (Some EndRecovery) = true
+is_recovery (Some _) = false
+
+abbrev pub has_no_move : List FileMove → Bool
+has_no_move [] = true
+has_no_move (move ∷ moves) = false
+
+-- at most RECOVERY and REPLACE are there
+abbrev pub is_plain : RestoreOptions → Bool
+is_plain o = is_none o.file && is_recovery o.ending && is_none o.stop && not o.partial && has_no_move o.moves && is_none o.checksum && is_idle o.idle
+
+abbrev pub lists_none : RestoredUnits → Bool
+lists_none (Named []) = true
+lists_none (Named (unit ∷ units)) = false
+lists_none (Pages pages) = false
+
+abbrev pub is_whole_restore : RestoredUnits → Option (List ℕ) → RestoreOptions → Bool
+is_whole_restore units None options = false
+is_whole_restore units (Some disk) options = lists_none units && is_plain options
+
+-- Rules.
+
+-- the header of a slot, where it is a set that can be read
+abbrev pub read_slot : Slot → Checked Header
+read_slot (readable header) = Ok header
+read_slot (damaged stored found) = Err (SetDamaged (record { bytes = stored }) (record { bytes = found }))
+read_slot no_set = Err NotMedia
+
+-- the header of the first set of a medium
+abbrev pub first_set : Option Reading → Checked Header
+first_set None = Err MediaMissing
+first_set (Some not_media) = Err NotMedia
+first_set (Some (medium [])) = Err (NoSuchSet 1 0)
+first_set (Some (medium (slot ∷ slots))) = read_slot slot
+
+-- a set of another family, unless the database may be replaced
+abbrev pub check_family : Option Database → Bool → Header → Checked (Unit {0})
+check_family None replace header = Ok tt
+check_family (Some db) replace header = refuse_if (not replace && not (is_guid db.family header.family)) (OtherFamily db.family header.family)
+
+abbrev pub is_online : Status → Bool
+is_online status.Online = true
+is_online (status.Standby file) = false
+is_online status.Down = false
+
+-- the end of the log isn't backed up, and would be lost
+abbrev pub has_tail : World → Database → Bool
+has_tail w db = is_online db.status && not (is_simple (model (log_of w.history db))) && db.chain && nat_lt db.archive db.end
+
+abbrev pub check_tail : World → Option Database → Bool → Checked (Unit {0})
+check_tail w None replace = Ok tt
+check_tail w (Some db) replace = refuse_if (has_tail w db && not replace) (TailNotBackedUp db.archive db.end)
+
+-- one database more than there may be
+abbrev pub check_number : List Database → Option Database → Checked (Unit {0})
+check_number databases None = refuse_if (nat_le most_databases (length databases)) (LimitReached Databases)
+check_number databases (Some db) = Ok tt
+
+-- the paths of a set's data files, in which no file of another database may lie, and no two of its own
+abbrev pub set_paths : Header → List (List ℕ)
+set_paths header = map (λ file. file.spec.path) header.files
+
+-- the path of the medium, empty where none is named
+abbrev pub disk_path : Option (List ℕ) → List ℕ
+disk_path None = []
+disk_path (Some path) = path
+
+-- what is checked of a set by its header
+unfoldable pub check_set : World → List ℕ → Bool → Header → Checked (Unit {0})
+check_set w name replace header = do
+  _ ← check_family (database_named w.databases name) replace header
+  _ ← check_tail w (database_named w.databases name) replace
+  _ ← check_number w.databases (database_named w.databases name)
+  _ ← free_paths (paths_of (others w.databases name)) (set_paths header)
+  _ ← different_paths [] (set_paths header)
+  _ ← refuse_if (nat_le 64 (length header.path)) PathFull
+  limit (used_up header.last || used_up w.counter)
+
+unfoldable pub check_restore : World → ℕ → List ℕ → RestoredUnits → Option (List ℕ) → RestoreOptions → Checked Header
+check_restore w line name units disk options = do
+  _ ← refuse_if (not (is_whole_restore units disk options)) (NotBuilt line)
+  header ← first_set (medium_at w.media (disk_path disk))
+  _ ← check_set w name options.replace header
+  Ok header
+
+-- Parts.
+
+-- the database's name: as it is known, or as it is asked for
+abbrev pub name_known : Option Database → List ℕ → List ℕ
+name_known None name = name
+name_known (Some db) name = db.name
+
+-- what a differential is based on behind this set: none behind a copy
+abbrev pub base_of : Header → Option Base
+base_of header = if header.copy_only then None else Some (record { set = header.set; lsn = header.checkpoint })
+
+-- a record that a recovery says: it undoes a write or ends a rollback, or it names the branch, of no transaction
+abbrev pub IsOfRecovery : Guid → ℕ → Deed → Type 0
+IsOfRecovery branch begin (undone at c n) = Unit {0}
+IsOfRecovery branch begin rolled_back = Unit {0}
+IsOfRecovery branch begin (recovery_deed other) = (begin ≡ 0) × (other ≡ branch)
+IsOfRecovery branch begin _ = ⊥
+
+abbrev pub is_recovery_deed : Said → Bool
+is_recovery_deed s = by_deed s.deed
+  where
+    by_deed : Deed → Bool
+    by_deed (recovery_deed branch) = true
+    by_deed _ = false
+
+-- What a recovery behind these records says: it undoes all that is pending, and one record names the branch.
+pub record Recovers (rs : List Logged) (r : Recovery) : Type 0 where
+  pub may : MayFollow rs (numbered r.at r.said)
+  pub each : AllByRecursion (λ (s : Said). IsOfRecovery r.branch s.begin s.deed) r.said
+  pub one : count_by is_recovery_deed r.said ≡ 1
+  pub settles : pending (more rs r.at r.said) ≡ []
+  pub few : length r.said ≤ min r.at 4194304
+
+-- the database is replaced and its files are Bad; they are restored; it is recovered
+abbrev pub whole_restore : List ℕ → Header → Recovery → List Act
+whole_restore name header r = replaced name header ∷ restored name (base_of header) header.last ∷ recovered name r ∷ []
+
+abbrev pub restored_whole : List ℕ → Header → Recovery → Outcome
+restored_whole name header r = record { acts = whole_restore name header r; reply = Recovered header.last }
+
+-- it is recovered at the end of its set, on a branch that is drawn for it
+abbrev pub DoesRestore : World → List ℕ → Header → Outcome → Type 0
+DoesRestore w name header outcome = (r : Recovery) × (r.at ≡ header.last) × (r.branch ≡ drawn w w.counter) × Recovers (log_below w.history header.path header.last) r
+    × (outcome ≡ restored_whole (name_known (database_named w.databases name) name) header r)

@@ -1,0 +1,18 @@
+//! The written machine over logs of records: the world, what each statement may come to, what a crash leaves, what may
+//! happen between runs. The definitions stand in `specs/`; here are the laws of worlds.
+#![tactic(auto)]
+
+mod act_laws;
+mod crash_laws;
+mod event_laws;
+mod laws;
+mod statement_laws;
+
+pub use act_laws::{
+    a_recovery_is_said_last, acts_keep_what_is_read, acts_keep_worlds_sound,
+    what_is_said_comes_last,
+};
+pub use crash_laws::crashes_keep_worlds_sound;
+pub use event_laws::events_keep_worlds_sound;
+pub use laws::{empty_worlds_are_sound, runs_begin_and_end_in_sound_worlds};
+pub use statement_laws::{runs_keep_worlds_sound, statements_do_what_they_may};

@@ -1,0 +1,26 @@
+ghost use Rattle.std.specs.Prelude.{ℕ, List};
+ghost use Rattle.bk_items.specs.declared.item.ScriptEntry.{ScriptEntry};
+ghost use Rattle.bk_machine.specs.Crash.{Leaves};
+ghost use Rattle.bk_machine.specs.Machine.{May, behind};
+ghost use Rattle.bk_machine.specs.MayDo.{MayDoAll};
+ghost use Rattle.bk_machine.specs.Outcome.{Outcome};
+ghost use Rattle.bk_machine.specs.Run.{IsRun, behind_all};
+ghost use Rattle.bk_machine.specs.Sound.{AreIdle, IsSound};
+ghost use Rattle.bk_machine.specs.World.{World};
+
+/// What a statement comes to in a sound world in which nothing is open are acts that may be done, and nothing is open behind them.
+pub fn statements_do_what_they_may()
+    ensures may { (w : World) (s : ScriptEntry) (now : ℕ) (outcome : Outcome) → IsSound w → AreIdle w → May w s now outcome → MayDoAll w outcome.acts }
+    ensures idle { (w : World) (s : ScriptEntry) (now : ℕ) (outcome : Outcome) → IsSound w → AreIdle w → May w s now outcome → AreIdle (behind w outcome) }
+{}
+
+/// A run keeps a sound world sound, and opens nothing. So does a crash of it.
+pub fn runs_keep_worlds_sound()
+    ensures run { (w : World) (statements : List ScriptEntry) (moments : List ℕ) (outcomes : List Outcome)
+        → IsSound w → AreIdle w → IsRun w statements moments outcomes → IsSound (behind_all w outcomes) }
+    ensures run_idle { (w : World) (statements : List ScriptEntry) (moments : List ℕ) (outcomes : List Outcome)
+        → IsSound w → AreIdle w → IsRun w statements moments outcomes → AreIdle (behind_all w outcomes) }
+    ensures crash { (old : World) (statements : List ScriptEntry) (moments : List ℕ) (outcomes : List Outcome) (least : ℕ) (left : World)
+        → IsSound old → AreIdle old → IsRun old statements moments outcomes → Leaves old outcomes least left → IsSound left }
+    ensures crash_idle { (old : World) (outcomes : List Outcome) (least : ℕ) (left : World) → Leaves old outcomes least left → AreIdle left }
+{}
