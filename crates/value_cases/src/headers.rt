@@ -7,19 +7,27 @@ use bk_world::Header;
 use std::alloc::{AllocError, Global};
 
 // The spelling of a header.
-fn spelling(alloc: Global, header: &Header) -> Result<Vec<u8>, AllocError>
+fn spelling(alloc: Global, header: &Header) -> Result<Option<Vec<u8>>, AllocError>
     requires { KeepsConditions header.now }
 {
     let mut out = Vec::new(alloc);
     encode(alloc, header, &mut out)?;
-    Ok(out)
+    Ok(Some(out))
 }
 
 /// The spelling of the header that bytes spell, where all of them are one.
 pub fn spelled_again(alloc: Global, bytes: &[u8]) -> Result<Option<Vec<u8>>, AllocError> {
     match decode(alloc, bytes)? {
-        Some((header, size)) if size == bytes.len() => Ok(Some(spelling(alloc, &header)?)),
-        _ => Ok(None),
+        Some((header, size)) => {
+            let again = if size == bytes.len() {
+                spelling(alloc, &header)
+            } else {
+                Ok(None)
+            };
+            drop(header);
+            again
+        }
+        None => Ok(None),
     }
 }
 
@@ -72,12 +80,21 @@ fn show_lists(h: &Header, out: &mut String) -> Result<(), AllocError> {
     writeln!(out, "log {name} {path}")
 }
 
+// A header, and how many bytes it has.
+fn show_header(h: &Header, size: usize, out: &mut String) -> Result<(), AllocError> {
+    show_fixed(h, out)?;
+    show_lists(h, out)?;
+    writeln!(out, "{size} bytes")
+}
+
 /// The header at the front of bytes, and how many bytes it has.
 pub fn show(alloc: Global, bytes: &[u8], out: &mut String) -> Result<(), AllocError> {
-    if let Some((header, size)) = decode(alloc, bytes)? {
-        show_fixed(&header, out)?;
-        show_lists(&header, out)?;
-        writeln!(out, "{size} bytes")?;
+    match decode(alloc, bytes)? {
+        Some((header, size)) => {
+            let done = show_header(&header, size, out);
+            drop(header);
+            done
+        }
+        None => Ok(()),
     }
-    Ok(())
 }

@@ -99,7 +99,11 @@ fn add(
     requires { IsSettled (disk_of device.old) }
 {
     match read_set(alloc, set)? {
-        Found::Holds(body) => add_body(alloc, device, path, &body, out),
+        Found::Holds(body) => {
+            let done = add_body(alloc, device, path, &body, out);
+            drop(body);
+            done
+        }
         Found::Damaged { .. } | Found::NoSet => out.push_str("no set\n"),
     }
 }
@@ -131,7 +135,11 @@ fn read(
         Err(error) => return writeln!(out, "{error}"),
     };
     match medium.set(alloc, device, position) {
-        Ok(body) => show_body(&body, out),
+        Ok(body) => {
+            let done = show_body(&body, out);
+            drop(body);
+            done
+        }
         Err(SetError::Damaged { stored, found }) => show_digests(alloc, stored, found, out),
         Err(error) => writeln!(out, "{error}"),
     }

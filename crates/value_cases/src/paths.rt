@@ -27,6 +27,13 @@ fn next_path(alloc: Global, words: &mut SplitWhitespace<'_>) -> Result<Path, Fau
     Ok(Path::new(branches))
 }
 
+// The path and the number that the next words spell.
+fn next_end(alloc: Global, words: &mut SplitWhitespace<'_>) -> Result<(Path, u64), Fault> {
+    let path = next_path(alloc, words)?;
+    let end = number(words)?;
+    Ok((path, end))
+}
+
 fn show(path: &Path, out: &mut String) -> Result<(), AllocError> {
     out.push_str("path")?;
     for branch in path.as_slice() {
@@ -111,10 +118,8 @@ pub fn show_differ(
     words: &mut SplitWhitespace<'_>,
     out: &mut String,
 ) -> Result<(), Fault> {
-    let path = next_path(alloc, words)?;
-    let end = number(words)?;
-    let other = next_path(alloc, words)?;
-    let other_end = number(words)?;
+    let (path, end) = next_end(alloc, words)?;
+    let (other, other_end) = next_end(alloc, words)?;
     match path.differ(end, &other, other_end) {
         Some(n) => writeln!(out, "{n}")?,
         None => writeln!(out, "none")?,

@@ -129,7 +129,9 @@ fn append(alloc: Global, logged: &RecRef<'_>, out: &mut Vec<u8>) -> Result<(), A
     let (lsn, begin) = (logged.lsn, logged.begin);
     let body = owned_body(alloc, logged.body)?;
     let own = Rec { lsn, begin, body };
-    encode(alloc, &own, out)
+    let done = encode(alloc, &own, out);
+    drop(own);
+    done
 }
 
 /// The spelling of the records that bytes spell, where they are records alone.

@@ -16,7 +16,11 @@ fn spelling(alloc: Global, body: &SetBody) -> Result<Option<Vec<u8>>, AllocError
 /// The spelling of the set that bytes spell.
 pub fn spelled_again(alloc: Global, bytes: &[u8]) -> Result<Option<Vec<u8>>, AllocError> {
     match read_set(alloc, bytes)? {
-        Found::Holds(body) => spelling(alloc, &body),
+        Found::Holds(body) => {
+            let again = spelling(alloc, &body);
+            drop(body);
+            again
+        }
         Found::Damaged { .. } | Found::NoSet => Ok(None),
     }
 }
@@ -60,7 +64,11 @@ pub fn show_digests(
 /// What bytes are read as.
 pub fn show(alloc: Global, bytes: &[u8], out: &mut String) -> Result<(), AllocError> {
     match read_set(alloc, bytes)? {
-        Found::Holds(body) => show_body(&body, out),
+        Found::Holds(body) => {
+            let done = show_body(&body, out);
+            drop(body);
+            done
+        }
         Found::Damaged { stored, found } => show_digests(alloc, stored, found, out),
         Found::NoSet => Ok(()),
     }

@@ -9,6 +9,7 @@ use crate::words::{number, word};
 use bk_device::{Device, MemDevice};
 use bk_media::{LoadError, Medium, medium_file};
 use std::alloc::{AllocError, Global};
+use std::mem;
 use std::str::SplitWhitespace;
 
 // No task has so many calls.
@@ -91,30 +92,71 @@ impl Shelf {
         let mut last = String::new(self.alloc);
         for n in 1..CALLS {
             let mut device = self.breached(breach, n)?;
-            let mut said = String::new(self.alloc);
-            run(self.alloc, task, &mut device, &mut said)?;
-            if said.as_str() != "the device has failed\n" {
-                return out.push_str(said.as_str());
+            let more = self.at_one(task, &mut device, &mut last, out);
+            drop(device);
+            if !more? {
+                break;
             }
-            let left = self.left(task.path, device)?;
-            if left.as_str() != last.as_str() {
-                out.push_str(left.as_str())?;
-            }
-            last = left;
         }
         Ok(())
     }
 
-    // The medium after a crash, with what is pending and without.
-    fn left(&self, path: &str, device: MemDevice) -> Result<String, AllocError> {
-        let mut kept = device.copy()?;
-        let mut lost = device.restart(false);
+    // Does a task on a device on which a call fails. Says whether it failed; else the answer is shown.
+    fn at_one(
+        &self,
+        task: Task<'_, '_>,
+        device: &mut MemDevice,
+        last: &mut String,
+        out: &mut String,
+    ) -> Result<bool, AllocError>
+        requires { IsSettled (disk_of device.old) }
+    {
+        let mut said = String::new(self.alloc);
+        run(self.alloc, task, device, &mut said)?;
+        if said.as_str() != "the device has failed\n" {
+            out.push_str(said.as_str())?;
+            return Ok(false);
+        }
+        let left = self.left(task.path, device)?;
+        if left.as_str() != last.as_str() {
+            out.push_str(left.as_str())?;
+        }
+        *last = left;
+        Ok(true)
+    }
+
+    // The medium after a crash, with what is pending and without. The device has no file afterwards.
+    fn left(&self, path: &str, device: &mut MemDevice) -> Result<String, AllocError> {
         let mut out = String::new(self.alloc);
-        show_medium(self.alloc, &mut kept, path, &mut out)?;
+        self.show_kept(path, device, &mut out)?;
         out.push_str(", ")?;
-        show_medium(self.alloc, &mut lost, path, &mut out)?;
+        self.show_lost(path, device, &mut out)?;
         out.push('\n')?;
         Ok(out)
+    }
+
+    fn show_kept(
+        &self,
+        path: &str,
+        device: &MemDevice,
+        out: &mut String,
+    ) -> Result<(), AllocError> {
+        let mut kept = device.copy()?;
+        let done = show_medium(self.alloc, &mut kept, path, out);
+        drop(kept);
+        done
+    }
+
+    fn show_lost(
+        &self,
+        path: &str,
+        device: &mut MemDevice,
+        out: &mut String,
+    ) -> Result<(), AllocError> {
+        let mut lost = mem::replace(device, MemDevice::new(self.alloc)).restart(false);
+        let done = show_medium(self.alloc, &mut lost, path, out);
+        drop(lost);
+        done
     }
 
     // Commands on files.
