@@ -1,5 +1,5 @@
 -- A crash leaves sound worlds.
-use Rattle.std.proofs.Common.{◌≡◌, ◌≢◌, ℕ, List, [], ◌∷◌, ◌++◌, Option, refl, sym, ◌∙◌, ap, subst}
+use Rattle.std.proofs.Common.{◌≡◌, ◌≢◌, ℕ, List, [], ◌∷◌, Option, refl, sym, ◌∙◌, ap, subst}
 use Rattle.std.specs.List.{AllByRecursion, AllZip}
 use Rattle.bk_ids.specs.declared.guid.Guid.{Guid}
 use Rattle.bk_ids.specs.declared.path.Branch.{Branch}
@@ -11,10 +11,11 @@ use Rattle.bk_world.specs.declared.database.Status.{Status}
 use Rattle.bk_world.specs.declared.database.Status.TheVariants.{Online, Standby, Down}
 use Rattle.bk_world.specs.declared.header.Header.{Header}
 use Rattle.bk_world.proofs.Crashing.{left-tells}
-use Rattle.bk_machine.specs.Crash.{DatabaseLeft, LineLeft, OfflineLeft, OnlineLeft, StatusLeft, WorldLeft, begins_of, own_begin}
+use Rattle.bk_machine.specs.Crash.{DatabaseLeft, LineLeft, OfflineLeft, OnlineLeft, StatusLeft, WorldLeft, open_begins}
 use Rattle.bk_machine.specs.Sound.{AreDifferent, AreIdle, Differ, IsHeld, IsIdle, IsNotToCome, IsPassed, IsSound, IsSoundLine, IsSoundReading, IsSoundSet, IsWhole, IsWholeDatabase, OpenBy}
-use Rattle.bk_machine.specs.World.{Database, World, database_named, log_of}
-use Rattle.bk_machine.proofs.Kept.{drawn-later, media-moved, set-later}
+use Rattle.bk_machine.specs.World.{Database, World, log_of}
+use Rattle.bk_machine.proofs.ActsStay.{media-there, set-there}
+use Rattle.bk_machine.proofs.Histories.{not_to_come-later}
 use Rattle.bk_machine.proofs.Left.{behind_crash, open-offline, open-online, whole-offline, whole-online}
 use Rattle.bk_machine.proofs.Lost.{held-left, once-left, passed-left, reads-left}
 
@@ -72,8 +73,8 @@ module _ (before whole cut left : World) (l : WorldLeft before whole cut left) w
   database-tells : (old new : Database) → DatabaseLeft before whole cut left old new → entries (log_of left.history new) ≡ entries (log_of cut.history old)
   database-tells old new one = by old.status one.log
     where
-      by : (s : Status) → StatusLeft s before whole cut left (own_begin (database_named before.databases old.name) ++ begins_of old.transactions) old new → entries (log_of left.history new) ≡ entries (log_of cut.history old)
-      by Online is = left-tells (own_begin (database_named before.databases old.name) ++ begins_of old.transactions) (log_of cut.history old) (log_of left.history new) is.log
+      by : (s : Status) → StatusLeft s before whole cut left (open_begins before old) old new → entries (log_of left.history new) ≡ entries (log_of cut.history old)
+      by Online is = left-tells (open_begins before old) (log_of cut.history old) (log_of left.history new) is.log
       by (Standby file) is = ap entries is.log
       by Down is = ap entries is.log
 
@@ -88,7 +89,7 @@ module _ (before whole cut left : World) (l : WorldLeft before whole cut left) w
     crash-reads = reads-left cut cut.history left.history is.lines l.lines
 
     drawn : (g : Guid) → IsNotToCome cut g → IsNotToCome left g
-    drawn = drawn-later cut left l.instance l.no_less
+    drawn g = not_to_come-later cut left g l.instance l.no_less
 
     -- each database, by what it was
     database-left : (old new : Database) → IsWholeDatabase cut old → DatabaseLeft before whole cut left old new → IsWholeDatabase left new × OpenBy left.history new
@@ -96,7 +97,7 @@ module _ (before whole cut left : World) (l : WorldLeft before whole cut left) w
     database-left old new was one = by old.status refl one.log
       where
         begins : List ℕ
-        begins = own_begin (database_named before.databases old.name) ++ begins_of old.transactions
+        begins = open_begins before old
 
         OfDatabase : Database → Type 0
         OfDatabase db = IsWholeDatabase left db × OpenBy left.history db
@@ -109,9 +110,9 @@ module _ (before whole cut left : World) (l : WorldLeft before whole cut left) w
             let same : log_below left.history old.path old.end ≡ log_below cut.history old.path old.end = ap (log_below left.history old.path) (sym o.end) ∙ here.log in
             subst OfDatabase (sym one.same) (subst OfEnd (sym o.end) (whole-offline cut left passed drawn old was down same, open-offline cut left passed drawn old was down same))
 
-        by : (s : Status) → old.status ≡ s → StatusLeft s before whole cut left (own_begin (database_named before.databases old.name) ++ begins_of old.transactions) old new → IsWholeDatabase left new × OpenBy left.history new
+        by : (s : Status) → old.status ≡ s → StatusLeft s before whole cut left (open_begins before old) old new → IsWholeDatabase left new × OpenBy left.history new
         by Online up o =
-            let OfNew : Database → Type 0 = OnlineLeft before whole cut left (own_begin (database_named before.databases old.name) ++ begins_of old.transactions) old in
+            let OfNew : Database → Type 0 = OnlineLeft before whole cut left (open_begins before old) old in
             let here : OfNew (behind_crash old new.end) = subst OfNew one.same o in
             subst OfDatabase (sym one.same) (
               whole-online cut left passed drawn old was begins new.end up here.log here.of_some here.end here.goes_on,
@@ -128,7 +129,7 @@ module _ (before whole cut left : World) (l : WorldLeft before whole cut left) w
 
     set-left : (header : Header) → IsSoundSet cut header → IsSoundSet left header
     set-left header set =
-        set-later cut left l.instance l.no_less header set (crash-reads header.path header.last set.held) (held-left cut cut.history left.history is.lines l.lines header.path header.last set.held)
+        set-there cut left l.instance l.no_less header (crash-reads header.path header.last set.held) (held-left cut cut.history left.history is.lines l.lines header.path header.last set.held) set
 
     pub crash-sound : IsSound left
     crash-sound =
@@ -138,7 +139,7 @@ module _ (before whole cut left : World) (l : WorldLeft before whole cut left) w
             lines = zipped (IsSoundLine cut) LineLeft (IsSoundLine left) line-sound cut.history left.history is.lines l.lines;
             databases = all_mapped (λ (db : Database). IsWholeDatabase left db × OpenBy left.history db) (IsWholeDatabase left) (λ db both. both.0) left.databases each-left;
             different = different-left cut.databases left.databases l.databases is.different;
-            media = subst OfMedia (sym l.media) (media-moved cut left set-left cut.media is.media);
+            media = subst OfMedia (sym l.media) (media-there cut left set-left cut.media is.media);
           };
           opens = all_mapped (λ (db : Database). IsWholeDatabase left db × OpenBy left.history db) (OpenBy left.history) (λ db both. both.1) left.databases each-left;
         }

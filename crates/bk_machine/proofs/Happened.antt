@@ -1,9 +1,9 @@
 -- Events keep sound worlds sound, and idle ones idle.
 use Rattle.std.proofs.Common.{◌≡◌, ◌<◌, inl, inr, ℕ, zero, suc, Bool, true, false, cond, not, ◌||◌, List, [], ◌∷◌, take, Option, Some, refl, sym, ◌∙◌, ap, subst, arith}
-use Rattle.std.specs.Prelude.{Contains, filter}
+use Rattle.std.specs.Prelude.{filter}
 use Rattle.std.specs.List.{AllByRecursion, AllZip}
 use Rattle.std.specs.Str.{bytes_eq}
-use Rattle.bk_ids.specs.Path.{branch_at, last_branch}
+use Rattle.bk_ids.specs.Path.{last_branch}
 use Rattle.bk_ids.specs.declared.guid.Guid.{Guid}
 use Rattle.bk_world.specs.Lines.{Grew, MayGoOn, RecordLine, RecordLines, has_record_line, line_on}
 use Rattle.bk_world.specs.ListLaws.{all_both, all_filter, all_mapped}
@@ -14,11 +14,12 @@ use Rattle.bk_world.specs.declared.database.Unit.{Unit as RestoreUnit}
 use Rattle.bk_world.specs.declared.header.Header.{Header}
 use Rattle.bk_world.proofs.Growing.{records-grown}
 use Rattle.bk_machine.specs.Events.{Happen, Happens, IsLatest, Joins, ReadingChanged, ReadingIsNotToCome, SlotChanged, SlotIsNotToCome, file_lost, is_page_of, nothing_more, one_more, page_lost}
-use Rattle.bk_machine.specs.Sound.{AreIdle, AreOpen, Differ, IsIdle, IsLog, IsNotToCome, IsSound, IsSoundLine, IsSoundReading, IsSoundSet, IsSoundSlot, IsWholeDatabase, OpenBy, RiseFrom}
-use Rattle.bk_machine.specs.World.{Database, World, log_of, with_database}
-use Rattle.bk_machine.proofs.Histories.{held-grew, passed-grew}
+use Rattle.bk_machine.specs.Sound.{AreIdle, Differ, IsIdle, IsNotToCome, IsSound, IsSoundLine, IsSoundReading, IsSoundSet, IsSoundSlot, IsWholeDatabase, OpenBy, RiseFrom}
+use Rattle.bk_machine.specs.World.{Database, World, with_database}
+use Rattle.bk_machine.proofs.ActsStay.{Follows, database-stays, line-stays, lines-stay, media-stay, open-retouched, open-stays, whole-retouched}
+use Rattle.bk_machine.proofs.Histories.{grew-same, held-grew}
 use Rattle.bk_machine.proofs.Joined.{have-lines, here-grew, joined-rises, not-longer, of-lines, own-line, there-grew}
-use Rattle.bk_machine.proofs.Kept.{database-later, drawn-later, lines-later, media-moved, path-later, set-later, set-moved, set-same, sound-later}
+use Rattle.bk_machine.proofs.Kept.{set-moved, sound-later}
 use Rattle.bk_machine.proofs.Lost.{rise-line}
 use Rattle.bk_machine.proofs.Named.{all-with, different-with}
 
@@ -27,17 +28,16 @@ use Rattle.bk_machine.proofs.Named.{all-with, different-with}
 abbrev pub with_units : (List RestoreUnit → List RestoreUnit) → Database → Database
 with_units change db = record db { units = change db.units }
 
-module _ (old : World) (name : List ℕ) (change : List RestoreUnit → List RestoreUnit) where
-  new_databases : List Database
-  new_databases = with_database old.databases name (with_units change)
+-- a world that goes on with the same history
+same-follows : (old new : World) → new.instance ≡ old.instance → new.counter ≡ old.counter → new.history ≡ old.history → Follows old new
+same-follows old new instance counter history = record { instance = instance; counter = omega (arith, counter); grew = subst (Grew old.history) (sym history) (grew-same old.history) }
 
+module _ (old : World) (name : List ℕ) (change : List RestoreUnit → List RestoreUnit) where
   changed-whole : (db : Database) → IsWholeDatabase old db → IsWholeDatabase old (with_units change db)
-  unfolding log_of
-  changed-whole db is = record { log = is.log; path = is.path; starts = is.starts; drawn = is.drawn; family = is.family; held = is.held; online = λ up. record { goes_on = (is.online up).goes_on; anchor = (is.online up).anchor } }
+  changed-whole db = whole-retouched old db db.archive db.kept db.checkpoint db.chain db.began db.base (change db.units)
 
   changed-opens : (db : Database) → OpenBy old.history db → OpenBy old.history (with_units change db)
-  unfolding log_of
-  changed-opens db is = record { online = is.online; offline = λ down. record { job = (is.offline down).job; transactions = (is.offline down).transactions } }
+  changed-opens db = open-retouched old db db.archive db.kept db.checkpoint db.chain db.began db.base (change db.units)
 
   changed-differs : (a b : Database) → Differ a b → Differ (with_units change a) b
   changed-differs a b is = record { names = is.names; branches = is.branches }
@@ -48,13 +48,14 @@ module _ (old : World) (name : List ℕ) (change : List RestoreUnit → List Res
   pub units-sound : IsSound old → IsSound (record old { databases = with_database old.databases name (with_units change) })
   units-sound is =
       let new : World = record old { databases = with_database old.databases name (with_units change) } in
-      let later : (db : Database) → IsWholeDatabase old db → IsWholeDatabase new db = database-later old new refl (omega arith) refl in record {
+      let follows : Follows old new = same-follows old new refl refl refl in
+      let later : (db : Database) → IsWholeDatabase old db → IsWholeDatabase new db = λ db one. database-stays old new follows db (λ up. (one.online up).goes_on) one in record {
         whole = record {
           once = is.whole.once;
-          lines = lines-later old new refl (omega arith) old.history is.whole.lines;
+          lines = lines-stay old new follows old.history is.whole.lines;
           databases = all-with (IsWholeDatabase old) (IsWholeDatabase new) old.databases name (with_units change) is.whole.databases (λ db one. later (with_units change db) (changed-whole db one)) later;
           different = different-with old.databases name (with_units change) changed-differs is.whole.different;
-          media = media-moved old new (set-same old new refl (omega arith) refl) old.media is.whole.media;
+          media = media-stay old new follows old.media is.whole.media;
         };
         opens = all-with (OpenBy old.history) (OpenBy old.history) old.databases name (with_units change) is.opens changed-opens (λ db one. one);
       }
@@ -67,13 +68,14 @@ module _ (old : World) (name : List ℕ) (change : List RestoreUnit → List Res
 module _ (old : World) (media : List (List ℕ × Reading)) (is : IsSound old) (sound : AllByRecursion (λ (m : List ℕ × Reading). IsSoundReading old m.1) media) where
   pub media-sound : IsSound (record old { media = media })
   media-sound =
-      let new : World = record old { media = media } in record {
+      let new : World = record old { media = media } in
+      let follows : Follows old new = same-follows old new refl refl refl in record {
         whole = record {
           once = is.whole.once;
-          lines = lines-later old new refl (omega arith) old.history is.whole.lines;
-          databases = all_mapped (IsWholeDatabase old) (IsWholeDatabase new) (database-later old new refl (omega arith) refl) old.databases is.whole.databases;
+          lines = lines-stay old new follows old.history is.whole.lines;
+          databases = all_mapped (IsWholeDatabase old) (IsWholeDatabase new) (λ db one. database-stays old new follows db (λ up. (one.online up).goes_on) one) old.databases is.whole.databases;
           different = is.whole.different;
-          media = media-moved old new (set-same old new refl (omega arith) refl) media sound;
+          media = media-stay old new follows media sound;
         };
         opens = is.opens;
       }
@@ -160,37 +162,10 @@ module _ (old other : World) (history : RecordLines) (joins : Joins old.history 
         below = subst (λ (rs : List Logged). AllByRecursion (λ r. r.lsn < db.end) rs) (sym stays) on.below;
       }
 
-  log-joined : (db : Database) → IsWholeDatabase old db → log_of history db ≡ log_of old.history db
-  unfolding log_of
-  log-joined db one = records-grown old.history history grew db.path db.end one.log.counts
+  follows : Follows old (record old { history = history })
+  follows = record { instance = refl; counter = omega arith; grew = grew }
 
-  database-joined : (db : Database) → IsWholeDatabase old db → (db.status ≡ Online → IsLatest old.history other.history (last_branch db.path)) → IsWholeDatabase (record old { history = history }) db
-  database-joined db one last =
-      let OfLog : List Logged → Type 0 = λ rs. IsLog db.files rs db.end in record {
-        log = subst OfLog (sym (log-joined db one)) one.log;
-        path = one.path;
-        starts = one.starts;
-        drawn = path-later old (record old { history = history }) refl (omega arith) db.path one.drawn;
-        family = drawn-later old (record old { history = history }) refl (omega arith) db.family one.family;
-        held = λ k pos lt. elim (one.held k pos lt) [ inl here ↦ inl here | inr passed ↦ inr (passed-grew old.history history (branch_at db.path k) k grew passed) ];
-        online = λ up.
-            let anchor = (one.online up).anchor in
-            let OfAnchor : List Logged → Type 0 = λ rs. Contains rs anchor.0 in record {
-              goes_on = goes_on-joined db (last up) (one.online up).goes_on;
-              anchor = (anchor.0, subst OfAnchor (sym (log-joined db one)) anchor.1, anchor.2, anchor.3);
-            };
-      }
-
-  opens-joined : (db : Database) → IsWholeDatabase old db → OpenBy old.history db → OpenBy history db
-  opens-joined db one open_by =
-      let OfLog : List Logged → Type 0 = λ rs. AreOpen rs db.end db.transactions in
-      record { online = λ up. subst OfLog (sym (log-joined db one)) (open_by.online up); offline = open_by.offline }
-
-  -- sets of this world, and of the other
-  set-here : (header : Header) → IsSoundSet old header → IsSoundSet (record old { history = history }) header
-  set-here header one =
-      set-later old (record old { history = history }) refl (omega arith) header one (records-grown old.history history grew header.path header.last one.log.counts) (held-grew old.history history header.path header.last grew one.held)
-
+  -- a set of the other world
   set-there : (header : Header) → SlotIsNotToCome old (readable header) → IsSoundSet other header → IsSoundSet (record old { history = history }) header
   set-there header drawn one =
       set-moved other (record old { history = history }) header one (records-grown other.history history grew_there header.path header.last one.log.counts) (held-grew other.history history header.path header.last grew_there one.held)
@@ -210,12 +185,13 @@ module _ (old other : World) (history : RecordLines) (joins : Joins old.history 
       let new : World = record old { history = history } in record {
         whole = record {
           once = joins.once;
-          lines = lines-later old new refl (omega arith) history lines-joined;
-          databases = all_both (IsWholeDatabase old) (λ (db : Database). db.status ≡ Online → IsLatest old.history other.history (last_branch db.path)) (IsWholeDatabase new) database-joined old.databases is.whole.databases latest;
+          lines = all_mapped (IsSoundLine old) (IsSoundLine new) (line-stays old new follows) history lines-joined;
+          databases = all_both (IsWholeDatabase old) (λ (db : Database). db.status ≡ Online → IsLatest old.history other.history (last_branch db.path)) (IsWholeDatabase new)
+              (λ db one last. database-stays old new follows db (λ up. goes_on-joined db (last up) (one.online up).goes_on) one) old.databases is.whole.databases latest;
           different = is.whole.different;
-          media = media-moved old new set-here old.media is.whole.media;
+          media = media-stay old new follows old.media is.whole.media;
         };
-        opens = all_both (IsWholeDatabase old) (OpenBy old.history) (OpenBy history) opens-joined old.databases is.whole.databases is.opens;
+        opens = all_both (IsWholeDatabase old) (OpenBy old.history) (OpenBy history) (open-stays old new follows) old.databases is.whole.databases is.opens;
       }
 
   pub added-sound : (path at : List ℕ) (reading : Reading) → medium_at other.media at ≡ Some reading → ReadingIsNotToCome old reading → IsSound (record old { media = (path, reading) ∷ old.media; history = history })
@@ -233,7 +209,7 @@ event-sound old new is event =
       | inr (inl e) ↦ subst IsSound (sym e.becomes) (units-sound old e.name (λ units. file_lost e.file (filter (λ u. not (is_page_of e.file u.id)) units)) is)
       | inr (inr (inl e)) ↦
           subst IsSound (sym e.becomes) (media-sound old (without_medium old.media e.path) is (all_filter (λ (m : List ℕ × Reading). IsSoundReading old m.1) (λ (m : List ℕ × Reading). not (bytes_eq m.0 e.path)) old.media is.whole.media))
-      | inr (inr (inr (inl e))) ↦ subst IsSound (sym e.becomes) (sound-later old (record old { standbys = filter (λ s. not (bytes_eq s e.path)) old.standbys }) refl (omega arith) refl refl refl is)
+      | inr (inr (inr (inl e))) ↦ subst IsSound (sym e.becomes) (sound-later old (record old { standbys = filter (λ s. not (bytes_eq s e.path)) old.standbys }) (same-follows old _ refl refl refl) refl refl refl is)
       | inr (inr (inr (inr (inl e)))) ↦
           subst IsSound (sym e.becomes)
           (media-sound old (with_medium old.media e.path e.after) is (

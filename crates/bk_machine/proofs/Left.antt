@@ -21,14 +21,15 @@ use Rattle.bk_world.proofs.Crashing.{left-counts, left-pends, left-sound, left-t
 use Rattle.bk_world.proofs.Histories.{branch_at-last}
 use Rattle.bk_machine.specs.Sound.{AreNumbered, ArePlaced, IsLog, IsNotToCome, IsOnline, IsPassed, IsWholeDatabase, OpenBy, has_begin}
 use Rattle.bk_machine.specs.World.{Database, World, log_of}
+use Rattle.bk_machine.proofs.ActsLogs.{placed-front, placed-join}
 
 -- ---- numbers
 
-counts-end : (n end : ℕ) (rs : List Logged) → Counts n rs end → end ≡ n + length rs
+pub counts-end : (n end : ℕ) (rs : List Logged) → Counts n rs end → end ≡ n + length rs
 counts-end n end [] counts = let none : List Logged = [] in let same : n ≡ n + length none = omega arith in sym counts ∙ same
 counts-end n end (r ∷ rs) counts = let later : end ≡ (n + 1) + length rs = counts-end (n + 1) end rs counts.1 in omega (arith, later)
 
-counts-below : (n end : ℕ) (rs : List Logged) → Counts n rs end → AllByRecursion (λ r. r.lsn < end) rs
+pub counts-below : (n end : ℕ) (rs : List Logged) → Counts n rs end → AllByRecursion (λ r. r.lsn < end) rs
 counts-below n end [] counts = tt
 counts-below n end (r ∷ rs) counts =
     let later : end ≡ (n + 1) + length rs = counts-end (n + 1) end rs counts.1 in
@@ -42,7 +43,7 @@ of-contained {X = X} P (y ∷ xs) x all (zero, lt, is) = subst P is all.0
 of-contained {X = X} P (y ∷ xs) x all (suc k, lt, is) = of-contained P xs x all.1 (k, omega (arith, lt), is)
 
 -- a record of no transaction is none of those that are lost
-none-lost : (kept lost : List Logged) (r : Logged) → AllByRecursion (λ (s : Logged). 0 < s.begin) lost → r.begin ≡ 0 → Contains (kept ++ lost) r → Contains kept r
+pub none-lost : (kept lost : List Logged) (r : Logged) → AllByRecursion (λ (s : Logged). 0 < s.begin) lost → r.begin ≡ 0 → Contains (kept ++ lost) r → Contains kept r
 none-lost [] lost r some none there = let one : 0 < r.begin = of-contained (λ (s : Logged). 0 < s.begin) lost r some there in absurd (omega (arith, one, none))
 none-lost (s ∷ kept) lost r some none (zero, lt, is) = (zero, omega arith, is)
 none-lost (s ∷ kept) lost r some none (suc k, lt, is) =
@@ -50,22 +51,13 @@ none-lost (s ∷ kept) lost r some none (suc k, lt, is) =
 
 -- ---- places
 
-placed-front : (files : List FileSpec) (before a b : List Logged) → ArePlaced files before (a ++ b) → ArePlaced files before a
-placed-front files before [] b placed = tt
-placed-front files before (r ∷ a) b placed = (placed.0, placed-front files (before ++ r ∷ []) a b placed.1)
-
 placed-undoing : (files : List FileSpec) (before : List Logged) (n : ℕ) (ws : List Pending) → ArePlaced files before (numbered n (undoing ws))
 placed-undoing files before n [] = tt
 placed-undoing files before n (w ∷ ws) = (tt, placed-undoing files (before ++ numbered n (undoing (w ∷ []))) (n + 1) ws)
 
-placed-join : (files : List FileSpec) (before a b : List Logged) → ((front : List Logged) → ArePlaced files front b) → ArePlaced files before a → ArePlaced files before (a ++ b)
-placed-join files before [] b each placed = each before
-placed-join files before (r ∷ a) b each placed = (placed.0, placed-join files (before ++ r ∷ []) a b each placed.1)
-
 placed-settled : (files : List FileSpec) (kept : List Logged) → ArePlaced files [] kept → ArePlaced files [] (settled kept)
 unfolding settled
-placed-settled files kept placed =
-    placed-join files [] kept (numbered (end_behind kept) (settle_said (pending kept))) (λ front. placed-undoing files front (end_behind kept) (reverse (pending kept))) placed
+placed-settled files kept placed = placed-join files [] kept (numbered (end_behind kept) (settle_said (pending kept))) placed (placed-undoing files kept (end_behind kept) (reverse (pending kept)))
 
 -- ---- a log that is cut
 

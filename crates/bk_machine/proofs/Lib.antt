@@ -15,4 +15,11 @@ mod Crashed
 mod Joined
 mod Happened
 mod Lasting
+mod Truncated
+mod Settling
+mod Remaining
+mod Bounded
 pub mod statements
+mod Ends
+mod Cutting
+mod CutRuns

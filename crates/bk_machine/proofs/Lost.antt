@@ -111,7 +111,7 @@ module _ (w : World) (cut left : RecordLines) (sound : AllByRecursion (IsSoundLi
       subst OfRecords (sym line.is) (reached-more line.kept line.undoing k (reached-kept line.kept line.lost k line.quiet (subst OfRecords line.splits passed)))
 
   -- and has what it had
-  at-passed : (b : Option Guid) (k : ℕ) → IsPassed cut b k → at_branch (logged_on left) b k ≡ at_branch (logged_on cut) b k
+  pub at-passed : (b : Option Guid) (k : ℕ) → IsPassed cut b k → at_branch (logged_on left) b k ≡ at_branch (logged_on cut) b k
   at-passed None k passed = refl
   at-passed (Some g) k passed =
       let line : LineLeft (line_on cut g) (line_on left g) = line-left cut left lines g in
@@ -122,7 +122,7 @@ module _ (w : World) (cut left : RecordLines) (sound : AllByRecursion (IsSoundLi
       ∙ sym (at-reached line.kept line.lost k (subst (RiseFrom 0) line.splits (rise-line w cut g sound)) reached)
       ∙ sym (ap (filter (λ r. eqb r.lsn k)) line.splits)
 
-  at-first : (b : Option Guid) → at_branch (logged_on left) b 0 ≡ at_branch (logged_on cut) b 0
+  pub at-first : (b : Option Guid) → at_branch (logged_on left) b 0 ≡ at_branch (logged_on cut) b 0
   at-first None = refl
   at-first (Some g) = at-zero (line_on left g).records (line-left cut left lines g).rises ∙ sym (at-zero (line_on cut g).records (rise-line w cut g sound))
 

@@ -2,15 +2,16 @@
 use Rattle.std.proofs.Common.{refl, arith}
 use Rattle.bk_machine.specs.Sound.{AreIdle, IsSound}
 use Rattle.bk_machine.specs.World.{World, ended, opened}
+use Rattle.bk_machine.proofs.Histories.{grew-same}
 use Rattle.bk_machine.proofs.Kept.{sound-later}
 
 pub sound-opened : (w : World) → IsSound w → IsSound (opened w)
 unfolding opened
-sound-opened w is = sound-later w (opened w) refl (omega arith) refl refl refl is
+sound-opened w is = sound-later w (opened w) (record { instance = refl; counter = omega arith; grew = grew-same w.history }) refl refl refl is
 
 pub sound-ended : (w : World) → IsSound w → IsSound (ended w)
 unfolding ended
-sound-ended w is = sound-later w (ended w) refl (omega arith) refl refl refl is
+sound-ended w is = sound-later w (ended w) (record { instance = refl; counter = omega arith; grew = grew-same w.history }) refl refl refl is
 
 pub idle-opened : (w : World) → AreIdle w → AreIdle (opened w)
 unfolding opened

@@ -100,6 +100,10 @@ own_begin (Some db) = db.end ∷ []
 abbrev pub begins_of : List Open → List ℕ
 begins_of transactions = map (λ (t : Open). t.begin) transactions
 
+-- the first records of what is open in a database at a cut: of that of the statement that is cut, and of its transactions
+abbrev pub open_begins : World → Database → List ℕ
+open_begins before db = own_begin (database_named before.databases db.name) ++ begins_of db.transactions
+
 -- The log of a database that is online is cut, and what was open in it is undone. No record is lost that is of no transaction, and the database
 -- goes on behind what is left: its last branch has nothing at its end or above.
 pub record OnlineLeft (before whole cut left : World) (begins : List ℕ) (old new : Database) : Type 0 where
@@ -122,7 +126,7 @@ StatusLeft Down before whole cut left begins old new = OfflineLeft cut left old 
 -- what is left of a database: no job and no transaction, neither those that were open nor one of its own of the statement that is cut
 pub record DatabaseLeft (before whole cut left : World) (old new : Database) : Type 0 where
   pub same : new ≡ record old { job = None; transactions = []; end = new.end }
-  pub log : StatusLeft old.status before whole cut left (own_begin (database_named before.databases old.name) ++ begins_of old.transactions) old new
+  pub log : StatusLeft old.status before whole cut left (open_begins before old) old new
 
 -- What is left of a world: no session, and a counter that may have moved on by at most 1,024.
 pub record WorldLeft (before whole cut left : World) : Type 0 where

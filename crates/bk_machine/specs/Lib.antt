@@ -9,5 +9,6 @@ pub mod Machine
 pub mod Run
 pub mod Sound
 pub mod Crash
+pub mod Stays
 pub mod Events
 pub mod MayDo

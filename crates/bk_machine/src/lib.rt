@@ -12,7 +12,10 @@ pub use act_laws::{
     a_recovery_is_said_last, acts_keep_what_is_read, acts_keep_worlds_sound,
     what_is_said_comes_last,
 };
-pub use crash_laws::crashes_keep_worlds_sound;
+pub use crash_laws::{
+    crashes_keep_worlds_sound, crashes_leave_what_stays, fronts_may_stay,
+    runs_are_cut_in_whole_worlds,
+};
 pub use event_laws::events_keep_worlds_sound;
 pub use laws::{empty_worlds_are_sound, runs_begin_and_end_in_sound_worlds};
 pub use statement_laws::{runs_keep_worlds_sound, statements_do_what_they_may};

@@ -88,7 +88,7 @@ module _ (w : World) (sound : IsSound w) (idle : AreIdle w) where
   none : (rule : Rule) (outcome : Outcome) → outcome ≡ refused rule → AllByRecursion OpensNothing outcome.acts
   none rule outcome is = so (refused rule) outcome tt is
 
-  item-opens : (line : ℕ) (item : ScriptItem) (now : ℕ) (outcome : Outcome) → ItemMay w line item now outcome → AllByRecursion OpensNothing outcome.acts
+  pub item-opens : (line : ℕ) (item : ScriptItem) (now : ℕ) (outcome : Outcome) → ItemMay w line item now outcome → AllByRecursion OpensNothing outcome.acts
   item-opens line (CreateDatabase name primary groups log) now outcome may = comes-to Opens (check_create_database w line name primary groups log) (DoesCreateDatabase w name now) (λ rule. tt)
       (λ found e o is. so _ o (tt, tt) is) outcome may
   item-opens line (DropDatabase name) now outcome may = comes-to Opens (check_drop_database w name) DoesDropDatabase (λ rule. tt) (λ found e o is. so _ o (tt, tt) is) outcome may

@@ -30,7 +30,7 @@ numbers-front : (n : ℕ) (a b : List TableSpec) → AreNumbered n (a ++ b) → 
 numbers-front n [] b are = tt
 numbers-front n (t ∷ a) b are = (are.0, numbers-front (n + 1) a b are.1)
 
-says-front : (w : World) (db : Database) (said : List Said) (n : ℕ) → MaySay w db said → MaySay w db (take n said)
+pub says-front : (w : World) (db : Database) (said : List Said) (n : ℕ) → MaySay w db said → MaySay w db (take n said)
 says-front w db said n may =
     let rs : List Logged = log_of w.history db in
     let front : List Logged = numbered db.end (take n said) in
@@ -56,7 +56,7 @@ cut-says w name said transactions n whole may = by (database_named w.databases n
     by None is may = whole
     by (Some db) is may = says-whole w db (take n said) transactions whole (named-own w.databases name db is) (says-front w db said n may.says)
 
-cut-whole : (w : World) (acts : List Act) (n : ℕ) → IsWhole w → MayDoAll w acts → IsWhole (done_all w (front_of n acts))
+pub cut-whole : (w : World) (acts : List Act) (n : ℕ) → IsWhole w → MayDoAll w acts → IsWhole (done_all w (front_of n acts))
 cut-whole w acts zero whole may = whole
 cut-whole w [] (suc n) whole may = whole
 cut-whole w (logged name said transactions ∷ acts) (suc n) whole may = cut-says w name said transactions (suc n) whole may.0

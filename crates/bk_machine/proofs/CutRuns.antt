@@ -1,0 +1,330 @@
+-- Where a run is cut that begins in a sound world in which nothing is open.
+use Rattle.std.proofs.Common.{◌≡◌, ◌≤◌, ◌⊎◌, inl, inr, ℕ, zero, suc, ◌+◌, true, List, [], ◌∷◌, ◌++◌, take, drop, Option, None, Some, refl, sym, ◌∙◌, ap, subst, arith}
+use Rattle.std.specs.Prelude.{◌==◌}
+use Rattle.std.specs.List.{AllByRecursion, AllZip}
+use Rattle.std.proofs.lemmas.Bool.Decides.{nat_tests}
+use Rattle.std.proofs.lemmas.List.{take-append-drop}
+use Rattle.bk_ids.specs.declared.guid.Guid.{Guid}
+use Rattle.bk_ids.specs.declared.record.Place.{Place}
+use Rattle.bk_items.specs.declared.item.ScriptEntry.{ScriptEntry}
+use Rattle.bk_items.specs.declared.item.ScriptItem.{ScriptItem}
+use Rattle.bk_items.specs.declared.item.ScriptItem.TheVariants.{CreateDatabase, BackupDatabase, BackupLog, RestoreDatabase, RestoreLog, QueryMedium, CreateTable, Insert, Update, Delete, Select, BulkInsert, Begin, Commit, Rollback, Checkpoint, Use, SetRecovery, DropDatabase, SelectCatalog, Session, Start, Step, Wait, Syntax, TooLong}
+use Rattle.bk_world.specs.Cut.{is_among, settled}
+use Rattle.bk_world.specs.Entry.{RowChange}
+use Rattle.bk_world.specs.ListLaws.{all_both}
+use Rattle.bk_world.specs.Records.{Logged, Said, checkpointed, stamped, table_made}
+use Rattle.bk_world.specs.Says.{alone, single_said}
+use Rattle.bk_world.specs.Telling.{telling}
+use Rattle.bk_world.specs.declared.database.Base.{Base}
+use Rattle.bk_world.specs.declared.database.Status.TheVariants.{Online}
+use Rattle.bk_world.specs.declared.database.TableSpec.{TableSpec}
+use Rattle.bk_world.specs.declared.header.Header.{Header}
+use Rattle.bk_world.specs.declared.rule.Rule.{Rule}
+use Rattle.bk_machine.specs.Acts.{Act, Recovery, turned, created, dropped, logged, medium_made, set_sealed, based, replaced, restored, recovered, done, done_all, drawn}
+use Rattle.bk_machine.specs.Crash.{CutsRun, IsQuiet, Leaves, begin_in, front_of, greatest_end, next_acts, own_begin}
+use Rattle.bk_machine.specs.Machine.{ItemMay, May, behind}
+use Rattle.bk_machine.specs.MayDo.{MayDoAll}
+use Rattle.bk_machine.specs.Outcome.{Outcome, refused}
+use Rattle.bk_machine.specs.Run.{IsRun, behind_all}
+use Rattle.bk_machine.specs.Sound.{AreIdle, IsIdle, IsSound, IsWhole, IsWholeDatabase}
+use Rattle.bk_machine.specs.Stays.{IsCutOf, IsFront, MayStay}
+use Rattle.bk_machine.specs.World.{Database, Open, World, database_named, log_of}
+use Rattle.bk_machine.specs.statements.Backup.{check_backup, DoesBackup}
+use Rattle.bk_machine.specs.statements.CreateDatabase.{check_create_database, DoesCreateDatabase}
+use Rattle.bk_machine.specs.statements.CreateTable.{check_create_table, DoesCreateTable, new_table}
+use Rattle.bk_machine.specs.statements.DropDatabase.{check_drop_database, DoesDropDatabase}
+use Rattle.bk_machine.specs.statements.Insert.{check_insert, DoesInsert}
+use Rattle.bk_machine.specs.statements.Restore.{check_restore, DoesRestore, name_known}
+use Rattle.bk_machine.specs.statements.Select.{check_select, DoesSelect}
+use Rattle.bk_machine.specs.statements.Use.{check_use, DoesUse}
+use Rattle.bk_machine.proofs.Acting.{acts-sound}
+use Rattle.bk_machine.proofs.Bounded.{front-bound}
+use Rattle.bk_machine.proofs.Cutting.{IsOwn, PendsOwn, cut-pends}
+use Rattle.bk_machine.proofs.Ends.{IsSteady, IsWithin, Rose, rose-cut, within-before, within-replaced, within-restored, within-rose, within-whole}
+use Rattle.bk_machine.proofs.Remaining.{what-stays}
+use Rattle.bk_machine.proofs.statements.Checking.{comes-to}
+use Rattle.bk_machine.proofs.statements.Each.{item-opens}
+use Rattle.bk_machine.proofs.statements.Idling.{OpensNothing, idle-done-all}
+use Rattle.bk_machine.proofs.statements.Insert as insert
+use Rattle.bk_machine.proofs.statements.Leaving.{cut-whole}
+use Rattle.bk_machine.proofs.statements.Running.{IsCalm, Within, calm-behind, done-joined, may-front, may-rest, within-run}
+
+-- ---- lists
+
+all-take : {X : Type 0} (P : X → Type 0) (n : ℕ) (xs : List X) → AllByRecursion P xs → AllByRecursion P (take n xs)
+all-take P zero xs all = tt
+all-take P (suc n) [] all = tt
+all-take P (suc n) (x ∷ xs) all = (all.0, all-take P n xs all.1)
+
+all-drop : {X : Type 0} (P : X → Type 0) (n : ℕ) (xs : List X) → AllByRecursion P xs → AllByRecursion P (drop n xs)
+all-drop P zero xs all = all
+all-drop P (suc n) [] all = tt
+all-drop P (suc n) (x ∷ xs) all = all-drop P n xs all.1
+
+take-none : {X : Type 0} (n : ℕ) → let none : List X = [] in take n none ≡ none
+take-none zero = refl
+take-none (suc n) = refl
+
+drop-none : {X : Type 0} (n : ℕ) → let none : List X = [] in drop n none ≡ none
+drop-none zero = refl
+drop-none (suc n) = refl
+
+front-none : (n : ℕ) → front_of n [] ≡ []
+front-none zero = refl
+front-none (suc n) = refl
+
+-- ---- what a statement does, as far as it can be cut
+
+abbrev NotLogged : Act → Type 0
+NotLogged (logged name said transactions) = ⊥
+NotLogged _ = Unit {0}
+
+-- one act that isn't cut
+abbrev IsOne : List Act → Type 0
+IsOne acts = (act : Act) × NotLogged act × (acts ≡ act ∷ [])
+
+abbrev IsRestore : List Act → Type 0
+IsRestore acts = (name : List ℕ) × (header : Header) × (base : Option Base) × (redo : ℕ) × (r : Recovery) × (acts ≡ replaced name header ∷ restored name base redo ∷ recovered name r ∷ [])
+
+abbrev EndWell : List Act → Type 0
+EndWell acts = AllByRecursion IsSteady acts ⊎ (IsOne acts ⊎ IsRestore acts)
+
+record CutWell (w : World) (acts : List Act) : Type 0 where
+  opens : AllByRecursion OpensNothing acts
+  own : AllByRecursion (IsOwn w) acts
+  ends : EndWell acts
+
+none-said : (act : Act) (acts : List Act) (n : ℕ) → NotLogged act → front_of n (act ∷ acts) ≡ []
+none-said act acts zero not_logged = refl
+none-said (logged name said transactions) acts (suc n) not_logged = absurd not_logged
+none-said (turned name) acts (suc n) not_logged = refl
+none-said (created c) acts (suc n) not_logged = refl
+none-said (dropped name) acts (suc n) not_logged = refl
+none-said (medium_made path) acts (suc n) not_logged = refl
+none-said (set_sealed path header) acts (suc n) not_logged = refl
+none-said (based name header) acts (suc n) not_logged = refl
+none-said (replaced name header) acts (suc n) not_logged = refl
+none-said (restored name base redo) acts (suc n) not_logged = refl
+none-said (recovered name r) acts (suc n) not_logged = refl
+
+-- the world where acts are cut
+abbrev cut_at : World → List Act → ℕ → ℕ → World
+cut_at before acts k n = done_all (done_all before (take k acts)) (front_of n (drop k acts))
+
+module _ (before : World) (sound : IsSound before) where
+  -- the ends of databases lie within those before and behind
+  within-cut : (acts : List Act) (k n : ℕ) → MayDoAll before acts → EndWell acts → AllByRecursion (IsWithin before (done_all before acts)) (cut_at before acts k n).databases
+  within-cut acts k n may (inl steady) =
+      let whole : World = done_all before acts in
+      let all : done_all (done_all before (take k acts)) (drop k acts) ≡ whole = sym (done-joined before (take k acts) (drop k acts)) ∙ ap (done_all before) (take-append-drop k acts) in
+      within-rose before whole (cut_at before acts k n).databases
+      (subst (λ (w : World). AllZip Rose (cut_at before acts k n).databases w.databases) all (rose-cut (done_all before (take k acts)) (drop k acts) n (all-drop IsSteady k acts steady)))
+      (acts-sound before acts sound may).whole.different
+  within-cut acts k n may (inr (inl one)) =
+      subst (λ rest. AllByRecursion (IsWithin before (done_all before rest)) (cut_at before rest k n).databases) (sym one.2) (by k (subst (MayDoAll before) one.2 may))
+    where
+      by : (k : ℕ) → MayDoAll before (one.0 ∷ []) → AllByRecursion (IsWithin before (done_all before (one.0 ∷ []))) (cut_at before (one.0 ∷ []) k n).databases
+      by zero may =
+          subst (λ rest. AllByRecursion (IsWithin before (done_all before (one.0 ∷ []))) (done_all before rest).databases) (sym (none-said one.0 [] n one.1)) (within-before before (done_all before (one.0 ∷ [])) sound.whole.different)
+      by (suc k) may =
+          let nothing : front_of n (drop k []) ≡ [] = ap (front_of n) (drop-none k) ∙ front-none n in
+          let taken : take k [] ≡ [] = take-none k in
+          subst (λ rest. AllByRecursion (IsWithin before (done before one.0)) (done_all (done_all (done before one.0) (take k [])) rest).databases) (sym nothing)
+          (subst (λ rest. AllByRecursion (IsWithin before (done before one.0)) (done_all (done before one.0) rest).databases) (sym taken) (within-whole before (done before one.0) (acts-sound before (one.0 ∷ []) sound may).whole.different))
+  within-cut acts k n may (inr (inr (name, header, base, redo, r, is))) =
+      subst (λ rest. AllByRecursion (IsWithin before (done_all before rest)) (cut_at before rest k n).databases) (sym is) (by k (subst (MayDoAll before) is may))
+    where
+      steps : List Act
+      steps = replaced name header ∷ restored name base redo ∷ recovered name r ∷ []
+
+      first : AllByRecursion (IsWithin before (done_all before (replaced name header ∷ restored name base redo ∷ recovered name r ∷ []))) before.databases
+      first = within-before before (done_all before (replaced name header ∷ restored name base redo ∷ recovered name r ∷ [])) sound.whole.different
+
+      second : AllByRecursion (IsWithin before (done_all before (replaced name header ∷ restored name base redo ∷ recovered name r ∷ []))) (done before (replaced name header)).databases
+      second = within-replaced before (done_all before (replaced name header ∷ restored name base redo ∷ recovered name r ∷ [])) before name header first
+
+      -- nothing is said where one of these acts is cut
+      unsaid : (w : World) (act : Act) (acts : List Act) → NotLogged act → AllByRecursion (IsWithin before (done_all before (replaced name header ∷ restored name base redo ∷ recovered name r ∷ []))) w.databases
+          → AllByRecursion (IsWithin before (done_all before (replaced name header ∷ restored name base redo ∷ recovered name r ∷ []))) (done_all w (front_of n (act ∷ acts))).databases
+      unsaid w act acts not_logged all =
+          subst (λ front. AllByRecursion (IsWithin before (done_all before (replaced name header ∷ restored name base redo ∷ recovered name r ∷ []))) (done_all w front).databases) (sym (none-said act acts n not_logged)) all
+
+      by : (k : ℕ) → MayDoAll before (replaced name header ∷ restored name base redo ∷ recovered name r ∷ [])
+          → AllByRecursion (IsWithin before (done_all before (replaced name header ∷ restored name base redo ∷ recovered name r ∷ []))) (cut_at before (replaced name header ∷ restored name base redo ∷ recovered name r ∷ []) k n).databases
+      by zero may = unsaid before (replaced name header) (restored name base redo ∷ recovered name r ∷ []) tt first
+      by (suc zero) may = unsaid (done before (replaced name header)) (restored name base redo) (recovered name r ∷ []) tt second
+      by (suc (suc zero)) may =
+          unsaid (done (done before (replaced name header)) (restored name base redo)) (recovered name r) [] tt
+          (within-restored before (done_all before (replaced name header ∷ restored name base redo ∷ recovered name r ∷ [])) (done before (replaced name header)) name base redo second)
+      by (suc (suc (suc k))) may =
+          let last : World = done_all before (replaced name header ∷ restored name base redo ∷ recovered name r ∷ []) in
+          let nothing : front_of n (drop k []) ≡ [] = ap (front_of n) (drop-none k) ∙ front-none n in
+          let taken : take k [] ≡ [] = take-none k in
+          subst (λ rest. AllByRecursion (IsWithin before last) (done_all (done_all last (take k [])) rest).databases) (sym nothing)
+          (subst (λ rest. AllByRecursion (IsWithin before last) (done_all last rest).databases) (sym taken) (within-whole before last (acts-sound before (replaced name header ∷ restored name base redo ∷ recovered name r ∷ []) sound may).whole.different))
+
+-- a front opens nothing, either
+opens-front : (acts : List Act) (n : ℕ) → AllByRecursion OpensNothing acts → AllByRecursion OpensNothing (front_of n acts)
+opens-front acts zero opens = tt
+opens-front [] (suc n) opens = tt
+opens-front (logged name said transactions ∷ acts) (suc n) opens = (opens.0, tt)
+opens-front (turned name ∷ acts) (suc n) opens = tt
+opens-front (created c ∷ acts) (suc n) opens = tt
+opens-front (dropped name ∷ acts) (suc n) opens = tt
+opens-front (medium_made path ∷ acts) (suc n) opens = tt
+opens-front (set_sealed path header ∷ acts) (suc n) opens = tt
+opens-front (based name header ∷ acts) (suc n) opens = tt
+opens-front (replaced name header ∷ acts) (suc n) opens = tt
+opens-front (restored name base redo ∷ acts) (suc n) opens = tt
+opens-front (recovered name r ∷ acts) (suc n) opens = tt
+
+-- acts of a statement that are cut, in a sound world in which nothing is open
+module _ (before : World) (sound : IsSound before) (idle : AreIdle before) (acts : List Act) (may : MayDoAll before acts) (well : CutWell before acts) (k n : ℕ) (quiet : AllByRecursion IsQuiet (front_of n (drop k acts))) where
+  mid-sound : IsSound (done_all before (take k acts))
+  mid-sound = acts-sound before (take k acts) sound (may-front before acts k may)
+
+  mid-idle : AreIdle (done_all before (take k acts))
+  mid-idle = idle-done-all before (take k acts) idle (all-take OpensNothing k acts well.opens)
+
+  cut-idle : AreIdle (cut_at before acts k n)
+  cut-idle = idle-done-all (done_all before (take k acts)) (front_of n (drop k acts)) mid-idle (opens-front (drop k acts) n (all-drop OpensNothing k acts well.opens))
+
+  is-whole : IsWhole (cut_at before acts k n)
+  is-whole = cut-whole (done_all before (take k acts)) (drop k acts) n mid-sound.whole (may-rest before acts k may)
+
+  is-cut : AllByRecursion (λ (db : Database). db.status ≡ Online → IsCutOf before (done_all before acts) (cut_at before acts k n) db) (cut_at before acts k n).databases
+  is-cut =
+      all_both (IsWithin before (done_all before acts)) (λ (db : Database). IsIdle db × PendsOwn before (cut_at before acts k n) db)
+      (λ (db : Database). db.status ≡ Online → IsCutOf before (done_all before acts) (cut_at before acts k n) db) (λ db within both up.
+      let OfOpen : List Open → Type 0 = AllByRecursion (λ (t : Open). begin_in (database_named before.databases db.name) (greatest_end before (done_all before acts) db) ≤ t.begin) in
+      record { of_open = both.1 up; from = subst OfOpen (sym both.0.transactions) tt; end = within up })
+      (cut_at before acts k n).databases (within-cut before sound acts k n may well.ends)
+      (all_both IsIdle (PendsOwn before (cut_at before acts k n)) (λ (db : Database). IsIdle db × PendsOwn before (cut_at before acts k n) db) (λ db a b. (a, b)) (cut_at before acts k n).databases cut-idle
+      (cut-pends before (done_all before (take k acts)) mid-sound mid-idle (drop k acts) n (may-rest before acts k may) (all-drop (IsOwn before) k acts well.own) quiet))
+
+-- ---- statements
+
+-- one record that tells an entry isn't cut
+own-table : (w : World) (name : List ℕ) (time : ℕ) (spec : TableSpec) (transactions : List Open) → IsOwn w (logged name (alone (table_made time spec)) transactions)
+own-table w name time spec transactions n quiet = let wrong : telling (table_made time spec) ≡ None = quiet.0 in absurd (cc)
+
+own-checkpoint : (w : World) (name : List ℕ) (time : ℕ) (transactions : List Open) → IsOwn w (logged name (alone (checkpointed time)) transactions)
+own-checkpoint w name time transactions n quiet = let wrong : telling (checkpointed time) ≡ None = quiet.0 in absurd (cc)
+
+own-stamp : (w : World) (name : List ℕ) (time : ℕ) (set : Guid) (transactions : List Open) → IsOwn w (logged name (alone (stamped time set)) transactions)
+own-stamp w name time set transactions n quiet = let wrong : telling (stamped time set) ≡ None = quiet.0 in absurd (cc)
+
+-- a row is written by a transaction that begins at the end
+own-single : (w : World) (db : Database) (at : Place) (note : Option (List ℕ)) (c : RowChange) (time : ℕ) (transactions : List Open) → database_named w.databases db.name ≡ Some db
+    → IsOwn w (logged db.name (single_said db.end at note c time) transactions)
+own-single w db at note c time transactions named n quiet =
+    let its : is_among (own_begin (database_named w.databases db.name)) db.end ≡ true = ap (λ o. is_among (own_begin o) db.end) named ∙ itself db.end in
+    all-take (λ (s : Said). is_among (own_begin (database_named w.databases db.name)) s.begin ≡ true) (suc n) (single_said db.end at note c time) (its, (its, (its, tt)))
+  where
+    itself : (m : ℕ) → is_among (m ∷ []) m ≡ true
+    itself m = let same : (m == m) ≡ true = grind (arith, nat_tests) in rw same refl
+
+module _ (w : World) (sound : IsSound w) (idle : AreIdle w) where
+  abbrev Shape : Outcome → Type 0
+  Shape outcome = AllByRecursion (IsOwn w) outcome.acts × EndWell outcome.acts
+
+  shaped : (known outcome : Outcome) → AllByRecursion (IsOwn w) known.acts × EndWell known.acts → outcome ≡ known → AllByRecursion (IsOwn w) outcome.acts × EndWell outcome.acts
+  shaped known outcome shape is = subst (λ (o : Outcome). AllByRecursion (IsOwn w) o.acts × EndWell o.acts) (sym is) shape
+
+  plain : (rule : Rule) (outcome : Outcome) → outcome ≡ refused rule → AllByRecursion (IsOwn w) outcome.acts × EndWell outcome.acts
+  plain rule outcome is = shaped (refused rule) outcome (tt, inl tt) is
+
+  item-shape : (line : ℕ) (item : ScriptItem) (now : ℕ) (outcome : Outcome) → ItemMay w line item now outcome → AllByRecursion (IsOwn w) outcome.acts × EndWell outcome.acts
+  item-shape line (CreateDatabase name primary groups log) now outcome may = comes-to Shape (check_create_database w line name primary groups log) (DoesCreateDatabase w name now) (λ rule. (tt, inl tt))
+      (λ found e o is. shaped _ o ((tt, tt), inr (inl (created _, tt, refl))) is) outcome may
+  item-shape line (DropDatabase name) now outcome may = comes-to Shape (check_drop_database w name) DoesDropDatabase (λ rule. (tt, inl tt)) (λ found e o is. shaped _ o ((tt, tt), inr (inl (dropped _, tt, refl))) is) outcome may
+  item-shape line (Use name) now outcome may = comes-to Shape (check_use w name) DoesUse (λ rule. (tt, inl tt)) (λ found e o is. shaped _ o ((tt, tt), inl (tt, tt)) is) outcome may
+  item-shape line (CreateTable name group) now outcome may = comes-to Shape (check_create_table w line group) (DoesCreateTable w name now) (λ rule. (tt, inl tt))
+      (λ db e o is. shaped _ o ((own-table w db.name _ (new_table w db name) db.transactions, tt), inl (tt, tt)) is) outcome may
+  item-shape line (Insert table key value) now outcome may = comes-to Shape (check_insert w line table key value) (DoesInsert w key value now) (λ rule. (tt, inl tt))
+      (λ to e o is. shaped _ o ((own-single w to.database is.0 None _ _ to.database.transactions (insert.its-ready w line table key value to sound idle e).named, tt), inl (tt, tt)) is.2) outcome may
+  item-shape line (Select table key) now outcome may = comes-to Shape (check_select w line table key) DoesSelect (λ rule. (tt, inl tt)) (λ found e o is. shaped _ o (tt, inl tt) is) outcome may
+  item-shape line (BackupDatabase name units disk options) now outcome may = comes-to Shape (check_backup w line name units disk options) (DoesBackup w disk now) (λ rule. (tt, inl tt))
+      (λ db e o is. shaped _ o ((tt, (own-checkpoint w db.name _ db.transactions, (own-stamp w db.name _ (drawn w w.counter) db.transactions, (tt, (tt, tt))))), inl (tt, (tt, (tt, (tt, (tt, tt)))))) is) outcome may
+  item-shape line (RestoreDatabase name units disk options) now outcome may = comes-to Shape (check_restore w line name units disk options) (DoesRestore w name) (λ rule. (tt, inl tt))
+      (λ header e o is. shaped _ o ((tt, (tt, (tt, tt))), inr (inr (name_known (database_named w.databases name) name, header, _, header.last, is.0, refl))) is.4) outcome may
+  item-shape line (BackupLog name disk options) now outcome may = plain _ outcome may
+  item-shape line (RestoreLog name disk options) now outcome may = plain _ outcome may
+  item-shape line (QueryMedium query disk file) now outcome may = plain _ outcome may
+  item-shape line (Update table value key) now outcome may = plain _ outcome may
+  item-shape line (Delete table key) now outcome may = plain _ outcome may
+  item-shape line (BulkInsert table first count value) now outcome may = plain _ outcome may
+  item-shape line (Begin transaction) now outcome may = plain _ outcome may
+  item-shape line Commit now outcome may = plain _ outcome may
+  item-shape line Rollback now outcome may = plain _ outcome may
+  item-shape line Checkpoint now outcome may = plain _ outcome may
+  item-shape line (SetRecovery name model) now outcome may = plain _ outcome may
+  item-shape line (SelectCatalog catalog) now outcome may = plain _ outcome may
+  item-shape line (Session number) now outcome may = plain _ outcome may
+  item-shape line Start now outcome may = plain _ outcome may
+  item-shape line (Step count) now outcome may = plain _ outcome may
+  item-shape line Wait now outcome may = plain _ outcome may
+  item-shape line (Syntax at) now outcome may = plain _ outcome may
+  item-shape line TooLong now outcome may = plain _ outcome may
+
+  statement-well : (s : ScriptEntry) (now : ℕ) (outcome : Outcome) → May w s now outcome → CutWell w outcome.acts
+  unfolding May
+  statement-well s now outcome may =
+      let shape = item-shape s.line s.item now outcome may in
+      record { opens = item-opens w sound idle s.line s.item now outcome may; own = shape.0; ends = shape.1 }
+
+-- ---- runs
+
+well-run : (w : World) (statements : List ScriptEntry) (moments : List ℕ) (outcomes : List Outcome) (n : ℕ) → IsCalm w → IsRun w statements moments outcomes → CutWell (behind_all w (take n outcomes)) (next_acts (drop n outcomes))
+well-run w [] [] [] zero calm run = record { opens = tt; own = tt; ends = inl tt }
+well-run w [] [] [] (suc n) calm run = record { opens = tt; own = tt; ends = inl tt }
+well-run w [] [] (o ∷ os) n calm run = absurd run
+well-run w [] (m ∷ ms) os n calm run = absurd run
+well-run w (s ∷ ss) [] os n calm run = absurd run
+well-run w (s ∷ ss) (m ∷ ms) [] n calm run = absurd run
+well-run w (s ∷ ss) (m ∷ ms) (o ∷ os) zero calm run = statement-well w calm.sound calm.idle s m o run.0
+well-run w (s ∷ ss) (m ∷ ms) (o ∷ os) (suc n) calm run =
+    let later : CutWell (behind_all (behind w o) (take n os)) (next_acts (drop n os)) = well-run (behind w o) ss ms os n (calm-behind w s m o calm run.0) run.1 in
+    record { opens = later.opens; own = later.own; ends = later.ends }
+
+module _ (old : World) (statements : List ScriptEntry) (moments : List ℕ) (outcomes : List Outcome) (least : ℕ) (before cut whole : World) (sound : IsSound old) (idle : AreIdle old) (run : IsRun old statements moments outcomes)
+    (cuts : CutsRun old outcomes least before cut whole) where
+  acts : List Act
+  acts = next_acts (drop cuts.done outcomes)
+
+  here : Within old outcomes cuts.done
+  here = within-run old statements moments outcomes cuts.done (record { sound = sound; idle = idle }) run
+
+  well : CutWell (behind_all old (take cuts.done outcomes)) (next_acts (drop cuts.done outcomes))
+  well = well-run old statements moments outcomes cuts.done (record { sound = sound; idle = idle }) run
+
+  cut-is : cut ≡ cut_at (behind_all old (take cuts.done outcomes)) (next_acts (drop cuts.done outcomes)) cuts.acts cuts.records
+  cut-is =
+      cuts.is_cut ∙ ap (λ w. done_all w (take cuts.acts (next_acts (drop cuts.done outcomes)) ++ front_of cuts.records (drop cuts.acts (next_acts (drop cuts.done outcomes))))) cuts.is_before
+      ∙ done-joined (behind_all old (take cuts.done outcomes)) (take cuts.acts (next_acts (drop cuts.done outcomes))) (front_of cuts.records (drop cuts.acts (next_acts (drop cuts.done outcomes))))
+
+  whole-is : whole ≡ done_all (behind_all old (take cuts.done outcomes)) (next_acts (drop cuts.done outcomes))
+  whole-is = cuts.is_whole ∙ ap (λ w. done_all w (next_acts (drop cuts.done outcomes))) cuts.is_before
+
+  pub run-whole : IsWhole cut
+  run-whole =
+      subst IsWhole (sym cut-is) (is-whole (behind_all old (take cuts.done outcomes)) here.calm.sound here.calm.idle (next_acts (drop cuts.done outcomes)) here.may well cuts.acts cuts.records cuts.quiet)
+
+  pub run-cut : AllByRecursion (λ (db : Database). db.status ≡ Online → IsCutOf before whole cut db) cut.databases
+  run-cut =
+      subst (λ w. AllByRecursion (λ (db : Database). db.status ≡ Online → IsCutOf w whole cut db) cut.databases) (sym cuts.is_before)
+      (subst (λ w. AllByRecursion (λ (db : Database). db.status ≡ Online → IsCutOf (behind_all old (take cuts.done outcomes)) w cut db) cut.databases) (sym whole-is)
+      (subst (λ w. AllByRecursion (λ (db : Database). db.status ≡ Online → IsCutOf (behind_all old (take cuts.done outcomes)) (done_all (behind_all old (take cuts.done outcomes)) (next_acts (drop cuts.done outcomes))) w db) w.databases) (sym cut-is)
+      (is-cut (behind_all old (take cuts.done outcomes)) here.calm.sound here.calm.idle (next_acts (drop cuts.done outcomes)) here.may well cuts.acts cuts.records cuts.quiet)))
+
+  -- for any fronts of its logs a crash of the run may leave a world in which they are settled
+  pub run-leaves : (kept : Database → List Logged) (counter : ℕ) → AllByRecursion (λ (db : Database). db.status ≡ Online → IsFront before cut db (kept db)) cut.databases → cut.counter ≤ counter → counter ≤ cut.counter + 1024
+      → (left : World) × Leaves old outcomes least left × (left.counter ≡ counter) × AllZip (λ (now new : Database). now.status ≡ Online → log_of left.history new ≡ settled (kept now)) cut.databases left.databases
+  run-leaves kept counter fronts no_less no_more =
+      let stays : AllByRecursion (λ (db : Database). db.status ≡ Online → MayStay before whole cut db (kept db)) cut.databases =
+      all_both (IsWholeDatabase cut) (λ (db : Database). (db.status ≡ Online → IsCutOf before whole cut db) × (db.status ≡ Online → IsFront before cut db (kept db))) (λ (db : Database). db.status ≡ Online → MayStay before whole cut db (kept db))
+      (λ db one both up. record { front = both.1 up; bound = front-bound before whole cut db (kept db) one (both.0 up) (both.1 up) }) cut.databases run-whole.databases
+      (all_both (λ (db : Database). db.status ≡ Online → IsCutOf before whole cut db) (λ (db : Database). db.status ≡ Online → IsFront before cut db (kept db))
+      (λ (db : Database). (db.status ≡ Online → IsCutOf before whole cut db) × (db.status ≡ Online → IsFront before cut db (kept db))) (λ db a b. (a, b)) cut.databases run-cut fronts) in
+      let rest = what-stays before whole cut kept counter run-whole stays no_less no_more in
+      (rest.0, record { before = before; cut = cut; whole = whole; cuts = cuts; world = rest.1 }, rest.2, rest.3)
