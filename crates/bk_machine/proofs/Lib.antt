@@ -23,3 +23,4 @@ pub mod statements
 mod Ends
 mod Cutting
 mod CutRuns
+mod Reaching

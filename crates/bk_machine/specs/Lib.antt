@@ -12,3 +12,4 @@ pub mod Crash
 pub mod Stays
 pub mod Events
 pub mod MayDo
+pub mod Reached

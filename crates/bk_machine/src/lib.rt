@@ -6,6 +6,7 @@ mod act_laws;
 mod crash_laws;
 mod event_laws;
 mod laws;
+mod reaching_laws;
 mod statement_laws;
 
 pub use act_laws::{
@@ -18,4 +19,5 @@ pub use crash_laws::{
 };
 pub use event_laws::events_keep_worlds_sound;
 pub use laws::{empty_worlds_are_sound, runs_begin_and_end_in_sound_worlds};
+pub use reaching_laws::reached_worlds_are_sound;
 pub use statement_laws::{runs_keep_worlds_sound, statements_do_what_they_may};
