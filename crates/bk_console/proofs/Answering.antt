@@ -99,7 +99,7 @@ front_more told told1 told2 replies reply before more = (
 )
 
 -- nothing more
-front_same : (told told1 told2 : List ℕ) (replies : List Reply) → told1 ≡ told ++ replies_text replies → told2 ≡ told1 → TellsFront (replies_text replies) told told2
+pub front_same : (told told1 told2 : List ℕ) (replies : List Reply) → told1 ≡ told ++ replies_text replies → told2 ≡ told1 → TellsFront (replies_text replies) told told2
 front_same told told1 told2 replies before same =
     (length (replies_text replies), same ∙ before ∙ ap (λ texts. told ++ texts) (sym (take-length (replies_text replies))))
 

@@ -16,7 +16,7 @@ use Rattle.bk_instance.specs.Loading.{LeavesOpened}
 use Rattle.bk_instance.specs.Media.{MediaAreDurable, IfDurable}
 use Rattle.bk_instance.specs.Stands.{Stands, Covers, CutsEnd, StandsEnded, IsStored, StandsFor, IsOurs}
 use Rattle.bk_instance.proofs.Covering.{settled-covers}
-use Rattle.bk_syntax.specs.Script.{IsScript}
+use Rattle.bk_syntax.specs.Machine.{AreStatements}
 use Rattle.bk_world.specs.declared.item.Statement.{Statement}
 use Rattle.bk_world.specs.declared.reply.Reply.{Reply}
 use Rattle.bk_world.specs.World.{World, opened, ended}
@@ -327,12 +327,6 @@ module _ (asks : Option WordOptions) (st : Type 0) (rest rest_after : List ℕ) 
   failed-reading Fault bytes read few more less = nothing-ran 3 bytes read few (λ h. absurd (omega (arith, h))) (λ h. absurd (omega (arith, h, less refl))) (omega arith) (λ h. omega (arith, h))
   failed-reading NoMemory bytes read few more less = nothing-ran 6 bytes read few (λ h. absurd (omega (arith, h))) (λ h. inr refl) (omega arith) (λ h. omega (arith, h))
 
-  -- the script was read, and no statement was begun
-  pub stopped-before : (bytes : List ℕ) → (st → (rest ≡ bytes) × (rest_after ≡ [])) → length bytes ≤ script_bytes → Ran asks st rest rest_after ct coming coming dt disk disk 6
-  stopped-before bytes whole short =
-      nothing-ran 6 bytes (λ t. (whole t).0 ∙ sym (append-nil bytes) ∙ ap (λ r. bytes ++ r) (sym (whole t).1)) (omega arith)
-      (λ h. absurd (omega (arith, h))) (λ h. inr refl) (omega arith) (λ h. omega (arith, h))
-
 -- a status is the one of its number
 is_too_long : (s : Status) → code_of s ≡ 8 → s ≡ status.ScriptTooLong
 is_too_long status.Done h = absurd (omega (arith, h))
@@ -347,7 +341,7 @@ is_too_long status.ScriptTooLong h = refl
 
 -- the statements of the whole script were executed
 pub ran-whole : (asks : Option WordOptions) (st : Type 0) (rest rest_after : List ℕ) (ct : Type 0) (coming coming_after : ℕ → ℕ) (dt : Type 0) (disk disk_after : Disk) (s : Status)
-    (bytes : List ℕ) (statements : List Statement) → (st → (rest ≡ bytes) × (rest_after ≡ [])) → length bytes ≤ script_bytes → IsScript bytes statements → (s ≡ status.ScriptTooLong → ⊥)
+    (bytes : List ℕ) (statements : List Statement) → (st → (rest ≡ bytes) × (rest_after ≡ [])) → length bytes ≤ script_bytes → AreStatements bytes statements → (s ≡ status.ScriptTooLong → ⊥)
     → Executed asks statements ct coming coming_after dt disk disk_after (code_of s) → Ran asks st rest rest_after ct coming coming_after dt disk disk_after (code_of s)
 ran-whole asks st rest rest_after ct coming coming_after dt disk disk_after s bytes statements whole short script not_long executed = record {
   bytes = bytes;

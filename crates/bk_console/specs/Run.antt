@@ -8,7 +8,7 @@ use Rattle.bk_instance.specs.declared.error.ExecuteError.TheVariants as execute
 use Rattle.bk_instance.specs.declared.error.LoadError.{LoadError}
 use Rattle.bk_instance.specs.declared.error.LoadError.TheVariants as load
 use Rattle.bk_instance.specs.Stands.{Stands}
-use Rattle.bk_syntax.specs.Script.{IsScript}
+use Rattle.bk_syntax.specs.Machine.{AreStatements}
 use Rattle.bk_world.specs.declared.item.Statement.{Statement}
 use Rattle.bk_world.specs.declared.reply.Reply.{Reply}
 use Rattle.bk_world.specs.World.{World, opened, ended}
@@ -88,9 +88,9 @@ abbrev pub asked_number : Option WordOptions → ℕ
 asked_number None = 0
 asked_number (Some options) = options.instance
 
--- These bytes are the whole source, and the statements are their script.
+-- These bytes are the whole source, and the statements are its items, as the machine takes them.
 pub record IsWhole (tells : Type 0) (bytes rest_after : List ℕ) (statements : List Statement) : Type 0 where
-  pub script : IsScript bytes statements
+  pub script : AreStatements bytes statements
   pub to_its_end : tells → rest_after ≡ []
   pub short : length bytes ≤ script_bytes
 

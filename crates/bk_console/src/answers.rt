@@ -1,7 +1,9 @@
 // Answering statements, one after the other.
-ghost use Rattle.std.specs.Prelude.{◌≡◌, IfOk, OnOk, OnErr, IsErrOf};
+ghost use Rattle.std.specs.Prelude.{◌≡◌, List, IfOk, OnOk, OnErr, IsErrOf};
 ghost use Rattle.bk_device.specs.Effects.{KeepsFiles};
 ghost use Rattle.bk_instance.specs.Stands.{IsReady, IsStored};
+ghost use Rattle.bk_syntax.specs.Machine.{AreStatements};
+ghost use Rattle.bk_world.specs.declared.item.Statement.{Statement as StatementOf};
 ghost use Rattle.bk_console.specs.Answers as spec;
 ghost use Rattle.bk_console.specs.Answers.{NotOurs, Answered, CutShort, AnsweredBy, CutAll, executed_error};
 ghost use Rattle.bk_console.specs.Causes.{HasCauses};
@@ -10,6 +12,7 @@ ghost use Rattle.bk_console.specs.declared.answers.AnswerError.TheVariants as an
 use crate::report;
 use bk_device::{Clock, Device, Failed};
 use bk_instance::{ExecuteError, Instance};
+use bk_syntax::{Reader, next_statement};
 use bk_world::{Reply, Statement};
 use std::alloc::{AllocError, Global};
 use thiserror::Error;
@@ -100,30 +103,31 @@ pub fn answer<D: Device, C: Clock>(
     Ok(is_refusal(&reply))
 }
 
-/// Answers the statements in their order: all of them, or up to the first that is refused, where `stop` asks for that.
-/// At an error the rest isn't begun. A crash leaves what it may leave of the machine's run, after at least the statements
-/// whose replies were told whole.
+/// Answers the statements of a script in their order: all of them, or up to the first that is refused, where `stop` asks for
+/// that. They are read one by one. At an error the rest isn't begun. A crash leaves what it may leave of the machine's run,
+/// after at least the statements whose replies were told whole.
 pub fn answer_all<D: Device, C: Clock>(
     alloc: Global,
     instance: &mut Instance,
-    statements: &[Statement],
+    script: &[u8],
     stop: bool,
     device: &mut D,
     clock: &mut C,
 ) -> Result<Ended, AnswerError>
     requires ready { IsReady instance.old }
     requires stored { D.tells → IsStored (D.disk device.old) instance.old }
-    ensures answered { IfOk result (λ ended. AnsweredBy ended stop instance.old instance.new statements.now C.tells (C.coming clock.old) (C.coming clock.new)
+    ensures answered { (ss : List StatementOf) → AreStatements script.now ss → IfOk result (λ ended. AnsweredBy ended stop instance.old instance.new ss C.tells (C.coming clock.old) (C.coming clock.new)
         D.tells (D.disk device.old) (D.disk device.new)) }
-    ensures cut_short { OnErr result (CutAll stop instance.old statements.now C.tells (C.coming clock.old) (C.coming clock.new)
+    ensures cut_short { (ss : List StatementOf) → AreStatements script.now ss → OnErr result (CutAll stop instance.old ss C.tells (C.coming clock.old) (C.coming clock.new)
         D.tells (D.disk device.old) (D.disk device.new) (IsErrOf result answer_error.Console)) }
     ensures ready { OnOk result (IsReady instance.new) }
     ensures stored { D.tells → OnOk result (IsStored (D.disk device.new) instance.new) }
     ensures others { D.tells → KeepsFiles NotOurs (D.disk device.old) (D.disk device.new) }
     ensures causes { HasCauses D.disk_faults D.tell_faults device.old device.new (IsErrOf result answer_error.Device) (IsErrOf result answer_error.Console) }
 {
-    for statement in statements {
-        let refused = answer(alloc, instance, statement, device, clock)?;
+    let mut reader = Reader::new(alloc);
+    while let Some(statement) = next_statement(alloc, &mut reader, script)? {
+        let refused = answer(alloc, instance, &statement, device, clock)?;
         if refused && stop {
             return Ok(Ended::AtARefusal);
         }

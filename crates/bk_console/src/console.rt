@@ -1,10 +1,12 @@
 // The top call.
-ghost use Rattle.std.specs.Prelude.{◌≡◌, ◌⊎◌, ◌≤◌, ◌↔◌, None, Some, map};
+ghost use Rattle.std.specs.Prelude.{◌≡◌, ◌⊎◌, ◌≤◌, ◌↔◌, List, None, Some, map};
 ghost use Rattle.std.specs.String.{string_bytes};
 ghost use Rattle.bk_device.specs.Calls.{ChangesNothing};
 ghost use Rattle.bk_device.specs.Counts.{HasRisen};
 ghost use Rattle.bk_device.specs.Effects.{KeepsFiles};
 ghost use Rattle.bk_home.specs.Home.{IsNoInstance};
+ghost use Rattle.bk_syntax.specs.Machine.{AreStatements};
+ghost use Rattle.bk_world.specs.declared.item.Statement.{Statement as StatementOf};
 ghost use Rattle.bk_console.specs.Answers.{NotOurs};
 ghost use Rattle.bk_console.specs.Causes.{HasCauses};
 ghost use Rattle.bk_console.specs.Words.{options_of, as_asked};
@@ -16,13 +18,12 @@ use crate::reading::read_script;
 use crate::status::Status;
 use bk_device::{Clock, Device, Source};
 use bk_instance::Instance;
-use bk_syntax::statements;
-use bk_world::Statement;
+use bk_syntax::one_statement_list;
 use std::alloc::Global;
 use std::thread::Threads;
 
-/// Runs the script that the source gives over the instance on the device: reads it to its end, executes its statements
-/// in order, and tells each reply before the next statement begins. With `-b` it stops at the first refusal. Answers the
+/// Runs the script that the source gives over the instance on the device: reads it to its end, executes its items in order,
+/// one after the other, and tells each reply before the next item is read. With `-b` it stops at the first refusal. Answers the
 /// exit status.
 ///
 /// The instance is made where the device holds none. What a statement changed is on the device before its reply is told,
@@ -84,19 +85,19 @@ fn console<D: Device, S: Source, C: Clock>(
 {
     let options = command_line::words(alloc, words)?;
     let script = read_script(alloc, source)?;
-    let statements = statements(alloc, &script)?;
-    over_instance(alloc, &options, &statements, device, clock)
+    one_statement_list();
+    over_instance(alloc, &options, &script, device, clock)
 }
 
-// Executes statements over the instance on the device.
+// Executes the statements of a script over the instance on the device.
 fn over_instance<D: Device, C: Clock>(
     alloc: Global,
     options: &Options,
-    statements: &[Statement],
+    script: &[u8],
     device: &mut D,
     clock: &mut C,
 ) -> Result<(), Status>
-    ensures executed { Executed (Some (as_asked options.now)) statements.now C.tells (C.coming clock.old) (C.coming clock.new)
+    ensures executed { (ss : List StatementOf) → AreStatements script.now ss → Executed (Some (as_asked options.now)) ss C.tells (C.coming clock.old) (C.coming clock.new)
         D.tells (D.disk device.old) (D.disk device.new) (code_of (status_of result)) }
     ensures begun { (status_of result ≡ Status.Usage) ⊎ (status_of result ≡ Status.SourceFault) ⊎ (status_of result ≡ Status.ScriptTooLong) → ⊥ }
     ensures causes { HasCauses D.disk_faults D.tell_faults device.old device.new (status_of result ≡ Status.DeviceFault) (status_of result ≡ Status.ConsoleFault) }
@@ -109,7 +110,7 @@ fn over_instance<D: Device, C: Clock>(
     let ended = answer_all(
         alloc,
         &mut instance,
-        statements,
+        script,
         options.stop,
         device,
         clock,

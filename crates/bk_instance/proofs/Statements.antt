@@ -21,10 +21,10 @@ use Rattle.bk_kept.proofs.Selects.{select-allowed, select-accepted}
 use Rattle.bk_kept.proofs.Related.{both-some, named-keeps, online-found}
 use Rattle.bk_world.specs.declared.database.TableSpec.{TableSpec}
 use Rattle.bk_world.specs.declared.item.Item.{Item}
-use Rattle.bk_world.specs.declared.item.Item.TheVariants.{CreateDatabase, DropDatabase, Use, CreateTable, Insert, Select, NotBuilt}
+use Rattle.bk_world.specs.declared.item.Item.TheVariants.{CreateDatabase, DropDatabase, Use, CreateTable, Insert, Select, Syntax, TooLong, NotBuilt}
 use Rattle.bk_world.specs.declared.reply.Reply.TheVariants.{Done, Counted, Selected, Refused}
 use Rattle.bk_world.specs.declared.rule.Rule.{Rule}
-use Rattle.bk_world.specs.declared.rule.Rule.TheVariants.{NoSuchDatabase, NotBuilt as unbuilt}
+use Rattle.bk_world.specs.declared.rule.Rule.TheVariants.{NoSuchDatabase, Syntax as no_syntax, TooLong as over_long, NotBuilt as unbuilt}
 use Rattle.bk_world.specs.Changes.{created, dropped, with_current, table_added, row_added, logged, logged_with, drawn, latest, entry_time}
 use Rattle.bk_world.specs.Checks.{is_system}
 use Rattle.bk_world.specs.Machine.{broken, accepted, last_world, with_found, in_one}
@@ -200,7 +200,15 @@ select-answers i disk line name now t rows finds same w stands = (
   stands,
 )
 
--- What isn't built.
+-- What is no statement, what is too long, and what isn't built.
+
+pub syntax-answers : (i : Instance) (disk : Disk) (line there now : ℕ) → Answers i disk (record { item = Syntax there; line = line }) now (Refused (no_syntax there)) i disk
+unfolding broken
+syntax-answers i disk line there now = refused-answers i disk line (Syntax there) now (no_syntax there) (λ w keeps. refl)
+
+pub too_long-answers : (i : Instance) (disk : Disk) (line now : ℕ) → Answers i disk (record { item = TooLong; line = line }) now (Refused over_long) i disk
+unfolding broken
+too_long-answers i disk line now = refused-answers i disk line TooLong now over_long (λ w keeps. refl)
 
 pub not_built-answers : (i : Instance) (disk : Disk) (line now : ℕ) → Answers i disk (record { item = NotBuilt; line = line }) now (Refused (unbuilt line)) i disk
 unfolding broken

@@ -59,6 +59,12 @@ impl Instance {
                 path,
                 replace,
             } => self.restore(dev, database, path, *replace, line, now),
+            Item::Syntax { line: there } => Ok(Reply::Refused {
+                rule: Rule::Syntax { line: *there },
+            }),
+            Item::TooLong => Ok(Reply::Refused {
+                rule: Rule::TooLong,
+            }),
             Item::NotBuilt => Ok(Reply::Refused {
                 rule: Rule::NotBuilt { line },
             }),

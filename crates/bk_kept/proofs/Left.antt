@@ -560,6 +560,8 @@ module _ (w : World) (choice : Choice) (line now : ℕ) (kept : List KeptDatabas
   accepted-fits (item.Select table) fine = select-fits table (current_database w)
   accepted-fits (item.Backup name path) fine = save-fits name path _ (database_named w.databases name) refl (or_else-second (when (is_some (medium_at w.media path)) (NotBuilt line)) _ fine)
   accepted-fits (item.Restore name path replace) fine = read-fits name (header_at (medium_at w.media path))
+  accepted-fits (item.Syntax there) fine = fit-nothing w keeps.once
+  accepted-fits item.TooLong fine = fit-nothing w keeps.once
   accepted-fits item.NotBuilt fine = fit-nothing w keeps.once
 
 -- a statement may be cut before the first of its parts, and behind each

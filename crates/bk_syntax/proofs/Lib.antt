@@ -1,6 +1,5 @@
-pub mod CutLemmas
 pub mod StatementLaws
 pub mod ItemsLaw
 pub mod FrontLaws
 pub mod ReaderLaws
-pub mod OneScript
+pub mod MachineLaws

@@ -1,7 +1,5 @@
-pub mod Forms
 pub mod Items
 pub mod Limits
+pub mod Machine
 pub mod Reader
-pub mod Reading
-pub mod Script
 pub mod Statement

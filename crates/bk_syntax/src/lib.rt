@@ -1,31 +1,24 @@
-//! Reads the statements of a script.
+//! Reads the items of a script, and the statements of the machine that they are.
 #![tactic(auto)]
 
 ghost use Rattle.std.specs.Prelude.{◌≡◌, ℕ, List};
-ghost use Rattle.bk_syntax.specs.Script.{IsScript};
 ghost use Rattle.bk_token.specs.declared.token.Token.{Token};
 ghost use Rattle.bk_items.specs.declared.item.ScriptEntry.{ScriptEntry};
 ghost use Rattle.bk_syntax.specs.Items.{AreEntries, AreItems};
+ghost use Rattle.bk_syntax.specs.Machine.{AreStatements};
 ghost use Rattle.bk_world.specs.declared.item.Statement.{Statement};
 
-mod cut;
 mod entries;
-mod forms;
 mod front;
 mod limits;
+mod machine;
 mod reader;
 mod statement;
-mod stuck;
 
 use bk_token::one_token_list;
-pub use cut::statements;
 pub use entries::items;
+pub use machine::next_statement;
 pub use reader::Reader;
-
-/// Bytes are the script of exactly one list of statements.
-pub fn one_statement_list()
-    ensures { (src : List ℕ) (statements others : List Statement) → IsScript src statements → IsScript src others → statements ≡ others }
-{}
 
 /// Bytes have exactly one list of items, and each token list has one.
 pub fn one_item_list()
@@ -34,4 +27,12 @@ pub fn one_item_list()
     ensures of_tokens { (src : List ℕ) (tokens : List Token) → (entries : List ScriptEntry) × AreEntries src tokens entries }
 {
     one_token_list();
+}
+
+/// Bytes are the script of exactly one list of statements.
+pub fn one_statement_list()
+    ensures one { (src : List ℕ) (statements others : List Statement) → AreStatements src statements → AreStatements src others → statements ≡ others }
+    ensures some { (src : List ℕ) → (statements : List Statement) × AreStatements src statements }
+{
+    one_item_list();
 }

@@ -10,7 +10,7 @@ use Rattle.bk_world.specs.declared.reply.Reply.{Reply}
 use Rattle.bk_world.specs.declared.reply.Reply.TheVariants.{Done, Counted, Selected, SetMade, Recovered, Refused}
 use Rattle.bk_world.specs.declared.rule.Limit.TheVariants.{Databases}
 use Rattle.bk_world.specs.declared.rule.Rule.{Rule}
-use Rattle.bk_world.specs.declared.rule.Rule.TheVariants.{NoSuchDatabase, DatabaseExists, NoSuchTable, DuplicateKey, LimitReached, NotBuilt}
+use Rattle.bk_world.specs.declared.rule.Rule.TheVariants.{Syntax, TooLong, NoSuchDatabase, DatabaseExists, NoSuchTable, DuplicateKey, LimitReached, NotBuilt}
 use Rattle.bk_world.specs.Medium.{Slot, Reading, readable, damaged, no_set, not_media, medium, medium_at}
 use Rattle.bk_world.specs.World.{World, least_begin, current_database, database_named}
 use Rattle.bk_world.specs.Checks.{when, or_else, found, used_up, limited, is_system, most_databases, offline, paths_of, in_use}
@@ -78,6 +78,8 @@ broken w line (item.Select table) = found (current_database w) NoSuchDatabase (�
     or_else (offline db) (found (table_named (tables w db) table) NoSuchTable (λ t. None)))
 broken w line (item.Backup name path) = or_else (when (is_some (medium_at w.media path)) (NotBuilt line)) (source_broken w name)
 broken w line (item.Restore name path replace) = set_broken (medium_at w.media path) (whole_broken w name replace)
+broken w line (item.Syntax there) = Some (Syntax there)
+broken w line item.TooLong = Some TooLong
 broken w line item.NotBuilt = Some (NotBuilt line)
 
 -- an outcome of one part
@@ -119,6 +121,8 @@ accepted w choice (item.Backup name path) now = with_found (database_named w.dat
     record { parts = full_backup w db path now; reply = SetMade 1 (least_begin db.transactions db.end) db.end (db.end + 2) })
 accepted w choice (item.Restore name path replace) now = with_found (header_at (medium_at w.media path)) (λ header.
     record { parts = whole_restore w name header choice.taken; reply = Recovered header.last })
+accepted w choice (item.Syntax there) now = unchanged Done
+accepted w choice item.TooLong now = unchanged Done
 accepted w choice item.NotBuilt now = unchanged Done
 
 -- the outcome, but for a rule that is broken

@@ -8,7 +8,7 @@ use Rattle.bk_world.specs.declared.rule.Limit.TheVariants.{Databases, Lsn}
 use Rattle.bk_world.specs.declared.rule.StatusWord.{StatusWord}
 use Rattle.bk_world.specs.declared.rule.StatusWord.TheVariants.{Restoring, Standby, Interrupted}
 use Rattle.bk_world.specs.declared.rule.Rule.{Rule}
-use Rattle.bk_world.specs.declared.rule.Rule.TheVariants.{NoSuchDatabase, DatabaseExists, NotOnline, NoSuchTable, DuplicateKey, MediaMissing, NotMedia, NoSuchSet, SetDamaged, OtherFamily, TailNotBackedUp, PathFull, FileInUse, LimitReached, NotBuilt}
+use Rattle.bk_world.specs.declared.rule.Rule.TheVariants.{Syntax, TooLong, NoSuchDatabase, DatabaseExists, NotOnline, NoSuchTable, DuplicateKey, MediaMissing, NotMedia, NoSuchSet, SetDamaged, OtherFamily, TailNotBackedUp, PathFull, FileInUse, LimitReached, NotBuilt}
 use Rattle.bk_ids.specs.Digest.{digest_text}
 use Rattle.bk_ids.specs.Guid.{guid_text}
 
@@ -25,6 +25,8 @@ status_text Interrupted = codes "INTERRUPTED"
 
 -- a rule: its number, its name and the values that were compared
 abbrev pub rule_text : Rule → List ℕ
+rule_text (Syntax line) = codes "1 Syntax " ++ decimal line
+rule_text TooLong = codes "2 TooLong"
 rule_text NoSuchDatabase = codes "3 NoSuchDatabase"
 rule_text DatabaseExists = codes "4 DatabaseExists"
 rule_text (NotOnline status) = codes "5 NotOnline " ++ status_text status

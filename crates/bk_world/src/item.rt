@@ -40,6 +40,12 @@ pub enum Item {
         path: Text,
         replace: bool,
     },
+    /// Where no statement can go on, the line of the token there.
+    Syntax {
+        line: u32,
+    },
+    /// A statement with a length above its limit.
+    TooLong,
     /// Anything else.
     NotBuilt,
 }

@@ -54,6 +54,10 @@ impl StatusWord {
 /// Why a statement was refused: the first rule that it breaks, with the values that were compared.
 #[derive(Debug, Drop)]
 pub enum Rule {
+    /// No statement can go on at the token on this line, or at the end of the script, whose last line it is.
+    Syntax { line: u32 },
+    /// The statement has more than 65,536 bytes, a name of more than 64 bytes, or a path of more than 100.
+    TooLong,
     /// The name is no database's, or the session has no current database.
     NoSuchDatabase,
     /// There is a database of this name, or the name is one that the server keeps for itself.
@@ -92,6 +96,8 @@ impl Rule {
         ensures { IfOk result (λ text. string_bytes text ≡ rule_text self.now) }
     {
         match self {
+            Rule::Syntax { line } => format!(in alloc; "1 Syntax {line}"),
+            Rule::TooLong => String::from_str(alloc, "2 TooLong"),
             Rule::NoSuchDatabase => String::from_str(alloc, "3 NoSuchDatabase"),
             Rule::DatabaseExists => String::from_str(alloc, "4 DatabaseExists"),
             Rule::NotOnline { status } => {

@@ -1,5 +1,5 @@
 // Statements as lines.
-use bk_syntax::statements;
+use bk_syntax::{Reader, next_statement};
 use bk_world::{Item, Statement};
 use std::alloc::{AllocError, Global};
 
@@ -16,6 +16,8 @@ fn add_media_statement(out: &mut String, item: &Item) -> Result<(), AllocError> 
             let (name, path) = (database.as_str(), path.as_str());
             write!(out, "restore {name} from '{path}' {replace}")
         }
+        Item::Syntax { line } => write!(out, "syntax {line}"),
+        Item::TooLong => out.push_str("too long"),
         _ => out.push_str("not built"),
     }
 }
@@ -34,17 +36,17 @@ fn add_statement(out: &mut String, item: &Item) -> Result<(), AllocError> {
     }
 }
 
-fn add_list(out: &mut String, list: &[Statement]) -> Result<(), AllocError> {
-    for statement in list {
-        write!(out, "{} ", statement.line)?;
-        add_statement(out, &statement.item)?;
-        out.push('\n')?;
-    }
-    Ok(())
+fn add_line(out: &mut String, statement: &Statement) -> Result<(), AllocError> {
+    write!(out, "{} ", statement.line)?;
+    add_statement(out, &statement.item)?;
+    out.push('\n')
 }
 
-/// A line for each statement: its line in the script, and what it is.
+/// A line for each statement of the machine: its line in the script, and what it is.
 pub fn add_statements(alloc: Global, src: &[u8], out: &mut String) -> Result<(), AllocError> {
-    let list = statements(alloc, src)?;
-    add_list(out, &list)
+    let mut reader = Reader::new(alloc);
+    while let Some(statement) = next_statement(alloc, &mut reader, src)? {
+        add_line(out, &statement)?;
+    }
+    Ok(())
 }

@@ -1,17 +1,19 @@
-use Rattle.std.proofs.Common.{◌≡◌, ◌+◌, Err, ◌∙◌, take, length, sym, ap, subst, arith, [], ◌∷◌, ◌++◌}
-use Rattle.std.proofs.lemmas.List.{take_more, length-take-le}
+use Rattle.std.proofs.Common.{◌≡◌, Err, ◌∙◌, List, Option, sym, ap, subst, arith}
 use Rattle.std.proofs.lemmas.Result.{err_from_is_err_and}
 use Rattle.bk_device.specs.Compose.{keeps_then}
-use Rattle.bk_console.specs.Answers.{AnsweredFront}
+use Rattle.bk_syntax.specs.Machine.{HasStatements, GivesStatement}
+use Rattle.bk_world.specs.declared.item.Statement.{Statement}
 use Rattle.bk_console.specs.declared.answers.AnswerError.TheVariants.{Console}
 use Rattle.bk_console.proofs.Asking.{OnErr-from, keeps-same}
-use Rattle.bk_console.proofs.Answering.{front-more, front-none, not-stopped, Stopped-from, CutAll-from}
+use Rattle.bk_console.proofs.Answering.{not-stopped}
 use Rattle.bk_console.proofs.Causes.{causes-none, causes-then}
+use Rattle.bk_console.proofs.Reading.{so_far-none, so_far-all, so_far-unread, so_far-cut, so_far-more, so_far-stopped}
 use Rattle.bk_console.proofs.answers.answer_all.Goals as goal
 
 pub loop-statement-init : goal.loop-statement-init
 loop-statement-init g c = record {
-  answered = front-none _ _ _ _ _ _ _;
+  reader = c.new-reader.ensures.reader c.args.script.now;
+  answered = λ ss are. so_far-none _ _ _ _ ss _ _ _ _ (c.new-reader.ensures.items c.args.script.now) are;
   ready = c.requires.ready;
   stored = c.requires.stored;
   others = λ t. keeps-same _ _;
@@ -20,16 +22,14 @@ loop-statement-init g c = record {
 
 pub loop-statement-preserved : goal.loop-statement-preserved
 loop-statement-preserved g c =
+    let src = c.args.script.now in
     let now = c.in_ok-refused.ensures in
     let before = c.loop-statement.invariant in
-    let i = c.loop-statement.statement-index in
-    let short : length (take i c.args.statements.now) ≡ i = length-take-le i c.args.statements.now (omega arith) in
-    let more = take_more c.args.statements.now i c.statement-item.result c.loop-statement-test.true ∙ ap (λ s. take i c.args.statements.now ++ s ∷ []) (sym c.statement-item.is) in
+    let P : Option Statement → Type 0 = λ found. (ss : List Statement) → HasStatements src c.loop-statement.reader ss → GivesStatement src found ss c.next_statement.new.reader in
+    let gives = subst P c.in-Some.is c.in_ok-statement.ensures.statement in
     record {
-      answered = subst (λ ss. AnsweredFront c.args.stop c.args.instance.now c.answer.new.instance c.args.statements.now ss g.C.Clock.tells (g.C.Clock.coming c.args.clock.now) (g.C.Clock.coming c.answer.new.clock)
-          g.D.Device.tells (g.D.Device.disk c.args.device.now) (g.D.Device.disk c.answer.new.device)) (sym more)
-          (front-more _ _ _ _ _ _ _ _ _ _ _ _ _ _ before.answered (ap (λ k. take k c.args.statements.now) short) (ap (λ k. take (k + 1) c.args.statements.now) short ∙ more)
-          _ _ now.answered (not-stopped _ _ c.else-refused.either));
+      reader = c.in_ok-statement.ensures.reader;
+      answered = λ ss are. so_far-more _ _ _ _ _ ss _ _ _ _ _ _ (before.answered ss are) c.next_statement.new.reader c.in-Some.statement gives _ _ _ _ now.answered (not-stopped _ _ c.else-refused.either);
       ready = now.ready;
       stored = now.stored;
       others = λ t. keeps_then (before.others t) (now.others t);
@@ -37,24 +37,20 @@ loop-statement-preserved g c =
     }
 
 pub returns-then-stop-clause-answered : goal.returns-then-stop-clause-answered
-returns-then-stop-clause-answered g c =
-    let before = c.loop-statement.invariant in
-    let i = c.loop-statement.statement-index in
-    let short : length (take i c.args.statements.now) ≡ i = length-take-le i c.args.statements.now (omega arith) in
-    let more = take_more c.args.statements.now i c.statement-item.result c.loop-statement-test.true ∙ ap (λ s. take i c.args.statements.now ++ s ∷ []) (sym c.statement-item.is) in
-    Stopped-from _ _ _ _ _ _ _ _ _ _ _ _ _ _ before.answered (ap (λ k. take k c.args.statements.now) short) (ap (λ k. take (k + 1) c.args.statements.now) short ∙ more)
-    _ _ c.in_ok-refused.ensures.answered
-    (omega (arith, short, c.loop-statement-test.true)) c.if-refused.true c.if-stop.true
+returns-then-stop-clause-answered g c ss are =
+    let src = c.args.script.now in
+    let P : Option Statement → Type 0 = λ found. (ss : List Statement) → HasStatements src c.loop-statement.reader ss → GivesStatement src found ss c.next_statement.new.reader in
+    let gives = subst P c.in-Some.is c.in_ok-statement.ensures.statement in
+    so_far-stopped _ _ _ _ _ ss _ _ _ _ _ _ (c.loop-statement.invariant.answered ss are) c.next_statement.new.reader c.in-Some.statement gives _ _ _ _ c.in_ok-refused.ensures.answered c.if-refused.true c.if-stop.true
 
 pub returns-in_err-refused-clause-cut_short : goal.returns-in_err-refused-clause-cut_short
-returns-in_err-refused-clause-cut_short g c =
-    let before = c.loop-statement.invariant in
-    let i = c.loop-statement.statement-index in
-    let short : length (take i c.args.statements.now) ≡ i = length-take-le i c.args.statements.now (omega arith) in
+returns-in_err-refused-clause-cut_short g c ss are =
+    let src = c.args.script.now in
+    let P : Option Statement → Type 0 = λ found. (ss : List Statement) → HasStatements src c.loop-statement.reader ss → GivesStatement src found ss c.next_statement.new.reader in
+    let gives = subst P c.in-Some.is c.in_ok-statement.ensures.statement in
     let p = err_from_is_err_and c.from_residual.result c.from_residual.ensures.1 in
-    let more = take_more c.args.statements.now i c.statement-item.result c.loop-statement-test.true ∙ ap (λ s. take i c.args.statements.now ++ s ∷ []) (sym c.statement-item.is) in
-    OnErr-from _ (CutAll-from _ _ _ _ _ _ _ _ _ _ _ _ _ _ before.answered (ap (λ k. take k c.args.statements.now) short) (ap (λ k. take (k + 1) c.args.statements.now) short ∙ more)
-    (omega (arith, short, c.loop-statement-test.true)) _ _ (λ h. let same : c.in_err-refused.field-0.0 ≡ Console = cc (p.1, p.2, h) in ap Err same) c.in_err-refused.ensures.cut_short)
+    OnErr-from _ (so_far-cut _ _ _ _ _ ss _ _ _ _ _ _ (c.loop-statement.invariant.answered ss are) c.next_statement.new.reader c.in-Some.statement gives _ _ _ _
+    (λ h. let same : c.in_err-refused.field-0.0 ≡ Console = cc (p.1, p.2, h) in ap Err same) c.in_err-refused.ensures.cut_short)
 
 pub returns-then-stop-clause-others : goal.returns-then-stop-clause-others
 returns-then-stop-clause-others g c t = keeps_then (c.loop-statement.invariant.others t) (c.in_ok-refused.ensures.others t)

@@ -1,16 +1,24 @@
-use Rattle.std.proofs.Common.{take}
+use Rattle.std.proofs.Common.{◌≤◌, List}
 use Rattle.bk_device.specs.Effects.{KeepsFiles}
 use Rattle.bk_instance.specs.Stands.{IsReady, IsStored}
-use Rattle.bk_console.specs.Answers.{NotOurs, AnsweredFront}
+use Rattle.bk_syntax.specs.Machine.{AreStatements}
+use Rattle.bk_syntax.specs.Reader.{IsReader, work}
+use Rattle.bk_world.specs.declared.item.Statement.{Statement}
+use Rattle.bk_console.specs.Answers.{NotOurs}
+use Rattle.bk_console.proofs.Reading.{AnsweredSoFar}
 use Rattle.bk_console.specs.Causes.{HasCauses}
 use Rattle.bk_console.proofs.answers.answer_all.Given as goal
 
 abbrev pub invariant-loop-statement : goal.invariant-loop-statement
 invariant-loop-statement g l = record {
-  answered : AnsweredFront l.stop l.fn.instance l.instance l.statements (take l.statement-index l.statements) g.C.Clock.tells (g.C.Clock.coming l.fn.clock) (g.C.Clock.coming l.clock)
+  reader : IsReader l.script l.reader;
+  answered : (ss : List Statement) → AreStatements l.script ss → AnsweredSoFar l.stop l.fn.instance l.instance l.script l.reader ss g.C.Clock.tells (g.C.Clock.coming l.fn.clock) (g.C.Clock.coming l.clock)
       g.D.Device.tells (g.D.Device.disk l.fn.device) (g.D.Device.disk l.device);
   ready : IsReady l.instance;
   stored : g.D.Device.tells → IsStored (g.D.Device.disk l.device) l.instance;
   others : g.D.Device.tells → KeepsFiles NotOurs (g.D.Device.disk l.fn.device) (g.D.Device.disk l.device);
   causes : HasCauses g.D.Device.disk_faults g.D.Device.tell_faults l.fn.device l.device ⊥ ⊥;
 }
+
+abbrev pub decreases-loop-statement : goal.decreases-loop-statement
+decreases-loop-statement g l = work l.script l.reader

@@ -3,11 +3,11 @@ use Rattle.bk_device.specs.Effects.{Effect}
 use Rattle.bk_world.specs.declared.item.Item.{Item}
 use Rattle.bk_world.specs.declared.item.Item.TheVariants.{Backup}
 use Rattle.bk_world.specs.declared.reply.Reply.TheVariants.{Refused}
-use Rattle.bk_world.specs.declared.rule.Rule.TheVariants.{NotBuilt}
+use Rattle.bk_world.specs.declared.rule.Rule.TheVariants.{Syntax, TooLong, NotBuilt}
 use Rattle.bk_instance.specs.Media.{IfDurable}
 use Rattle.bk_instance.specs.Stands.{IsOurs, Cuts, Answers}
 use Rattle.bk_instance.proofs.OneParts.{cuts-none}
-use Rattle.bk_instance.proofs.Statements.{not_built-answers}
+use Rattle.bk_instance.proofs.Statements.{syntax-answers, too_long-answers, not_built-answers}
 use Rattle.bk_instance.proofs.instance.Instance.execute.Goals as goal
 
 pub returns-in-CreateDatabase-clause-crash : goal.returns-in-CreateDatabase-clause-crash
@@ -33,6 +33,18 @@ returns-in-Backup-clause-crash g c tells = subst (λ (x : Item). Effect IsOurs (
 
 pub returns-in-Restore-clause-crash : goal.returns-in-Restore-clause-crash
 returns-in-Restore-clause-crash g c tells = subst (λ (x : Item). Effect IsOurs (IfDurable (g.D.Device.disk c.args.dev.now) (Cuts c.args.self.now (g.D.Device.disk c.args.dev.now) (record { item = x; line = c.args.statement.now.line }) c.args.now)) (g.D.Device.disk c.args.dev.now) (g.D.Device.disk c.restore.new.dev)) (sym c.in-Restore.is) (c.restore.ensures.crash tells)
+
+pub returns-in-Syntax-clause-answers : goal.returns-in-Syntax-clause-answers
+returns-in-Syntax-clause-answers g c tells = subst (λ (x : Item). Answers c.args.self.now (g.D.Device.disk c.args.dev.now) (record { item = x; line = c.args.statement.now.line }) c.args.now (Refused (Syntax c.in-Syntax.there)) c.args.self.now (g.D.Device.disk c.args.dev.now)) (sym c.in-Syntax.is) (syntax-answers c.args.self.now (g.D.Device.disk c.args.dev.now) c.args.statement.now.line c.in-Syntax.there c.args.now)
+
+pub returns-in-Syntax-clause-crash : goal.returns-in-Syntax-clause-crash
+returns-in-Syntax-clause-crash g c tells = cuts-none c.args.self.now (g.D.Device.disk c.args.dev.now) c.args.statement.now c.args.now c.requires.ready (c.requires.stored tells)
+
+pub returns-in-TooLong-clause-answers : goal.returns-in-TooLong-clause-answers
+returns-in-TooLong-clause-answers g c tells = subst (λ (x : Item). Answers c.args.self.now (g.D.Device.disk c.args.dev.now) (record { item = x; line = c.args.statement.now.line }) c.args.now (Refused TooLong) c.args.self.now (g.D.Device.disk c.args.dev.now)) (sym c.in-TooLong.is) (too_long-answers c.args.self.now (g.D.Device.disk c.args.dev.now) c.args.statement.now.line c.args.now)
+
+pub returns-in-TooLong-clause-crash : goal.returns-in-TooLong-clause-crash
+returns-in-TooLong-clause-crash g c tells = cuts-none c.args.self.now (g.D.Device.disk c.args.dev.now) c.args.statement.now c.args.now c.requires.ready (c.requires.stored tells)
 
 pub returns-in-NotBuilt-clause-answers : goal.returns-in-NotBuilt-clause-answers
 returns-in-NotBuilt-clause-answers g c tells = subst (λ (x : Item). Answers c.args.self.now (g.D.Device.disk c.args.dev.now) (record { item = x; line = c.args.statement.now.line }) c.args.now (Refused (NotBuilt c.args.statement.now.line)) c.args.self.now (g.D.Device.disk c.args.dev.now)) (sym c.in-NotBuilt.is) (not_built-answers c.args.self.now (g.D.Device.disk c.args.dev.now) c.args.statement.now.line c.args.now)
