@@ -48,9 +48,20 @@ returns-in_err-refused-clause-cut_short g c ss are =
     let src = c.args.script.now in
     let P : Option Statement → Type 0 = λ found. (ss : List Statement) → HasStatements src c.loop-statement.reader ss → GivesStatement src found ss c.next_statement.new.reader in
     let gives = subst P c.in-Some.is c.in_ok-statement.ensures.statement in
-    let p = err_from_is_err_and c.from_residual.result c.from_residual.ensures.1 in
+    let p = err_from_is_err_and c.from_residual-in_err-refused.result c.from_residual-in_err-refused.ensures.1 in
     OnErr-from _ (so_far-cut _ _ _ _ _ ss _ _ _ _ _ _ (c.loop-statement.invariant.answered ss are) c.next_statement.new.reader c.in-Some.statement gives _ _ _ _
     (λ h. let same : c.in_err-refused.field-0.0 ≡ Console = cc (p.1, p.2, h) in ap Err same) c.in_err-refused.ensures.cut_short)
 
 pub returns-then-stop-clause-others : goal.returns-then-stop-clause-others
 returns-then-stop-clause-others g c t = keeps_then (c.loop-statement.invariant.others t) (c.in_ok-refused.ensures.others t)
+
+pub returns-in_err-statement-clause-cut_short : goal.returns-in_err-statement-clause-cut_short
+returns-in_err-statement-clause-cut_short g c ss are =
+    let p = err_from_is_err_and c.from_residual.result c.from_residual.ensures.1 in
+    OnErr-from _ (so_far-unread _ _ _ _ _ ss _ _ _ _ _ _ (c.loop-statement.invariant.answered ss are) _ (λ h. let no : ⊥ = cc (p.1, p.2, h) in no))
+
+pub returns-clause-answered : goal.returns-clause-answered
+returns-clause-answered g c ss are =
+    let src = c.args.script.now in
+    let P : Option Statement → Type 0 = λ found. (ss : List Statement) → HasStatements src c.loop-statement.reader ss → GivesStatement src found ss c.next_statement.new.reader in
+    so_far-all _ _ _ _ _ ss _ _ _ _ _ _ (c.loop-statement.invariant.answered ss are) c.next_statement.new.reader (subst P c.in_default.is c.in_ok-statement.ensures.statement)
