@@ -1,6 +1,7 @@
 //! Transactions end, and writes are undone.
 
-ghost use Rattle.std.specs.Prelude.{◌≡◌, IfOk, OnOk, IsErrOf};
+ghost use Rattle.std.specs.Prelude.{◌≡◌, ◌==◌, not, filter, IfOk, OnOk, IsErrOf};
+ghost use Rattle.bk_shown.specs.Steps.{row_numbered};
 ghost use Rattle.bk_world.specs.Records.{RowId, is_row};
 ghost use Rattle.bk_shown.specs.Rows.{SetsRow, value_among};
 ghost use Rattle.bk_shown.specs.Writes.{own_of, others_of, row_of, value_after, has_write, LetsGo};
@@ -78,6 +79,25 @@ fn let_all_go(groups: &mut Groups, rows: &Rows, writes: &[Written])
     }
 }
 
+// The row of the first write of a number.
+fn numbered(written: &[Written], number: Lsn) -> Option<(u32, u64)>
+    ensures { result ≡ row_numbered written.now number }
+{
+    for write in written {
+        if write.lsn == number {
+            return Some((write.table, write.key));
+        }
+    }
+    None
+}
+
+// Takes out the writes of a number.
+fn drop_write(written: &mut Vec<Written>, number: Lsn)
+    ensures { written.new.items ≡ filter (λ w. not (w.lsn == number)) written.old.items }
+{
+    written.retain(|write| write.lsn != number);
+}
+
 impl Shown {
     ghost use Rattle.bk_shown.specs.Steps.{Commits, Undoes};
     ghost use Rattle.bk_shown.specs.declared.error.TakeError.TheVariants.{Unfit};
@@ -108,12 +128,12 @@ impl Shown {
     pub(crate) fn undo(&mut self, undone: Lsn)
         ensures { Undoes undone self.old self.new }
     {
-        let Some(at) = self.written.iter().position(|w| w.lsn == undone) else {
-            return;
-        };
-        let write = self.written.remove(at);
-        if !self.is_written(write.table, write.key) {
-            let_go(&mut self.groups, &self.rows, write.table, write.key);
+        let row = numbered(&self.written, undone);
+        drop_write(&mut self.written, undone);
+        if let Some((table, key)) = row {
+            if !self.is_written(table, key) {
+                let_go(&mut self.groups, &self.rows, table, key);
+            }
         }
     }
 }
