@@ -1,0 +1,17 @@
+-- Committed rows, each its table and key with its value.
+use Rattle.std.specs.Prelude.{◌≡◌, ℕ, List, Option, if◌then◌else◌}
+use Rattle.std.specs.BTreeMap.{is_at}
+use Rattle.std.specs.Map.{lookup}
+use Rattle.bk_groups.specs.Groups.{row_cmp}
+use Rattle.bk_world.specs.Records.{RowId, is_row}
+
+abbrev pub RowValues : Type 0
+RowValues = List (RowId × List ℕ)
+
+-- the value of a row, if it is there
+abbrev pub value_among : RowValues → RowId → Option (List ℕ)
+value_among rows id = lookup (is_at (row_cmp id)) rows
+
+-- one row has this value, or is gone, and all others are as they were
+abbrev pub SetsRow : RowValues → RowValues → RowId → Option (List ℕ) → Type 0
+SetsRow old new id value = (other : RowId) → value_among new other ≡ (if is_row id other then value else value_among old other)

@@ -1,0 +1,63 @@
+//! The committed rows of all tables.
+
+ghost use Rattle.std.specs.Prelude.{◌≡◌, []};
+
+use bk_ids::Text;
+use std::alloc::{AllocError, Global};
+use std::collections::BTreeMap;
+use std::marker::Model;
+
+/// Committed rows. Contracts see the list of them, each its table and key with its value, by rising table and key.
+#[derive(Drop)]
+pub struct Rows {
+    values: BTreeMap<(u32, u64), Text>,
+}
+
+impl Model for Rows {
+    ghost use Rattle.bk_shown.specs.Rows.{RowValues};
+
+    ghost Value = { RowValues };
+
+    ghost view = { λ rows. rows.values.entries };
+}
+
+impl Rows {
+    ghost use Rattle.std.specs.Prelude.{OnOk, None, Some, is_some};
+    ghost use Rattle.bk_shown.specs.Rows.{SetsRow, value_among};
+
+    /// No rows. It takes no memory.
+    pub fn new(alloc: Global) -> Self
+        ensures { result ≡ [] }
+    {
+        Rows {
+            values: BTreeMap::new(alloc),
+        }
+    }
+
+    /// Gives a row its value, in the place of the one that it has.
+    pub fn put(&mut self, table: u32, key: u64, value: Text) -> Result<(), AllocError>
+        ensures { OnOk result (SetsRow self.old self.new (table, key) (Some value)) }
+    {
+        self.values.insert((table, key), value)?;
+        Ok(())
+    }
+
+    /// Leaves a row out, if it is there.
+    pub fn leave_out(&mut self, table: u32, key: u64)
+        ensures { SetsRow self.old self.new (table, key) None }
+    {
+        let _gone = self.values.remove(&(table, key));
+    }
+
+    /// Whether a row is there.
+    pub fn has(&self, table: u32, key: u64) -> bool
+        ensures { result ≡ is_some (value_among self.now (table, key)) }
+    {
+        self.values.contains_key(&(table, key))
+    }
+
+    /// The value of a row, if it is there.
+    pub fn value(&self, table: u32, key: u64) -> Option<&Text> {
+        self.values.get(&(table, key))
+    }
+}
