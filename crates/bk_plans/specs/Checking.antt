@@ -1,0 +1,16 @@
+-- A check in memory, beside the machine's.
+use Rattle.std.specs.Prelude.{◌≡◌, Result, Ok, Err}
+use Rattle.bk_machine.specs.Checks.{Checked}
+use Rattle.bk_world.specs.declared.rule.Rule.{Rule}
+use Rattle.bk_plans.specs.declared.refusal.Refusal.{Refusal}
+use Rattle.bk_plans.specs.declared.refusal.Refusal.TheVariants.{Broken, NoMemory}
+
+-- the machine refuses by the same rule, unless memory ran out
+abbrev pub IsRefused : {B : Type 0} → Refusal → Checked B → Type 0
+IsRefused (Broken rule) machine = machine ≡ Err rule
+IsRefused NoMemory machine = Unit {0}
+
+-- a check comes to what the machine's comes to: what it found, seen so, or the same rule
+abbrev pub IsCheck : {A B : Type 0} → (A → B) → Result A Refusal → Checked B → Type 0
+IsCheck view (Ok found) machine = machine ≡ Ok (view found)
+IsCheck view (Err refusal) machine = IsRefused refusal machine
