@@ -1,0 +1,4 @@
+pub mod Named
+pub mod InUse
+pub mod Tells
+pub mod SetFiles

@@ -1,7 +1,9 @@
 -- A check in memory, beside the machine's.
-use Rattle.std.specs.Prelude.{◌≡◌, Result, Ok, Err}
+use Rattle.std.specs.Prelude.{◌≡◌, ℕ, List, Option, Some, None, Result, Ok, Err}
 use Rattle.bk_machine.specs.Checks.{Checked}
+use Rattle.bk_world.specs.declared.header.HeaderFile.{HeaderFile}
 use Rattle.bk_world.specs.declared.rule.Rule.{Rule}
+use Rattle.bk_world.specs.declared.rule.Rule.TheVariants.{FileInUse}
 use Rattle.bk_plans.specs.declared.refusal.Refusal.{Refusal}
 use Rattle.bk_plans.specs.declared.refusal.Refusal.TheVariants.{Broken, NoMemory}
 
@@ -14,3 +16,13 @@ IsRefused NoMemory machine = Unit {0}
 abbrev pub IsCheck : {A B : Type 0} → (A → B) → Result A Refusal → Checked B → Type 0
 IsCheck view (Ok found) machine = machine ≡ Ok (view found)
 IsCheck view (Err refusal) machine = IsRefused refusal machine
+
+-- the refusal by a path that is in use, unless memory ran out
+abbrev pub IsInUse : List ℕ → Refusal → Type 0
+IsInUse path (Broken rule) = rule ≡ FileInUse path
+IsInUse path NoMemory = Unit {0}
+
+-- refused at a file of a set, if one was found
+abbrev pub file_check : Option HeaderFile → Checked (Unit {0})
+file_check None = Ok tt
+file_check (Some file) = Err (FileInUse file.spec.path)

@@ -1,2 +1,3 @@
 pub mod Keeps
 pub mod Checking
+pub mod Paths

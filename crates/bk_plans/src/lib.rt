@@ -1,9 +1,16 @@
 //! The databases that an instance keeps in memory, the worlds that they stand for, and what a statement plans there.
 #![tactic(auto)]
 
+mod databases;
 mod finding;
 mod kept;
+mod paths;
 mod refusal;
+mod restoring;
+mod rules;
+mod tables;
+mod telling;
 
 pub use kept::{Database, Kept};
 pub use refusal::Refusal;
+pub use tables::Target;
