@@ -1,18 +1,16 @@
 -- What each log has, it has with one record more.
-use Rattle.std.proofs.Common.{◌≡◌, ◌<◌, ◌≤◌, ℕ, ◌+◌, true, false, not, List, [], ◌∷◌, ◌++◌, length, Option, Some, None, ◌⊎◌, inl, inr, refl, sym, ◌∙◌, ap, subst, arith}
+use Rattle.std.proofs.Common.{◌≡◌, ◌<◌, ◌≤◌, ℕ, ◌+◌, not, List, [], ◌∷◌, ◌++◌, Some, None, ◌⊎◌, inl, inr, refl, sym, subst, arith}
 use Rattle.std.specs.Prelude.{◌==◌, ◌&&◌}
 use Rattle.std.specs.List.{filter, AllByRecursion}
 use Rattle.std.proofs.lemmas.List.{append-nil}
 use Rattle.bk_ids.specs.declared.record.Place.{Place}
 use Rattle.bk_world.specs.declared.database.FileSpec.{FileSpec}
-use Rattle.bk_world.specs.declared.database.TableSpec.{TableSpec}
-use Rattle.bk_world.specs.Entry.{RowChange}
-use Rattle.bk_world.specs.ListLaws.{all_filter, all_joined, all_mapped, filter_every}
-use Rattle.bk_world.specs.Pending.{Lies, Pending, PendingRise, of_others, of_transaction, pending, pending_after}
+use Rattle.bk_world.specs.ListLaws.{all_filter, all_joined, all_mapped}
+use Rattle.bk_world.specs.Pending.{Lies, Pending, pending, pending_after}
 use Rattle.bk_world.specs.Places.{homes, homes_after, place_of, IsFreePlace}
 use Rattle.bk_world.specs.ReadingLaws.{LieAt, lies-later, rise-filter, rise-one_more}
 use Rattle.bk_world.specs.Records.{Deed, Logged, RowId, database_made, table_made, begun, written, committed, rolled_back, undone, checkpointed, stamped, model_set, loaded, recovered, id_of}
-use Rattle.bk_world.specs.SoundLogs.{MayCome, NoLoadPends}
+use Rattle.bk_world.specs.SoundLogs.{MayCome}
 use Rattle.bk_world.specs.Telling as telling
 use Rattle.bk_shown.specs.Shown.{AreNumbered, IsPlaced, LogKeeps, PlacesAgree, lies_at}
 use Rattle.bk_shown.proofs.Agree.{agree-commit, agree-filter, agree-write}

@@ -6,3 +6,7 @@ mod Readings
 mod Tables
 mod Mirrors
 mod Keeps
+mod Places
+mod Taken
+mod Unfits
+mod Starts

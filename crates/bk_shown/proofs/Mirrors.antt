@@ -1,9 +1,9 @@
 -- Pending writes as they are kept say what those of the log say.
-use Rattle.std.proofs.Common.{◌≡◌, ℕ, Bool, true, false, not, cond, List, [], ◌∷◌, ◌++◌, map, Option, Some, None, refl, sym, ◌∙◌, ap}
+use Rattle.std.proofs.Common.{◌≡◌, ℕ, Bool, true, false, not, cond, List, [], ◌∷◌, ◌++◌, map, Option, Some, None, refl, ◌∙◌, ap}
 use Rattle.std.specs.Prelude.{◌==◌, ◌||◌, is_some, option_map}
-use Rattle.std.specs.List.{filter, find, AllByRecursion}
+use Rattle.std.specs.List.{find, AllByRecursion}
 use Rattle.std.proofs.lemmas.Bool.{eqb-true, eq-eqb}
-use Rattle.bk_world.specs.LastLaws.{is_its, one}
+use Rattle.bk_world.specs.LastLaws.{one}
 use Rattle.bk_world.specs.Pending.{Pending, changes_of, of_others, of_transaction}
 use Rattle.bk_world.specs.Places.{last_of, later}
 use Rattle.bk_world.specs.Records.{RowId, id_of, is_row}

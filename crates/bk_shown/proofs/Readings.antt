@@ -1,15 +1,14 @@
 -- What a log says with one record more.
-use Rattle.std.proofs.Common.{◌≡◌, ◌≤◌, ℕ, ◌+◌, List, [], ◌∷◌, ◌++◌, Option, None, refl, sym, ◌∙◌, ap, subst, append_assoc}
+use Rattle.std.proofs.Common.{◌≡◌, ℕ, ◌+◌, List, [], ◌∷◌, ◌++◌, Option, sym, ◌∙◌, ap, subst, append_assoc}
 use Rattle.std.proofs.lemmas.List.{append-nil}
 use Rattle.bk_ids.specs.declared.record.Place.{Place}
-use Rattle.bk_ids.specs.declared.record.RecoveryModel.{RecoveryModel}
 use Rattle.bk_ids.specs.declared.record.RecoveryModel.TheVariants.{Full}
 use Rattle.bk_undo.specs.Spelled.{body_of}
 use Rattle.bk_world.specs.Changes.{plain_entry}
 use Rattle.bk_world.specs.Entry as entry
 use Rattle.bk_world.specs.Entry.{Entry, nothing}
 use Rattle.bk_world.specs.FoldLaws.{model_of-more, rows_of-more, tables_of-more, time_of-more}
-use Rattle.bk_world.specs.Pending.{Pending, of_transaction, pending, pending_after}
+use Rattle.bk_world.specs.Pending.{of_transaction, pending, pending_after}
 use Rattle.bk_world.specs.Places.{homes, homes_after, place_of}
 use Rattle.bk_world.specs.ReadingLaws.{entries-more, homes-more, pending-more}
 use Rattle.bk_world.specs.Records.{Counts, Deed, Logged, RowId, database_made, table_made, begun, written, committed, rolled_back, undone, checkpointed, stamped, model_set, loaded, recovered}

@@ -1,15 +1,11 @@
-use Rattle.std.proofs.Common.{◌≡◌, ℕ, List, Option, Some, None, true, refl, sym, ◌∙◌, ap, subst}
+use Rattle.std.proofs.Common.{◌≡◌, Option, Some, sym, ◌∙◌, ap, subst}
 use Rattle.std.specs.Option.{option_or}
 use Rattle.std.proofs.lemmas.Option.{same_Some}
 use Rattle.bk_bytes.specs.Cell.{Row}
 use Rattle.bk_bytes.specs.CellView.{row_of as cell_row}
 use Rattle.bk_world.specs.Records.{RowId}
-use Rattle.bk_shown.specs.Values.{IsTextOf, Spells, id_in}
+use Rattle.bk_shown.specs.Values.{IsTextOf, id_in}
 use Rattle.bk_shown.proofs.Cells.{read-one, value-one, either-none, either-some}
-use Rattle.bk_shown.proofs.Agree.{agree-filter}
-use Rattle.bk_shown.proofs.Keeps.{keeps-more}
-use Rattle.bk_shown.proofs.Mirrors.{own-mirror}
-use Rattle.bk_shown.proofs.Lists.{one-numbered}
 use Rattle.bk_shown.proofs.writing.written.Goals as goal
 
 pub returns-in_default-or-clause-unfit : goal.returns-in_default-or-clause-unfit

@@ -1,4 +1,4 @@
-use Rattle.std.proofs.Common.{◌≡◌, sym, ap, subst, OnOk}
+use Rattle.std.proofs.Common.{sym, subst, OnOk}
 use Rattle.bk_record.specs.View.{body_of}
 use Rattle.bk_shown.specs.Steps.{TakesBody}
 use Rattle.bk_shown.proofs.shown.Shown.take_body.Goals as goal
