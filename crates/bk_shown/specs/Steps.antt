@@ -1,5 +1,5 @@
 -- What each kind of record makes of what is kept.
-use Rattle.std.specs.Prelude.{◌≡◌, ◌≢◌, ◌<◌, ◌≤◌, ◌⊎◌, ℕ, ◌==◌, ◌&&◌, not, Bool, false, List, [], ◌∷◌, ◌++◌, filter, length, Option, Some, None, if◌then◌else◌, option_map}
+use Rattle.std.specs.Prelude.{◌≡◌, ◌<◌, ◌≤◌, ◌⊎◌, ℕ, ◌==◌, ◌&&◌, not, Bool, false, List, [], ◌∷◌, ◌++◌, filter, length, Option, Some, None, if◌then◌else◌, option_map}
 use Rattle.std.specs.List.{find}
 use Rattle.bk_groups.specs.Changes.{AddsTable}
 use Rattle.bk_groups.specs.Groups.{Space, IsCell, IsFreeCell, group_of, place_of as space_place}
@@ -10,7 +10,7 @@ use Rattle.bk_ids.specs.declared.record.RecoveryModel.{RecoveryModel}
 use Rattle.bk_ids.specs.declared.record.RecoveryModel.TheVariants.{Full}
 use Rattle.bk_world.specs.Records.{RowId, is_row}
 use Rattle.bk_world.specs.declared.database.TableSpec.{TableSpec}
-use Rattle.bk_shown.specs.Rows.{RowValues, value_among}
+use Rattle.bk_shown.specs.Rows.{value_among}
 use Rattle.bk_shown.specs.Values.{Spells}
 use Rattle.bk_shown.specs.Writes.{own_of, others_of, row_of, value_after, has_write, LetsGo}
 use Rattle.bk_shown.specs.declared.shown.Shown.{Shown}

@@ -124,10 +124,11 @@ impl Shown {
         if taken.lsn != self.end || self.end >= LAST_NUMBER {
             return Err(TakeError::Unfit);
         }
+        let end = self.end + 1;
         self.take_body(taken)?;
         self.take_model(taken.body);
         self.take_time(taken.body);
-        self.end += 1;
+        self.end = end;
         Ok(())
     }
 }
