@@ -1,5 +1,5 @@
 -- An act that is spelled is read, and what is read is spelled so.
-use Rattle.std.proofs.Common.{◌≡◌, ◌<◌, ◌-◌, ℕ, zero, suc, Bool, true, false, cond, List, [], ◌++◌, length, take, drop, Option, Some, None, Result, Ok, Err, refl, sym, ◌∙◌, ap, subst, ltb, eqb, lit<, arith, append_assoc}
+use Rattle.std.proofs.Common.{◌≡◌, ◌<◌, ◌-◌, ℕ, zero, suc, Bool, true, false, cond, List, [], ◌++◌, length, Option, Some, None, Result, Ok, Err, refl, sym, ◌∙◌, ap, subst, ltb, eqb, lit<, arith, append_assoc}
 use Rattle.std.specs.Prelude.{IfOk}
 use Rattle.std.proofs.lemmas.Bool.Decides.{nat_tests}
 use Rattle.std.proofs.lemmas.List.{append-nil, nil_from_length, take-append-drop}
@@ -15,7 +15,7 @@ use Rattle.bk_fields.specs.Laws.{guid_form-IsCodec}
 use Rattle.bk_header.specs.Conditions.{IsBase, IsHeader}
 use Rattle.bk_header.specs.Laws.{header_form-IsCodec, header_form-spelling, header_keeps}
 use Rattle.bk_header.specs.Reading.{header_form}
-use Rattle.bk_header.specs.Spelling.{text_bytes, spelling}
+use Rattle.bk_header.specs.Spelling.{text_bytes}
 use Rattle.bk_set.specs.declared.body.SetBody.{SetBody}
 use Rattle.bk_set.specs.declared.found.Found.TheVariants.{Damaged, NoSet}
 use Rattle.bk_set.specs.Conditions.{IsBody}

@@ -10,7 +10,6 @@ use Rattle.bk_ids.specs.declared.record.Body.TheVariants as body
 use Rattle.bk_ids.specs.declared.record.Place.{Place}
 use Rattle.bk_ids.specs.declared.record.Rec.{Rec}
 use Rattle.bk_machine.specs.Acts.{Act, logged, recovered}
-use Rattle.bk_machine.specs.World.{Open}
 use Rattle.bk_record.specs.WalkLaws.{one_log}
 use Rattle.bk_undo.specs.Spelled.{cell, body_of, spelled}
 use Rattle.bk_world.specs.Entry.{RowChange}
