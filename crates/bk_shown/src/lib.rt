@@ -4,6 +4,7 @@
 
 mod ending;
 mod error;
+mod queries;
 mod rows;
 mod shown;
 mod taking;
