@@ -39,6 +39,6 @@ others_have_path name path (d ∷ ks) = by (same_name d.name name) (others_have_
   where
     by : (t : Bool) → has_path (paths_of (others (map database_of ks) name)) path ≡ list_any (is_of_others name path) ks
         → has_path (paths_of (cond (not t) (database_of d ∷ others (map database_of ks) name) (others (map database_of ks) name))) path
-          ≡ (not t && has_file d.files path || list_any (is_of_others name path) ks)
+        ≡ (not t && has_file d.files path || list_any (is_of_others name path) ks)
     by true later = later
     by false later = path-more path d (others (map database_of ks) name) _ later

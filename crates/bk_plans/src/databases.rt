@@ -101,11 +101,22 @@ impl Kept {
     ) -> Result<(), Refusal>
         ensures { (w : World) → Keeps w self.now → IsCheck (λ u. u) result (check_create_database w line name.now primary.now groups.now log.now) }
     {
-        refuse_if(!names_no_files(primary, groups, log), Rule::NotBuilt { line })?;
+        refuse_if(
+            !names_no_files(primary, groups, log),
+            Rule::NotBuilt { line },
+        )?;
         let text = name.as_str();
-        refuse_if(is_system(text) || self.named(text).is_some(), Rule::DatabaseExists)?;
+        refuse_if(
+            is_system(text) || self.named(text).is_some(),
+            Rule::DatabaseExists,
+        )?;
         let full = self.databases.len() >= MOST_DATABASES;
-        refuse_if(full, Rule::LimitReached { which: Limit::Databases })?;
+        refuse_if(
+            full,
+            Rule::LimitReached {
+                which: Limit::Databases,
+            },
+        )?;
         if is_in_use(&self.databases, text) {
             return Err(in_use(alloc, name));
         }
@@ -148,7 +159,10 @@ impl Kept {
             → IsCheck (λ d. database_of d.now) result (check_backup w line name.now units.now path options.now) }
         ensures shows { (w : World) → Keeps w self.now → IfOk result (λ d. ShowsLog w.history d.now) }
     {
-        refuse_if(!is_whole_backup(units, options) || is_there, Rule::NotBuilt { line })?;
+        refuse_if(
+            !is_whole_backup(units, options) || is_there,
+            Rule::NotBuilt { line },
+        )?;
         let named = self.named_or_refuse(name.as_str())?;
         let database = online(named)?;
         limit(used_up(database.shown.end()) || used_up(self.counter))?;

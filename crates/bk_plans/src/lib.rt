@@ -1,6 +1,7 @@
 //! The databases that an instance keeps in memory, the worlds that they stand for, and what a statement plans there.
 #![tactic(auto)]
 
+mod applying;
 mod databases;
 mod finding;
 mod kept;

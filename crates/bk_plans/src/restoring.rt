@@ -24,18 +24,16 @@ use std::alloc::Global;
 const MOST_BRANCHES: usize = 64;
 
 // A set of another family, unless the database may be replaced.
-fn check_family(
-    named: Option<&Database>,
-    replace: bool,
-    header: &Header,
-) -> Result<(), Refusal>
+fn check_family(named: Option<&Database>, replace: bool, header: &Header) -> Result<(), Refusal>
     ensures { IsCheck (λ u. u) result (restore.check_family (option_map (λ d. database_of d.now) named.entry) replace header.now) }
 {
     match named {
-        Some(d) if !replace && d.family != header.family => Err(Refusal::Broken(Rule::OtherFamily {
-            database: d.family,
-            set: header.family,
-        })),
+        Some(d) if !replace && d.family != header.family => Err(Refusal::Broken(
+            Rule::OtherFamily {
+                database: d.family,
+                set: header.family,
+            },
+        )),
         _ => Ok(()),
     }
 }
@@ -91,9 +89,7 @@ fn first_used<'a>(
 ) -> Option<&'a HeaderFile>
     ensures { option_map (λ f. f.now) result ≡ find (λ f. has_path (paths_of (others (map database_of databases.now) name.now)) f.spec.path) files.now }
 {
-    files
-        .iter()
-        .find(|file| is_in_use_by_others(databases, name, file.spec.path.as_str()))
+    files.iter().find(|file| is_in_use_by_others(databases, name, file.spec.path.as_str()))
 }
 
 // The first file of a set whose path one before it has.
@@ -162,7 +158,10 @@ impl Kept {
         check_number(&self.databases, named)?;
         free_paths(alloc, &self.databases, name.as_str(), files)?;
         different_paths(alloc, files)?;
-        refuse_if(header.path.as_slice().len() >= MOST_BRANCHES, Rule::PathFull)?;
+        refuse_if(
+            header.path.as_slice().len() >= MOST_BRANCHES,
+            Rule::PathFull,
+        )?;
         limit(used_up(header.last) || used_up(self.counter))
     }
 }

@@ -20,7 +20,7 @@ fn first_table<'a>(tables: &'a [TableSpec], name: &str) -> Option<&'a TableSpec>
 }
 
 // Whether the log isn't kept for backups.
-fn is_simple(model: RecoveryModel) -> bool
+pub(crate) fn is_simple(model: RecoveryModel) -> bool
     ensures { result ≡ acts.is_simple model }
 {
     matches!(model, RecoveryModel::Simple)
