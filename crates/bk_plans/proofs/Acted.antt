@@ -1,5 +1,5 @@
 -- What acts make of worlds that are kept.
-use Rattle.std.proofs.Common.{◌≡◌, ℕ, Bool, true, false, cond, List, [], ◌∷◌, map, Option, Some, None, refl, sym, ◌∙◌, ap, arith}
+use Rattle.std.proofs.Common.{◌≡◌, ℕ, Bool, true, false, cond, List, [], ◌∷◌, map, Option, Some, None, refl, sym, ◌∙◌, ap, subst, arith}
 use Rattle.std.specs.List.{AllByRecursion}
 use Rattle.std.specs.Prelude.{◌==◌}
 use Rattle.std.proofs.lemmas.Bool.Decides.{nat_tests}
@@ -56,6 +56,15 @@ pub record OnlyDatabases (new k : Kept) : Type 0 where
   pub number : new.number ≡ k.number
   pub counter : new.counter ≡ k.counter
   pub current : new.current ≡ k.current
+
+pub keeps-same : (w : World) (k new : Kept) → OnlyDatabases new k → new.databases.items ≡ k.databases.items → Keeps w k → Keeps w new
+keeps-same w k new only items keeps = record {
+  number = keeps.number ∙ sym only.number;
+  counter = keeps.counter ∙ sym only.counter;
+  current = keeps.current ∙ sym only.current;
+  databases = keeps.databases ∙ ap (map database_of) (sym items);
+  shown = subst (AllByRecursion (ShowsLog w.history)) (sym items) keeps.shown;
+}
 
 pub dropped-same : (w : World) (name : List ℕ) → SameButDatabases (done w (dropped name)) w
 unfolding done

@@ -4,3 +4,5 @@ pub mod Tells
 pub mod SetFiles
 pub mod Places
 pub mod Acted
+pub mod Cuts
+pub mod Fresh

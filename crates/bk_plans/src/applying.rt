@@ -8,10 +8,14 @@ ghost use Rattle.bk_machine.specs.World.{with_database, without_database};
 ghost use Rattle.bk_world.specs.Lines.{RecordLines};
 ghost use Rattle.bk_plans.specs.Keeps.{ShowsLog, database_of};
 
+use crate::error::ApplyError;
 use crate::kept::{Database, Kept};
+use crate::making::made;
 use crate::telling::is_simple;
-use bk_ids::Name;
+use bk_ids::{Guid, Name};
+use bk_machine::acts_keep_what_is_read;
 use bk_world::{Base, Header};
+use std::alloc::Global;
 
 // The place of the first database of a name.
 fn place(databases: &[Database], name: &Name) -> Option<usize>
@@ -66,7 +70,10 @@ fn base_named(databases: &mut Vec<Database>, name: &Name, header: &Header)
 }
 
 impl Kept {
-    ghost use Rattle.bk_machine.specs.Acts.{turned, dropped, based, done};
+    ghost use Rattle.std.specs.Prelude.{◌≡◌, ◌+◌, ◌^◌, ◌<◌, OnOk, OnErr};
+    ghost use Rattle.bk_machine.specs.Acts.{turned, created, dropped, based, done};
+    ghost use Rattle.bk_machine.specs.MayDo.{MayCreate};
+    ghost use Rattle.bk_machine.specs.Sound.{IsSound};
     ghost use Rattle.bk_machine.specs.World.{World};
     ghost use Rattle.bk_plans.specs.Keeps.{Keeps};
 
@@ -89,5 +96,27 @@ impl Kept {
         ensures { (w : World) → Keeps w self.old → Keeps (done w (based name.now header.now)) self.new }
     {
         base_named(&mut self.databases, name, header);
+    }
+
+    /// A database of this name is made at a time, in milliseconds since 1970-01-01 00:00:00 UTC, with these two GUIDs, which
+    /// are drawn then. After an error the same worlds are kept.
+    pub fn create(
+        &mut self,
+        alloc: Global,
+        name: &Name,
+        family: Guid,
+        branch: Guid,
+        time: u64,
+    ) -> Result<(), ApplyError>
+        requires { self.old.counter + 2 < 2 ^ 64 }
+        ensures ok { OnOk result ((w : World) → IsSound w → MayCreate w (record { name = name.now; family = family; branch = branch; time = time })
+            → Keeps w self.old → Keeps (done w (created (record { name = name.now; family = family; branch = branch; time = time }))) self.new) }
+        ensures err { OnErr result ((w : World) → Keeps w self.old → Keeps w self.new) }
+    {
+        acts_keep_what_is_read();
+        let database = made(alloc, name, family, branch, time)?;
+        self.databases.push(database)?;
+        self.counter += 2;
+        Ok(())
     }
 }

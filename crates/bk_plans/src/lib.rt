@@ -3,8 +3,11 @@
 
 mod applying;
 mod databases;
+mod error;
 mod finding;
 mod kept;
+mod log_name;
+mod making;
 mod paths;
 mod refusal;
 mod restoring;
@@ -12,6 +15,7 @@ mod rules;
 mod tables;
 mod telling;
 
+pub use error::ApplyError;
 pub use kept::{Database, Kept};
 pub use refusal::Refusal;
 pub use tables::Target;
