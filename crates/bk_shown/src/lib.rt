@@ -4,7 +4,6 @@
 
 mod ending;
 mod error;
-mod queries;
 mod rows;
 mod shown;
 mod taking;
