@@ -10,3 +10,4 @@ mod Places
 mod Taken
 mod Unfits
 mod Starts
+mod Listing
