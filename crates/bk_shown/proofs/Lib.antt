@@ -11,3 +11,4 @@ mod Taken
 mod Unfits
 mod Starts
 mod Listing
+mod FreeCells

@@ -1,6 +1,6 @@
 //! What is shown, as it is asked for. Each answer is that of every log that is shown.
 
-ghost use Rattle.std.specs.Prelude.{◌≡◌, ◌==◌, ℕ, true, List, Some, IfOk, IfSome, is_some, option_map};
+ghost use Rattle.std.specs.Prelude.{◌≡◌, ◌==◌, ℕ, true, List, Some, IfOk, IfSome, MatchOption, is_some, map, option_map};
 ghost use Rattle.std.specs.List.{AllByRecursion};
 ghost use Rattle.bk_world.specs.Cut.{end_behind};
 ghost use Rattle.bk_world.specs.Pending as pending;
@@ -10,7 +10,8 @@ ghost use Rattle.bk_world.specs.Telling as telling;
 ghost use Rattle.bk_world.specs.Telling.{row_at};
 ghost use Rattle.bk_world.specs.declared.database.FileSpec.{FileSpec};
 ghost use Rattle.bk_shown.specs.Rows.{value_among};
-ghost use Rattle.bk_shown.specs.Shown.{Shows};
+ghost use Rattle.bk_ids.specs.declared.record.Place.{Place};
+ghost use Rattle.bk_shown.specs.Shown.{IsFreeFor, Shows, pending_of};
 ghost use Rattle.bk_shown.specs.Writes.{own_of, value_after, writer_of};
 
 use crate::shown::{Shown, Written};
@@ -47,11 +48,29 @@ impl Shown {
         &self.tables
     }
 
+    /// The pending writes, in the order of their records.
+    pub fn written(&self) -> &[Written]
+        ensures { (files : List FileSpec) (rs : List Logged) → Shows files rs self.now → map pending_of result.now ≡ pending.pending rs }
+    {
+        &self.written
+    }
+
     /// The place of a row, if it has one: by its last pending write, else as a committed row.
     pub fn find(&self, table: u32, key: u64) -> Option<Place>
         ensures { (files : List FileSpec) (rs : List Logged) → Shows files rs self.now → result ≡ place_of rs (table, key) }
     {
         self.groups.find(table, key)
+    }
+
+    /// A free cell for a new row of a table, or `None` exactly where there is none: also where there is no such table. It
+    /// stays free until a write of it is taken.
+    pub fn place(&self, table: u32) -> Option<Place>
+        ensures { MatchOption result
+            ((files : List FileSpec) (rs : List Logged) → Shows files rs self.now → (at : Place) → ¬ IsFreeFor files rs table at)
+            (λ at. (files : List FileSpec) (rs : List Logged) → Shows files rs self.now → IsFreeFor files rs table at) }
+    {
+        self.groups.group(table)?;
+        self.groups.free_cell(table)
     }
 
     /// Whether a row is committed.

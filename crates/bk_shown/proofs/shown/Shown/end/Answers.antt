@@ -1,4 +1,4 @@
-use Rattle.std.proofs.Common.{◌≡◌, ℕ, ◌+◌, length, arith}
+use Rattle.std.proofs.Common.{◌≡◌, ◌+◌, length, arith}
 use Rattle.bk_shown.proofs.Taken.{counts-length}
 use Rattle.bk_shown.proofs.shown.Shown.end.Goals as goal
 

@@ -1,4 +1,4 @@
-use Rattle.std.proofs.Common.{◌≡◌, ◌∙◌, ap}
+use Rattle.std.proofs.Common.{◌∙◌, ap}
 use Rattle.bk_world.specs.RowLaws.{rise-rows}
 use Rattle.bk_world.specs.Telling as telling
 use Rattle.bk_world.specs.Telling.{row_at}

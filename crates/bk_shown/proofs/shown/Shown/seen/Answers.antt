@@ -1,4 +1,4 @@
-use Rattle.std.proofs.Common.{◌≡◌, ◌∙◌, ap, sym}
+use Rattle.std.proofs.Common.{◌∙◌, ap, sym}
 use Rattle.bk_world.specs.Pending.{changes_of, of_transaction}
 use Rattle.bk_world.specs.Records.{RowId}
 use Rattle.bk_world.specs.RowLaws.{value_behind}
