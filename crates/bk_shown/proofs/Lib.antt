@@ -10,3 +10,5 @@ mod Places
 mod Taken
 mod Unfits
 mod Starts
+mod Listing
+mod FreeCells

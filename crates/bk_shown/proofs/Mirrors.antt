@@ -1,16 +1,17 @@
 -- Pending writes as they are kept say what those of the log say.
-use Rattle.std.proofs.Common.{◌≡◌, ℕ, Bool, true, false, not, cond, List, [], ◌∷◌, ◌++◌, map, Option, Some, None, refl, ◌∙◌, ap}
-use Rattle.std.specs.Prelude.{◌==◌, ◌||◌, is_some, option_map}
+use Rattle.std.proofs.Common.{◌≡◌, ℕ, Bool, true, false, not, cond, List, [], ◌∷◌, ◌++◌, map, Option, Some, None, refl, sym, ◌∙◌, ap}
+use Rattle.std.specs.Prelude.{◌==◌, ◌||◌, is_some, option_map, IfSome}
 use Rattle.std.specs.List.{find, AllByRecursion}
 use Rattle.std.proofs.lemmas.Bool.{eqb-true, eq-eqb}
 use Rattle.bk_world.specs.LastLaws.{one}
+use Rattle.bk_world.specs.ListLaws.{all_mapped}
 use Rattle.bk_world.specs.Pending.{Pending, changes_of, of_others, of_transaction}
 use Rattle.bk_world.specs.Places.{last_of, later}
 use Rattle.bk_world.specs.Records.{RowId, id_of, is_row}
 use Rattle.bk_world.specs.RowLaws.{value_behind}
-use Rattle.bk_shown.specs.Shown.{pending_of}
+use Rattle.bk_shown.specs.Shown.{OneWriter, pending_of}
 use Rattle.bk_shown.specs.Steps.{row_numbered}
-use Rattle.bk_shown.specs.Writes.{own_of, others_of, row_of, value_after, has_write}
+use Rattle.bk_shown.specs.Writes.{own_of, others_of, row_of, value_after, has_write, writer_of}
 use Rattle.bk_shown.specs.declared.shown.Written.{Written}
 use Rattle.bk_shown.proofs.Agree.{clash}
 use Rattle.bk_shown.proofs.Lists.{filter-mapped}
@@ -48,3 +49,42 @@ found-mirror (x ∷ ws) n w front back e number each = by (x.lsn == n) refl fron
     by true is front e rest = ap (λ (v : Pending). Some (id_of v.change)) (each.0 (eqb-true _ _ is))
     by false isnt [] e rest = let same : pending_of x ≡ w = cc in clash (x.lsn == n) (eq-eqb x.lsn n (ap (λ (v : Pending). v.lsn) same ∙ number)) isnt
     by false isnt (f ∷ front) e rest = let less : map pending_of ws ≡ front ++ w ∷ back = cc in rest front less
+
+-- ---- the transaction of a row's writes
+
+none-written : (ws : List Written) (id : RowId) → writer_of ws id ≡ None → AllByRecursion (λ w. is_row (id_of w.change) id ≡ false) (map pending_of ws)
+none-written [] id none = tt
+none-written (w ∷ ws) id none = by (is_row (row_of w) id) refl none (λ rest. none-written ws id rest)
+  where
+    by : (t : Bool) → is_row (row_of w) id ≡ t → option_map (λ (v : Written). v.begin) (cond t (Some w) (find (λ (v : Written). is_row (row_of v) id) ws)) ≡ None
+        → (writer_of ws id ≡ None → AllByRecursion (λ v. is_row (id_of v.change) id ≡ false) (map pending_of ws)) → AllByRecursion (λ v. is_row (id_of v.change) id ≡ false) (map pending_of (w ∷ ws))
+    by true is none rest = absurd (cc)
+    by false isnt none rest = (isnt, rest none)
+
+some-writer : (ws : List Written) (id : RowId) (b theirs : ℕ) → writer_of ws id ≡ Some b → AllByRecursion (λ w. is_row (id_of w.change) id ≡ true → w.begin ≡ theirs) (map pending_of ws) → b ≡ theirs
+some-writer [] id b theirs e all = absurd (cc)
+some-writer (w ∷ ws) id b theirs e all = by (is_row (row_of w) id) refl e (λ rest. some-writer ws id b theirs rest all.1)
+  where
+    by : (t : Bool) → is_row (row_of w) id ≡ t → option_map (λ (v : Written). v.begin) (cond t (Some w) (find (λ (v : Written). is_row (row_of v) id) ws)) ≡ Some b → (writer_of ws id ≡ Some b → b ≡ theirs) → b ≡ theirs
+    by true is e rest = let same : w.begin ≡ b = cc in sym same ∙ all.0 is
+    by false isnt e rest = rest e
+
+pub writer-mirror : (ws : List Written) (id : RowId) → is_some (writer_of ws id) ≡ is_some (last_of id (map pending_of ws))
+writer-mirror ws id = found ws ∙ has-mirror id ws
+  where
+    found : (ws : List Written) → is_some (writer_of ws id) ≡ has_write ws id
+    found [] = refl
+    found (w ∷ ws) = by (is_row (row_of w) id) (found ws)
+      where
+        by : (t : Bool) → is_some (writer_of ws id) ≡ has_write ws id → is_some (option_map (λ (v : Written). v.begin) (cond t (Some w) (find (λ (v : Written). is_row (row_of v) id) ws))) ≡ (t || has_write ws id)
+        by true rest = refl
+        by false rest = rest
+
+pub alone-mirror : (ws : List Written) (id : RowId) (begin : ℕ) → OneWriter (map pending_of ws) id → IfSome (writer_of ws id) (λ b. b ≡ begin)
+    → AllByRecursion (λ w. is_row (id_of w.change) id ≡ true → w.begin ≡ begin) (map pending_of ws)
+alone-mirror ws id begin single given = by (writer_of ws id) refl given
+  where
+    by : (o : Option ℕ) → writer_of ws id ≡ o → IfSome o (λ b. b ≡ begin) → AllByRecursion (λ w. is_row (id_of w.change) id ≡ true → w.begin ≡ begin) (map pending_of ws)
+    by None none given = all_mapped (λ w. is_row (id_of w.change) id ≡ false) (λ w. is_row (id_of w.change) id ≡ true → w.begin ≡ begin) (λ w isnt its. clash (is_row (id_of w.change) id) its isnt) (map pending_of ws) (none-written ws id none)
+    by (Some b) is given = all_mapped (λ w. is_row (id_of w.change) id ≡ true → w.begin ≡ single.0) (λ w. is_row (id_of w.change) id ≡ true → w.begin ≡ begin)
+        (λ w same its. same its ∙ sym (some-writer ws id b single.0 is single.1) ∙ given) (map pending_of ws) single.1

@@ -8,7 +8,7 @@ use Rattle.bk_world.specs.declared.database.FileSpec.{FileSpec}
 use Rattle.bk_world.specs.declared.database.TableSpec.{TableSpec}
 use Rattle.bk_world.specs.Pending as log
 use Rattle.bk_world.specs.Pending.{Pending}
-use Rattle.bk_world.specs.Places.{homes, last_of, place_behind, place_of, IsCellOf}
+use Rattle.bk_world.specs.Places.{homes, last_of, place_behind, place_of, IsCellOf, IsFreePlace}
 use Rattle.bk_world.specs.ReadingLaws.{LieAt}
 use Rattle.bk_world.specs.Records.{Counts, Deed, Logged, RowId, table_made, written, loaded, id_of, is_row}
 use Rattle.bk_world.specs.SoundLogs.{MayCome, IsSound, NoLoadPends}
@@ -86,3 +86,10 @@ pub record IsNext (files : List FileSpec) (rs : List Logged) (r : Logged) : Type
   pub low : r.lsn < 2 ^ 62
   pub may : MayCome rs r.lsn r.begin r.deed
   pub placed : IsPlaced files (telling.tables rs) r.deed
+
+-- a cell is free for a new row of a table: it is one of the table's group, and no row lies there
+pub record IsFreeFor (files : List FileSpec) (rs : List Logged) (table : ℕ) (at : Place) : Type 0 where
+  pub spec : TableSpec
+  pub there : find (λ (t : TableSpec). t.number == table) (telling.tables rs) ≡ Some spec
+  pub cell : IsCellOf files spec.group at
+  pub free : IsFreePlace rs at

@@ -1,6 +1,6 @@
 -- Pending writes, and what becomes of rows and places behind them.
-use Rattle.std.specs.Prelude.{◌≡◌, ℕ, ◌==◌, ◌&&◌, not, Bool, List, [], ◌∷◌, filter, Option, None, is_some, if◌then◌else◌}
-use Rattle.std.specs.List.{list_any}
+use Rattle.std.specs.Prelude.{◌≡◌, ℕ, ◌==◌, ◌&&◌, not, Bool, List, [], ◌∷◌, filter, Option, None, is_some, if◌then◌else◌, option_map}
+use Rattle.std.specs.List.{list_any, find}
 use Rattle.bk_groups.specs.Groups.{Space, place_of as space_place}
 use Rattle.bk_world.specs.Records.{RowId, is_row}
 use Rattle.bk_shown.specs.Rows.{RowValues, value_among}
@@ -31,3 +31,7 @@ pub record LetsGo (among : RowId → Bool) (rows : RowValues) (old new : Space) 
   pub rooms : new.rooms ≡ old.rooms
   pub tables : new.tables ≡ old.tables
   pub places : (id : RowId) → space_place new id.0 id.1 ≡ (if among id && not (is_some (value_among rows id)) then None else space_place old id.0 id.1)
+
+-- the transaction of the first write of a row
+abbrev pub writer_of : List Written → RowId → Option ℕ
+writer_of ws id = option_map (λ (w : Written). w.begin) (find (λ (w : Written). is_row (row_of w) id) ws)

@@ -2,6 +2,7 @@
 //! further log record is taken in, and what is kept stays what the log says.
 #![tactic(auto)]
 
+mod asking;
 mod ending;
 mod error;
 mod rows;

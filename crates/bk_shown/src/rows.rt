@@ -22,8 +22,9 @@ impl Model for Rows {
 }
 
 impl Rows {
-    ghost use Rattle.std.specs.Prelude.{OnOk, None, Some, is_some};
-    ghost use Rattle.bk_shown.specs.Rows.{SetsRow, value_among};
+    ghost use Rattle.std.specs.Prelude.{IfOk, OnOk, None, Some, is_some, option_map};
+    ghost use Rattle.bk_shown.specs.Rows.{SetsRow, rows_in, value_among};
+    ghost use Rattle.bk_world.specs.RowLaws.{RowsRise};
 
     /// No rows. It takes no memory.
     pub fn new(alloc: Global) -> Self
@@ -57,7 +58,24 @@ impl Rows {
     }
 
     /// The value of a row, if it is there.
-    pub fn value(&self, table: u32, key: u64) -> Option<&Text> {
+    pub fn value(&self, table: u32, key: u64) -> Option<&Text>
+        ensures { option_map (λ text. text.now) result ≡ value_among self.now (table, key) }
+    {
         self.values.get(&(table, key))
+    }
+
+    /// Keys and values of a table's rows, by rising key.
+    pub fn listed(&self, alloc: Global, table: u32) -> Result<Vec<(u64, Text)>, AllocError>
+        ensures rows { IfOk result (λ listed. listed.items ≡ rows_in table self.now) }
+        ensures rise { IfOk result (λ listed. RowsRise listed.items) }
+    {
+        let mut listed = Vec::new(alloc);
+        for (row, value) in self.values.iter() {
+            let (of, key) = *row;
+            if of == table {
+                listed.push((key, value.copy(alloc)?))?;
+            }
+        }
+        Ok(listed)
     }
 }
