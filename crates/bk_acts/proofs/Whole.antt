@@ -37,12 +37,15 @@ all-more : (records : List Rec) (r : Rec) → AllByRecursion IsRecord records �
 all-more [] r all is = (is, tt)
 all-more (x ∷ records) r all is = (all.0, all-more records r all.1 is)
 
+pub log-more : (bytes : List ℕ) (records : List Rec) (r : Rec) → IsLog bytes records None → IsRecord r → IsLog (bytes ++ spelling r) (records ++ r ∷ []) None
+log-more bytes records r log is =
+    let last : flat_map spelling (records ++ r ∷ []) ≡ flat_map spelling records ++ spelling r =
+    flat_map-append spelling records (r ∷ []) ∙ ap (λ (b : List ℕ). flat_map spelling records ++ b) (append-nil (spelling r)) in
+    let same : bytes ++ spelling r ≡ flat_map spelling (records ++ r ∷ []) = ap (λ (b : List ℕ). b ++ spelling r) (whole-is bytes records log) ∙ sym last in
+    subst (λ (b : List ℕ). IsLog b (records ++ r ∷ []) None) (sym same) (log_of_records (records ++ r ∷ []) (all-more records r log.are_records is))
+
 pub one-more : (bytes : List ℕ) (r : Rec) → AreRecords bytes → IsRecord r → AreRecords (bytes ++ spelling r)
-one-more bytes r whole is =
-    let last : flat_map spelling (whole.0 ++ r ∷ []) ≡ flat_map spelling whole.0 ++ spelling r =
-    flat_map-append spelling whole.0 (r ∷ []) ∙ ap (λ (b : List ℕ). flat_map spelling whole.0 ++ b) (append-nil (spelling r)) in
-    from-spelled (bytes ++ spelling r) (whole.0 ++ r ∷ []) (all-more whole.0 r whole.1.are_records is)
-    (ap (λ (b : List ℕ). b ++ spelling r) (whole-is bytes whole.0 whole.1) ∙ sym last)
+one-more bytes r whole is = (whole.0 ++ r ∷ [], log-more bytes whole.0 r whole.1 is)
 
 -- a walk over them finds no bad one
 pub no-bad-one : (bytes : List ℕ) (records : List Rec) (bad : Option ℕ) → AreRecords bytes → IsLog bytes records bad → bad ≡ None

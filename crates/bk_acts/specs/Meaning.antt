@@ -3,6 +3,7 @@ use Rattle.std.specs.Prelude.{◌≡◌, ℕ, List, map, Option, Some, None, IsS
 use Rattle.std.specs.List.{AllByRecursion}
 use Rattle.bk_bytes.specs.Cell.{IsCellValue}
 use Rattle.bk_ids.specs.declared.guid.Guid.{Guid}
+use Rattle.bk_ids.specs.declared.record.Rec.{Rec}
 use Rattle.bk_machine.specs.Acts.{Act, turned, created, dropped, logged, medium_made, set_sealed, based, replaced, restored, recovered}
 use Rattle.bk_machine.specs.World.{Open}
 use Rattle.bk_record.specs.Log.{IsLog}
@@ -11,6 +12,10 @@ use Rattle.bk_world.specs.Records.{Deed, Said, database_made, table_made, begun,
 use Rattle.bk_world.specs.Records.{recovered as recovery_said}
 use Rattle.bk_acts.specs.declared.act.StoredAct.{StoredAct}
 use Rattle.bk_acts.specs.declared.act.StoredAct.TheVariants.{Created, Dropped, Logged, Based, Replaced, Restored, Recovered}
+
+-- what is said, as the record of a number
+abbrev pub under : ℕ → Said → Rec
+under n s = spelled (record { lsn = n; begin = s.begin; deed = s.deed })
 
 -- the bytes spell what is said under the numbers from n on
 abbrev pub Spell : List ℕ → ℕ → List Said → Type 0

@@ -1,11 +1,12 @@
-ghost use Rattle.std.specs.Prelude.{◌≡◌, ℕ, List, ◌++◌, Option, Some, None};
+ghost use Rattle.std.specs.Prelude.{◌≡◌, ◌<◌, ◌+◌, ℕ, List, [], ◌∷◌, ◌++◌, length, Option, Some, None};
 ghost use Rattle.bk_bytes.specs.Field.{AreBytes};
 ghost use Rattle.bk_ids.specs.declared.record.Rec.{Rec};
 ghost use Rattle.bk_machine.specs.Acts.{Act};
 ghost use Rattle.bk_record.specs.Log.{IsLog};
 ghost use Rattle.bk_record.specs.Spelling.{spelling, IsRecord};
 ghost use Rattle.bk_acts.specs.declared.act.StoredAct.{StoredAct};
-ghost use Rattle.bk_acts.specs.Meaning.{Means, NamesItsRows, AreOneButOpen};
+ghost use Rattle.bk_world.specs.Records.{Said};
+ghost use Rattle.bk_acts.specs.Meaning.{Means, NamesItsRows, AreOneButOpen, Spell, under};
 ghost use Rattle.bk_acts.specs.Reading.{act_of};
 ghost use Rattle.bk_acts.specs.Records.{AreRecords};
 ghost use Rattle.bk_acts.specs.Spelling.{act_bytes, IsAct, KeepsAct};
@@ -21,6 +22,16 @@ pub fn acts_law()
 pub fn records_law()
     ensures no_bad_one { (bytes : List ℕ) (records : List Rec) (bad : Option ℕ) → AreRecords bytes → IsLog bytes records bad → bad ≡ None }
     ensures one_more { (bytes : List ℕ) (r : Rec) → AreRecords bytes → IsRecord r → AreRecords (bytes ++ spelling r) }
+{}
+
+/// What is said under the numbers from n on is spelled record after record, so one that is pushed says one thing more. Such bytes are
+/// whole records, and where they say something they tell n.
+pub fn said_law()
+    ensures nothing { (n : ℕ) → Spell [] n [] }
+    ensures one_more { (bytes : List ℕ) (n : ℕ) (said : List Said) (s : Said) → Spell bytes n said → IsRecord (under (n + length said) s)
+        → Spell (bytes ++ spelling (under (n + length said) s)) n (said ++ s ∷ []) }
+    ensures one_number { (bytes : List ℕ) (n m : ℕ) (said others : List Said) → Spell bytes n said → Spell bytes m others → 0 < length said → n ≡ m }
+    ensures whole { (bytes : List ℕ) (n : ℕ) (said : List Said) → Spell bytes n said → AreRecords bytes }
 {}
 
 /// A stored act means at most one act of the machine, but for the transactions that are open behind it, of those whose records name their rows.
