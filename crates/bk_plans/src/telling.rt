@@ -38,8 +38,7 @@ impl Database {
 
     /// Its tables, in the order in which they were made.
     pub fn tables(&self) -> &[TableSpec]
-        ensures same { result.now ≡ self.now.shown.tables.items }
-        ensures tables { (w : World) → ShowsLog w.history self.now → seen.tables_in w (database_of self.now) ≡ result.now }
+        ensures { (w : World) → ShowsLog w.history self.now → seen.tables_in w (database_of self.now) ≡ result.now }
     {
         self.shown.tables()
     }
@@ -55,7 +54,7 @@ impl Database {
     pub fn has_key(&self, table: &TableSpec, key: u64) -> bool
         ensures { (w : World) → ShowsLog w.history self.now → result ≡ seen.has_key (seen.visible w (database_of self.now) table.now) key }
     {
-        self.shown.rows().has(table.number, key)
+        self.shown.has(table.number, key)
     }
 
     /// Whether its log isn't kept for backups.

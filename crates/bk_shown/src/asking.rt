@@ -22,7 +22,8 @@ use std::alloc::{AllocError, Global};
 impl Shown {
     /// The number that the next record gets.
     pub fn end(&self) -> Lsn
-        ensures { (files : List FileSpec) (rs : List Logged) → Shows files rs self.now → result ≡ end_behind rs }
+        ensures same { result ≡ self.now.«end» }
+        ensures shown { (files : List FileSpec) (rs : List Logged) → Shows files rs self.now → result ≡ end_behind rs }
     {
         self.end
     }

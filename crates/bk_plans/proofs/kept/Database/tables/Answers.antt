@@ -1,6 +1,6 @@
-use Rattle.std.proofs.Common.{◌≡◌, ◌∙◌, sym, rules}
+use Rattle.std.proofs.Common.{sym}
 use Rattle.bk_plans.proofs.Tells.{tables-are}
 use Rattle.bk_plans.proofs.kept.Database.tables.Goals as goal
 
-pub returns-clause-tables : goal.returns-clause-tables
-returns-clause-tables c = λ w shows. tables-are w c.args.self.now shows ∙ sym c.tables.ensures
+pub returns : goal.returns
+returns c = λ w shows. tables-are w c.args.self.now c.tables.result.now (c.tables.ensures c.args.self.now.files) shows
