@@ -1,12 +1,11 @@
 -- What acts make of worlds that are kept.
-use Rattle.std.proofs.Common.{◌≡◌, ℕ, Bool, true, false, cond, List, [], ◌∷◌, map, Option, Some, None, refl, sym, ◌∙◌, ap, subst, arith}
+use Rattle.std.proofs.Common.{◌≡◌, ℕ, Bool, true, false, cond, List, [], ◌∷◌, map, Option, refl, sym, ◌∙◌, ap, subst, arith}
 use Rattle.std.specs.List.{AllByRecursion}
 use Rattle.std.specs.Prelude.{◌==◌}
 use Rattle.std.proofs.lemmas.Bool.Decides.{nat_tests}
 use Rattle.bk_machine.specs.Acts.{turned, dropped, based, based_on, done}
 use Rattle.bk_machine.specs.World.{World, Session, session_numbered, with_session, with_database, without_database, current_name}
 use Rattle.bk_world.specs.declared.header.Header.{Header}
-use Rattle.bk_plans.specs.declared.kept.Database.{Database as KeptDatabase}
 use Rattle.bk_plans.specs.declared.kept.Kept.{Kept}
 use Rattle.bk_plans.specs.Keeps.{Keeps, ShowsLog, database_of}
 

@@ -4,7 +4,7 @@ use Rattle.std.specs.List.{AllByRecursion, find}
 use Rattle.std.specs.Option.{option_map}
 use Rattle.std.specs.Prelude.{IfSome}
 use Rattle.bk_ids.specs.Name.{same_name}
-use Rattle.bk_machine.specs.World.{World, Database, database_named}
+use Rattle.bk_machine.specs.World.{World, database_named}
 use Rattle.bk_plans.specs.declared.kept.Database.{Database as KeptDatabase}
 use Rattle.bk_plans.specs.declared.kept.Kept.{Kept}
 use Rattle.bk_plans.specs.Keeps.{Keeps, ShowsLog, database_of}

@@ -1,10 +1,10 @@
 -- Paths of a set's files, checked one after the other or searched.
-use Rattle.std.proofs.Common.{◌≡◌, ℕ, Bool, true, false, cond, List, [], ◌∷◌, ◌++◌, map, Option, Some, None, Err, refl, sym, ◌∙◌, ap}
-use Rattle.std.specs.List.{list_any, find}
+use Rattle.std.proofs.Common.{◌≡◌, ℕ, Bool, true, false, cond, List, [], ◌∷◌, ◌++◌, map, Some, Err, refl, sym, ◌∙◌, ap}
+use Rattle.std.specs.List.{find}
 use Rattle.std.specs.Prelude.{◌||◌}
 use Rattle.std.specs.Str.{bytes_eq}
 use Rattle.std.proofs.lemmas.List.Folds.{list_any-append}
-use Rattle.bk_machine.specs.Checks.{Checked, has_path, free_paths, different_paths}
+use Rattle.bk_machine.specs.Checks.{has_path, free_paths, different_paths}
 use Rattle.bk_world.specs.declared.header.HeaderFile.{HeaderFile}
 use Rattle.bk_world.specs.declared.rule.Rule.TheVariants.{FileInUse}
 use Rattle.bk_plans.specs.Checking.{file_check}

@@ -1,5 +1,5 @@
 -- Which worlds the databases that are kept stand for.
-use Rattle.std.specs.Prelude.{◌≡◌, List, [], map, None}
+use Rattle.std.specs.Prelude.{◌≡◌, [], map, None}
 use Rattle.std.specs.List.{AllByRecursion}
 use Rattle.bk_machine.specs.World.{World, Database, current_name}
 use Rattle.bk_shown.specs.Shown.{Shows}

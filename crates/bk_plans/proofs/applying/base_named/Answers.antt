@@ -1,4 +1,4 @@
-use Rattle.std.proofs.Common.{◌≡◌, ◌∙◌, sym, ap}
+use Rattle.std.proofs.Common.{◌∙◌, sym, ap}
 use Rattle.std.specs.List.{position}
 use Rattle.bk_machine.specs.Acts.{based_on}
 use Rattle.bk_plans.proofs.Places.{names, with-at, with-none}

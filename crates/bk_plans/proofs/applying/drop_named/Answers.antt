@@ -1,4 +1,4 @@
-use Rattle.std.proofs.Common.{◌≡◌, ◌∙◌, sym, ap, map, subst, Some, None}
+use Rattle.std.proofs.Common.{◌∙◌, sym, ap, map, subst}
 use Rattle.std.specs.List.{AllByRecursion, position}
 use Rattle.bk_plans.specs.Keeps.{ShowsLog, database_of}
 use Rattle.bk_plans.proofs.Places.{names, without-at, without-none, all-removed}

@@ -1,4 +1,3 @@
-use Rattle.std.proofs.Common.{sym}
 use Rattle.bk_plans.proofs.Tells.{tables-are}
 use Rattle.bk_plans.proofs.kept.Database.tables.Goals as goal
 

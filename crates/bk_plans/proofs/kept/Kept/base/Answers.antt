@@ -1,5 +1,5 @@
 use Rattle.std.proofs.Common.{refl}
-use Rattle.bk_plans.proofs.Acted.{OnlyDatabases, keeps-based}
+use Rattle.bk_plans.proofs.Acted.{keeps-based}
 use Rattle.bk_plans.proofs.kept.Kept.base.Goals as goal
 
 pub returns : goal.returns

@@ -3,8 +3,8 @@ use Rattle.std.specs.Prelude.{OnErr}
 use Rattle.bk_machine.specs.Acts.{created}
 use Rattle.bk_machine.specs.World.{World}
 use Rattle.bk_plans.specs.Keeps.{Keeps}
-use Rattle.bk_plans.proofs.Acted.{OnlyDatabases, keeps-same}
-use Rattle.bk_plans.proofs.Fresh.{OneMore, keeps-created}
+use Rattle.bk_plans.proofs.Acted.{keeps-same}
+use Rattle.bk_plans.proofs.Fresh.{keeps-created}
 use Rattle.bk_plans.proofs.kept.Kept.create.Goals as goal
 
 on-err : {A E : Type 0} (P : Type 0) (r : Result A E) → P → OnErr r P

@@ -1,5 +1,5 @@
 use Rattle.std.proofs.Common.{refl}
-use Rattle.bk_plans.proofs.Acted.{OnlyDatabases, keeps-dropped}
+use Rattle.bk_plans.proofs.Acted.{keeps-dropped}
 use Rattle.bk_plans.proofs.kept.Kept.drop_database.Goals as goal
 
 pub returns : goal.returns
