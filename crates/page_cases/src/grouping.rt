@@ -36,7 +36,12 @@ fn groups_of(alloc: Global, command: &str) -> Result<Groups, AllocError> {
 }
 
 // The file of this number, of a filegroup and with so many extents, at most 4,096.
-pub(crate) fn file(alloc: Global, number: u16, group: &str, extents: &str) -> Result<FileSpec, AllocError>
+pub(crate) fn file(
+    alloc: Global,
+    number: u16,
+    group: &str,
+    extents: &str,
+) -> Result<FileSpec, AllocError>
     ensures number { IfOk result (λ file. file.number ≡ number) }
     ensures extents { IfOk result (λ file. file.extents ≤ 4096) }
 {
