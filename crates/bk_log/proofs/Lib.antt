@@ -1,0 +1,4 @@
+pub mod Errors
+pub mod Heads
+pub mod Makes
+pub mod Steps
