@@ -1,4 +1,5 @@
 pub mod Errors
 pub mod Heads
 pub mod Makes
+pub mod Parts
 pub mod Steps

@@ -100,9 +100,14 @@ made_none db a gate is stands none = let Empty : List ℕ → Type 0 = λ n. sea
 abbrev pub first_head : ℕ → Head
 first_head at = record { kept = at; gone = 1; front = 1; back = 1; first = at }
 
+pub made_sound : (at : ℕ) (note : List ℕ) → note ≡ [] → IsSound (first_head at) note
+made_sound at note empty =
+    let Sound : List ℕ → Type 0 = λ n. IsSound (first_head at) n in
+    subst Sound (sym empty) (record { gone = omega arith; front = omega arith; back = omega arith; few = omega arith; kept = omega arith; short = omega arith })
+
 pub made_is : (image : Files) (db at : ℕ) (bytes : List ℕ) → at < 2 ^ 64 → read_control bytes ≡ Some (first_head at, []) → control_of (image (control_file db)) ≡ Some bytes → sealed (image (segment_file db 1)) ≡ [] → LogIs image db (fresh at)
 made_is image db at bytes small reads control none =
-    let sound : IsSound (first_head at) [] = record { gone = omega arith; front = omega arith; back = omega arith; kept = omega arith; short = omega arith } in
+    let sound : IsSound (first_head at) [] = record { gone = omega arith; front = omega arith; back = omega arith; few = omega arith; kept = omega arith; short = omega arith } in
     let run : IsRun at (blobs_of image db (first_head at)) at = subst (λ (bs : List (List ℕ)). IsRun at bs at) (sym none) (run_none at) in
     let is = log_is image db (first_head at) [] bytes at control reads sound run (omega arith) small in
     subst (λ (l : Logged). LogIs image db l) (made_shown image db at none) is
@@ -130,7 +135,7 @@ made_log db at bytes note a control gate end waiting failed small empty reads co
       controls = controls;
       gates = gates;
       reads = ap read_control content ∙ reads ∙ ap (λ (n : List ℕ). Some (first_head at, n)) (sym empty);
-      sound = subst Sound (sym empty) (record { gone = omega arith; front = omega arith; back = omega arith; kept = omega arith; short = omega arith });
+      sound = subst Sound (sym empty) (record { gone = omega arith; front = omega arith; back = omega arith; few = omega arith; kept = omega arith; short = omega arith });
       durable = λ n low high. let one : n ≡ 1 = omega (arith, low, high) in subst (λ (m : ℕ). IsDurable a (segment_file db m)) (sym one) durable;
       run = subst (λ (bs : List (List ℕ)). IsRun at bs at) (sym none) (run_none at);
       inside = omega arith;

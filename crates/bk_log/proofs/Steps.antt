@@ -63,10 +63,10 @@ put_log log head note bytes a b control end waiting failed is front back first i
 -- another note is sound, and a later kept point
 
 pub noted : {head : Head} {note more : List ℕ} → IsSound head note → length more ≤ 32768 → IsSound head more
-noted is short = record { gone = is.gone; front = is.front; back = is.back; kept = is.kept; short = short }
+noted is short = record { gone = is.gone; front = is.front; back = is.back; few = is.few; kept = is.kept; short = short }
 
 pub cut_sound : {head : Head} {note : List ℕ} {to : ℕ} → IsSound head note → head.kept ≤ to → IsSound (record head { kept = to }) note
-cut_sound is from = record { gone = is.gone; front = is.front; back = is.back; kept = omega (arith, is.kept, from); short = is.short }
+cut_sound is from = record { gone = is.gone; front = is.front; back = is.back; few = is.few; kept = omega (arith, is.kept, from); short = is.short }
 
 -- ---- adding a blob
 

@@ -1,6 +1,6 @@
 -- How a log's control record is spelled: the kept point, the first segment that may still be there, the first that counts and
 -- the last, and the number of the first record that they hold, each in eight bytes, the lowest first; and the note behind them.
-use Rattle.std.specs.Prelude.{◌≤◌, ◌<◌, ◌^◌, ℕ, List, ◌++◌, length, Option, Some}
+use Rattle.std.specs.Prelude.{◌≤◌, ◌<◌, ◌^◌, ◌+◌, ℕ, List, ◌++◌, length, Option, Some}
 use Rattle.bk_bytes.specs.Field.{bytes_of}
 use Rattle.bk_bytes.specs.Codec.{◌>>=◌, number_at}
 use Rattle.bk_log.specs.declared.head.Head.{Head}
@@ -19,10 +19,11 @@ read_control bytes = do
   first ← number_at 8 back.1
   Some (record { kept = kept.0; gone = gone.0; front = front.0; back = back.0; first = first.0 }, first.1)
 
--- the segments' numbers rise, the records that count are among those that are there, and the note is short
+-- the segments' numbers rise, there are not too many of them, the records that count are among those that are there, and the note is short
 pub record IsSound (head : Head) (note : List ℕ) : Type 0 where
   pub gone : head.gone ≤ head.front
   pub front : head.front ≤ head.back
   pub back : head.back < 2 ^ 62
+  pub few : head.back ≤ head.gone + 65535
   pub kept : head.first ≤ head.kept
   pub short : length note ≤ 32768

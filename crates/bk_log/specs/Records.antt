@@ -1,5 +1,5 @@
 -- Log records in the blobs of a gate file.
-use Rattle.std.specs.Prelude.{◌≡◌, ◌<◌, ◌^◌, ℕ, zero, suc, ◌+◌, List, [], ◌∷◌, length, slice_get, Some}
+use Rattle.std.specs.Prelude.{◌≡◌, ◌<◌, ◌^◌, ℕ, zero, suc, ◌+◌, List, [], ◌∷◌, ◌++◌, length, slice_get, Some}
 use Rattle.std.specs.List.{flat_map, AllByRecursion}
 use Rattle.std.specs.Option.{option_map_or}
 use Rattle.bk_ids.specs.declared.record.Rec.{Rec}
@@ -48,3 +48,11 @@ PartAt blobs i from to = (blob : List ℕ) × (slice_get blobs i ≡ Some blob) 
 -- the blob of this number is no such part from that number on
 abbrev pub StuckAt : List (List ℕ) → ℕ → ℕ → Type 0
 StuckAt blobs i from = (blob : List ℕ) × (slice_get blobs i ≡ Some blob) × ((to : ℕ) → IsPart from blob to → to < 2 ^ 64 → ⊥)
+
+-- the bytes of blobs, one behind the other
+abbrev pub joined : List (List ℕ) → List ℕ
+joined blobs = flat_map (λ blob. blob) blobs
+
+-- the blob of this number was added to these bytes
+abbrev pub BlobThere : List (List ℕ) → ℕ → List ℕ → List ℕ → Type 0
+BlobThere blobs i old new = (blob : List ℕ) × (slice_get blobs i ≡ Some blob) × (new ≡ old ++ blob)

@@ -8,6 +8,7 @@ mod log;
 mod making;
 mod names;
 mod opening;
+mod reading;
 mod walk;
 
 pub use error::LogError;

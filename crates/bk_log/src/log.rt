@@ -1,17 +1,21 @@
 // The log of one database over its files.
-ghost use Rattle.std.specs.Prelude.{◌≡◌, ◌≤◌, ◌<◌, ◌⊎◌, ◌^◌, ◌+◌, ◌-◌, ◌++◌, ◌||◌, ◌∷◌, [], None, Some, length, drop, vec_len, vec_capacity, false, true, IfOk, OnOk, OnErr, IsErrOf, IsErr};
+ghost use Rattle.std.specs.Prelude.{◌≡◌, ◌≤◌, ◌<◌, ◌⊎◌, ◌^◌, ◌+◌, ◌-◌, ◌++◌, ◌||◌, ◌∷◌, [], None, Some, length, drop, take, vec_len, vec_capacity, false, true, IfOk, OnOk, OnErr, IsErrOf, IsErr};
+ghost use Rattle.std.specs.List.{flat_map};
 ghost use Rattle.bk_control.specs.Slots.{control_of};
+ghost use Rattle.bk_device.specs.Calls.{ChangesNothing};
 ghost use Rattle.bk_device.specs.Counts.{HasCause};
 ghost use Rattle.bk_device.specs.Disk.{IsDurable};
 ghost use Rattle.bk_device.specs.Effects.{Effect};
+ghost use Rattle.bk_log.specs.Control.{IsSound};
 ghost use Rattle.bk_log.specs.Log.{control_file, IsOwn, Kept, LogIs, IsLog, IsForeign, AreDurable, Logged, cut_at, fresh, value_of, with_more};
 ghost use Rattle.bk_log.specs.Records.{IsPart, records_in};
-ghost use Rattle.bk_record.specs.Spelling.{KeepsLimits};
+ghost use Rattle.bk_record.specs.Spelling.{KeepsLimits, spelling};
 
 use crate::error::LogError;
 use crate::head::{Head, add, spell};
 use crate::making::make_files;
 use crate::opening::{find, open_last};
+use crate::reading::{gather, place_of};
 use bk_control::Control;
 use bk_device::{Device, Failed};
 use bk_gate::Gate;
@@ -56,7 +60,7 @@ impl Model for Log {
       failed = l.control.failed || l.gate.failed;
     } };
 
-    ghost invariant = { λ l. (l.gate.failed ≡ false → l.gate.begun ≡ None) × (32768 ≤ vec_capacity l.note) × (vec_len l.note ≤ 32768) × (32808 ≤ vec_capacity l.spelled) × IsPart l.stored l.waiting.items l.end × (l.end < 2 ^ 64) };
+    ghost invariant = { λ l. (l.gate.failed ≡ false → l.gate.begun ≡ None) × (32768 ≤ vec_capacity l.note) × (vec_len l.note ≤ 32768) × (32808 ≤ vec_capacity l.spelled) × IsPart l.stored l.waiting.items l.end × (l.end < 2 ^ 64) × IsSound l.head l.note.items };
 }
 
 impl Log {
@@ -198,6 +202,32 @@ impl Log {
         self.stored = self.end;
         self.waiting.clear();
         Ok(())
+    }
+
+    /// The bytes of the durable records from the number `from` to below `to`, which are at least the kept point and at most
+    /// the number behind that of the last durable record. Changes nothing. `Foreign` isn't answered.
+    pub fn bytes<D: Device>(
+        &self,
+        alloc: Global,
+        dev: &mut D,
+        from: Lsn,
+        to: Lsn,
+    ) -> Result<Vec<u8>, LogError>
+        requires fit { self.now.failed ≡ false }
+        requires kept { self.now.head.kept ≤ from }
+        requires order { from ≤ to }
+        requires inside { to ≤ self.now.stored }
+        requires stands { D.tells → IsLog (D.disk dev.old) self.now }
+        ensures bytes { D.tells → IfOk result (λ bytes. bytes.items ≡ flat_map spelling (take (to - from) (drop (from - self.now.head.kept) (value_of (D.disk dev.old).files self.now).records))) }
+        ensures foreign { IsErrOf result LogError.Foreign → ⊥ }
+        ensures effect { D.tells → ChangesNothing (D.disk dev.old) (D.disk dev.new) }
+        ensures cause { HasCause D.disk_faults D.tell_faults dev.old dev.new (IsErrOf result LogError.Fault) }
+    {
+        let all = gather(alloc, dev, self.db, self.head)?;
+        let start = place_of(&all, from - self.head.first);
+        let end = place_of(&all, to - self.head.first).max(start);
+        let part = Vec::from_slice(alloc, &all[start..end])?;
+        Ok(part)
     }
 
     /// Makes these bytes, at most 32,768, the note. A crash leaves the log with the old note or the new one.

@@ -60,7 +60,7 @@ pub fn open_gate<D: Device>(
 }
 
 // The bytes of a sealed blob.
-fn read_blob<D: Device>(
+pub fn read_blob<D: Device>(
     alloc: Global,
     dev: &mut D,
     gate: &Gate,

@@ -30,6 +30,7 @@ invariant_of-result g c = (
   omega (arith, c.in_ok-spelled.ensures.capacity),
   subst (λ (bs : List ℕ). IsPart c.in_ok-found.found.stored bs c.in_ok-found.found.stored) (sym c.new.ensures.items) (part_none c.in_ok-found.found.stored),
   c.in_ok-found.ensures.small,
+  c.in_ok-found.ensures.sound,
 )
 
 pub returns-clause-none : goal.returns-clause-none

@@ -2,7 +2,7 @@ use Rattle.std.proofs.Common.{◌<◌, ◌^◌, List, ℕ, sym, ap, subst, ◌�
 use Rattle.bk_log.specs.BatchLaws.{part_none, records_none}
 use Rattle.bk_log.specs.Control.{read_control}
 use Rattle.bk_log.specs.Records.{IsPart, records_in}
-use Rattle.bk_log.proofs.Makes.{made_crash, made_log}
+use Rattle.bk_log.proofs.Makes.{made_sound, made_crash, made_log}
 use Rattle.bk_log.proofs.log.Log.make.Goals as goal
 
 pub returns-in_err-control-clause-crash : goal.returns-in_err-control-clause-crash
@@ -18,6 +18,7 @@ invariant_of-result g c = (
   omega (arith, c.in_ok-spelled.ensures.capacity, c.spell.ensures.room),
   subst (λ (bs : List ℕ). IsPart c.args.at bs c.args.at) (sym c.new.ensures.items) (part_none c.args.at),
   omega arith,
+  made_sound c.args.at c.in_ok-note.note.items c.in_ok-note.ensures.items,
 )
 
 pub returns-clause-none : goal.returns-clause-none
