@@ -1,4 +1,5 @@
 pub mod Errors
+pub mod Growing
 pub mod Heads
 pub mod Makes
 pub mod Parts

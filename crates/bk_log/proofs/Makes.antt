@@ -28,6 +28,9 @@ none_sealed = foreign_blobs [] (λ is. absurd (omega (arith, is.1)))
 pub no_spans : (a : Disk) (gate : KeptGate) → IsGate a gate → gate.spans ≡ [] → sealed (a.files gate.name) ≡ []
 no_spans a gate is none = gate_sealed is ∙ ap (map (part_of (contents (a.files gate.name)))) none
 
+pub empty_at : (at : List ℕ) (a : Disk) (gate : KeptGate) → gate.name ≡ at → IsGate a gate → gate.spans ≡ [] → sealed (a.files at) ≡ []
+empty_at at a gate is stands none = let Empty : List ℕ → Type 0 = λ n. sealed (a.files n) ≡ [] in subst Empty is (no_spans a gate stands none)
+
 -- ---- making the files
 
 -- no log, or one of these bytes without a blob

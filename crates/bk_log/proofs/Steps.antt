@@ -157,3 +157,6 @@ none_added from to blob part same = empty (records_in blob) (omega (arith, part.
 
 pub none_crash : {Q : Files → Type 0} (log : Kept) (a : Disk) → IsLog a log → Effect (IsOwn log.db) (λ image. LogIs image log.db (value_of a.files log) ⊎ Q image) a a
 none_crash log a is = effect_none a (λ image mine. inl (log_left image is mine))
+
+pub stay_crash : (log : Kept) (a : Disk) → IsLog a log → Effect (IsOwn log.db) (λ image. LogIs image log.db (value_of a.files log)) a a
+stay_crash log a is = effect_none a (λ image mine. log_left image is mine)

@@ -1,5 +1,5 @@
 -- What the layers above may take of a log.
-use Rattle.std.proofs.Common.{◌≡◌, ◌≤◌, ℕ, List, Some, refl, inl, inr, sym, ap, subst, ◌∙◌, arith}
+use Rattle.std.proofs.Common.{◌≡◌, ◌≤◌, ℕ, Bool, List, Some, refl, inl, inr, sym, ap, subst, ◌∙◌, arith}
 use Rattle.bk_control.specs.Control.{control_value, control_durable, control_kept}
 use Rattle.bk_control.specs.Slots.{control_of}
 use Rattle.bk_device.specs.Compose.{durable_kept}
@@ -59,6 +59,21 @@ log_files {disk = disk} {log = log} is =
 -- records may wait
 pub log_waits : {disk : Disk} {log : Kept} (waiting : List Rec) (end : ℕ) → IsLog disk log → IsLog disk (record log { waiting = waiting; end = end })
 log_waits waiting end is = record {
+  control_name = is.control_name;
+  gate_name = is.gate_name;
+  controls = is.controls;
+  gates = is.gates;
+  reads = is.reads;
+  sound = is.sound;
+  durable = is.durable;
+  run = is.run;
+  inside = is.inside;
+  small = is.small;
+}
+
+-- whether it is failed is no matter of the disk
+pub log_marked : {disk : Disk} {log : Kept} (failed : Bool) → IsLog disk log → IsLog disk (record log { failed = failed })
+log_marked failed is = record {
   control_name = is.control_name;
   gate_name = is.gate_name;
   controls = is.controls;

@@ -115,3 +115,10 @@ pub record IsLog (disk : Disk) (log : Kept) : Type 0 where
 -- nothing is pending in the log's files
 abbrev pub AreDurable : ℕ → Disk → Type 0
 AreDurable db disk = (name : List ℕ) → IsOwn db name → IsDurable disk name
+
+-- the same records wait behind the same durable ones
+pub record IsSame (old new : Kept) : Type 0 where
+  pub db : new.db ≡ old.db
+  pub stored : new.stored ≡ old.stored
+  pub end : new.end ≡ old.end
+  pub waiting : new.waiting ≡ old.waiting

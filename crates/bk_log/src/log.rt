@@ -7,13 +7,13 @@ ghost use Rattle.bk_device.specs.Counts.{HasCause};
 ghost use Rattle.bk_device.specs.Disk.{IsDurable};
 ghost use Rattle.bk_device.specs.Effects.{Effect};
 ghost use Rattle.bk_log.specs.Control.{IsSound};
-ghost use Rattle.bk_log.specs.Log.{control_file, IsOwn, Kept, LogIs, IsLog, IsForeign, AreDurable, Logged, cut_at, fresh, value_of, with_more};
+ghost use Rattle.bk_log.specs.Log.{control_file, IsOwn, Kept, LogIs, IsLog, IsForeign, IsSame, AreDurable, Logged, cut_at, fresh, value_of, with_more};
 ghost use Rattle.bk_log.specs.Records.{IsPart, records_in};
 ghost use Rattle.bk_record.specs.Spelling.{KeepsLimits, spelling};
 
 use crate::error::LogError;
 use crate::head::{Head, add, spell};
-use crate::making::make_files;
+use crate::making::{begin_segment, make_files};
 use crate::opening::{find, open_last};
 use crate::reading::{gather, place_of};
 use bk_control::Control;
@@ -43,6 +43,7 @@ pub struct Log {
     end: Lsn,
     // the bytes of the records that aren't sealed yet
     waiting: Vec<u8>,
+    failed: bool,
 }
 
 impl Model for Log {
@@ -57,7 +58,7 @@ impl Model for Log {
       stored = l.stored;
       end = l.end;
       waiting = records_in l.waiting.items;
-      failed = l.control.failed || l.gate.failed;
+      failed = l.failed || l.control.failed || l.gate.failed;
     } };
 
     ghost invariant = { λ l. (l.gate.failed ≡ false → l.gate.begun ≡ None) × (32768 ≤ vec_capacity l.note) × (vec_len l.note ≤ 32768) × (32808 ≤ vec_capacity l.spelled) × IsPart l.stored l.waiting.items l.end × (l.end < 2 ^ 64) × IsSound l.head l.note.items };
@@ -93,6 +94,7 @@ impl Log {
             stored: found.stored,
             end: found.stored,
             waiting: Vec::new(alloc),
+            failed: false,
         })
     }
 
@@ -132,6 +134,7 @@ impl Log {
             stored: at,
             end: at,
             waiting: Vec::new(alloc),
+            failed: false,
         })
     }
 
@@ -177,10 +180,11 @@ impl Log {
         Ok(())
     }
 
-    /// Makes the records that wait durable. A crash leaves the log as it was, or with all of them.
+    /// Makes the records that wait durable. Where the last segment has 1 MiB or more a new one is begun first. A crash leaves
+    /// the log as it was, or with all of them.
     ///
-    /// `NoMemory` leaves the device and the value as they were. `Foreign` isn't answered.
-    pub fn flush<D: Device>(&mut self, _alloc: Global, dev: &mut D) -> Result<(), LogError>
+    /// `NoMemory` leaves the log as it was; a segment may have been begun. `Foreign` isn't answered.
+    pub fn flush<D: Device>(&mut self, alloc: Global, dev: &mut D) -> Result<(), LogError>
         requires fit { self.old.failed ≡ false }
         requires stands { D.tells → IsLog (D.disk dev.old) self.old }
         ensures stands { D.tells → OnOk result (IsLog (D.disk dev.new) self.new) }
@@ -189,7 +193,8 @@ impl Log {
         ensures none { OnOk result ((self.new.waiting ≡ []) × (self.new.stored ≡ self.old.end)) }
         ensures fit { OnOk result (self.new.failed ≡ false) }
         ensures failed { IsErrOf result LogError.Fault → self.new.failed ≡ true }
-        ensures no_memory { IsErrOf result LogError.NoMemory → (self.new ≡ self.old) × (dev.new ≡ dev.old) }
+        ensures no_memory { IsErrOf result LogError.NoMemory → self.new ≡ self.old }
+        ensures stays { D.tells → IsErrOf result LogError.NoMemory → IsLog (D.disk dev.new) self.new }
         ensures foreign { IsErrOf result LogError.Foreign → ⊥ }
         ensures crash { D.tells → Effect (IsOwn self.old.db) (λ image. LogIs image self.old.db (value_of (D.disk dev.old).files self.old) ⊎ LogIs image self.old.db (with_more (value_of (D.disk dev.old).files self.old) self.old.waiting)) (D.disk dev.old) (D.disk dev.new) }
         ensures cause { HasCause D.disk_faults D.tell_faults dev.old dev.new (IsErrOf result LogError.Fault) }
@@ -197,7 +202,102 @@ impl Log {
         if self.end == self.stored {
             return Ok(());
         }
+        self.make_room(alloc, dev)?;
+        self.seal(dev)?;
+        Ok(())
+    }
+
+    // Makes room for one more blob, in a new segment where the last is full.
+    fn make_room<D: Device>(&mut self, alloc: Global, dev: &mut D) -> Result<(), LogError>
+        requires fit { self.old.failed ≡ false }
+        requires stands { D.tells → IsLog (D.disk dev.old) self.old }
+        ensures stands { D.tells → OnOk result (IsLog (D.disk dev.new) self.new) }
+        ensures value { D.tells → OnOk result (value_of (D.disk dev.new).files self.new ≡ value_of (D.disk dev.old).files self.old) }
+        ensures spare { OnOk result (1 ≤ self.new.gate.spare) }
+        ensures same { OnOk result (IsSame self.old self.new) }
+        ensures fit { OnOk result (self.new.failed ≡ false) }
+        ensures failed { IsErrOf result LogError.Fault → self.new.failed ≡ true }
+        ensures no_memory { IsErrOf result LogError.NoMemory → self.new ≡ self.old }
+        ensures stays { D.tells → IsErrOf result LogError.NoMemory → IsLog (D.disk dev.new) self.new }
+        ensures foreign { IsErrOf result LogError.Foreign → ⊥ }
+        ensures crash { D.tells → Effect (IsOwn self.old.db) (λ image. LogIs image self.old.db (value_of (D.disk dev.old).files self.old)) (D.disk dev.old) (D.disk dev.new) }
+        ensures cause { HasCause D.disk_faults D.tell_faults dev.old dev.new (IsErrOf result LogError.Fault) }
+    {
+        if self.is_full() {
+            self.grow(alloc, dev)?;
+            return Ok(());
+        }
         self.gate.reserve(1)?;
+        Ok(())
+    }
+
+    // Whether the last segment has 1 MiB or more, and another one may be begun.
+    fn is_full(&self) -> bool
+        requires fit { self.now.failed ≡ false }
+        ensures few { result ≡ true → self.now.head.back + 1 ≤ self.now.head.gone + 65535 }
+        ensures small { result ≡ true → self.now.head.back + 1 < 2 ^ 62 }
+    {
+        let count = self.gate.count();
+        if count == 0 || self.head.back - self.head.gone >= 65_535 {
+            return false;
+        }
+        if self.head.back + 1 >= 1 << 62 {
+            return false;
+        }
+        let (at, len) = self.gate.span(count - 1);
+        1 << 20 <= at + len
+    }
+
+    // Begins a new segment.
+    fn grow<D: Device>(&mut self, alloc: Global, dev: &mut D) -> Result<(), LogError>
+        requires fit { self.old.failed ≡ false }
+        requires few { self.old.head.back + 1 ≤ self.old.head.gone + 65535 }
+        requires small { self.old.head.back + 1 < 2 ^ 62 }
+        requires stands { D.tells → IsLog (D.disk dev.old) self.old }
+        ensures stands { D.tells → OnOk result (IsLog (D.disk dev.new) self.new) }
+        ensures value { D.tells → OnOk result (value_of (D.disk dev.new).files self.new ≡ value_of (D.disk dev.old).files self.old) }
+        ensures spare { OnOk result (1 ≤ self.new.gate.spare) }
+        ensures same { OnOk result (IsSame self.old self.new) }
+        ensures fit { OnOk result (self.new.failed ≡ false) }
+        ensures failed { IsErrOf result LogError.Fault → self.new.failed ≡ true }
+        ensures no_memory { IsErrOf result LogError.NoMemory → self.new ≡ self.old }
+        ensures stays { D.tells → IsErrOf result LogError.NoMemory → IsLog (D.disk dev.new) self.new }
+        ensures foreign { IsErrOf result LogError.Foreign → ⊥ }
+        ensures crash { D.tells → Effect (IsOwn self.old.db) (λ image. LogIs image self.old.db (value_of (D.disk dev.old).files self.old)) (D.disk dev.old) (D.disk dev.new) }
+        ensures cause { HasCause D.disk_faults D.tell_faults dev.old dev.new (IsErrOf result LogError.Fault) }
+    {
+        let head = Head {
+            back: self.head.back + 1,
+            ..self.head
+        };
+        let gate = match begin_segment(alloc, dev, self.db, head.back) {
+            Ok(gate) => gate,
+            Err(error) => {
+                self.failed = matches!(error, LogError::Fault);
+                return Err(error);
+            }
+        };
+        spell(&mut self.spelled, head, &self.note);
+        self.control.put(dev, &self.spelled)?;
+        self.gate = gate;
+        self.head = head;
+        Ok(())
+    }
+
+    // Seals the records that wait, by one place of the gate's spare.
+    fn seal<D: Device>(&mut self, dev: &mut D) -> Result<(), Failed>
+        requires fit { self.old.failed ≡ false }
+        requires spare { 1 ≤ self.old.gate.spare }
+        requires stands { D.tells → IsLog (D.disk dev.old) self.old }
+        ensures stands { D.tells → OnOk result (IsLog (D.disk dev.new) self.new) }
+        ensures value { D.tells → OnOk result (value_of (D.disk dev.new).files self.new ≡ with_more (value_of (D.disk dev.old).files self.old) self.old.waiting) }
+        ensures same { OnOk result ((self.new.db ≡ self.old.db) × (self.new.end ≡ self.old.end)) }
+        ensures none { OnOk result ((self.new.waiting ≡ []) × (self.new.stored ≡ self.old.end)) }
+        ensures fit { OnOk result (self.new.failed ≡ false) }
+        ensures failed { OnErr result (self.new.failed ≡ true) }
+        ensures crash { D.tells → Effect (IsOwn self.old.db) (λ image. LogIs image self.old.db (value_of (D.disk dev.old).files self.old) ⊎ LogIs image self.old.db (with_more (value_of (D.disk dev.old).files self.old) self.old.waiting)) (D.disk dev.old) (D.disk dev.new) }
+        ensures cause { HasCause D.disk_faults D.tell_faults dev.old dev.new (IsErr result) }
+    {
         self.gate.append_reserved(dev, &self.waiting)?;
         self.stored = self.end;
         self.waiting.clear();

@@ -86,3 +86,27 @@ pub fn make_files<D: Device>(
     let gate = make_gate(alloc, dev, &segment)?;
     Ok((control, gate))
 }
+
+// Makes the segment of this number without a blob, in place of what was under its name.
+pub fn begin_segment<D: Device>(
+    alloc: Global,
+    dev: &mut D,
+    db: u32,
+    n: u64,
+) -> Result<Gate, LogError>
+    ensures name { IfOk result (λ g. g.name ≡ segment_file db n) }
+    ensures none { IfOk result (λ g. g.begun ≡ None) }
+    ensures failed { IfOk result (λ g. g.failed ≡ false) }
+    ensures spare { IfOk result (λ g. 1 ≤ g.spare) }
+    ensures stands { D.tells → IfOk result (λ g. IsGate (D.disk dev.new) g) }
+    ensures durable { D.tells → OnOk result (IsDurable (D.disk dev.new) (segment_file db n)) }
+    ensures sealed { D.tells → OnOk result (sealed ((D.disk dev.new).files (segment_file db n)) ≡ []) }
+    ensures crash { D.tells → Effect (IsName (segment_file db n)) (λ _. Unit {0}) (D.disk dev.old) (D.disk dev.new) }
+    ensures foreign { IsErrOf result LogError.Foreign → ⊥ }
+    ensures cause { HasCause D.disk_faults D.tell_faults dev.old dev.new (IsErrOf result LogError.Fault) }
+{
+    let name = segment_name(alloc, db, n)?;
+    let mut gate = make_gate(alloc, dev, &name)?;
+    gate.reserve(1)?;
+    Ok(gate)
+}
