@@ -1,7 +1,7 @@
 -- What beginning a new segment did to the device, and then sealing a blob in it.
-use Rattle.std.proofs.Common.{◌≡◌, ◌⊎◌, ◌≤◌, ◌<◌, ◌^◌, ℕ, Bool, ◌+◌, ◌-◌, List, [], ◌∷◌, ◌++◌, length, drop, Option, Some, None, refl, inl, inr, sym, ap, subst, ◌∙◌, arith}
+use Rattle.std.proofs.Common.{◌≡◌, ◌⊎◌, ◌≤◌, ◌<◌, ◌^◌, ℕ, Bool, ◌+◌, ◌-◌, List, [], ◌++◌, drop, Some, refl, inl, inr, sym, ap, subst, ◌∙◌, arith}
 use Rattle.std.proofs.lemmas.List.{append-nil}
-use Rattle.bk_control.specs.Control.{IsControl, control_durable, control_kept, Kept as KeptControl}
+use Rattle.bk_control.specs.Control.{IsControl, control_kept, Kept as KeptControl}
 use Rattle.bk_control.specs.Slots.{control_of}
 use Rattle.bk_device.specs.Compose.{effect_then, effect_weaken, effect_widen, keeps_by_effect, durable_kept}
 use Rattle.bk_device.specs.Disk.{Files, Disk, IsDurable}

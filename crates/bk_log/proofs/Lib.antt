@@ -3,4 +3,5 @@ pub mod Growing
 pub mod Heads
 pub mod Makes
 pub mod Parts
+pub mod Removals
 pub mod Steps

@@ -1,5 +1,5 @@
 -- The log of one database over its files.
-use Rattle.std.specs.Prelude.{◌≡◌, ◌⊎◌, ◌≤◌, ◌<◌, ◌+◌, ◌-◌, ◌^◌, ℕ, zero, suc, Bool, List, [], ◌++◌, drop, Some, codes}
+use Rattle.std.specs.Prelude.{◌≡◌, ◌⊎◌, ◌≤◌, ◌<◌, ◌+◌, ◌-◌, ◌^◌, ℕ, zero, suc, Bool, List, [], ◌++◌, drop, Some, None, codes}
 use Rattle.std.specs.Fmt.{decimal}
 use Rattle.bk_bytes.specs.Codec.{◌>>=◌}
 use Rattle.bk_control.specs.Control.{IsControl, Kept as KeptControl}
@@ -122,3 +122,19 @@ pub record IsSame (old new : Kept) : Type 0 where
   pub stored : new.stored ≡ old.stored
   pub end : new.end ≡ old.end
   pub waiting : new.waiting ≡ old.waiting
+
+-- the name is that of a segment from one number to below another
+abbrev pub IsBetween : ℕ → ℕ → ℕ → List ℕ → Type 0
+IsBetween db from to name = (n : ℕ) × (from ≤ n) × (n < to) × (name ≡ segment_file db n)
+
+-- the control file holds this head with a note, and they are sound
+abbrev pub Holds : Files → ℕ → Head → Type 0
+Holds files db head = (note : List ℕ) × ((control_of (files (control_file db)) >>= read_control) ≡ Some (head, note)) × IsSound head note
+
+-- it holds none
+abbrev pub IsUnheld : Files → ℕ → Type 0
+IsUnheld files db = (head : Head) → Holds files db head → ⊥
+
+-- no segment that a control record names is there
+abbrev pub AreGone : Files → Files → ℕ → Type 0
+AreGone old new db = (head : Head) → Holds old db head → (n : ℕ) → head.gone ≤ n → n ≤ head.back → new (segment_file db n) ≡ None

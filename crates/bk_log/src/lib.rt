@@ -9,6 +9,7 @@ mod making;
 mod names;
 mod opening;
 mod reading;
+mod removing;
 mod walk;
 
 pub use error::LogError;

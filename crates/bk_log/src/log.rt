@@ -7,17 +7,19 @@ ghost use Rattle.bk_device.specs.Counts.{HasCause};
 ghost use Rattle.bk_device.specs.Disk.{IsDurable};
 ghost use Rattle.bk_device.specs.Effects.{Effect};
 ghost use Rattle.bk_log.specs.Control.{IsSound};
-ghost use Rattle.bk_log.specs.Log.{control_file, IsOwn, Kept, LogIs, IsLog, IsForeign, IsSame, AreDurable, Logged, cut_at, fresh, value_of, with_more};
+ghost use Rattle.bk_log.specs.Log.{control_file, AreGone, IsOwn, Kept, LogIs, IsLog, IsForeign, IsSame, AreDurable, Logged, cut_at, fresh, value_of, with_more};
 ghost use Rattle.bk_log.specs.Records.{IsPart, records_in};
 ghost use Rattle.bk_record.specs.Spelling.{KeepsLimits, spelling};
 
 use crate::error::LogError;
 use crate::head::{Head, add, spell};
 use crate::making::{begin_segment, make_files};
+use crate::names::control_name;
 use crate::opening::{find, open_last};
 use crate::reading::{gather, place_of};
+use crate::removing::{find_head, remove_segments};
 use bk_control::Control;
-use bk_device::{Device, Failed};
+use bk_device::{Device, Failed, remove_durably};
 use bk_gate::Gate;
 use bk_ids::{Lsn, Rec};
 use bk_record::encode;
@@ -136,6 +138,26 @@ impl Log {
             waiting: Vec::new(alloc),
             failed: false,
         })
+    }
+
+    /// Removes the segments of a database's log, one that was begun too, and then its control file. Does nothing where that file is absent or holds no
+    /// sound control record. The control file is there until all segments are gone, so the call may be repeated after a crash.
+    ///
+    /// `Foreign` isn't answered.
+    pub fn remove<D: Device>(alloc: Global, dev: &mut D, db: u32) -> Result<(), LogError>
+        ensures gone { D.tells → OnOk result (IsForeign (D.disk dev.new).files db) }
+        ensures segments { D.tells → OnOk result (AreGone (D.disk dev.old).files (D.disk dev.new).files db) }
+        ensures foreign { IsErrOf result LogError.Foreign → ⊥ }
+        ensures crash { D.tells → IsDurable (D.disk dev.old) (control_file db) → Effect (IsOwn db) (λ image. (image (control_file db) ≡ (D.disk dev.old).files (control_file db)) ⊎ (image (control_file db) ≡ None)) (D.disk dev.old) (D.disk dev.new) }
+        ensures cause { HasCause D.disk_faults D.tell_faults dev.old dev.new (IsErrOf result LogError.Fault) }
+    {
+        let name = control_name(alloc, db)?;
+        let Some(head) = find_head(alloc, dev, db)? else {
+            return Ok(());
+        };
+        remove_segments(alloc, dev, db, head.gone, head.back + 2)?;
+        remove_durably(dev, &name)?;
+        Ok(())
     }
 
     /// The number of the first record that counts.
