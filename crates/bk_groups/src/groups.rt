@@ -88,6 +88,17 @@ impl Groups {
         Ok(at)
     }
 
+    /// A free cell of a table's filegroup, or `None` exactly where no cell of it is free.
+    pub fn free_cell(&self, table: u32) -> Option<Place>
+        requires { IsSome (group_of self.now table) }
+        ensures { MatchOption result
+            (IfSome (group_of self.now table) (λ group. (at : Place) → LiesIn self.now.rooms group at → ¬ IsFreeCell self.now at))
+            (λ at. IsFreeCell self.now at × IfSome (group_of self.now table) (λ group. LiesIn self.now.rooms group at)) }
+    {
+        let group = self.group(table)?;
+        first_free(&self.files, group)
+    }
+
     /// Whether a place is a cell of the files that no row has.
     pub fn is_free(&self, at: Place) -> bool
         ensures { IsTrue result ↔ (IsCell self.now.rooms at × IsFreeCell self.now at) }
@@ -148,16 +159,5 @@ impl Groups {
         ensures { result ≡ fresh_extents self.now.rooms group }
     {
         fresh_of(&self.files, group)
-    }
-
-    // A free cell of the table's filegroup.
-    fn free_cell(&self, table: u32) -> Option<Place>
-        requires { IsSome (group_of self.now table) }
-        ensures { MatchOption result
-            (IfSome (group_of self.now table) (λ group. (at : Place) → LiesIn self.now.rooms group at → ¬ IsFreeCell self.now at))
-            (λ at. IsFreeCell self.now at × IfSome (group_of self.now table) (λ group. LiesIn self.now.rooms group at)) }
-    {
-        let group = self.group(table)?;
-        first_free(&self.files, group)
     }
 }

@@ -1,5 +1,5 @@
-//! Cases over the floor of files: the device in memory with its source and clock, control files, gate files, and an
-//! instance's own files.
+//! Cases over the floor of files: the device in memory with its source and clock, control files, gate files, an instance's own files,
+//! and the files of a database.
 #![tactic(auto)]
 
 mod control;
@@ -7,6 +7,7 @@ mod device;
 mod gate;
 mod home;
 mod session;
+mod side;
 mod trial;
 mod words;
 

@@ -3,7 +3,7 @@ ghost use Rattle.bk_device.specs.Disk.{IsSettled};
 ghost use Rattle.bk_device.specs.Replay.{disk_of};
 
 use crate::words::word;
-use crate::{control, gate, home};
+use crate::{control, gate, home, side};
 use bk_device::MemDevice;
 use std::alloc::{AllocError, Global};
 
@@ -11,14 +11,16 @@ use std::alloc::{AllocError, Global};
 #[derive(Clone, Copy)]
 pub(crate) struct Session<'a> {
     pub(crate) alloc: Global,
-    // `control`, `gate` or `home`
+    // `control`, `gate`, `home` or `side`
     pub(crate) layer: &'a str,
     // `make`, or anything else to load
     pub(crate) how: &'a str,
-    // the file's name, or the number of the instance
+    // the file's name, or the number of the instance or the database
     pub(crate) name: &'a str,
-    // the content of a control that is made; or the file that is meant, where it has another name
+    // the content of a control that is made; the paths of data files; or the file that is meant, where it has another name
     pub(crate) content: &'a str,
+    // the file that is meant, behind a content
+    pub(crate) meant: &'a str,
     // the calls, one a line
     pub(crate) calls: &'a str,
 }
@@ -32,13 +34,16 @@ impl<'a> Session<'a> {
             how: word(words, 1),
             name: word(words, 2),
             content: word(words, 3),
+            meant: word(words, 4),
             calls,
         }
     }
 
     // The file that is meant.
     pub(crate) fn file(&self) -> &'a str {
-        if self.content.is_empty() {
+        if !self.meant.is_empty() {
+            self.meant
+        } else if self.content.is_empty() {
             self.name
         } else {
             self.content
@@ -52,6 +57,7 @@ impl<'a> Session<'a> {
         match self.layer {
             "control" => control::run(self, device),
             "gate" => gate::run(self, device),
+            "side" => side::run(self, device),
             _ => home::run(self, device),
         }
     }
@@ -63,6 +69,7 @@ impl<'a> Session<'a> {
         match self.layer {
             "control" => control::find(self, device),
             "gate" => gate::find(self, device),
+            "side" => side::find(self, device),
             _ => home::find(self, device),
         }
     }

@@ -7,16 +7,18 @@ use crate::mapping::answer_maps;
 use crate::paging::{answer_page, count_stored, show_digests};
 use crate::records::{append_bytes, append_records};
 use crate::redoing::redo_frames;
+use crate::showing::answer_shown;
 use crate::undoing::show_losers;
 use crate::words::{number, word};
 use bk_frames::Frames;
 use bk_groups::Groups;
 use bk_maps::Maps;
+use bk_shown::Shown;
 use cases::Subject;
 use std::alloc::{AllocError, Global};
 use std::thread::Threads;
 
-/// Some frames, change maps, filegroups and a log.
+/// Some frames, change maps, filegroups, a log, and what is shown of one.
 #[derive(Drop)]
 pub(crate) struct Floor {
     alloc: Global,
@@ -24,6 +26,7 @@ pub(crate) struct Floor {
     maps: Maps,
     groups: Groups,
     log: Vec<u8>,
+    shown: Shown,
 }
 
 impl Floor {
@@ -35,6 +38,7 @@ impl Floor {
             maps: Maps::new(alloc, &[])?,
             groups: Groups::new(alloc, &[])?,
             log: Vec::new(alloc),
+            shown: Shown::new(alloc, &[])?,
         })
     }
 }
@@ -58,6 +62,7 @@ pub(crate) fn answer_command<R: Threads + Sync>(
         "bytes" => append_bytes(&mut floor.log, head),
         "redo" => redo_frames(rt, floor.alloc, &mut floor.frames, &floor.log, head, out),
         "beside" => redo_beside(rt, floor.alloc, &mut floor.frames, &floor.log, out),
+        "shown" => answer_shown(floor.alloc, &mut floor.shown, &floor.log, head, out),
         "losers" => show_losers(floor.alloc, &floor.log, number(head, 1), out),
         _ => out.push_str("no such command\n"),
     }

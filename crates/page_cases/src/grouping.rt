@@ -36,7 +36,12 @@ fn groups_of(alloc: Global, command: &str) -> Result<Groups, AllocError> {
 }
 
 // The file of this number, of a filegroup and with so many extents, at most 4,096.
-fn file(alloc: Global, number: u16, group: &str, extents: &str) -> Result<FileSpec, AllocError>
+pub(crate) fn file(
+    alloc: Global,
+    number: u16,
+    group: &str,
+    extents: &str,
+) -> Result<FileSpec, AllocError>
     ensures number { IfOk result (λ file. file.number ≡ number) }
     ensures extents { IfOk result (λ file. file.extents ≤ 4096) }
 {
@@ -153,7 +158,7 @@ fn free(groups: &mut Groups, table: u32, key: u64, out: &mut String) -> Result<(
     Ok(())
 }
 
-fn show_place(at: Option<Place>, out: &mut String) -> Result<(), AllocError> {
+pub(crate) fn show_place(at: Option<Place>, out: &mut String) -> Result<(), AllocError> {
     match at {
         Some(at) => writeln!(out, "file {} page {} slot {}", at.file, at.page, at.slot),
         None => out.push_str("no place\n"),

@@ -1,4 +1,4 @@
-//! Cases of the floor of pages: frames, pages, change maps, filegroups, redo and undo.
+//! Cases of the floor of pages: frames, pages, change maps, filegroups, redo, undo, and what a log shows.
 //!
 //! What the commands of a case mean stands at the head of each file of cases in `data/`.
 #![tactic(auto)]
@@ -12,6 +12,7 @@ mod mapping;
 mod paging;
 mod records;
 mod redoing;
+mod showing;
 mod undoing;
 mod words;
 

@@ -1,0 +1,4 @@
+pub mod Codes
+pub mod Meant
+pub mod Said
+pub mod Whole

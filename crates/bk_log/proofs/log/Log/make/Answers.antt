@@ -1,0 +1,37 @@
+use Rattle.std.proofs.Common.{◌<◌, ◌^◌, List, ℕ, sym, ap, subst, ◌∙◌, arith}
+use Rattle.bk_log.specs.BatchLaws.{part_none, records_none}
+use Rattle.bk_log.specs.Control.{read_control}
+use Rattle.bk_log.specs.Records.{IsPart, records_in}
+use Rattle.bk_log.proofs.Makes.{made_sound, made_crash, made_log}
+use Rattle.bk_log.proofs.log.Log.make.Goals as goal
+
+pub returns-in_err-control-clause-crash : goal.returns-in_err-control-clause-crash
+returns-in_err-control-clause-crash g c t durable none =
+    let small : c.args.at < 2 ^ 64 = omega arith in
+    made_crash c.args.db c.args.at c.deref.result.now (g.D.Device.disk c.args.dev.now) (g.D.Device.disk c.make_files.new.dev) small (ap read_control c.deref.ensures.value ∙ c.spell.ensures.reads) (c.make_files.ensures.crash t durable none)
+
+pub invariant_of-result : goal.invariant_of-result
+invariant_of-result g c = (
+  (λ fit. c.in_ok-control.ensures.none),
+  omega (arith, c.in_ok-note.ensures.capacity),
+  omega (arith, c.in_ok-note.ensures.len),
+  omega (arith, c.in_ok-spelled.ensures.capacity, c.spell.ensures.room),
+  subst (λ (bs : List ℕ). IsPart c.args.at bs c.args.at) (sym c.new.ensures.items) (part_none c.args.at),
+  omega arith,
+  made_sound c.args.at c.in_ok-note.note.items c.in_ok-note.ensures.items,
+)
+
+pub returns-clause-none : goal.returns-clause-none
+returns-clause-none g c = ap records_in c.new.ensures.items ∙ records_none
+
+pub returns-clause-stands : goal.returns-clause-stands
+returns-clause-stands g c t =
+    let small : c.args.at < 2 ^ 64 = omega arith in
+    let stands = c.in_ok-control.ensures.stands t in
+    made_log c.args.db c.args.at c.deref.result.now c.in_ok-note.note.items (g.D.Device.disk c.make_files.new.dev) c.in_ok-control.control c.in_ok-control.gate c.args.at _ _ small c.in_ok-note.ensures.items
+    (ap read_control c.deref.ensures.value ∙ c.spell.ensures.reads) c.in_ok-control.ensures.names.0 c.in_ok-control.ensures.content c.in_ok-control.ensures.names.1 stands.0 stands.1 (c.in_ok-control.ensures.durable t) (c.in_ok-control.ensures.sealed t)
+
+pub returns-clause-crash : goal.returns-clause-crash
+returns-clause-crash g c t durable none =
+    let small : c.args.at < 2 ^ 64 = omega arith in
+    made_crash c.args.db c.args.at c.deref.result.now (g.D.Device.disk c.args.dev.now) (g.D.Device.disk c.make_files.new.dev) small (ap read_control c.deref.ensures.value ∙ c.spell.ensures.reads) (c.make_files.ensures.crash t durable none)

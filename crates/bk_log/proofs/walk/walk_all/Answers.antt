@@ -1,0 +1,29 @@
+use Rattle.std.proofs.Common.{◌<◌, ◌-◌, ◌+◌, List, ℕ, sym, subst}
+use Rattle.std.proofs.lemmas.Result.{err_from_is_err_and}
+use Rattle.bk_device.specs.Laws.{nothing_then, cause_then}
+use Rattle.bk_log.specs.declared.error.LogError.TheVariants.{Foreign}
+use Rattle.bk_log.specs.FileLaws.{blobs_moved}
+use Rattle.bk_log.specs.Log.{blobs_at}
+use Rattle.bk_log.specs.Records.{IsRun}
+use Rattle.bk_log.specs.RunLaws.{segment_next, segments_stuck}
+use Rattle.bk_log.proofs.Errors.{same_error}
+use Rattle.bk_log.proofs.walk.walk_all.Goals as goal
+
+pub returns-in_err-at-clause-foreign : goal.returns-in_err-at-clause-foreign
+returns-in_err-at-clause-foreign g c t =
+    let p = err_from_is_err_and c.from_residual.result c.from_residual.ensures.1 in
+    rw (p.1, p.2) (λ is to run small.
+    let same = blobs_moved c.args.db (c.args.head.front + c.loop-i.i) (c.loop-i.invariant.nothing t) in
+    let inside : c.loop-i.i < c.args.head.back - c.args.head.front + 1 = c.loop-i-test.true in
+    segments_stuck (blobs_at (g.D.Device.disk c.args.dev.now).files c.args.db) c.args.head.front c.args.head.first c.loop-i.at to c.loop-i.i (c.args.head.back - c.args.head.front + 1) inside (c.loop-i.invariant.run t)
+    (λ end here less. c.in_err-at.ensures.foreign t (same_error c.in_err-at.field-0.0 Foreign is) end (subst (λ (bs : List (List ℕ)). IsRun c.loop-i.at bs end) (sym same) here) less) run small)
+
+pub loop-i-preserved : goal.loop-i-preserved
+loop-i-preserved g c = record {
+  nothing = λ t. nothing_then (g.met.D.Device.lawful t c.args.dev.now) (c.loop-i.invariant.nothing t) (c.walk_segment.ensures.effect t);
+  run = λ t.
+      let same = blobs_moved c.args.db (c.args.head.front + c.loop-i.i) (c.loop-i.invariant.nothing t) in
+      segment_next (blobs_at (g.D.Device.disk c.args.dev.now).files c.args.db) c.args.head.front c.args.head.first c.loop-i.at c.in_ok-at.at c.loop-i.i (c.loop-i.invariant.run t)
+      (subst (λ (bs : List (List ℕ)). IsRun c.loop-i.at bs c.in_ok-at.at) same (c.in_ok-at.ensures.run t));
+  cause = cause_then c.loop-i.invariant.cause c.walk_segment.ensures.cause (λ none. absurd none);
+}

@@ -1,0 +1,7 @@
+pub mod Control
+pub mod Records
+pub mod Log
+pub mod BatchLaws
+pub mod RunLaws
+pub mod FileLaws
+pub mod Laws

@@ -1,0 +1,140 @@
+-- The log of one database over its files.
+use Rattle.std.specs.Prelude.{◌≡◌, ◌⊎◌, ◌≤◌, ◌<◌, ◌+◌, ◌-◌, ◌^◌, ℕ, zero, suc, Bool, List, [], ◌++◌, drop, Some, None, codes}
+use Rattle.std.specs.Fmt.{decimal}
+use Rattle.bk_bytes.specs.Codec.{◌>>=◌}
+use Rattle.bk_control.specs.Control.{IsControl, Kept as KeptControl}
+use Rattle.bk_control.specs.Slots.{control_of}
+use Rattle.bk_device.specs.Disk.{Files, Disk, IsDurable}
+use Rattle.bk_gate.specs.Blobs.{sealed}
+use Rattle.bk_gate.specs.Gate.{IsGate, Kept as KeptGate}
+use Rattle.bk_ids.specs.declared.record.Rec.{Rec}
+use Rattle.bk_log.specs.declared.head.Head.{Head}
+use Rattle.bk_log.specs.Control.{read_control, IsSound}
+use Rattle.bk_log.specs.Records.{records_of, IsRun}
+
+-- the control file of a database's log
+abbrev pub control_file : ℕ → List ℕ
+control_file db = codes "c-" ++ decimal db
+
+-- the segment of this number
+abbrev pub segment_file : ℕ → ℕ → List ℕ
+segment_file db n = codes "g-" ++ (decimal db ++ (codes "-" ++ decimal n))
+
+-- the name is one of the log's
+abbrev pub IsOwn : ℕ → List ℕ → Type 0
+IsOwn db name = (name ≡ control_file db) ⊎ ((n : ℕ) × (name ≡ segment_file db n))
+
+-- the sealed blobs of a segment
+abbrev pub blobs_at : Files → ℕ → ℕ → List (List ℕ)
+blobs_at files db n = sealed (files (segment_file db n))
+
+-- the blobs of so many segments, from a number on
+abbrev pub blobs_from : (ℕ → List (List ℕ)) → ℕ → ℕ → List (List ℕ)
+blobs_from blobs front zero = []
+blobs_from blobs front (suc more) = blobs_from blobs front more ++ blobs (front + more)
+
+-- the blobs of the segments that count
+abbrev pub blobs_of : Files → ℕ → Head → List (List ℕ)
+blobs_of files db head = blobs_from (blobs_at files db) head.front (head.back - head.front) ++ blobs_at files db head.back
+
+-- what a log is: its kept point, its records from there on, and the note
+pub record Logged : Type 0 where
+  pub kept : ℕ
+  pub records : List Rec
+  pub note : List ℕ
+
+-- what the files show of a log with this control record
+abbrev pub shown : Files → ℕ → Head → List ℕ → Logged
+shown files db head note = record {
+  kept = head.kept;
+  records = drop (head.kept - head.first) (records_of (blobs_of files db head));
+  note = note;
+}
+
+-- the same with further records
+abbrev pub with_more : Logged → List Rec → Logged
+with_more log more = record log { records = log.records ++ more }
+
+-- the same without the records below a number
+abbrev pub cut_at : ℕ → Logged → Logged
+cut_at to log = record log { kept = to; records = drop (to - log.kept) log.records }
+
+-- a log without records
+abbrev pub fresh : ℕ → Logged
+fresh at = record { kept = at; records = []; note = [] }
+
+-- the files are this log
+pub record LogIs (files : Files) (db : ℕ) (log : Logged) : Type 0 where
+  pub head : Head
+  pub end : ℕ
+  pub reads : (control_of (files (control_file db)) >>= read_control) ≡ Some (head, log.note)
+  pub sound : IsSound head log.note
+  pub run : IsRun head.first (blobs_of files db head) end
+  pub inside : head.kept ≤ end
+  pub small : end < 2 ^ 64
+  pub kept : log.kept ≡ head.kept
+  pub records : log.records ≡ drop (head.kept - head.first) (records_of (blobs_of files db head))
+
+-- the files are no log
+abbrev pub IsForeign : Files → ℕ → Type 0
+IsForeign files db = (log : Logged) → LogIs files db log → ⊥
+
+-- what contracts see of a log
+pub record Kept : Type 0 where
+  pub db : ℕ
+  pub control : KeptControl
+  -- the last segment
+  pub gate : KeptGate
+  pub head : Head
+  pub note : List ℕ
+  -- the number behind that of the last sealed record
+  pub stored : ℕ
+  -- the number of the next record
+  pub end : ℕ
+  -- the records that aren't sealed yet
+  pub waiting : List Rec
+  pub failed : Bool
+
+-- what the log is, by its files
+abbrev pub value_of : Files → Kept → Logged
+value_of files log = shown files log.db log.head log.note
+
+-- the log stands on the disk, and each crash leaves it
+pub record IsLog (disk : Disk) (log : Kept) : Type 0 where
+  pub control_name : log.control.name ≡ control_file log.db
+  pub gate_name : log.gate.name ≡ segment_file log.db log.head.back
+  pub controls : IsControl disk log.control
+  pub gates : IsGate disk log.gate
+  pub reads : read_control log.control.content ≡ Some (log.head, log.note)
+  pub sound : IsSound log.head log.note
+  pub durable : (n : ℕ) → log.head.front ≤ n → n ≤ log.head.back → IsDurable disk (segment_file log.db n)
+  pub run : IsRun log.head.first (blobs_of disk.files log.db log.head) log.stored
+  pub inside : log.head.kept ≤ log.stored
+  pub small : log.stored < 2 ^ 64
+
+-- nothing is pending in the log's files
+abbrev pub AreDurable : ℕ → Disk → Type 0
+AreDurable db disk = (name : List ℕ) → IsOwn db name → IsDurable disk name
+
+-- the same records wait behind the same durable ones
+pub record IsSame (old new : Kept) : Type 0 where
+  pub db : new.db ≡ old.db
+  pub stored : new.stored ≡ old.stored
+  pub end : new.end ≡ old.end
+  pub waiting : new.waiting ≡ old.waiting
+
+-- the name is that of a segment from one number to below another
+abbrev pub IsBetween : ℕ → ℕ → ℕ → List ℕ → Type 0
+IsBetween db from to name = (n : ℕ) × (from ≤ n) × (n < to) × (name ≡ segment_file db n)
+
+-- the control file holds this head with a note, and they are sound
+abbrev pub Holds : Files → ℕ → Head → Type 0
+Holds files db head = (note : List ℕ) × ((control_of (files (control_file db)) >>= read_control) ≡ Some (head, note)) × IsSound head note
+
+-- it holds none
+abbrev pub IsUnheld : Files → ℕ → Type 0
+IsUnheld files db = (head : Head) → Holds files db head → ⊥
+
+-- no segment that a control record names is there
+abbrev pub AreGone : Files → Files → ℕ → Type 0
+AreGone old new db = (head : Head) → Holds old db head → (n : ℕ) → head.gone ≤ n → n ≤ head.back → new (segment_file db n) ≡ None

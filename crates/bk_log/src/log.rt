@@ -1,0 +1,399 @@
+// The log of one database over its files.
+ghost use Rattle.std.specs.Prelude.{◌≡◌, ◌≤◌, ◌<◌, ◌⊎◌, ◌^◌, ◌+◌, ◌-◌, ◌++◌, ◌||◌, ◌∷◌, [], None, Some, length, drop, take, vec_len, vec_capacity, false, true, IfOk, OnOk, OnErr, IsErrOf, IsErr};
+ghost use Rattle.std.specs.List.{flat_map};
+ghost use Rattle.bk_control.specs.Slots.{control_of};
+ghost use Rattle.bk_device.specs.Calls.{ChangesNothing};
+ghost use Rattle.bk_device.specs.Counts.{HasCause};
+ghost use Rattle.bk_device.specs.Disk.{IsDurable};
+ghost use Rattle.bk_device.specs.Effects.{Effect};
+ghost use Rattle.bk_log.specs.Control.{IsSound};
+ghost use Rattle.bk_log.specs.Log.{control_file, AreGone, IsOwn, Kept, LogIs, IsLog, IsForeign, IsSame, AreDurable, Logged, cut_at, fresh, value_of, with_more};
+ghost use Rattle.bk_log.specs.Records.{IsPart, records_in};
+ghost use Rattle.bk_record.specs.Spelling.{KeepsLimits, spelling};
+
+use crate::error::LogError;
+use crate::head::{Head, add, spell};
+use crate::making::{begin_segment, make_files};
+use crate::names::control_name;
+use crate::opening::{find, open_last};
+use crate::reading::{gather, place_of};
+use crate::removing::{find_head, remove_segments};
+use bk_control::Control;
+use bk_device::{Device, Failed, remove_durably};
+use bk_gate::Gate;
+use bk_ids::{Lsn, Rec};
+use bk_record::encode;
+use std::alloc::{AllocError, Global};
+use std::marker::Model;
+
+/// The log of one database: its records from the kept point on, each with the number that follows the one before it, and a
+/// note of at most 32,768 bytes for the layer above.
+///
+/// Once a call that took the value by `&mut` has answered `Fault` or `Failed` it is failed, and is no longer used.
+#[derive(Drop)]
+pub struct Log {
+    db: u32,
+    control: Control,
+    // the last segment
+    gate: Gate,
+    head: Head,
+    // with room for 32,768 bytes
+    note: Vec<u8>,
+    // where a control record is spelled before it is put, with room for its 32,808 bytes
+    spelled: Vec<u8>,
+    stored: Lsn,
+    end: Lsn,
+    // the bytes of the records that aren't sealed yet
+    waiting: Vec<u8>,
+    failed: bool,
+}
+
+impl Model for Log {
+    ghost Value = { Kept };
+
+    ghost view = { λ l. record {
+      db = l.db;
+      control = l.control;
+      gate = l.gate;
+      head = l.head;
+      note = l.note.items;
+      stored = l.stored;
+      end = l.end;
+      waiting = records_in l.waiting.items;
+      failed = l.failed || l.control.failed || l.gate.failed;
+    } };
+
+    ghost invariant = { λ l. (l.gate.failed ≡ false → l.gate.begun ≡ None) × (32768 ≤ vec_capacity l.note) × (vec_len l.note ≤ 32768) × (32808 ≤ vec_capacity l.spelled) × IsPart l.stored l.waiting.items l.end × (l.end < 2 ^ 64) × IsSound l.head l.note.items };
+}
+
+impl Log {
+    /// Opens the log of a database. Where the making of its last segment was cut short that is done anew, and nothing else
+    /// is changed.
+    ///
+    /// `Foreign` is answered exactly where the files are no log: where the control file holds no control record, or the
+    /// segments that it names hold anything but records whose numbers follow each other. Then nothing is changed.
+    pub fn load<D: Device>(alloc: Global, dev: &mut D, db: u32) -> Result<Log, LogError>
+        ensures db { IfOk result (λ l. l.db ≡ db) }
+        ensures failed { IfOk result (λ l. l.failed ≡ false) }
+        ensures none { IfOk result (λ l. l.waiting ≡ []) }
+        ensures loaded { D.tells → IfOk result (λ l. LogIs (D.disk dev.old).files db (value_of (D.disk dev.old).files l)) }
+        ensures value { D.tells → AreDurable db (D.disk dev.old) → IfOk result (λ l. value_of (D.disk dev.new).files l ≡ value_of (D.disk dev.old).files l) }
+        ensures stands { D.tells → AreDurable db (D.disk dev.old) → IfOk result (λ l. IsLog (D.disk dev.new) l) }
+        ensures foreign { D.tells → IsErrOf result LogError.Foreign → IsForeign (D.disk dev.old).files db }
+        ensures crash { D.tells → AreDurable db (D.disk dev.old) → Effect (IsOwn db) (λ image. (log : Logged) → LogIs (D.disk dev.old).files db log → LogIs image db log) (D.disk dev.old) (D.disk dev.new) }
+        ensures cause { HasCause D.disk_faults D.tell_faults dev.old dev.new (IsErrOf result LogError.Fault) }
+    {
+        let found = find(alloc, dev, db)?;
+        let spelled = Vec::with_capacity(alloc, 32_808)?;
+        let gate = open_last(alloc, dev, db, found.head.back)?;
+        Ok(Log {
+            db,
+            control: found.control,
+            gate,
+            head: found.head,
+            note: found.note,
+            spelled,
+            stored: found.stored,
+            end: found.stored,
+            waiting: Vec::new(alloc),
+            failed: false,
+        })
+    }
+
+    /// Makes the log of a database that has none, with no record, an empty note, and kept point and end at `at`. A crash
+    /// leaves no log, or this one.
+    ///
+    /// `NoMemory` may come after files were touched. `Foreign` isn't answered.
+    pub fn make<D: Device>(alloc: Global, dev: &mut D, db: u32, at: Lsn) -> Result<Log, LogError>
+        ensures db { IfOk result (λ l. l.db ≡ db) }
+        ensures failed { IfOk result (λ l. l.failed ≡ false) }
+        ensures none { IfOk result (λ l. l.waiting ≡ []) }
+        ensures end { IfOk result (λ l. (l.stored ≡ at) × (l.end ≡ at)) }
+        ensures value { D.tells → IfOk result (λ l. value_of (D.disk dev.new).files l ≡ fresh at) }
+        ensures stands { D.tells → IfOk result (λ l. IsLog (D.disk dev.new) l) }
+        ensures crash { D.tells → IsDurable (D.disk dev.old) (control_file db) → control_of ((D.disk dev.old).files (control_file db)) ≡ None → Effect (IsOwn db) (λ image. (control_of (image (control_file db)) ≡ None) ⊎ LogIs image db (fresh at)) (D.disk dev.old) (D.disk dev.new) }
+        ensures foreign { IsErrOf result LogError.Foreign → ⊥ }
+        ensures cause { HasCause D.disk_faults D.tell_faults dev.old dev.new (IsErrOf result LogError.Fault) }
+    {
+        let head = Head {
+            kept: at,
+            gone: 1,
+            front: 1,
+            back: 1,
+            first: at,
+        };
+        let note = Vec::with_capacity(alloc, 32_768)?;
+        let mut spelled = Vec::with_capacity(alloc, 32_808)?;
+        spell(&mut spelled, head, &[]);
+        let (control, gate) = make_files(alloc, dev, db, &spelled)?;
+        Ok(Log {
+            db,
+            control,
+            gate,
+            head,
+            note,
+            spelled,
+            stored: at,
+            end: at,
+            waiting: Vec::new(alloc),
+            failed: false,
+        })
+    }
+
+    /// Removes the segments of a database's log, one that was begun too, and then its control file. Does nothing where that file is absent or holds no
+    /// sound control record. The control file is there until all segments are gone, so the call may be repeated after a crash.
+    ///
+    /// `Foreign` isn't answered.
+    pub fn remove<D: Device>(alloc: Global, dev: &mut D, db: u32) -> Result<(), LogError>
+        ensures gone { D.tells → OnOk result (IsForeign (D.disk dev.new).files db) }
+        ensures segments { D.tells → OnOk result (AreGone (D.disk dev.old).files (D.disk dev.new).files db) }
+        ensures foreign { IsErrOf result LogError.Foreign → ⊥ }
+        ensures crash { D.tells → IsDurable (D.disk dev.old) (control_file db) → Effect (IsOwn db) (λ image. (image (control_file db) ≡ (D.disk dev.old).files (control_file db)) ⊎ (image (control_file db) ≡ None)) (D.disk dev.old) (D.disk dev.new) }
+        ensures cause { HasCause D.disk_faults D.tell_faults dev.old dev.new (IsErrOf result LogError.Fault) }
+    {
+        let name = control_name(alloc, db)?;
+        let Some(head) = find_head(alloc, dev, db)? else {
+            return Ok(());
+        };
+        remove_segments(alloc, dev, db, head.gone, head.back + 2)?;
+        remove_durably(dev, &name)?;
+        Ok(())
+    }
+
+    /// The number of the first record that counts.
+    pub fn kept(&self) -> Lsn
+        ensures { result ≡ self.now.head.kept }
+    {
+        self.head.kept
+    }
+
+    /// The number behind that of the last durable record.
+    pub fn stored(&self) -> Lsn
+        ensures { result ≡ self.now.stored }
+    {
+        self.stored
+    }
+
+    /// The number of the next record.
+    pub fn end(&self) -> Lsn
+        ensures { result ≡ self.now.end }
+    {
+        self.end
+    }
+
+    /// The note of the layer above, at most 32,768 bytes.
+    pub fn note(&self) -> &[u8]
+        ensures { result.now ≡ self.now.note }
+    {
+        &self.note
+    }
+
+    /// Adds a record behind the others, in memory alone. Its number is the end, which is below 2^64 - 1. Where there is no
+    /// memory the value stays as it was.
+    pub fn append(&mut self, alloc: Global, r: &Rec) -> Result<(), AllocError>
+        requires limits { KeepsLimits r.now.body }
+        requires number { r.now.lsn ≡ self.old.end }
+        requires small { self.old.end < 2 ^ 64 - 1 }
+        ensures more { OnOk result (self.new ≡ record self.old { waiting = self.old.waiting ++ r.now ∷ []; end = self.old.end + 1 }) }
+        ensures err { OnErr result (self.new ≡ self.old) }
+    {
+        encode(alloc, r, &mut self.waiting)?;
+        self.end += 1;
+        Ok(())
+    }
+
+    /// Makes the records that wait durable. Where the last segment has 1 MiB or more a new one is begun first. A crash leaves
+    /// the log as it was, or with all of them.
+    ///
+    /// `NoMemory` leaves the log as it was; a segment may have been begun. `Foreign` isn't answered.
+    pub fn flush<D: Device>(&mut self, alloc: Global, dev: &mut D) -> Result<(), LogError>
+        requires fit { self.old.failed ≡ false }
+        requires stands { D.tells → IsLog (D.disk dev.old) self.old }
+        ensures stands { D.tells → OnOk result (IsLog (D.disk dev.new) self.new) }
+        ensures value { D.tells → OnOk result (value_of (D.disk dev.new).files self.new ≡ with_more (value_of (D.disk dev.old).files self.old) self.old.waiting) }
+        ensures same { OnOk result ((self.new.db ≡ self.old.db) × (self.new.end ≡ self.old.end)) }
+        ensures none { OnOk result ((self.new.waiting ≡ []) × (self.new.stored ≡ self.old.end)) }
+        ensures fit { OnOk result (self.new.failed ≡ false) }
+        ensures failed { IsErrOf result LogError.Fault → self.new.failed ≡ true }
+        ensures no_memory { IsErrOf result LogError.NoMemory → self.new ≡ self.old }
+        ensures stays { D.tells → IsErrOf result LogError.NoMemory → IsLog (D.disk dev.new) self.new }
+        ensures foreign { IsErrOf result LogError.Foreign → ⊥ }
+        ensures crash { D.tells → Effect (IsOwn self.old.db) (λ image. LogIs image self.old.db (value_of (D.disk dev.old).files self.old) ⊎ LogIs image self.old.db (with_more (value_of (D.disk dev.old).files self.old) self.old.waiting)) (D.disk dev.old) (D.disk dev.new) }
+        ensures cause { HasCause D.disk_faults D.tell_faults dev.old dev.new (IsErrOf result LogError.Fault) }
+    {
+        if self.end == self.stored {
+            return Ok(());
+        }
+        self.make_room(alloc, dev)?;
+        self.seal(dev)?;
+        Ok(())
+    }
+
+    // Makes room for one more blob, in a new segment where the last is full.
+    fn make_room<D: Device>(&mut self, alloc: Global, dev: &mut D) -> Result<(), LogError>
+        requires fit { self.old.failed ≡ false }
+        requires stands { D.tells → IsLog (D.disk dev.old) self.old }
+        ensures stands { D.tells → OnOk result (IsLog (D.disk dev.new) self.new) }
+        ensures value { D.tells → OnOk result (value_of (D.disk dev.new).files self.new ≡ value_of (D.disk dev.old).files self.old) }
+        ensures spare { OnOk result (1 ≤ self.new.gate.spare) }
+        ensures same { OnOk result (IsSame self.old self.new) }
+        ensures fit { OnOk result (self.new.failed ≡ false) }
+        ensures failed { IsErrOf result LogError.Fault → self.new.failed ≡ true }
+        ensures no_memory { IsErrOf result LogError.NoMemory → self.new ≡ self.old }
+        ensures stays { D.tells → IsErrOf result LogError.NoMemory → IsLog (D.disk dev.new) self.new }
+        ensures foreign { IsErrOf result LogError.Foreign → ⊥ }
+        ensures crash { D.tells → Effect (IsOwn self.old.db) (λ image. LogIs image self.old.db (value_of (D.disk dev.old).files self.old)) (D.disk dev.old) (D.disk dev.new) }
+        ensures cause { HasCause D.disk_faults D.tell_faults dev.old dev.new (IsErrOf result LogError.Fault) }
+    {
+        if self.is_full() {
+            self.grow(alloc, dev)?;
+            return Ok(());
+        }
+        self.gate.reserve(1)?;
+        Ok(())
+    }
+
+    // Whether the last segment has 1 MiB or more, and another one may be begun.
+    fn is_full(&self) -> bool
+        requires fit { self.now.failed ≡ false }
+        ensures few { result ≡ true → self.now.head.back + 1 ≤ self.now.head.gone + 65535 }
+        ensures small { result ≡ true → self.now.head.back + 1 < 2 ^ 62 }
+    {
+        let count = self.gate.count();
+        if count == 0 || self.head.back - self.head.gone >= 65_535 {
+            return false;
+        }
+        if self.head.back + 1 >= 1 << 62 {
+            return false;
+        }
+        let (at, len) = self.gate.span(count - 1);
+        1 << 20 <= at + len
+    }
+
+    // Begins a new segment.
+    fn grow<D: Device>(&mut self, alloc: Global, dev: &mut D) -> Result<(), LogError>
+        requires fit { self.old.failed ≡ false }
+        requires few { self.old.head.back + 1 ≤ self.old.head.gone + 65535 }
+        requires small { self.old.head.back + 1 < 2 ^ 62 }
+        requires stands { D.tells → IsLog (D.disk dev.old) self.old }
+        ensures stands { D.tells → OnOk result (IsLog (D.disk dev.new) self.new) }
+        ensures value { D.tells → OnOk result (value_of (D.disk dev.new).files self.new ≡ value_of (D.disk dev.old).files self.old) }
+        ensures spare { OnOk result (1 ≤ self.new.gate.spare) }
+        ensures same { OnOk result (IsSame self.old self.new) }
+        ensures fit { OnOk result (self.new.failed ≡ false) }
+        ensures failed { IsErrOf result LogError.Fault → self.new.failed ≡ true }
+        ensures no_memory { IsErrOf result LogError.NoMemory → self.new ≡ self.old }
+        ensures stays { D.tells → IsErrOf result LogError.NoMemory → IsLog (D.disk dev.new) self.new }
+        ensures foreign { IsErrOf result LogError.Foreign → ⊥ }
+        ensures crash { D.tells → Effect (IsOwn self.old.db) (λ image. LogIs image self.old.db (value_of (D.disk dev.old).files self.old)) (D.disk dev.old) (D.disk dev.new) }
+        ensures cause { HasCause D.disk_faults D.tell_faults dev.old dev.new (IsErrOf result LogError.Fault) }
+    {
+        let head = Head {
+            back: self.head.back + 1,
+            ..self.head
+        };
+        let gate = match begin_segment(alloc, dev, self.db, head.back) {
+            Ok(gate) => gate,
+            Err(error) => {
+                self.failed = matches!(error, LogError::Fault);
+                return Err(error);
+            }
+        };
+        spell(&mut self.spelled, head, &self.note);
+        self.control.put(dev, &self.spelled)?;
+        self.gate = gate;
+        self.head = head;
+        Ok(())
+    }
+
+    // Seals the records that wait, by one place of the gate's spare.
+    fn seal<D: Device>(&mut self, dev: &mut D) -> Result<(), Failed>
+        requires fit { self.old.failed ≡ false }
+        requires spare { 1 ≤ self.old.gate.spare }
+        requires stands { D.tells → IsLog (D.disk dev.old) self.old }
+        ensures stands { D.tells → OnOk result (IsLog (D.disk dev.new) self.new) }
+        ensures value { D.tells → OnOk result (value_of (D.disk dev.new).files self.new ≡ with_more (value_of (D.disk dev.old).files self.old) self.old.waiting) }
+        ensures same { OnOk result ((self.new.db ≡ self.old.db) × (self.new.end ≡ self.old.end)) }
+        ensures none { OnOk result ((self.new.waiting ≡ []) × (self.new.stored ≡ self.old.end)) }
+        ensures fit { OnOk result (self.new.failed ≡ false) }
+        ensures failed { OnErr result (self.new.failed ≡ true) }
+        ensures crash { D.tells → Effect (IsOwn self.old.db) (λ image. LogIs image self.old.db (value_of (D.disk dev.old).files self.old) ⊎ LogIs image self.old.db (with_more (value_of (D.disk dev.old).files self.old) self.old.waiting)) (D.disk dev.old) (D.disk dev.new) }
+        ensures cause { HasCause D.disk_faults D.tell_faults dev.old dev.new (IsErr result) }
+    {
+        self.gate.append_reserved(dev, &self.waiting)?;
+        self.stored = self.end;
+        self.waiting.clear();
+        Ok(())
+    }
+
+    /// The bytes of the durable records from the number `from` to below `to`, which are at least the kept point and at most
+    /// the number behind that of the last durable record. Changes nothing. `Foreign` isn't answered.
+    pub fn bytes<D: Device>(
+        &self,
+        alloc: Global,
+        dev: &mut D,
+        from: Lsn,
+        to: Lsn,
+    ) -> Result<Vec<u8>, LogError>
+        requires fit { self.now.failed ≡ false }
+        requires kept { self.now.head.kept ≤ from }
+        requires order { from ≤ to }
+        requires inside { to ≤ self.now.stored }
+        requires stands { D.tells → IsLog (D.disk dev.old) self.now }
+        ensures bytes { D.tells → IfOk result (λ bytes. bytes.items ≡ flat_map spelling (take (to - from) (drop (from - self.now.head.kept) (value_of (D.disk dev.old).files self.now).records))) }
+        ensures foreign { IsErrOf result LogError.Foreign → ⊥ }
+        ensures effect { D.tells → ChangesNothing (D.disk dev.old) (D.disk dev.new) }
+        ensures cause { HasCause D.disk_faults D.tell_faults dev.old dev.new (IsErrOf result LogError.Fault) }
+    {
+        let all = gather(alloc, dev, self.db, self.head)?;
+        let start = place_of(&all, from - self.head.first);
+        let end = place_of(&all, to - self.head.first).max(start);
+        let part = Vec::from_slice(alloc, &all[start..end])?;
+        Ok(part)
+    }
+
+    /// Makes these bytes, at most 32,768, the note. A crash leaves the log with the old note or the new one.
+    pub fn set_note<D: Device>(&mut self, dev: &mut D, bytes: &[u8]) -> Result<(), Failed>
+        requires fit { self.old.failed ≡ false }
+        requires short { length bytes.now ≤ 32768 }
+        requires stands { D.tells → IsLog (D.disk dev.old) self.old }
+        ensures stands { D.tells → OnOk result (IsLog (D.disk dev.new) self.new) }
+        ensures value { D.tells → OnOk result (value_of (D.disk dev.new).files self.new ≡ record (value_of (D.disk dev.old).files self.old) { note = bytes.now }) }
+        ensures same { OnOk result ((self.new.db ≡ self.old.db) × (self.new.stored ≡ self.old.stored) × (self.new.end ≡ self.old.end) × (self.new.waiting ≡ self.old.waiting)) }
+        ensures fit { OnOk result (self.new.failed ≡ false) }
+        ensures failed { OnErr result (self.new.failed ≡ true) }
+        ensures crash { D.tells → Effect (IsOwn self.old.db) (λ image. LogIs image self.old.db (value_of (D.disk dev.old).files self.old) ⊎ LogIs image self.old.db (record (value_of (D.disk dev.old).files self.old) { note = bytes.now })) (D.disk dev.old) (D.disk dev.new) }
+        ensures cause { HasCause D.disk_faults D.tell_faults dev.old dev.new (IsErr result) }
+    {
+        spell(&mut self.spelled, self.head, bytes);
+        self.control.put(dev, &self.spelled)?;
+        self.note.clear();
+        add(&mut self.note, bytes);
+        Ok(())
+    }
+
+    /// Moves the kept point, so that the records below `to` no longer count. It is at least the old one and at most the
+    /// number behind that of the last durable record. A crash leaves the log as it was, or without those records.
+    pub fn truncate<D: Device>(&mut self, dev: &mut D, to: Lsn) -> Result<(), Failed>
+        requires fit { self.old.failed ≡ false }
+        requires from { self.old.head.kept ≤ to }
+        requires inside { to ≤ self.old.stored }
+        requires stands { D.tells → IsLog (D.disk dev.old) self.old }
+        ensures stands { D.tells → OnOk result (IsLog (D.disk dev.new) self.new) }
+        ensures value { D.tells → OnOk result (value_of (D.disk dev.new).files self.new ≡ cut_at to (value_of (D.disk dev.old).files self.old)) }
+        ensures same { OnOk result ((self.new.db ≡ self.old.db) × (self.new.stored ≡ self.old.stored) × (self.new.end ≡ self.old.end) × (self.new.waiting ≡ self.old.waiting)) }
+        ensures fit { OnOk result (self.new.failed ≡ false) }
+        ensures failed { OnErr result (self.new.failed ≡ true) }
+        ensures crash { D.tells → Effect (IsOwn self.old.db) (λ image. LogIs image self.old.db (value_of (D.disk dev.old).files self.old) ⊎ LogIs image self.old.db (cut_at to (value_of (D.disk dev.old).files self.old))) (D.disk dev.old) (D.disk dev.new) }
+        ensures cause { HasCause D.disk_faults D.tell_faults dev.old dev.new (IsErr result) }
+    {
+        let head = Head {
+            kept: to,
+            ..self.head
+        };
+        spell(&mut self.spelled, head, &self.note);
+        self.control.put(dev, &self.spelled)?;
+        self.head = head;
+        Ok(())
+    }
+}

@@ -1,0 +1,122 @@
+// Opening the files of a log.
+ghost use Rattle.std.specs.Prelude.{◌≡◌, ◌≤◌, ◌<◌, ◌⊎◌, ◌^◌, [], List, ℕ, None, Some, length, vec_len, vec_capacity, false, true, IfOk, OnOk, IsErrOf};
+ghost use Rattle.bk_control.specs.Control.{IsControl};
+ghost use Rattle.bk_control.specs.Slots.{control_of};
+ghost use Rattle.bk_device.specs.Calls.{ChangesNothing};
+ghost use Rattle.bk_device.specs.Counts.{HasCause};
+ghost use Rattle.bk_device.specs.Disk.{IsDurable};
+ghost use Rattle.bk_device.specs.Effects.{Effect, IsName};
+ghost use Rattle.bk_gate.specs.Blobs.{sealed};
+ghost use Rattle.bk_gate.specs.Gate.{IsGate};
+ghost use Rattle.bk_log.specs.Control.{IsSound, read_control};
+ghost use Rattle.bk_log.specs.Log.{control_file, segment_file, blobs_of, IsForeign};
+ghost use Rattle.bk_log.specs.Records.{IsRun};
+
+use crate::error::LogError;
+use crate::head::{Head, add, is_sound, read_head};
+use crate::making::make_gate;
+use crate::names::{control_name, segment_name};
+use crate::walk::{open_gate, walk_all};
+use bk_control::{Control, ControlError};
+use bk_device::Device;
+use bk_gate::Gate;
+use std::alloc::Global;
+
+// Opens the control file, and changes nothing.
+pub fn load_control<D: Device>(alloc: Global, dev: &mut D, db: u32) -> Result<Control, LogError>
+    ensures content { D.tells → IfOk result (λ c. control_of ((D.disk dev.old).files (control_file db)) ≡ Some c.content) }
+    ensures name { IfOk result (λ c. c.name ≡ control_file db) }
+    ensures failed { IfOk result (λ c. c.failed ≡ false) }
+    ensures stands { D.tells → IsDurable (D.disk dev.old) (control_file db) → IfOk result (λ c. IsControl (D.disk dev.new) c) }
+    ensures effect { D.tells → ChangesNothing (D.disk dev.old) (D.disk dev.new) }
+    ensures foreign { D.tells → IsErrOf result LogError.Foreign → control_of ((D.disk dev.old).files (control_file db)) ≡ None }
+    ensures cause { HasCause D.disk_faults D.tell_faults dev.old dev.new (IsErrOf result LogError.Fault) }
+{
+    let name = control_name(alloc, db)?;
+    match Control::load(alloc, dev, &name) {
+        Ok(control) => Ok(control),
+        Err(ControlError::Foreign) => Err(LogError::Foreign),
+        Err(ControlError::Fault) => Err(LogError::Fault),
+        Err(ControlError::NoMemory) => Err(LogError::NoMemory),
+    }
+}
+
+// The head and the note in the control.
+pub fn recorded(alloc: Global, control: &Control) -> Result<(Head, Vec<u8>), LogError>
+    requires { control.now.failed ≡ false }
+    ensures reads { IfOk result (λ x. read_control control.now.content ≡ Some (x.0, x.1.items)) }
+    ensures sound { IfOk result (λ x. IsSound x.0 x.1.items) }
+    ensures room { IfOk result (λ x. (32768 ≤ vec_capacity x.1) × (vec_len x.1 ≤ 32768)) }
+    ensures foreign { IsErrOf result LogError.Foreign → (head : Head) (note : List ℕ) → read_control control.now.content ≡ Some (head, note) → IsSound head note → ⊥ }
+    ensures fault { IsErrOf result LogError.Fault → ⊥ }
+{
+    let Some((head, rest)) = read_head(control.get()) else {
+        return Err(LogError::Foreign);
+    };
+    if !is_sound(head, rest) {
+        return Err(LogError::Foreign);
+    }
+    let mut note = Vec::with_capacity(alloc, 32_768)?;
+    add(&mut note, rest);
+    Ok((head, note))
+}
+
+// What was found of a log, but for its last segment.
+#[derive(Drop)]
+pub struct Found {
+    pub control: Control,
+    pub head: Head,
+    pub note: Vec<u8>,
+    // the number behind that of the last record
+    pub stored: u64,
+}
+
+// Reads a log's files, and changes nothing.
+pub fn find<D: Device>(alloc: Global, dev: &mut D, db: u32) -> Result<Found, LogError>
+    ensures content { D.tells → IfOk result (λ f. control_of ((D.disk dev.old).files (control_file db)) ≡ Some f.control.content) }
+    ensures name { IfOk result (λ f. f.control.name ≡ control_file db) }
+    ensures failed { IfOk result (λ f. f.control.failed ≡ false) }
+    ensures stands { D.tells → IsDurable (D.disk dev.old) (control_file db) → IfOk result (λ f. IsControl (D.disk dev.new) f.control) }
+    ensures reads { IfOk result (λ f. read_control f.control.content ≡ Some (f.head, f.note.items)) }
+    ensures sound { IfOk result (λ f. IsSound f.head f.note.items) }
+    ensures room { IfOk result (λ f. (32768 ≤ vec_capacity f.note) × (vec_len f.note ≤ 32768)) }
+    ensures run { D.tells → IfOk result (λ f. IsRun f.head.first (blobs_of (D.disk dev.old).files db f.head) f.stored) }
+    ensures inside { IfOk result (λ f. f.head.kept ≤ f.stored) }
+    ensures small { IfOk result (λ f. f.stored < 2 ^ 64) }
+    ensures foreign { D.tells → IsErrOf result LogError.Foreign → IsForeign (D.disk dev.old).files db }
+    ensures effect { D.tells → ChangesNothing (D.disk dev.old) (D.disk dev.new) }
+    ensures cause { HasCause D.disk_faults D.tell_faults dev.old dev.new (IsErrOf result LogError.Fault) }
+{
+    let control = load_control(alloc, dev, db)?;
+    let (head, note) = recorded(alloc, &control)?;
+    let stored = walk_all(alloc, dev, db, head)?;
+    if stored < head.kept {
+        return Err(LogError::Foreign);
+    }
+    Ok(Found {
+        control,
+        head,
+        note,
+        stored,
+    })
+}
+
+// Opens the last segment. Where its making was cut short it is made anew.
+pub fn open_last<D: Device>(alloc: Global, dev: &mut D, db: u32, n: u64) -> Result<Gate, LogError>
+    ensures name { IfOk result (λ g. g.name ≡ segment_file db n) }
+    ensures none { IfOk result (λ g. g.begun ≡ None) }
+    ensures failed { IfOk result (λ g. g.failed ≡ false) }
+    ensures stands { D.tells → IsDurable (D.disk dev.old) (segment_file db n) → IfOk result (λ g. IsGate (D.disk dev.new) g) }
+    ensures durable { D.tells → IsDurable (D.disk dev.old) (segment_file db n) → OnOk result (IsDurable (D.disk dev.new) (segment_file db n)) }
+    ensures sealed { D.tells → OnOk result (sealed ((D.disk dev.new).files (segment_file db n)) ≡ sealed ((D.disk dev.old).files (segment_file db n))) }
+    ensures crash { D.tells → IsDurable (D.disk dev.old) (segment_file db n) → Effect (IsName (segment_file db n)) (λ image. sealed (image (segment_file db n)) ≡ sealed ((D.disk dev.old).files (segment_file db n))) (D.disk dev.old) (D.disk dev.new) }
+    ensures foreign { IsErrOf result LogError.Foreign → ⊥ }
+    ensures cause { HasCause D.disk_faults D.tell_faults dev.old dev.new (IsErrOf result LogError.Fault) }
+{
+    let name = segment_name(alloc, db, n)?;
+    if let Some(gate) = open_gate(alloc, dev, &name)? {
+        return Ok(gate);
+    }
+    let gate = make_gate(alloc, dev, &name)?;
+    Ok(gate)
+}

@@ -1,0 +1,133 @@
+// Reading the bytes of the records that a log holds.
+ghost use Rattle.std.specs.Prelude.{◌≡◌, ◌≤◌, ◌<◌, ◌+◌, ◌-◌, ◌^◌, ◌++◌, List, length, drop, take, IfOk, OnOk, IsErrOf, false};
+ghost use Rattle.std.specs.List.{flat_map, AllByRecursion};
+ghost use Rattle.bk_bytes.specs.Field.{number_of};
+ghost use Rattle.bk_device.specs.Calls.{contents, ChangesNothing};
+ghost use Rattle.bk_device.specs.Counts.{HasCause};
+ghost use Rattle.bk_gate.specs.Blobs.{sealed, spans_of, IsGateFile};
+ghost use Rattle.bk_ids.specs.declared.record.Rec.{Rec};
+ghost use Rattle.bk_log.specs.Log.{blobs_at, blobs_from};
+ghost use Rattle.bk_log.specs.Records.{BlobThere, joined};
+ghost use Rattle.bk_record.specs.Spelling.{spelling, IsRecord};
+
+use crate::error::LogError;
+use crate::head::Head;
+use crate::names::segment_name;
+use crate::walk::{open_gate, read_blob};
+use bk_bytes::get_u32;
+use bk_device::Device;
+use bk_gate::Gate;
+use std::alloc::Global;
+
+// Adds the bytes of a sealed blob.
+fn add_blob<D: Device>(
+    alloc: Global,
+    dev: &mut D,
+    gate: &Gate,
+    i: usize,
+    out: &mut Vec<u8>,
+) -> Result<(), LogError>
+    requires fit { gate.now.failed ≡ false }
+    requires there { i < length gate.now.spans }
+    requires spans { D.tells → gate.now.spans ≡ spans_of (contents ((D.disk dev.old).files gate.now.name)) }
+    requires gate_file { D.tells → IsGateFile (contents ((D.disk dev.old).files gate.now.name)) }
+    ensures added { D.tells → OnOk result (BlobThere (sealed ((D.disk dev.old).files gate.now.name)) i out.old.items out.new.items) }
+    ensures foreign { IsErrOf result LogError.Foreign → ⊥ }
+    ensures effect { D.tells → ChangesNothing (D.disk dev.old) (D.disk dev.new) }
+    ensures cause { HasCause D.disk_faults D.tell_faults dev.old dev.new (IsErrOf result LogError.Fault) }
+{
+    let blob = read_blob(alloc, dev, gate, i)?;
+    out.extend_from_slice(&blob)?;
+    Ok(())
+}
+
+// Adds the bytes of all sealed blobs of a gate file.
+fn add_gate<D: Device>(
+    alloc: Global,
+    dev: &mut D,
+    gate: &Gate,
+    out: &mut Vec<u8>,
+) -> Result<(), LogError>
+    requires fit { gate.now.failed ≡ false }
+    requires spans { D.tells → gate.now.spans ≡ spans_of (contents ((D.disk dev.old).files gate.now.name)) }
+    requires gate_file { D.tells → IsGateFile (contents ((D.disk dev.old).files gate.now.name)) }
+    ensures added { D.tells → OnOk result (out.new.items ≡ out.old.items ++ joined (sealed ((D.disk dev.old).files gate.now.name))) }
+    ensures foreign { IsErrOf result LogError.Foreign → ⊥ }
+    ensures effect { D.tells → ChangesNothing (D.disk dev.old) (D.disk dev.new) }
+    ensures cause { HasCause D.disk_faults D.tell_faults dev.old dev.new (IsErrOf result LogError.Fault) }
+{
+    let count = gate.count();
+    for i in 0..count {
+        add_blob(alloc, dev, gate, i, out)?;
+    }
+    Ok(())
+}
+
+// Adds the bytes of all blobs of the segment of this number.
+fn add_segment<D: Device>(
+    alloc: Global,
+    dev: &mut D,
+    db: u32,
+    n: u64,
+    out: &mut Vec<u8>,
+) -> Result<(), LogError>
+    ensures added { D.tells → OnOk result (out.new.items ≡ out.old.items ++ joined (blobs_at (D.disk dev.old).files db n)) }
+    ensures foreign { IsErrOf result LogError.Foreign → ⊥ }
+    ensures effect { D.tells → ChangesNothing (D.disk dev.old) (D.disk dev.new) }
+    ensures cause { HasCause D.disk_faults D.tell_faults dev.old dev.new (IsErrOf result LogError.Fault) }
+{
+    let name = segment_name(alloc, db, n)?;
+    let Some(gate) = open_gate(alloc, dev, &name)? else {
+        return Ok(());
+    };
+    add_gate(alloc, dev, &gate, out)?;
+    Ok(())
+}
+
+// The bytes of all blobs of the segments that count, one behind the other.
+pub fn gather<D: Device>(
+    alloc: Global,
+    dev: &mut D,
+    db: u32,
+    head: Head,
+) -> Result<Vec<u8>, LogError>
+    requires order { head.front ≤ head.back }
+    requires small { head.back < 2 ^ 62 }
+    ensures bytes { D.tells → IfOk result (λ bytes. bytes.items ≡ joined (blobs_from (blobs_at (D.disk dev.old).files db) head.front (head.back - head.front + 1))) }
+    ensures foreign { IsErrOf result LogError.Foreign → ⊥ }
+    ensures effect { D.tells → ChangesNothing (D.disk dev.old) (D.disk dev.new) }
+    ensures cause { HasCause D.disk_faults D.tell_faults dev.old dev.new (IsErrOf result LogError.Fault) }
+{
+    let mut bytes = Vec::new(alloc);
+    let count = head.back - head.front + 1;
+    for i in 0..count {
+        add_segment(alloc, dev, db, head.front + i, &mut bytes)?;
+    }
+    Ok(bytes)
+}
+
+// Where the record behind the one at this place begins.
+fn behind(bytes: &[u8], at: usize) -> usize
+    requires { at ≤ length bytes.now }
+    ensures inside { result ≤ length bytes.now }
+    ensures value { at + 4 ≤ length bytes.now → at + number_of 4 (drop at bytes.now) ≤ length bytes.now → result ≡ at + number_of 4 (drop at bytes.now) }
+{
+    let len = get_u32(bytes, at).unwrap_or(0) as usize;
+    if len <= bytes.len() - at {
+        at + len
+    } else {
+        bytes.len()
+    }
+}
+
+// Where the record of this index begins, in the bytes of records.
+pub fn place_of(bytes: &[u8], index: u64) -> usize
+    ensures inside { result ≤ length bytes.now }
+    ensures value { (rs : List Rec) → bytes.now ≡ flat_map spelling rs → AllByRecursion IsRecord rs → index ≤ length rs → result ≡ length (flat_map spelling (take index rs)) }
+{
+    let mut at = 0;
+    for _i in 0..index {
+        at = behind(bytes, at);
+    }
+    at
+}

@@ -1,0 +1,66 @@
+// Removing the files of a log.
+ghost use Rattle.std.specs.Prelude.{◌≡◌, ◌≤◌, ◌<◌, ◌⊎◌, ◌^◌, ℕ, List, None, Some, IfOk, OnOk, IfSome, IsErrOf, IsNone};
+ghost use Rattle.bk_device.specs.Calls.{ChangesNothing};
+ghost use Rattle.bk_device.specs.Counts.{HasCause};
+ghost use Rattle.bk_device.specs.Effects.{Effect, IsName};
+ghost use Rattle.bk_log.specs.Control.{IsSound};
+ghost use Rattle.bk_log.specs.Log.{segment_file, Holds, IsBetween, IsUnheld};
+
+use crate::error::LogError;
+use crate::head::Head;
+use crate::names::segment_name;
+use crate::opening::{load_control, recorded};
+use bk_device::{Device, remove_durably};
+use std::alloc::Global;
+
+// Removes the segment of this number, if it is there.
+fn remove_segment<D: Device>(alloc: Global, dev: &mut D, db: u32, n: u64) -> Result<(), LogError>
+    ensures gone { D.tells → OnOk result ((D.disk dev.new).files (segment_file db n) ≡ None) }
+    ensures crash { D.tells → Effect (IsName (segment_file db n)) (λ _. Unit {0}) (D.disk dev.old) (D.disk dev.new) }
+    ensures foreign { IsErrOf result LogError.Foreign → ⊥ }
+    ensures cause { HasCause D.disk_faults D.tell_faults dev.old dev.new (IsErrOf result LogError.Fault) }
+{
+    let name = segment_name(alloc, db, n)?;
+    remove_durably(dev, &name)?;
+    Ok(())
+}
+
+// Removes the segments from one number to below another.
+pub fn remove_segments<D: Device>(
+    alloc: Global,
+    dev: &mut D,
+    db: u32,
+    from: u64,
+    to: u64,
+) -> Result<(), LogError>
+    ensures gone { D.tells → OnOk result ((n : ℕ) → from ≤ n → n < to → (D.disk dev.new).files (segment_file db n) ≡ None) }
+    ensures crash { D.tells → Effect (IsBetween db from to) (λ _. Unit {0}) (D.disk dev.old) (D.disk dev.new) }
+    ensures foreign { IsErrOf result LogError.Foreign → ⊥ }
+    ensures cause { HasCause D.disk_faults D.tell_faults dev.old dev.new (IsErrOf result LogError.Fault) }
+{
+    for n in from..to {
+        remove_segment(alloc, dev, db, n)?;
+    }
+    Ok(())
+}
+
+// The head in the control file, if it holds a sound one. Changes nothing.
+pub fn find_head<D: Device>(alloc: Global, dev: &mut D, db: u32) -> Result<Option<Head>, LogError>
+    ensures none { D.tells → IfOk result (λ found. IsNone found → IsUnheld (D.disk dev.old).files db) }
+    ensures some { D.tells → IfOk result (λ found. IfSome found (λ head. Holds (D.disk dev.old).files db head)) }
+    ensures small { IfOk result (λ found. IfSome found (λ head. head.back < 2 ^ 62)) }
+    ensures foreign { IsErrOf result LogError.Foreign → ⊥ }
+    ensures effect { D.tells → ChangesNothing (D.disk dev.old) (D.disk dev.new) }
+    ensures cause { HasCause D.disk_faults D.tell_faults dev.old dev.new (IsErrOf result LogError.Fault) }
+{
+    let control = match load_control(alloc, dev, db) {
+        Ok(control) => control,
+        Err(LogError::Foreign) => return Ok(None),
+        Err(error) => return Err(error),
+    };
+    match recorded(alloc, &control) {
+        Ok((head, _)) => Ok(Some(head)),
+        Err(LogError::Foreign) => Ok(None),
+        Err(error) => Err(error),
+    }
+}

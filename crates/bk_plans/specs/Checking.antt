@@ -1,0 +1,27 @@
+-- A check in memory, beside the machine's.
+use Rattle.std.specs.Prelude.{◌≡◌, ℕ, List, Option, Some, None, Result, Ok, Err}
+use Rattle.bk_machine.specs.Checks.{Checked}
+use Rattle.bk_world.specs.declared.header.HeaderFile.{HeaderFile}
+use Rattle.bk_world.specs.declared.rule.Rule.TheVariants.{FileInUse}
+use Rattle.bk_plans.specs.declared.refusal.Refusal.{Refusal}
+use Rattle.bk_plans.specs.declared.refusal.Refusal.TheVariants.{Broken, NoMemory}
+
+-- the machine refuses by the same rule, unless memory ran out
+abbrev pub IsRefused : {B : Type 0} → Refusal → Checked B → Type 0
+IsRefused (Broken rule) machine = machine ≡ Err rule
+IsRefused NoMemory machine = Unit {0}
+
+-- a check comes to what the machine's comes to: what it found, seen so, or the same rule
+abbrev pub IsCheck : {A B : Type 0} → (A → B) → Result A Refusal → Checked B → Type 0
+IsCheck view (Ok found) machine = machine ≡ Ok (view found)
+IsCheck view (Err refusal) machine = IsRefused refusal machine
+
+-- the refusal by a path that is in use, unless memory ran out
+abbrev pub IsInUse : List ℕ → Refusal → Type 0
+IsInUse path (Broken rule) = rule ≡ FileInUse path
+IsInUse path NoMemory = Unit {0}
+
+-- refused at a file of a set, if one was found
+abbrev pub file_check : Option HeaderFile → Checked (Unit {0})
+file_check None = Ok tt
+file_check (Some file) = Err (FileInUse file.spec.path)

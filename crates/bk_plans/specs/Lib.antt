@@ -1,0 +1,4 @@
+pub mod Keeps
+pub mod Checking
+pub mod Paths
+pub mod Made

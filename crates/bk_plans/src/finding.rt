@@ -1,0 +1,68 @@
+//! Looking for databases.
+
+ghost use Rattle.std.specs.Prelude.{◌≡◌};
+ghost use Rattle.std.specs.List.{find};
+ghost use Rattle.std.specs.Option.{option_map};
+ghost use Rattle.bk_ids.specs.Name.{same_name};
+
+use crate::kept::{Database, Kept};
+use crate::refusal::Refusal;
+use bk_world::Rule;
+
+// The first database of a name, in any case of ASCII letters.
+fn first_named<'a>(databases: &'a [Database], name: &str) -> Option<&'a Database>
+    ensures { option_map (λ d. d.now) result ≡ find (λ d. same_name d.name name.now) databases.now }
+{
+    databases
+        .iter()
+        .find(|d| d.name.as_str().eq_ignore_ascii_case(name))
+}
+
+impl Kept {
+    ghost use Rattle.std.specs.Prelude.{◌≡◌, IfSome, IfOk};
+    ghost use Rattle.std.specs.Option.{option_map};
+    ghost use Rattle.bk_machine.specs.Checks.{or_refuse};
+    ghost use Rattle.bk_machine.specs.World.{World, database_named, current_database};
+    ghost use Rattle.bk_world.specs.declared.rule.Rule.TheVariants.{NoSuchDatabase};
+    ghost use Rattle.bk_plans.specs.Checking.{IsCheck};
+    ghost use Rattle.bk_plans.specs.Keeps.{Keeps, ShowsLog, database_of};
+
+    /// The database of this name, in any case of ASCII letters.
+    pub fn named(&self, name: &str) -> Option<&Database>
+        ensures found { (w : World) → Keeps w self.now → option_map (λ d. database_of d.now) result ≡ database_named w.databases name.now }
+        ensures shows { (w : World) → Keeps w self.now → IfSome result (λ d. ShowsLog w.history d.now) }
+    {
+        first_named(&self.databases, name)
+    }
+
+    // The database of this name, refused where there is none.
+    pub(crate) fn named_or_refuse(&self, name: &str) -> Result<&Database, Refusal>
+        ensures check { (w : World) → Keeps w self.now → IsCheck (λ d. database_of d.now) result (or_refuse (database_named w.databases name.now) NoSuchDatabase) }
+        ensures shows { (w : World) → Keeps w self.now → IfOk result (λ d. ShowsLog w.history d.now) }
+    {
+        match self.named(name) {
+            Some(database) => Ok(database),
+            None => Err(Refusal::Broken(Rule::NoSuchDatabase)),
+        }
+    }
+
+    /// The current database.
+    pub fn current_database(&self) -> Option<&Database>
+        ensures found { (w : World) → Keeps w self.now → option_map (λ d. database_of d.now) result ≡ current_database w }
+        ensures shows { (w : World) → Keeps w self.now → IfSome result (λ d. ShowsLog w.history d.now) }
+    {
+        let name = self.current.as_ref()?;
+        self.named(name.as_str())
+    }
+
+    // The current database, refused where there is none.
+    pub(crate) fn current_or_refuse(&self) -> Result<&Database, Refusal>
+        ensures check { (w : World) → Keeps w self.now → IsCheck (λ d. database_of d.now) result (or_refuse (current_database w) NoSuchDatabase) }
+        ensures shows { (w : World) → Keeps w self.now → IfOk result (λ d. ShowsLog w.history d.now) }
+    {
+        match self.current_database() {
+            Some(database) => Ok(database),
+            None => Err(Refusal::Broken(Rule::NoSuchDatabase)),
+        }
+    }
+}

@@ -1,0 +1,14 @@
+mod MapKeys
+mod Cells
+mod Lists
+mod Agree
+mod Readings
+mod Tables
+mod Mirrors
+mod Keeps
+mod Places
+mod Taken
+mod Unfits
+mod Starts
+mod Listing
+mod FreeCells

@@ -1,0 +1,112 @@
+-- What each kind of record makes of what is kept.
+use Rattle.std.specs.Prelude.{◌≡◌, ◌<◌, ◌≤◌, ◌⊎◌, ℕ, ◌==◌, ◌&&◌, not, Bool, false, List, [], ◌∷◌, ◌++◌, filter, length, Option, Some, None, if◌then◌else◌, option_map}
+use Rattle.std.specs.List.{find}
+use Rattle.bk_groups.specs.Changes.{AddsTable}
+use Rattle.bk_groups.specs.Groups.{Space, IsCell, IsFreeCell, group_of, place_of as space_place}
+use Rattle.bk_ids.specs.declared.record.Body.{Body}
+use Rattle.bk_ids.specs.declared.record.Body.TheVariants.{Database, Table, Write, Commit, Compensation, Checkpoint, Stamp, Model, Bulk}
+use Rattle.bk_ids.specs.declared.record.Place.{Place}
+use Rattle.bk_ids.specs.declared.record.RecoveryModel.{RecoveryModel}
+use Rattle.bk_ids.specs.declared.record.RecoveryModel.TheVariants.{Full}
+use Rattle.bk_world.specs.Records.{RowId, is_row}
+use Rattle.bk_world.specs.declared.database.TableSpec.{TableSpec}
+use Rattle.bk_shown.specs.Rows.{value_among}
+use Rattle.bk_shown.specs.Values.{Spells}
+use Rattle.bk_shown.specs.Writes.{own_of, others_of, row_of, value_after, has_write, LetsGo}
+use Rattle.bk_shown.specs.declared.shown.Shown.{Shown}
+use Rattle.bk_shown.specs.declared.shown.Written.{Written}
+
+-- tables, model, time and end are as they were
+pub record SamePoints (old new : Shown) : Type 0 where
+  pub tables : new.tables.items ≡ old.tables.items
+  pub model : new.model ≡ old.model
+  pub time : new.time ≡ old.time
+  pub «end» : new.«end» ≡ old.«end»
+
+-- a transaction's pending writes are committed, one after the other
+pub record Commits (begin : ℕ) (old new : Shown) : Type 0 where
+  pub same : SamePoints old new
+  pub written : new.written.items ≡ others_of begin old.written.items
+  pub rows : (id : RowId) → value_among new.rows id ≡ value_after id (own_of begin old.written.items) (value_among old.rows id)
+  pub groups : LetsGo (λ id. has_write (own_of begin old.written.items) id) new.rows old.groups new.groups
+
+-- the row of the write of this number, where there is one
+abbrev pub row_numbered : List Written → ℕ → Option RowId
+row_numbered ws number = option_map row_of (find (λ (w : Written). w.lsn == number) ws)
+
+-- this is the row, where there is one
+abbrev pub is_it : Option RowId → RowId → Bool
+is_it None id = false
+is_it (Some row) id = is_row row id
+
+-- a write is taken out, and its row's place ends where it has no other pending write and isn't committed
+pub record Undoes (undone : ℕ) (old new : Shown) : Type 0 where
+  pub same : SamePoints old new
+  pub written : new.written.items ≡ filter (λ (w : Written). not (w.lsn == undone)) old.written.items
+  pub rows : new.rows ≡ old.rows
+  pub groups : LetsGo (λ id. is_it (row_numbered old.written.items undone) id && not (has_write new.written.items id)) new.rows old.groups new.groups
+
+-- a row may lie here: it does, or it has no place and the cell is free
+abbrev pub MayLie : Space → RowId → Place → Type 0
+MayLie space id at = (space_place space id.0 id.1 ≡ Some at) ⊎ ((space_place space id.0 id.1 ≡ None) × (IsCell space.rooms at × IsFreeCell space at))
+
+-- a row lies here, and nothing else changes
+pub record KeepsPlace (id : RowId) (at : Place) (old new : Space) : Type 0 where
+  pub rooms : new.rooms ≡ old.rooms
+  pub tables : new.tables ≡ old.tables
+  pub places : (other : RowId) → space_place new other.0 other.1 ≡ (if is_row id other then Some at else space_place old other.0 other.1)
+
+-- a write is pending, and its row lies in its cell
+pub record WritesRow (write : Written) (old new : Shown) : Type 0 where
+  pub same : SamePoints old new
+  pub written : new.written.items ≡ old.written.items ++ write ∷ []
+  pub rows : new.rows ≡ old.rows
+  pub groups : KeepsPlace (row_of write) write.place old.groups new.groups
+
+-- a table may be made under a number and a name
+abbrev pub MayMake : Space → ℕ → List ℕ → Type 0
+MayMake space number name = (group_of space number ≡ None) × ((0 < length name) × (length name ≤ 64))
+
+-- there is one more table
+pub record MakesTable (made : TableSpec) (old new : Shown) : Type 0 where
+  pub tables : new.tables.items ≡ old.tables.items ++ made ∷ []
+  pub rows : new.rows ≡ old.rows
+  pub written : new.written.items ≡ old.written.items
+  pub groups : AddsTable old.groups new.groups made.number made.group
+  pub model : new.model ≡ old.model
+  pub time : new.time ≡ old.time
+  pub «end» : new.«end» ≡ old.«end»
+
+-- what the body of a record makes of tables, rows, pending writes and places
+abbrev pub TakesBody : ℕ → ℕ → Body → Shown → Shown → Type 0
+TakesBody lsn begin (Table time number name group) old new = MakesTable (record { number = number; name = name; group = group }) old new
+TakesBody lsn begin (Write at before after) old new =
+    (table key : ℕ) (b v : Option (List ℕ)) → Spells before.bytes after.bytes table key b v
+    → WritesRow (record { lsn = lsn; begin = begin; place = at; table = table; key = key; before = b; value = v }) old new
+TakesBody lsn begin (Commit time mark) old new = Commits begin old new
+TakesBody lsn begin (Compensation at image undone) old new = Undoes undone old new
+TakesBody lsn begin (Bulk table first count value extents) old new = ⊥
+TakesBody lsn begin _ old new = new ≡ old
+
+-- where a body isn't taken
+abbrev pub IsUnfit : Body → Shown → Type 0
+IsUnfit (Table time number name group) old = MayMake old.groups number name → ⊥
+IsUnfit (Write at before after) old = (table key : ℕ) (b v : Option (List ℕ)) → Spells before.bytes after.bytes table key b v → MayLie old.groups (table, key) at → ⊥
+IsUnfit (Bulk table first count value extents) old = Unit {0}
+IsUnfit _ old = ⊥
+
+-- the recovery model behind a record
+abbrev pub model_behind : Body → RecoveryModel → RecoveryModel
+model_behind (Database time family branch) before = Full
+model_behind (Model time model) before = model
+model_behind _ before = before
+
+-- the last time behind a record
+abbrev pub time_behind : Body → ℕ → ℕ
+time_behind (Database time family branch) before = time
+time_behind (Table time number name group) before = time
+time_behind (Commit time mark) before = time
+time_behind (Checkpoint time) before = time
+time_behind (Stamp time set) before = time
+time_behind (Model time model) before = time
+time_behind _ before = before

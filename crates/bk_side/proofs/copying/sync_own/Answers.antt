@@ -1,0 +1,17 @@
+use Rattle.bk_side.proofs.Finished.{own_synced, own_synced_files, own_synced_same, own_synced_durable}
+use Rattle.bk_side.proofs.copying.sync_own.Goals as goal
+
+pub returns-in_err-sync_files-clause-crash : goal.returns-in_err-sync_files-clause-crash
+returns-in_err-sync_files-clause-crash g c t = own_synced_files (c.requires t) (c.sync_files.ensures.crash t)
+
+pub returns-in_err-sync-clause-crash : goal.returns-in_err-sync-clause-crash
+returns-in_err-sync-clause-crash g c t = own_synced (c.requires t) (c.sync_files.ensures.crash t) (c.sync.ensures.effect t)
+
+pub returns-clause-same : goal.returns-clause-same
+returns-clause-same g c t = own_synced_same (g.D.Device.disk c.args.dev.now) (c.in_ok-sync_files.ensures.same t) (c.sync.ensures.effect t) (c.in_ok-sync.ensures.same t)
+
+pub returns-clause-durable : goal.returns-clause-durable
+returns-clause-durable g c t = own_synced_durable c.args.names.now (c.in_ok-sync_files.ensures.durable t) (c.sync.ensures.effect t) (c.in_ok-sync.ensures.durable t)
+
+pub returns-clause-crash : goal.returns-clause-crash
+returns-clause-crash g c t = own_synced (c.requires t) (c.sync_files.ensures.crash t) (c.sync.ensures.effect t)
