@@ -2,7 +2,7 @@ pub mod Told
 pub mod Leaving
 pub mod Asking
 pub mod Answering
-pub mod ReadingStatements
+pub mod OneByOne
 pub mod Running
 pub mod Taking
 pub mod Causes

@@ -2,7 +2,8 @@
 use Rattle.std.specs.Prelude.{◌≡◌, ℕ}
 use Rattle.bk_items.specs.declared.item.ScriptEntry.{ScriptEntry}
 use Rattle.bk_items.specs.declared.item.ScriptItem.{ScriptItem}
-use Rattle.bk_items.specs.declared.item.ScriptItem.TheVariants.{CreateDatabase, DropDatabase, Use, CreateTable, Insert, Select, BackupDatabase, RestoreDatabase}
+use Rattle.bk_items.specs.declared.item.ScriptItem.TheVariants.{CreateDatabase, DropDatabase, Use, CreateTable, Insert, Select, BackupDatabase, RestoreDatabase, Syntax, TooLong}
+use Rattle.bk_world.specs.declared.rule.Rule.TheVariants as rule
 use Rattle.bk_world.specs.declared.rule.Rule.TheVariants.{NotBuilt}
 use Rattle.bk_machine.specs.Acts.{done_all}
 use Rattle.bk_machine.specs.Outcome.{Outcome, ComesTo, refused}
@@ -26,6 +27,8 @@ ItemMay w line (Insert table key value) now = ComesTo (check_insert w line table
 ItemMay w line (Select table key) now = ComesTo (check_select w line table key) DoesSelect
 ItemMay w line (BackupDatabase name units disk options) now = ComesTo (check_backup w line name units disk options) (DoesBackup w disk now)
 ItemMay w line (RestoreDatabase name units disk options) now = ComesTo (check_restore w line name units disk options) (DoesRestore w name)
+ItemMay w line (Syntax there) now = λ outcome. outcome ≡ refused (rule.Syntax there)
+ItemMay w line TooLong now = λ outcome. outcome ≡ refused rule.TooLong
 ItemMay w line _ now = λ outcome. outcome ≡ refused (NotBuilt line)
 
 -- what a statement may come to

@@ -7,7 +7,7 @@ use Rattle.bk_console.specs.declared.answers.AnswerError.TheVariants.{Console}
 use Rattle.bk_console.proofs.Asking.{OnErr-from, keeps-same}
 use Rattle.bk_console.proofs.Answering.{not-stopped}
 use Rattle.bk_console.proofs.Causes.{causes-none, causes-then}
-use Rattle.bk_console.proofs.ReadingStatements.{so_far-none, so_far-all, so_far-unread, so_far-cut, so_far-more, so_far-stopped}
+use Rattle.bk_console.proofs.OneByOne.{so_far-none, so_far-all, so_far-unread, so_far-cut, so_far-more, so_far-stopped}
 use Rattle.bk_console.proofs.answers.answer_all.Goals as goal
 
 pub loop-statement-init : goal.loop-statement-init

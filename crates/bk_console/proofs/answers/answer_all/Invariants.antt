@@ -5,7 +5,7 @@ use Rattle.bk_syntax.specs.Machine.{AreStatements}
 use Rattle.bk_syntax.specs.Reader.{IsReader, work}
 use Rattle.bk_world.specs.declared.item.Statement.{Statement}
 use Rattle.bk_console.specs.Answers.{NotOurs}
-use Rattle.bk_console.proofs.ReadingStatements.{AnsweredSoFar}
+use Rattle.bk_console.proofs.OneByOne.{AnsweredSoFar}
 use Rattle.bk_console.specs.Causes.{HasCauses}
 use Rattle.bk_console.proofs.answers.answer_all.Given as goal
 
