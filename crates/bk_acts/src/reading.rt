@@ -203,7 +203,7 @@ fn read_fields(alloc: Global, kind: u8, bytes: &[u8]) -> Result<StoredAct, Unrea
     }
 }
 
-/// The act that all of these bytes spell. `NoAct` is answered exactly where they spell none.
+/// The act that all of these bytes spell. `NoAct` is answered only where they spell none.
 #[tactic(auto, unfolding(crate::specs::Reading::act_of))]
 pub fn read_act(alloc: Global, blob: &[u8]) -> Result<StoredAct, Unread>
     ensures read { Reads (λ act. act) result (act_of blob.now) }

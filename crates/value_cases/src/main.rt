@@ -1,8 +1,9 @@
-//! Cases over the values that are spelled as bytes or texts: fields, names, times, log records, headers, sets and media.
+//! Cases over the values that are spelled as bytes or texts: fields, names, times, log records, headers, sets, acts and media.
 //!
 //! Each command speaks of the bytes that `bytes` and `more` gave, or of the words behind it. The files of `data/` are the cases.
 #![tactic(auto)]
 
+mod acts;
 mod fault;
 mod fields;
 mod headers;

@@ -1,7 +1,7 @@
 // What all of some bytes spell, and what bytes near them do.
 use crate::fault::Fault;
 use crate::words::{bytes_in, number, word};
-use crate::{headers, records, sets};
+use crate::{acts, headers, records, sets};
 use bk_bytes::Cell;
 use bk_record::check_log;
 use std::alloc::{AllocError, Global};
@@ -14,6 +14,7 @@ pub enum Kind {
     Log,
     Header,
     Set,
+    Act,
 }
 
 /// The kind that a word names.
@@ -23,6 +24,7 @@ pub fn kind_in(word: &str) -> Option<Kind> {
         "log" => Some(Kind::Log),
         "header" => Some(Kind::Header),
         "set" => Some(Kind::Set),
+        "act" => Some(Kind::Act),
         _ => None,
     }
 }
@@ -45,6 +47,7 @@ fn spelled_again(alloc: Global, kind: Kind, bytes: &[u8]) -> Result<Option<Vec<u
         Kind::Log => records::spelled_again(alloc, bytes),
         Kind::Header => headers::spelled_again(alloc, bytes),
         Kind::Set => sets::spelled_again(alloc, bytes),
+        Kind::Act => acts::spelled_again(alloc, bytes),
     }
 }
 
@@ -79,6 +82,7 @@ pub fn show(alloc: Global, kind: Kind, bytes: &[u8], out: &mut String) -> Result
         Kind::Log => records::show(bytes, out)?,
         Kind::Header => headers::show(alloc, bytes, out)?,
         Kind::Set => sets::show(alloc, bytes, out)?,
+        Kind::Act => acts::show(alloc, bytes, out)?,
     }
     show_spelling(alloc, kind, bytes, out)
 }

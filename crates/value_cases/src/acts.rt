@@ -1,0 +1,98 @@
+// Acts as blobs.
+ghost use Rattle.bk_acts.specs.Spelling.{KeepsAct};
+
+use crate::{records, sets};
+use bk_acts::{Records, StoredAct, Unread, acts_law, encode_act, read_act};
+use bk_ids::{Guid, Lsn, Name};
+use bk_set::SetBody;
+use bk_world::Header;
+use std::alloc::{AllocError, Global};
+
+// The spelling of an act.
+fn spelling(alloc: Global, act: &StoredAct) -> Result<Option<Vec<u8>>, AllocError>
+    requires { KeepsAct act.now }
+{
+    Ok(Some(encode_act(alloc, act)?))
+}
+
+/// The spelling of the act that all of these bytes spell.
+pub fn spelled_again(alloc: Global, bytes: &[u8]) -> Result<Option<Vec<u8>>, AllocError> {
+    acts_law();
+    match read_act(alloc, bytes) {
+        Ok(act) => spelling(alloc, &act),
+        Err(Unread::NoAct) => Ok(None),
+        Err(Unread::NoMemory) => Err(AllocError),
+    }
+}
+
+fn show_logged(name: &Name, records: &Records, out: &mut String) -> Result<(), AllocError> {
+    let name = name.as_str();
+    writeln!(out, "logged {name}")?;
+    records::show(records.as_slice(), out)
+}
+
+fn show_based(name: &Name, header: &Header, out: &mut String) -> Result<(), AllocError> {
+    let (name, set, checkpoint) = (name.as_str(), header.set, header.checkpoint);
+    writeln!(out, "based {name} set {set:?} checkpoint {checkpoint}")
+}
+
+fn show_replaced(name: &Name, body: &SetBody, out: &mut String) -> Result<(), AllocError> {
+    let name = name.as_str();
+    writeln!(out, "replaced {name}")?;
+    sets::show_body(body, out)
+}
+
+fn show_recovered(
+    name: &Name,
+    at: Lsn,
+    branch: Guid,
+    records: &Records,
+    out: &mut String,
+) -> Result<(), AllocError> {
+    let name = name.as_str();
+    writeln!(out, "recovered {name} at {at} branch {branch:?}")?;
+    records::show(records.as_slice(), out)
+}
+
+fn show_act(act: &StoredAct, out: &mut String) -> Result<(), AllocError> {
+    match act {
+        StoredAct::Created {
+            name,
+            family,
+            branch,
+            time,
+        } => {
+            let name = name.as_str();
+            writeln!(
+                out,
+                "created {name} family {family:?} branch {branch:?} time {time}"
+            )
+        }
+        StoredAct::Dropped { name } => {
+            let name = name.as_str();
+            writeln!(out, "dropped {name}")
+        }
+        StoredAct::Logged { name, records } => show_logged(name, records, out),
+        StoredAct::Based { name, header } => show_based(name, header, out),
+        StoredAct::Replaced { name, body } => show_replaced(name, body, out),
+        StoredAct::Restored { name, base, redo } => {
+            let name = name.as_str();
+            writeln!(out, "restored {name} base {base:?} redo {redo}")
+        }
+        StoredAct::Recovered {
+            name,
+            at,
+            branch,
+            records,
+        } => show_recovered(name, *at, *branch, records, out),
+    }
+}
+
+/// The act that all of these bytes spell.
+pub fn show(alloc: Global, bytes: &[u8], out: &mut String) -> Result<(), AllocError> {
+    match read_act(alloc, bytes) {
+        Ok(act) => show_act(&act, out),
+        Err(Unread::NoAct) => Ok(()),
+        Err(Unread::NoMemory) => Err(AllocError),
+    }
+}
