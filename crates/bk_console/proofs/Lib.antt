@@ -2,6 +2,6 @@ pub mod Told
 pub mod Leaving
 pub mod Asking
 pub mod Answering
-pub mod Reading
+pub mod OneByOne
 pub mod Running
 pub mod Taking
