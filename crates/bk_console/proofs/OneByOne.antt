@@ -45,7 +45,7 @@ module _ (stop : Bool) (old mid : Instance) (src : List ℕ) (r : Reader) (scrip
 
   -- the next couldn't be read
   pub so_far-unread : (asks : Type 0) → (asks → ⊥) → CutAll stop old script ct before middle dt disk disk1 asks
-  so_far-unread asks no =
+  so_far-unread asks never =
       let a = so_far.answered in
       let each : length a.moments ≡ length a.replies = a.each_moment ∙ sym a.each_reply in
       record {
@@ -62,7 +62,7 @@ module _ (stop : Bool) (old mid : Instance) (src : List ℕ) (r : Reader) (scrip
             );
         crashes = a.crashes;
         front = λ t. front_same disk.told disk1.told disk1.told a.replies (a.text t) refl;
-        some = λ h. absurd (no h);
+        some = λ h. absurd (never h);
         accepted = λ on. none-front (length a.moments - 1) a.replies (a.accepted on);
       }
 

@@ -103,6 +103,8 @@ pub fn answer<D: Device, C: Clock>(
     Ok(is_refusal(&reply))
 }
 
+fn let_go(_statement: Statement) {}
+
 /// Answers the statements of a script in their order: all of them, or up to the first that is refused, where `stop` asks for
 /// that. They are read one by one. At an error the rest isn't begun. A crash leaves what it may leave of the machine's run,
 /// after at least the statements whose replies were told whole.
@@ -127,7 +129,9 @@ pub fn answer_all<D: Device, C: Clock>(
 {
     let mut reader = Reader::new(alloc);
     while let Some(statement) = next_statement(alloc, &mut reader, script)? {
-        let refused = answer(alloc, instance, &statement, device, clock)?;
+        let answered = answer(alloc, instance, &statement, device, clock);
+        let_go(statement);
+        let refused = answered?;
         if refused && stop {
             return Ok(Ended::AtARefusal);
         }

@@ -10,8 +10,8 @@ use Rattle.bk_console.proofs.Causes.{causes-none, causes-then}
 use Rattle.bk_console.proofs.OneByOne.{so_far-none, so_far-all, so_far-unread, so_far-cut, so_far-more, so_far-stopped}
 use Rattle.bk_console.proofs.answers.answer_all.Goals as goal
 
-pub loop-statement-init : goal.loop-statement-init
-loop-statement-init g c = record {
+pub loop-reader-init : goal.loop-reader-init
+loop-reader-init g c = record {
   reader = c.new-reader.ensures.reader c.args.script.now;
   answered = λ ss are. so_far-none _ _ _ _ ss _ _ _ _ (c.new-reader.ensures.items c.args.script.now) are;
   ready = c.requires.ready;
@@ -20,12 +20,12 @@ loop-statement-init g c = record {
   causes = causes-none _;
 }
 
-pub loop-statement-preserved : goal.loop-statement-preserved
-loop-statement-preserved g c =
+pub loop-reader-preserved : goal.loop-reader-preserved
+loop-reader-preserved g c =
     let src = c.args.script.now in
     let now = c.in_ok-refused.ensures in
-    let before = c.loop-statement.invariant in
-    let P : Option Statement → Type 0 = λ found. (ss : List Statement) → HasStatements src c.loop-statement.reader ss → GivesStatement src found ss c.next_statement.new.reader in
+    let before = c.loop-reader.invariant in
+    let P : Option Statement → Type 0 = λ found. (ss : List Statement) → HasStatements src c.loop-reader.reader ss → GivesStatement src found ss c.next_statement.new.reader in
     let gives = subst P c.in-Some.is c.in_ok-statement.ensures.statement in
     record {
       reader = c.in_ok-statement.ensures.reader;
@@ -39,29 +39,32 @@ loop-statement-preserved g c =
 pub returns-then-stop-clause-answered : goal.returns-then-stop-clause-answered
 returns-then-stop-clause-answered g c ss are =
     let src = c.args.script.now in
-    let P : Option Statement → Type 0 = λ found. (ss : List Statement) → HasStatements src c.loop-statement.reader ss → GivesStatement src found ss c.next_statement.new.reader in
+    let P : Option Statement → Type 0 = λ found. (ss : List Statement) → HasStatements src c.loop-reader.reader ss → GivesStatement src found ss c.next_statement.new.reader in
     let gives = subst P c.in-Some.is c.in_ok-statement.ensures.statement in
-    so_far-stopped _ _ _ _ _ ss _ _ _ _ _ _ (c.loop-statement.invariant.answered ss are) c.next_statement.new.reader c.in-Some.statement gives _ _ _ _ c.in_ok-refused.ensures.answered c.if-refused.true c.if-stop.true
+    so_far-stopped _ _ _ _ _ ss _ _ _ _ _ _ (c.loop-reader.invariant.answered ss are) c.next_statement.new.reader c.in-Some.statement gives _ _ _ _ c.in_ok-refused.ensures.answered c.if-refused.true c.if-stop.true
 
 pub returns-in_err-refused-clause-cut_short : goal.returns-in_err-refused-clause-cut_short
 returns-in_err-refused-clause-cut_short g c ss are =
     let src = c.args.script.now in
-    let P : Option Statement → Type 0 = λ found. (ss : List Statement) → HasStatements src c.loop-statement.reader ss → GivesStatement src found ss c.next_statement.new.reader in
+    let P : Option Statement → Type 0 = λ found. (ss : List Statement) → HasStatements src c.loop-reader.reader ss → GivesStatement src found ss c.next_statement.new.reader in
     let gives = subst P c.in-Some.is c.in_ok-statement.ensures.statement in
     let p = err_from_is_err_and c.from_residual-in_err-refused.result c.from_residual-in_err-refused.ensures.1 in
-    OnErr-from _ (so_far-cut _ _ _ _ _ ss _ _ _ _ _ _ (c.loop-statement.invariant.answered ss are) c.next_statement.new.reader c.in-Some.statement gives _ _ _ _
+    OnErr-from _ (so_far-cut _ _ _ _ _ ss _ _ _ _ _ _ (c.loop-reader.invariant.answered ss are) c.next_statement.new.reader c.in-Some.statement gives _ _ _ _
     (λ h. let same : c.in_err-refused.field-0.0 ≡ Console = cc (p.1, p.2, h) in ap Err same) c.in_err-refused.ensures.cut_short)
 
 pub returns-then-stop-clause-others : goal.returns-then-stop-clause-others
-returns-then-stop-clause-others g c t = keeps_then (c.loop-statement.invariant.others t) (c.in_ok-refused.ensures.others t)
+returns-then-stop-clause-others g c t = keeps_then (c.loop-reader.invariant.others t) (c.in_ok-refused.ensures.others t)
 
 pub returns-in_err-statement-clause-cut_short : goal.returns-in_err-statement-clause-cut_short
 returns-in_err-statement-clause-cut_short g c ss are =
     let p = err_from_is_err_and c.from_residual.result c.from_residual.ensures.1 in
-    OnErr-from _ (so_far-unread _ _ _ _ _ ss _ _ _ _ _ _ (c.loop-statement.invariant.answered ss are) _ (λ h. let no : ⊥ = cc (p.1, p.2, h) in no))
+    OnErr-from _ (so_far-unread _ _ _ _ _ ss _ _ _ _ _ _ (c.loop-reader.invariant.answered ss are) _ (λ h. let never : ⊥ = cc (p.1, p.2, h) in never))
 
 pub returns-clause-answered : goal.returns-clause-answered
 returns-clause-answered g c ss are =
     let src = c.args.script.now in
-    let P : Option Statement → Type 0 = λ found. (ss : List Statement) → HasStatements src c.loop-statement.reader ss → GivesStatement src found ss c.next_statement.new.reader in
-    so_far-all _ _ _ _ _ ss _ _ _ _ _ _ (c.loop-statement.invariant.answered ss are) c.next_statement.new.reader (subst P c.in_default.is c.in_ok-statement.ensures.statement)
+    let P : Option Statement → Type 0 = λ found. (ss : List Statement) → HasStatements src c.loop-reader.reader ss → GivesStatement src found ss c.next_statement.new.reader in
+    so_far-all _ _ _ _ _ ss _ _ _ _ _ _ (c.loop-reader.invariant.answered ss are) c.next_statement.new.reader (subst P c.in_default.is c.in_ok-statement.ensures.statement)
+
+pub returns-in_err-refused-clause-others : goal.returns-in_err-refused-clause-others
+returns-in_err-refused-clause-others g c t = keeps_then (c.loop-reader.invariant.others t) (c.in_err-refused.ensures.others t)

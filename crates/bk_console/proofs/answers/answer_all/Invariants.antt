@@ -9,8 +9,8 @@ use Rattle.bk_console.proofs.OneByOne.{AnsweredSoFar}
 use Rattle.bk_console.specs.Causes.{HasCauses}
 use Rattle.bk_console.proofs.answers.answer_all.Given as goal
 
-abbrev pub invariant-loop-statement : goal.invariant-loop-statement
-invariant-loop-statement g l = record {
+abbrev pub invariant-loop-reader : goal.invariant-loop-reader
+invariant-loop-reader g l = record {
   reader : IsReader l.script l.reader;
   answered : (ss : List Statement) → AreStatements l.script ss → AnsweredSoFar l.stop l.fn.instance l.instance l.script l.reader ss g.C.Clock.tells (g.C.Clock.coming l.fn.clock) (g.C.Clock.coming l.clock)
       g.D.Device.tells (g.D.Device.disk l.fn.device) (g.D.Device.disk l.device);
@@ -20,5 +20,5 @@ invariant-loop-statement g l = record {
   causes : HasCauses g.D.Device.disk_faults g.D.Device.tell_faults l.fn.device l.device ⊥ ⊥;
 }
 
-abbrev pub decreases-loop-statement : goal.decreases-loop-statement
-decreases-loop-statement g l = work l.script l.reader
+abbrev pub decreases-loop-reader : goal.decreases-loop-reader
+decreases-loop-reader g l = work l.script l.reader
