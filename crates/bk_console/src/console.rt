@@ -115,14 +115,7 @@ fn over_instance<D: Device, C: Clock>(
     ensures tell_faults { D.tell_faults device.old ≤ D.tell_faults device.new }
 {
     let mut instance = Instance::load(alloc, device, options.instance)?;
-    let ended = answer_all(
-        alloc,
-        &mut instance,
-        script,
-        options.stop,
-        device,
-        clock,
-    )?;
+    let ended = answer_all(alloc, &mut instance, script, options.stop, device, clock)?;
     instance.close(device)?;
     match ended {
         Ended::AtTheEnd => Ok(()),
