@@ -107,14 +107,7 @@ fn over_instance<D: Device, C: Clock>(
     ensures others { D.tells → KeepsFiles NotOurs (D.disk device.old) (D.disk device.new) }
 {
     let mut instance = Instance::load(alloc, device, options.instance)?;
-    let ended = answer_all(
-        alloc,
-        &mut instance,
-        script,
-        options.stop,
-        device,
-        clock,
-    )?;
+    let ended = answer_all(alloc, &mut instance, script, options.stop, device, clock)?;
     instance.close(device)?;
     match ended {
         Ended::AtTheEnd => Ok(()),
