@@ -31,9 +31,9 @@ use Rattle.bk_acts.specs.declared.act.StoredAct.TheVariants.{Created, Dropped, L
 use Rattle.bk_acts.specs.declared.unread.Unread.{Unread}
 use Rattle.bk_acts.specs.Decoding.{Reads}
 use Rattle.bk_acts.specs.Reading.{base_behind, base_at, base_form, created_fields, based_fields, restored_fields, recovered_fields, whole_of, with_records, created_in, dropped_in, logged_in, based_in, body_held, replaced_in, restored_in, recovered_in, fields_in, act_of}
-use Rattle.bk_acts.specs.Records.{AreRecords, are_records, records_in}
+use Rattle.bk_record.specs.Records.{AreRecords, are_records, records_in}
 use Rattle.bk_acts.specs.Spelling.{kind_of, base_bytes, fields_bytes, act_bytes, IsAct, KeepsAct}
-use Rattle.bk_acts.proofs.Whole.{are_records-true, are_records-from}
+use Rattle.bk_record.specs.RecordsLaws.{are_records-true, are_records-from}
 
 -- ---- the forms
 

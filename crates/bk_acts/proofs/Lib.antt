@@ -1,4 +1,3 @@
 pub mod Codes
 pub mod Meant
 pub mod Said
-pub mod Whole

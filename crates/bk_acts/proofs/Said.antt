@@ -7,8 +7,8 @@ use Rattle.bk_record.specs.WalkLaws.{one_log, log_of_records}
 use Rattle.bk_undo.specs.Spelled.{spelled}
 use Rattle.bk_world.specs.Records.{Said, numbered}
 use Rattle.bk_acts.specs.Meaning.{Spell, under}
-use Rattle.bk_acts.specs.Records.{AreRecords}
-use Rattle.bk_acts.proofs.Whole.{log-more}
+use Rattle.bk_record.specs.Records.{AreRecords}
+use Rattle.bk_record.specs.RecordsLaws.{log_more}
 
 pub nothing-said : (n : ℕ) → Spell [] n []
 nothing-said n = log_of_records [] tt
@@ -23,7 +23,7 @@ numbered-more n (first ∷ said) s =
 pub said-more : (bytes : List ℕ) (n : ℕ) (said : List Said) (s : Said) → Spell bytes n said → IsRecord (under (n + length said) s) → Spell (bytes ++ spelling (under (n + length said) s)) n (said ++ s ∷ [])
 said-more bytes n said s spell is =
     let r = under (n + length said) s in
-    subst (λ (records : List Rec). IsLog (bytes ++ spelling r) records None) (sym (numbered-more n said s)) (log-more bytes (map spelled (numbered n said)) r spell is)
+    subst (λ (records : List Rec). IsLog (bytes ++ spelling r) records None) (sym (numbered-more n said s)) (log_more bytes (map spelled (numbered n said)) r spell is)
 
 -- the number of the first record
 abbrev first_number : List Rec → ℕ

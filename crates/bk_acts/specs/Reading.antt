@@ -13,7 +13,7 @@ use Rattle.bk_world.specs.declared.database.Base.{Base}
 use Rattle.bk_world.specs.declared.header.Header.{Header}
 use Rattle.bk_acts.specs.declared.act.StoredAct.{StoredAct}
 use Rattle.bk_acts.specs.declared.act.StoredAct.TheVariants.{Created, Dropped, Logged, Based, Replaced, Restored, Recovered}
-use Rattle.bk_acts.specs.Records.{records_in}
+use Rattle.bk_record.specs.Records.{records_in}
 use Rattle.bk_acts.specs.Spelling.{base_bytes}
 
 -- a base by the byte before it

@@ -10,7 +10,7 @@ use Rattle.bk_set.specs.Spelling.{set_bytes}
 use Rattle.bk_world.specs.declared.database.Base.{Base}
 use Rattle.bk_acts.specs.declared.act.StoredAct.{StoredAct}
 use Rattle.bk_acts.specs.declared.act.StoredAct.TheVariants.{Created, Dropped, Logged, Based, Replaced, Restored, Recovered}
-use Rattle.bk_acts.specs.Records.{AreRecords}
+use Rattle.bk_record.specs.Records.{AreRecords}
 
 -- the number of a kind of act
 abbrev pub kind_of : StoredAct → ℕ

@@ -1,5 +1,5 @@
-use crate::records::Records;
 use bk_ids::{Guid, Lsn, Name};
+use bk_record::Records;
 use bk_set::SetBody;
 use bk_world::{Base, Header};
 

@@ -1,14 +1,12 @@
-ghost use Rattle.std.specs.Prelude.{◌≡◌, ◌<◌, ◌+◌, ℕ, List, [], ◌∷◌, ◌++◌, length, Option, Some, None};
+ghost use Rattle.std.specs.Prelude.{◌≡◌, ◌<◌, ◌+◌, ℕ, List, [], ◌∷◌, ◌++◌, length, Some};
 ghost use Rattle.bk_bytes.specs.Field.{AreBytes};
-ghost use Rattle.bk_ids.specs.declared.record.Rec.{Rec};
 ghost use Rattle.bk_machine.specs.Acts.{Act};
-ghost use Rattle.bk_record.specs.Log.{IsLog};
 ghost use Rattle.bk_record.specs.Spelling.{spelling, IsRecord};
 ghost use Rattle.bk_acts.specs.declared.act.StoredAct.{StoredAct};
 ghost use Rattle.bk_world.specs.Records.{Said};
 ghost use Rattle.bk_acts.specs.Meaning.{Means, NamesItsRows, AreOneButOpen, Spell, under};
 ghost use Rattle.bk_acts.specs.Reading.{act_of};
-ghost use Rattle.bk_acts.specs.Records.{AreRecords};
+ghost use Rattle.bk_record.specs.Records.{AreRecords};
 ghost use Rattle.bk_acts.specs.Spelling.{act_bytes, IsAct, KeepsAct};
 
 /// An act that is spelled is read as itself, and what is read is spelled so and can be written again: acts have one spelling.
@@ -16,12 +14,6 @@ pub fn acts_law()
     ensures read { (act : StoredAct) → IsAct act → act_of (act_bytes act) ≡ Some act }
     ensures spelled { (bytes : List ℕ) (act : StoredAct) → AreBytes bytes → act_of bytes ≡ Some act → IsAct act × (bytes ≡ act_bytes act) }
     ensures keeps { (act : StoredAct) → IsAct act → KeepsAct act }
-{}
-
-/// A walk over records that stand whole finds a record at each place up to their end. One record more behind them leaves them whole.
-pub fn records_law()
-    ensures no_bad_one { (bytes : List ℕ) (records : List Rec) (bad : Option ℕ) → AreRecords bytes → IsLog bytes records bad → bad ≡ None }
-    ensures one_more { (bytes : List ℕ) (r : Rec) → AreRecords bytes → IsRecord r → AreRecords (bytes ++ spelling r) }
 {}
 
 /// What is said under the numbers from n on is spelled record after record, so one that is pushed says one thing more. Such bytes are

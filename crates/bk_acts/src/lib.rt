@@ -6,13 +6,11 @@
 mod act;
 mod laws;
 mod reading;
-mod records;
 mod unread;
 mod writing;
 
 pub use act::StoredAct;
-pub use laws::{acts_law, meaning_law, records_law, said_law};
+pub use laws::{acts_law, meaning_law, said_law};
 pub use reading::read_act;
-pub use records::Records;
 pub use unread::Unread;
 pub use writing::encode_act;

@@ -6,16 +6,16 @@ ghost use Rattle.bk_header.specs.Reading.{header_form};
 ghost use Rattle.bk_set.specs.Found.{found};
 ghost use Rattle.bk_acts.specs.Decoding.{Reads};
 ghost use Rattle.bk_acts.specs.Reading.{base_behind, base_at, created_in, dropped_in, logged_in, based_in, replaced_in, restored_in, recovered_in, fields_in, act_of, body_held};
-ghost use Rattle.bk_acts.specs.Records.{records_in};
+ghost use Rattle.bk_record.specs.Records.{records_in};
 ghost use Rattle.bk_acts.specs.Spelling.{act_bytes, IsAct};
 
 use crate::act::StoredAct;
-use crate::records::Records;
 use crate::unread::Unread;
 use bk_bytes::{split_u8, split_u64};
 use bk_fields::split_guid;
 use bk_header::decode;
 use bk_ids::Name;
+use bk_record::Records;
 use bk_set::{Found, SetBody, read_set};
 use bk_world::{Base, Header};
 use std::alloc::Global;
@@ -33,11 +33,9 @@ fn read_name(alloc: Global, bytes: &[u8]) -> Result<(Name, &[u8]), Unread>
 fn read_records(alloc: Global, bytes: &[u8]) -> Result<Records, Unread>
     ensures { Reads (λ records. records) result (records_in bytes.now) }
 {
-    let mut copy = Vec::new(alloc);
-    copy.extend_from_slice(bytes)?;
-    match Records::new(copy) {
-        Ok(records) => Ok(records),
-        Err(_) => Err(Unread::NoAct),
+    match Records::read(alloc, bytes)? {
+        Some(records) => Ok(records),
+        None => Err(Unread::NoAct),
     }
 }
 

@@ -8,15 +8,15 @@ ghost use Rattle.bk_header.specs.Conditions.{IsBase, IsHeader, KeepsConditions};
 ghost use Rattle.bk_header.specs.Spelling.{text_bytes, spelling};
 ghost use Rattle.bk_set.specs.Conditions.{IsBody, KeepsBody};
 ghost use Rattle.bk_set.specs.Spelling.{set_bytes};
-ghost use Rattle.bk_acts.specs.Records.{AreRecords};
+ghost use Rattle.bk_record.specs.Records.{AreRecords};
 ghost use Rattle.bk_acts.specs.Spelling.{kind_of, base_bytes, fields_bytes, act_bytes, IsAct, KeepsAct};
 
 use crate::act::StoredAct;
-use crate::records::Records;
 use bk_bytes::{append_text, append_u8, append_u64};
 use bk_fields::append_guid;
 use bk_header::encode;
 use bk_ids::{Guid, Lsn, Name};
+use bk_record::Records;
 use bk_set::{SetBody, encode_set};
 use bk_world::{Base, Header};
 use std::alloc::{AllocError, Global};

@@ -6,21 +6,25 @@ use Rattle.std.proofs.lemmas.List.{append-nil, get_or_append_left, take-append-d
 use Rattle.std.proofs.lemmas.List.Folds.{list_any-append}
 use Rattle.std.proofs.lemmas.Bool.{cases_lt}
 use Rattle.std.proofs.lemmas.Grind.{flat_map-append}
-use Rattle.std.proofs.Math.Seq.{get_or-append_seam, take-append-add, take-append_seam, take-length, drop-append_seam}
+use Rattle.std.proofs.Math.Seq.{get_or-append_seam, take-append-add, take-append_seam, take-length}
 use Rattle.bk_device.specs.Calls.{Elapses, TellsFront}
 use Rattle.bk_device.specs.Disk.{Files, Disk}
 use Rattle.bk_instance.specs.declared.instance.Instance.{Instance}
-use Rattle.bk_instance.specs.Stands.{Covers, CutIn, StandsFor}
-use Rattle.bk_world.specs.declared.item.Statement.{Statement}
+use Rattle.bk_instance.specs.Stands.{Covers, StandsFor}
+use Rattle.bk_instance.specs.Steps.{MayCome}
+use Rattle.bk_instance.specs.Touched.{ActsWrite, IsTouched}
+use Rattle.bk_items.specs.declared.item.ScriptEntry.{ScriptEntry}
+use Rattle.bk_machine.specs.Outcome.{Outcome}
+use Rattle.bk_machine.specs.Run.{IsRun, behind_all, replies_of}
+use Rattle.bk_machine.specs.World.{World}
 use Rattle.bk_world.specs.declared.reply.Reply.{Reply}
 use Rattle.bk_world.specs.declared.reply.Reply.TheVariants.{Done, Counted, Selected, SetMade, Recovered, Refused}
 use Rattle.bk_world.specs.Text.{reply_text, replies_text}
-use Rattle.bk_world.specs.Run.{IsRun}
-use Rattle.bk_world.specs.World.{World}
-use Rattle.bk_world.proofs.Runs.{IsRun-more}
-use Rattle.bk_console.specs.Answers.{is_refusal, NoneRefused, EndsRefused, GoesOnAccepted, Asked, LeavesOf, CrashLeaves, CutBefore, CutWithin, Runs, Answered, CutTelling, CutExecuting, CutShort, AnsweredFront, Stopped, CutAll}
+use Rattle.bk_console.specs.Answers.{is_refusal, NoneRefused, EndsRefused, GoesOnAccepted, Asked, CrashLeaves, CutWithin, CutNowhere, Runs, Answered, CutTelling, CutExecuting, CutShort, AnsweredFront, Stopped, CutAll}
+use Rattle.bk_console.specs.Spares.{AreStill, LeavesAlone, OutcomesWrite, Spares}
 use Rattle.bk_console.proofs.Asking.{elapses-none, elapses-then}
-use Rattle.bk_console.proofs.Leaving.{LeavesOf-done, LeavesOf-within, LeavesOf-more}
+use Rattle.bk_console.proofs.Sparing.{spares-more, spares-none, spares-then, spares-wider, still-front, writes-before, writes-last}
+use Rattle.bk_console.proofs.Leaving.{CutLeaves, run-more, behind-more, replies-more, replies-length, LeavesOf-done, LeavesOf-within, LeavesOf-more}
 
 -- Refusals.
 
@@ -103,178 +107,197 @@ pub front_same : (told told1 told2 : List ℕ) (replies : List Reply) → told1 
 front_same told told1 told2 replies before same =
     (length (replies_text replies), same ∙ before ∙ ap (λ texts. told ++ texts) (sym (take-length (replies_text replies))))
 
-module _ (stop : Bool) (old mid : Instance) (script ss : List Statement) (s : Statement) (ct : Type 0) (before middle after : ℕ → ℕ) (dt : Type 0) (disk disk1 disk2 : Disk)
-    (so_far : AnsweredFront stop old mid script ss ct before middle dt disk disk1) (front : take (length ss) script ≡ ss) (more : take (length ss + 1) script ≡ ss ++ s ∷ []) where
-  next-is : drop (length so_far.replies) script ≡ s ∷ drop (length ss + 1) script
-  next-is = ap (λ k. drop k script) so_far.each_reply
-      ∙ ap (drop (length ss)) (sym (take-append-drop (length ss + 1) script) ∙ ap (λ f. f ++ drop (length ss + 1) script) more ∙ append_assoc ss (s ∷ []) (drop (length ss + 1) script))
-      ∙ drop-append_seam ss (s ∷ drop (length ss + 1) script)
+-- the same of outcomes
+none-next : (os : List Outcome) (o : Outcome) → NoneRefused (replies_of os) → is_refusal o.reply ≡ false → NoneRefused (replies_of (os ++ o ∷ []))
+none-next os o none accepted = subst NoneRefused (sym (replies-more os o)) (none-more (replies_of os) o.reply none accepted)
 
-  front-is : take (length so_far.replies) script ≡ ss
-  front-is = ap (λ k. take k script) so_far.each_reply ∙ front
+goes-next : (os : List Outcome) (o : Outcome) (n : ℕ) → length os ≡ n → NoneRefused (replies_of os) → GoesOnAccepted (n + 1) (replies_of (os ++ o ∷ []))
+goes-next os o n is none = subst (GoesOnAccepted (n + 1)) (sym (replies-more os o)) (goes-on (replies_of os) (o.reply ∷ []) n (replies-length os ∙ is) none)
 
-  each : length so_far.moments ≡ length so_far.replies
-  each = so_far.each_moment ∙ sym so_far.each_reply
+text_next : (told told1 told2 : List ℕ) (os : List Outcome) (o : Outcome) → told1 ≡ told ++ replies_text (replies_of os) → told2 ≡ told1 ++ reply_text o.reply
+    → told2 ≡ told ++ replies_text (replies_of (os ++ o ∷ []))
+text_next told told1 told2 os o before more = texts_more told told1 told2 (replies_of os) o.reply before more ∙ ap (λ rs. told ++ replies_text rs) (sym (replies-more os o))
 
-  one-more : (reply : Reply) → length (so_far.replies ++ reply ∷ []) ≡ length ss + 1
-  one-more reply = omega (arith, length-append so_far.replies (reply ∷ []), so_far.each_reply)
+front_next : (told told1 told2 : List ℕ) (os : List Outcome) (o : Outcome) → told1 ≡ told ++ replies_text (replies_of os) → TellsFront (reply_text o.reply) told1 told2
+    → TellsFront (replies_text (replies_of (os ++ o ∷ []))) told told2
+front_next told told1 told2 os o before more =
+    subst (λ rs. TellsFront (replies_text rs) told told2) (sym (replies-more os o)) (front_more told told1 told2 (replies_of os) o.reply before more)
 
-  each-more : (now : ℕ) (reply : Reply) → length (so_far.moments ++ now ∷ []) ≡ length (so_far.replies ++ reply ∷ [])
-  each-more now reply = omega (arith, length-append so_far.replies (reply ∷ []), length-append so_far.moments (now ∷ []), each)
+module _ (leave : CutLeaves) (stop : Bool) (old mid : Instance) (script ss : List ScriptEntry) (s : ScriptEntry) (ct : Type 0) (before middle after : ℕ → ℕ) (dt : Type 0) (disk disk1 disk2 : Disk)
+    (so_far : AnsweredFront stop old mid ss ct before middle dt disk disk1) (front : take (length ss) script ≡ ss) (more : take (length ss + 1) script ≡ ss ++ s ∷ []) where
+  front-is : take (length so_far.outcomes) script ≡ ss
+  front-is = ap (λ k. take k script) so_far.each_outcome ∙ front
 
-  more-is : (reply : Reply) → take (length (so_far.replies ++ reply ∷ [])) script ≡ ss ++ s ∷ []
-  more-is reply = ap (λ k. take k script) (one-more reply) ∙ more
+  each : length so_far.moments ≡ length so_far.outcomes
+  each = so_far.each_moment ∙ sym so_far.each_outcome
+
+  one-more : (o : Outcome) → length (so_far.outcomes ++ o ∷ []) ≡ length ss + 1
+  one-more o = omega (arith, length-append so_far.outcomes (o ∷ []), so_far.each_outcome)
+
+  each-more : (now : ℕ) (o : Outcome) → length (so_far.moments ++ now ∷ []) ≡ length (so_far.outcomes ++ o ∷ [])
+  each-more now o = omega (arith, length-append so_far.outcomes (o ∷ []), length-append so_far.moments (now ∷ []), each)
+
+  more-is : (o : Outcome) → take (length (so_far.outcomes ++ o ∷ [])) script ≡ ss ++ s ∷ []
+  more-is o = ap (λ k. take k script) (one-more o) ∙ more
+
+  -- one statement more
+  run-next : dt → (now : ℕ) (o : Outcome) → MayCome mid disk1 s now o → (w : World) → StandsFor old disk w → IsRun w (ss ++ s ∷ []) (so_far.moments ++ now ∷ []) (so_far.outcomes ++ o ∷ [])
+  run-next t now o may w stands =
+      let to = so_far.runs t w stands in
+      run-more w ss so_far.moments so_far.outcomes s now o to.0 (may (behind_all w so_far.outcomes) to.1)
 
   -- Crashes.
 
-  -- before the reply is told
-  cut-at : dt → (now : ℕ) (image : Files) (heard : List ℕ) → CutBefore mid disk1 s now image heard → CrashLeaves old disk script (so_far.moments ++ now ∷ []) so_far.replies image heard
-  cut-at t now image heard cut durable number w stands = by (cut.0 (so_far.media t durable) number to.0 to.2)
-    where
-      to : (next : World) × IsRun w ss so_far.moments so_far.replies next × StandsFor mid disk1 next
-      to = so_far.runs t w stands
+  -- before anything is done
+  cut-nowhere : dt → (image : Files) (heard : List ℕ) → CutNowhere mid disk1 image heard → CrashLeaves old disk so_far.outcomes image heard
+  cut-nowhere t image heard cut durable number w stands =
+      let to = so_far.runs t w stands in
+      LeavesOf-done leave number w stands.sound stands.idle ss so_far.moments so_far.outcomes to.0 disk.told image heard
+      (cut.0 (so_far.media t durable) number (behind_all w so_far.outcomes) to.1)
+      (front_same disk.told disk1.told heard (replies_of so_far.outcomes) (so_far.text t) cut.1)
 
-      run : IsRun w (take (length so_far.replies) script) so_far.moments so_far.replies to.0
-      run = subst (λ xs. IsRun w xs so_far.moments so_far.replies to.0) (sym front-is) to.1
+  -- before the reply is told, while it is, or behind it
+  cut-telling : dt → (now : ℕ) (o : Outcome) → MayCome mid disk1 s now o → (image : Files) (heard : List ℕ) → CutWithin mid disk1 o image heard
+      → CrashLeaves old disk (so_far.outcomes ++ o ∷ []) image heard
+  cut-telling t now o may image heard (inl cut) durable number w stands =
+      let to = so_far.runs t w stands in
+      let within = cut.0 (so_far.media t durable) number (behind_all w so_far.outcomes) to.1 in
+      LeavesOf-within leave number w stands.sound stands.idle ss so_far.moments so_far.outcomes to.0 s now o (may (behind_all w so_far.outcomes) to.1) within.done disk.told image heard
+      within.covers (cut.1 ∙ so_far.text t)
+  cut-telling t now o may image heard (inr holds) durable number w stands =
+      let to = so_far.runs t w stands in
+      LeavesOf-done leave number w stands.sound stands.idle (ss ++ s ∷ []) (so_far.moments ++ now ∷ []) (so_far.outcomes ++ o ∷ []) (run-next t now o may w stands) disk.told image heard
+      (subst (Covers number image) (sym (behind-more w so_far.outcomes o)) (holds.0 (so_far.media t durable) number (behind_all w so_far.outcomes) to.1))
+      (front_next disk.told disk1.told heard so_far.outcomes o (so_far.text t) holds.1)
 
-      by : Covers number image to.0 ⊎ CutIn number to.0 s now image → LeavesOf number w script (so_far.moments ++ now ∷ []) so_far.replies disk.told image heard
-      by (inl covers) =
-          subst (λ xs. LeavesOf number w script (so_far.moments ++ now ∷ []) xs disk.told image heard) (append-nil so_far.replies)
-          (LeavesOf-more number w script so_far.moments (now ∷ []) so_far.replies [] disk.told image heard
-          (LeavesOf-done number w to.0 script so_far.moments so_far.replies disk.told image heard each run covers (front_same disk.told disk1.told heard so_far.replies (so_far.text t) cut.1)))
-      by (inr within) =
-          LeavesOf-within number w to.0 script (drop (length ss + 1) script) s so_far.moments now so_far.replies disk.told image heard mid.kept.databases.items
-          each run next-is to.2.keeps.databases within (cut.1 ∙ so_far.text t)
+  crashes-nowhere : dt → Elapses disk1 disk2 (CutNowhere mid disk1) → Elapses disk disk2 (CrashLeaves old disk so_far.outcomes)
+  crashes-nowhere t one = elapses-then _ _ _ disk disk1 disk2 (λ image heard leaves. leaves) (cut-nowhere t) (so_far.crashes t) one
 
-  -- while it is told, or behind it
-  cut-telling : dt → (now : ℕ) (reply : Reply) (image : Files) (heard : List ℕ) → CutWithin mid disk1 s now reply image heard
-      → CrashLeaves old disk script (so_far.moments ++ now ∷ []) (so_far.replies ++ reply ∷ []) image heard
-  cut-telling t now reply image heard (inl cut) durable number w stands =
-      subst (λ xs. LeavesOf number w script xs (so_far.replies ++ reply ∷ []) disk.told image heard) (append-nil (so_far.moments ++ now ∷ []))
-      (LeavesOf-more number w script (so_far.moments ++ now ∷ []) [] so_far.replies (reply ∷ []) disk.told image heard (cut-at t now image heard cut durable number w stands))
-  cut-telling t now reply image heard (inr done) durable number w stands =
-      let to : (next : World) × IsRun w ss so_far.moments so_far.replies next × StandsFor mid disk1 next = so_far.runs t w stands in
-      let next = done.0 (so_far.media t durable) number to.0 to.2 in
-      LeavesOf-done number w next.0 script (so_far.moments ++ now ∷ []) (so_far.replies ++ reply ∷ []) disk.told image heard (each-more now reply)
-      (subst (λ xs. IsRun w xs (so_far.moments ++ now ∷ []) (so_far.replies ++ reply ∷ []) next.0) (sym (more-is reply)) (IsRun-more w to.0 next.0 ss so_far.moments so_far.replies s now reply to.1 next.1))
-      next.2 (front_more disk.told disk1.told heard so_far.replies reply (so_far.text t) done.1)
+  crashes-telling : dt → (now : ℕ) (o : Outcome) → MayCome mid disk1 s now o → Elapses disk1 disk2 (CutWithin mid disk1 o) → Elapses disk disk2 (CrashLeaves old disk (so_far.outcomes ++ o ∷ []))
+  crashes-telling t now o may one = elapses-then _ _ _ disk disk1 disk2
+      (λ image heard leaves durable number w stands. LeavesOf-more number w so_far.outcomes o disk.told image heard (leaves durable number w stands))
+      (cut-telling t now o may) (so_far.crashes t) one
 
-  crashes-executing : dt → (now : ℕ) → Elapses disk1 disk2 (CutBefore mid disk1 s now) → Elapses disk disk2 (CrashLeaves old disk script (so_far.moments ++ now ∷ []) so_far.replies)
-  crashes-executing t now one = elapses-then _ _ _ disk disk1 disk2
-      (λ image heard leaves durable number w stands.
-      subst (λ xs. LeavesOf number w script (so_far.moments ++ now ∷ []) xs disk.told image heard) (append-nil so_far.replies)
-      (LeavesOf-more number w script so_far.moments (now ∷ []) so_far.replies [] disk.told image heard (leaves durable number w stands)))
-      (λ image heard here. cut-at t now image heard here) (so_far.crashes t) one
+  -- What is left alone.
 
-  crashes-telling : dt → (now : ℕ) (reply : Reply) → Elapses disk1 disk2 (CutWithin mid disk1 s now reply)
-      → Elapses disk disk2 (CrashLeaves old disk script (so_far.moments ++ now ∷ []) (so_far.replies ++ reply ∷ []))
-  crashes-telling t now reply one = elapses-then _ _ _ disk disk1 disk2
-      (λ image heard leaves durable number w stands. LeavesOf-more number w script so_far.moments (now ∷ []) so_far.replies (reply ∷ []) disk.told image heard (leaves durable number w stands))
-      (λ image heard here. cut-telling t now reply image heard here) (so_far.crashes t) one
+  spares-next : dt → (o : Outcome) → ((w : World) → StandsFor mid disk1 w → Spares (IsTouched (ActsWrite o.acts)) disk1 disk2) → (w : World) → StandsFor old disk w
+      → Spares (IsTouched (OutcomesWrite (so_far.outcomes ++ o ∷ []))) disk disk2
+  spares-next t o one w stands = spares-then (spares-more (writes-before so_far.outcomes (o ∷ [])) (so_far.spares t w stands))
+      (spares-more (writes-last so_far.outcomes o) (one (behind_all w so_far.outcomes) (so_far.runs t w stands).1))
 
   module _ (new : Instance) (refused : Bool) (one : Answered mid new s ct middle after dt disk1 disk2 refused) where
-    runs-more : dt → Runs old disk (ss ++ s ∷ []) (so_far.moments ++ one.now ∷ []) (so_far.replies ++ one.reply ∷ []) new disk2
+    runs-more : dt → Runs old disk (ss ++ s ∷ []) (so_far.moments ++ one.now ∷ []) (so_far.outcomes ++ one.outcome ∷ []) new disk2
     runs-more t w stands =
-        let to = so_far.runs t w stands in
-        let next = one.moves t to.0 to.2 in
-        (next.0, IsRun-more w to.0 next.0 ss so_far.moments so_far.replies s one.now one.reply to.1 next.1, next.2)
+        let to = so_far.runs t w stands in (
+          run-next t one.now one.outcome (one.may t) w stands,
+          subst (StandsFor new disk2) (sym (behind-more w so_far.outcomes one.outcome)) (one.does t (behind_all w so_far.outcomes) to.1),
+        )
 
-    pub front-more : (stop ≡ true → refused ≡ false) → AnsweredFront stop old new script (ss ++ s ∷ []) ct before after dt disk disk2
+    still-more : dt → (w : World) → StandsFor old disk w → AreStill (so_far.outcomes ++ one.outcome ∷ []) → LeavesAlone old disk new disk2
+    still-more t w stands all =
+        let each = still-front so_far.outcomes one.outcome all in
+        let before = so_far.still t w stands each.0 in
+        let last = one.still t (behind_all w so_far.outcomes) (so_far.runs t w stands).1 each.1 in
+        record { files = spares-then before.files last.files; reserves = λ exact. last.reserves (before.reserves exact) }
+
+    pub front-more : (stop ≡ true → refused ≡ false) → AnsweredFront stop old new (ss ++ s ∷ []) ct before after dt disk disk2
     front-more accepted = record {
       moments = so_far.moments ++ one.now ∷ [];
-      replies = so_far.replies ++ one.reply ∷ [];
+      outcomes = so_far.outcomes ++ one.outcome ∷ [];
       each_moment = omega (arith, length-append so_far.moments (one.now ∷ []), length-append ss (s ∷ []), so_far.each_moment);
-      each_reply = omega (arith, length-append so_far.replies (one.reply ∷ []), length-append ss (s ∷ []), so_far.each_reply);
+      each_outcome = omega (arith, length-append so_far.outcomes (one.outcome ∷ []), length-append ss (s ∷ []), so_far.each_outcome);
       asked = asked_more ct before middle after so_far.moments one.now so_far.asked one.asked;
       runs = runs-more;
       media = λ t durable. one.media t (so_far.media t durable);
-      crashes = λ t. crashes-telling t one.now one.reply (one.crashes t);
-      text = λ t. texts_more disk.told disk1.told disk2.told so_far.replies one.reply (so_far.text t) (one.text t);
-      accepted = λ on. none-more so_far.replies one.reply (so_far.accepted on) (sym one.which ∙ accepted on);
+      crashes = λ t. crashes-telling t one.now one.outcome (one.may t) (one.crashes t);
+      text = λ t. text_next disk.told disk1.told disk2.told so_far.outcomes one.outcome (so_far.text t) (one.text t);
+      accepted = λ on. none-next so_far.outcomes one.outcome (so_far.accepted on) (sym one.which ∙ accepted on);
+      still = still-more;
+      spares = λ t. spares-next t one.outcome (one.spares t);
     }
 
     -- the statement was refused, and stops it
     pub Stopped-from : length ss < length script → refused ≡ true → stop ≡ true → Stopped stop old new script ct before after dt disk disk2
     Stopped-from room is on =
-        let replies = so_far.replies ++ one.reply ∷ [] in
-        let n : length replies ≡ length ss + 1 = one-more one.reply in
+        let outcomes = so_far.outcomes ++ one.outcome ∷ [] in
+        let n : length outcomes ≡ length ss + 1 = one-more one.outcome in
         record {
           moments = so_far.moments ++ one.now ∷ [];
-          replies = replies;
-          each_moment = each-more one.now one.reply;
+          outcomes = outcomes;
+          each_moment = each-more one.now one.outcome;
           within = omega arith;
           asked = asked_more ct before middle after so_far.moments one.now so_far.asked one.asked;
-          runs = λ t. subst (λ xs. Runs old disk xs (so_far.moments ++ one.now ∷ []) replies new disk2) (sym (more-is one.reply)) (runs-more t);
+          runs = λ t. subst (λ xs. Runs old disk xs (so_far.moments ++ one.now ∷ []) outcomes new disk2) (sym (more-is one.outcome)) (runs-more t);
           media = λ t durable. one.media t (so_far.media t durable);
-          crashes = λ t. crashes-telling t one.now one.reply (one.crashes t);
-          text = λ t. texts_more disk.told disk1.told disk2.told so_far.replies one.reply (so_far.text t) (one.text t);
+          crashes = λ t. crashes-telling t one.now one.outcome (one.may t) (one.crashes t);
+          text = λ t. text_next disk.told disk1.told disk2.told so_far.outcomes one.outcome (so_far.text t) (one.text t);
           stops = on;
-          accepted = subst (λ k. GoesOnAccepted k replies) (sym n) (goes-on so_far.replies (one.reply ∷ []) (length ss) so_far.each_reply (so_far.accepted on));
-          refused = ends-refused so_far.replies one.reply (sym one.which ∙ is);
+          accepted = subst (λ k. GoesOnAccepted k (replies_of outcomes)) (sym n) (goes-next so_far.outcomes one.outcome (length ss) so_far.each_outcome (so_far.accepted on));
+          refused = subst EndsRefused (sym (replies-more so_far.outcomes one.outcome)) (ends-refused (replies_of so_far.outcomes) one.outcome.reply (sym one.which ∙ is));
+          still = still-more;
+          spares = λ t. spares-next t one.outcome (one.spares t);
         }
 
-  -- the last statement has its reply, or has none
+  -- the last statement came to something, or nothing of it was done
   cut-by : length ss < length script → (has_reply asks : Type 0) → (asks → has_reply) → (now : ℕ) → Asked ct middle after (now ∷ [])
-      → CutTelling mid s now dt disk1 disk2 ⊎ ((has_reply → ⊥) × CutExecuting mid s now dt disk1 disk2) → CutAll stop old script ct before after dt disk disk2 asks
+      → CutTelling mid s now dt disk1 disk2 ⊎ ((has_reply → ⊥) × CutExecuting mid dt disk1 disk2) → CutAll stop old script ct before after dt disk disk2 asks
   cut-by room has_reply asks weaker now asked (inl last) =
-      let replies = so_far.replies ++ last.reply ∷ [] in
+      let outcomes = so_far.outcomes ++ last.outcome ∷ [] in
       let moments = so_far.moments ++ now ∷ [] in
-      let n : length replies ≡ length ss + 1 = one-more last.reply in
-      let same : length moments ≡ length replies = each-more now last.reply in
+      let n : length outcomes ≡ length ss + 1 = one-more last.outcome in
+      let same : length moments ≡ length outcomes = each-more now last.outcome in
       record {
         moments = moments;
-        replies = replies;
+        outcomes = outcomes;
         asked_each = (omega arith, omega arith);
         within = omega arith;
         asked = asked_more ct before middle after so_far.moments now so_far.asked asked;
         runs = λ t w stands.
-            let to = so_far.runs t w stands in
-            let next = last.moves t to.0 to.2 in (
-              next.0,
-              subst (λ xs. IsRun w xs (take (length replies) moments) replies next.0) (sym (more-is last.reply))
-                  (subst (λ xs. IsRun w (ss ++ s ∷ []) xs replies next.0) (sym (ap (λ k. take k moments) (sym same) ∙ take-length moments))
-                  (IsRun-more w to.0 next.0 ss so_far.moments so_far.replies s now last.reply to.1 next.1)),
-            );
-        crashes = λ t. crashes-telling t now last.reply (last.crashes t);
-        front = λ t. front_more disk.told disk1.told disk2.told so_far.replies last.reply (so_far.text t) (last.front t);
+            subst (λ xs. IsRun w xs (take (length outcomes) moments) outcomes) (sym (more-is last.outcome))
+            (subst (λ xs. IsRun w (ss ++ s ∷ []) xs outcomes) (sym (ap (λ k. take k moments) (sym same) ∙ take-length moments))
+            (run-next t now last.outcome (last.may t) w stands));
+        crashes = λ t. crashes-telling t now last.outcome (last.may t) (last.crashes t);
+        front = λ t. front_next disk.told disk1.told disk2.told so_far.outcomes last.outcome (so_far.text t) (last.front t);
         some = λ h. omega arith;
-        accepted = λ on. subst (λ k. GoesOnAccepted k replies) (sym (same ∙ n)) (goes-on so_far.replies (last.reply ∷ []) (length ss) so_far.each_reply (so_far.accepted on));
+        accepted = λ on. subst (λ k. GoesOnAccepted k (replies_of outcomes)) (sym (same ∙ n)) (goes-next so_far.outcomes last.outcome (length ss) so_far.each_outcome (so_far.accepted on));
+        spares = λ t. spares-next t last.outcome (last.spares t);
       }
   cut-by room has_reply asks weaker now asked (inr none) =
       let moments = so_far.moments ++ now ∷ [] in
       let n : length moments ≡ length ss + 1 = omega (arith, length-append so_far.moments (now ∷ []), so_far.each_moment) in
       record {
         moments = moments;
-        replies = so_far.replies;
-        asked_each = (omega (arith, so_far.each_reply), omega (arith, so_far.each_reply));
-        within = omega (arith, so_far.each_reply);
+        outcomes = so_far.outcomes;
+        asked_each = (omega (arith, so_far.each_outcome), omega (arith, so_far.each_outcome));
+        within = omega (arith, so_far.each_outcome);
         asked = asked_more ct before middle after so_far.moments now so_far.asked asked;
         runs = λ t w stands.
-            let to = so_far.runs t w stands in (
-              to.0,
-              subst (λ xs. IsRun w xs (take (length so_far.replies) moments) so_far.replies to.0) (sym front-is)
-                  (subst (λ xs. IsRun w ss xs so_far.replies to.0) (sym (ap (λ k. take k moments) (sym each) ∙ take-append_seam so_far.moments (now ∷ []))) to.1),
-            );
-        crashes = λ t. crashes-executing t now (none.1.crashes t);
-        front = λ t. front_same disk.told disk1.told disk2.told so_far.replies (so_far.text t) (none.1.silent t);
+            subst (λ xs. IsRun w xs (take (length so_far.outcomes) moments) so_far.outcomes) (sym front-is)
+            (subst (λ xs. IsRun w ss xs so_far.outcomes) (sym (ap (λ k. take k moments) (sym each) ∙ take-append_seam so_far.moments (now ∷ []))) (so_far.runs t w stands).0);
+        crashes = λ t. crashes-nowhere t (none.1.crashes t);
+        front = λ t. front_same disk.told disk1.told disk2.told (replies_of so_far.outcomes) (so_far.text t) (none.1.silent t);
         some = λ h. absurd (none.0 (weaker h));
-        accepted = λ on. subst (λ k. GoesOnAccepted k so_far.replies) (sym n) (goes-on-all so_far.replies (length ss) so_far.each_reply (so_far.accepted on));
+        accepted = λ on. subst (λ k. GoesOnAccepted k (replies_of so_far.outcomes)) (sym n)
+            (goes-on-all (replies_of so_far.outcomes) (length ss) (replies-length so_far.outcomes ∙ so_far.each_outcome) (so_far.accepted on));
+        spares = λ t w stands. spares-then (so_far.spares t w stands) (spares-wider (λ name never. absurd never) (none.1.spares t));
       }
 
   pub CutAll-from : length ss < length script → (has_reply asks : Type 0) → (asks → has_reply) → CutShort mid s ct middle after dt disk1 disk2 has_reply → CutAll stop old script ct before after dt disk disk2 asks
   CutAll-from room has_reply asks weaker cut = cut-by room has_reply asks weaker cut.now cut.asked cut.front
 
 -- nothing is answered yet
-pub front-none : (stop : Bool) (old : Instance) (script : List Statement) (ct : Type 0) (before : ℕ → ℕ) (dt : Type 0) (disk : Disk) → AnsweredFront stop old old script [] ct before before dt disk disk
-front-none stop old script ct before dt disk = record {
+pub front-none : (stop : Bool) (old : Instance) (ct : Type 0) (before : ℕ → ℕ) (dt : Type 0) (disk : Disk) → AnsweredFront stop old old [] ct before before dt disk disk
+front-none stop old ct before dt disk = record {
   moments = [];
-  replies = [];
+  outcomes = [];
   each_moment = refl;
-  each_reply = refl;
+  each_outcome = refl;
   asked = record { shown = λ t i lt. absurd (omega (arith, lt)); moved = λ t i. ap before (omega arith) };
-  runs = λ t w stands. (w, refl, stands);
+  runs = λ t w stands. (tt, stands);
   media = λ t durable. durable;
   crashes = λ t. elapses-none _ disk;
   text = λ t. sym (append-nil disk.told);
   accepted = λ on. refl;
+  still = λ t w stands all. record { files = spares-none disk; reserves = λ exact. exact };
+  spares = λ t w stands. spares-none disk;
 }

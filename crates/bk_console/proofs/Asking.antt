@@ -2,7 +2,6 @@
 use Rattle.std.proofs.Common.{◌≡◌, ◌≢◌, ◌⊎◌, ◌<◌, inl, inr, ℕ, zero, suc, ◌+◌, List, [], ◌∷◌, length, get_or, Option, Some, None, Result, Ok, Err, refl, sym, ◌∙◌, ap, subst, arith, add_comm}
 use Rattle.std.specs.Result.{OnErr}
 use Rattle.std.proofs.lemmas.List.{append-nil}
-use Rattle.bk_changes.specs.Replayed.{replayed}
 use Rattle.bk_device.specs.Calls.{Elapses, TellsFront, TellsBytes}
 use Rattle.bk_device.specs.Compose.{durable_kept, keeps_by_telling, keeps_by_effect}
 use Rattle.bk_device.specs.Disk.{Files, Disk, MayLeave, IsSettled}
@@ -14,15 +13,16 @@ use Rattle.bk_instance.specs.declared.error.ExecuteError.{ExecuteError}
 use Rattle.bk_instance.specs.declared.error.ExecuteError.TheVariants as execute
 use Rattle.bk_instance.specs.declared.instance.Instance.{Instance}
 use Rattle.bk_instance.specs.Media.{MediaAreDurable, IfDurable}
-use Rattle.bk_instance.specs.Stands.{IsReady, IsStored, StandsFor, IsOurs, Answers, Cuts}
-use Rattle.bk_instance.proofs.Covering.{media-in, now-covers}
+use Rattle.bk_instance.specs.Stands.{AreMade, IsReady, IsStored, StandsFor, IsOurs}
+use Rattle.bk_instance.specs.Steps.{DoesAll, Cuts}
+use Rattle.bk_machine.specs.Machine.{behind}
+use Rattle.bk_machine.specs.Outcome.{Outcome}
+use Rattle.bk_machine.specs.World.{World}
 use Rattle.bk_media.specs.Names.{medium_file}
-use Rattle.bk_world.specs.declared.item.Statement.{Statement}
-use Rattle.bk_world.specs.declared.reply.Reply.{Reply}
-use Rattle.bk_world.specs.World.{World}
 use Rattle.bk_world.specs.Text.{reply_text}
-use Rattle.bk_console.specs.declared.answers.AnswerError.TheVariants.{Console}
-use Rattle.bk_console.specs.Answers.{Asked, NotOurs, CutBefore, CutWithin, HoldsNext, MayReply, CutShort, executed_error}
+use Rattle.bk_console.specs.declared.answers.AnswerError.TheVariants.{Console, Broken}
+use Rattle.bk_console.specs.Answers.{Asked, NotOurs, CutBefore, CutWithin, HoldsNext, executed_error}
+use Rattle.bk_console.proofs.Covering.{media-in, now-covers}
 
 pub OnErr-from : {T E : Type 0} {P : Type 0} → (r : Result T E) → P → OnErr r P
 OnErr-from (Ok x) p = tt
@@ -80,10 +80,7 @@ left-elapses entry Q Now a b since leads one = record {
 
 -- what is told leaves the instance on its files
 pub told-stored : (i : Instance) (before after : Disk) (bytes : List ℕ) → TellsBytes bytes before after → IsStored before i → IsStored after i
-told-stored i before after bytes tells stored = record {
-  home = home_kept (keeps_by_telling {names = IsOwn} tells) stored.home;
-  rows = ap replayed (blobs_same before.files after.files (tells.files rows_file)) ∙ stored.rows;
-}
+told-stored i before after bytes tells stored = home_kept (keeps_by_telling {names = IsOwn} tells) stored
 
 -- and nothing more pending in media
 pub told-media : (before after : Disk) (bytes : List ℕ) → TellsBytes bytes before after → MediaAreDurable before → MediaAreDurable after
@@ -93,19 +90,22 @@ told-media before after bytes tells durable path are =
 -- and on its world
 pub told-stands : (i : Instance) (before after : Disk) (w : World) (bytes : List ℕ) → TellsBytes bytes before after → StandsFor i before w → StandsFor i after w
 told-stands i before after w bytes tells stands = record {
+  sound = stands.sound;
+  idle = stands.idle;
   keeps = stands.keeps;
+  made = subst (λ blobs. AreMade blobs w) (sym (blobs_same before.files after.files (tells.files rows_file))) stands.made;
   media = media-in w None before.files after.files (λ path are. tells.files (medium_file path)) stands.media;
 }
 
 -- One statement.
 
 -- executing it
-pub executing-cut : (old : Instance) (s : Statement) (now : ℕ) (a b : Disk) → Effect IsOurs (IfDurable a (Cuts old a s now)) a b → Elapses a b (CutBefore old a s now)
-executing-cut old s now a b effect = elapses-weaken _ _ a b (λ image heard here. (here.0, here.2)) effect.time
+pub executing-cut : (old : Instance) (outcome : Outcome) (a b : Disk) → Effect IsOurs (IfDurable a (Cuts old a outcome)) a b → Elapses a b (CutBefore old a outcome)
+executing-cut old outcome a b effect = elapses-weaken _ _ a b (λ image heard here. (here.0, here.2)) effect.time
 
 -- and telling nothing of its reply
-pub silent-cut : (old : Instance) (s : Statement) (now : ℕ) (reply : Reply) (a b : Disk) → Effect IsOurs (IfDurable a (Cuts old a s now)) a b → Elapses a b (CutWithin old a s now reply)
-silent-cut old s now reply a b effect = elapses-weaken _ _ a b (λ image heard here. inl here) (executing-cut old s now a b effect)
+pub silent-cut : (old : Instance) (outcome : Outcome) (a b : Disk) → Effect IsOurs (IfDurable a (Cuts old a outcome)) a b → Elapses a b (CutWithin old a outcome)
+silent-cut old outcome a b effect = elapses-weaken _ _ a b (λ image heard here. inl here) (executing-cut old outcome a b effect)
 
 pub silent-front : (bytes : List ℕ) (a b : Disk) → b.told ≡ a.told → TellsFront bytes a.told b.told
 silent-front bytes a b same = (0, same ∙ sym (append-nil a.told))
@@ -116,38 +116,27 @@ not-console execute.Fault h = cc h
 not-console execute.NoMemory h = cc h
 not-console execute.Broken h = cc h
 
+-- nothing is found broken but by it
+pub executed-broken : (e : ExecuteError) → executed_error e ≡ Broken → e ≡ execute.Broken
+executed-broken execute.Fault h = absurd cc
+executed-broken execute.NoMemory h = absurd cc
+executed-broken execute.Broken h = refl
+
 -- the instance holds its world at each crash while its reply is told
-telling-holds : (old new : Instance) (s : Statement) (now : ℕ) (reply : Reply) (a b : Disk) → IsReady new → IsStored b new → (MediaAreDurable a → MediaAreDurable b) → Answers old a s now reply new b
-    → (image : Files) → MayLeave b image → HoldsNext old a s now reply image
-telling-holds old new s now reply a b ready stored calm answers image left durable number w stands =
-    let next = answers w stands in
-    (next.0, next.1, now-covers number new b next.0 image ready stored (calm durable) (λ name ours. left name) next.2)
+telling-holds : (old new : Instance) (outcome : Outcome) (a b : Disk) → IsReady new → IsStored b new → (MediaAreDurable a → MediaAreDurable b) → DoesAll old a outcome new b
+    → (image : Files) → MayLeave b image → HoldsNext old a outcome image
+telling-holds old new outcome a b ready stored calm does image left durable number w stands =
+    now-covers number new b (behind w outcome) image ready stored (calm durable) left (does w stands)
 
 -- executing it, and telling some of its reply
-pub telling-cut : (old new : Instance) (s : Statement) (now : ℕ) (reply : Reply) (bytes : List ℕ) (a b c : Disk) → IsReady new → IsStored b new → (MediaAreDurable a → MediaAreDurable b)
-    → Answers old a s now reply new b → b.told ≡ a.told → bytes ≡ reply_text reply → Elapses a b (CutBefore old a s now) → TellsBytes bytes b c → Elapses a c (CutWithin old a s now reply)
-telling-cut old new s now reply bytes a b c ready stored calm answers told text first tells =
+pub telling-cut : (old new : Instance) (outcome : Outcome) (bytes : List ℕ) (a b c : Disk) → IsReady new → IsStored b new → (MediaAreDurable a → MediaAreDurable b)
+    → DoesAll old a outcome new b → b.told ≡ a.told → bytes ≡ reply_text outcome.reply → Elapses a b (CutBefore old a outcome) → TellsBytes bytes b c → Elapses a c (CutWithin old a outcome)
+telling-cut old new outcome bytes a b c ready stored calm does told text first tells =
     elapses-then _ _ _ a b c (λ image heard here. inl here)
     (λ image heard here. inr (
-      telling-holds old new s now reply a b ready stored calm answers image (λ name. tells.nothing_more name (image name) (here.0 name)),
+      telling-holds old new outcome a b ready stored calm does image (λ name. tells.nothing_more name (image name) (here.0 name)),
       subst (λ bs. TellsFront bs a.told heard) text (subst (λ front. TellsFront bytes front heard) told here.1),
     )) first tells.time
-
--- an answer that has a reply, and was told in part
-pub cut-in_reply : (old : Instance) (s : Statement) (ct : Type 0) (before after : ℕ → ℕ) (dt : Type 0) (disk disk_after : Disk) (has_reply : Type 0) (now : ℕ)
-    → Asked ct before after (now ∷ []) → (reply : Reply) → (dt → MayReply old disk s now reply) → (dt → Elapses disk disk_after (CutWithin old disk s now reply))
-    → (dt → TellsFront (reply_text reply) disk.told disk_after.told) → CutShort old s ct before after dt disk disk_after has_reply
-cut-in_reply old s ct before after dt disk disk_after has_reply now asked reply moves crashes front =
-    record { now = now; asked = asked; front = inl (record { reply = reply; moves = moves; crashes = crashes; front = front }) }
-
--- one that has none
-pub cut-before_reply : (old : Instance) (s : Statement) (ct : Type 0) (before after : ℕ → ℕ) (dt : Type 0) (disk disk_after : Disk) (has_reply : Type 0) (now : ℕ)
-    → Asked ct before after (now ∷ []) → (has_reply → ⊥) → (dt → Effect IsOurs (IfDurable disk (Cuts old disk s now)) disk disk_after) → CutShort old s ct before after dt disk disk_after has_reply
-cut-before_reply old s ct before after dt disk disk_after has_reply now asked none effect = record {
-  now = now;
-  asked = asked;
-  front = inr (none, record { crashes = λ t. executing-cut old s now disk disk_after (effect t); silent = λ t. (effect t).told });
-}
 
 -- Files that aren't ours.
 
@@ -170,7 +159,7 @@ pub settled-again : (i : Instance) (a b : Disk) → IsSettled a → KeepsFiles N
 settled-again i a b settled others stored durable name content may = by (same-content content (b.files name))
   where
     ours : IsOurs name → content ≡ b.files name
-    ours (inl own) = home_durable stored.home name own content may
+    ours (inl own) = home_durable stored name own content may
     ours (inr medium) =
         subst (λ n. b.may n content → content ≡ b.files n) (sym medium.2) (durable medium.0 medium.1 content) may
 

@@ -12,10 +12,10 @@ causes-none a = record {
 }
 
 -- calls, and then calls, whatever failed in these
-pub causes-then : {D : Type 0} {disk tell : D → ℕ} {a b c : D} {files telling : Type 0} → HasCauses disk tell a b ⊥ ⊥ → HasCauses disk tell b c files telling → HasCauses disk tell a c ⊥ ⊥
-causes-then first second = record {
+pub causes-then : {D : Type 0} {disk tell : D → ℕ} {a b c : D} → HasCauses disk tell a b ⊥ ⊥ → disk b ≤ disk c → tell b ≤ tell c → HasCauses disk tell a c ⊥ ⊥
+causes-then first more_disk more_tell = record {
   files = λ no. absurd no;
   telling = λ no. absurd no;
-  disk_faults = omega (arith, first.disk_faults, second.disk_faults);
-  tell_faults = omega (arith, first.tell_faults, second.tell_faults);
+  disk_faults = omega (arith, first.disk_faults, more_disk);
+  tell_faults = omega (arith, first.tell_faults, more_tell);
 }

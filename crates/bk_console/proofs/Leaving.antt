@@ -1,84 +1,52 @@
 -- What a crash of a run leaves, from the files that it leaves.
-use Rattle.std.proofs.Common.{◌≡◌, ◌<◌, ◌≤◌, ◌⊎◌, ℕ, zero, suc, List, [], ◌∷◌, ◌++◌, length, take, drop, inl, inr, refl, sym, ◌∙◌, ap, subst, arith, length-append}
-use Rattle.std.proofs.lemmas.List.{append-nil, take-append-le}
+use Rattle.std.proofs.Common.{◌≡◌, ◌<◌, ◌≤◌, ◌⊎◌, ℕ, zero, suc, List, [], ◌∷◌, ◌++◌, length, take, inl, inr, refl, sym, ◌∙◌, ap, subst, arith, length-append}
+use Rattle.std.proofs.lemmas.List.{append-nil, take-append-le, length-map, map-append}
 use Rattle.std.proofs.lemmas.Bool.{cases_lt}
 use Rattle.std.proofs.lemmas.Grind.{flat_map-append}
-use Rattle.std.proofs.Math.Seq.{take-append_seam, take-length, drop-append_seam, drop-length}
-use Rattle.bk_changes.specs.declared.state.Database.{Database as KeptDatabase}
+use Rattle.std.proofs.Math.Seq.{take-append_seam, take-length, drop-append_seam}
 use Rattle.bk_device.specs.Calls.{TellsFront}
 use Rattle.bk_device.specs.Disk.{Files}
-use Rattle.bk_instance.specs.Stands.{Stands, Covers, CutIn}
-use Rattle.bk_instance.proofs.Covering.{covers-stands}
-use Rattle.bk_kept.specs.Grows.{left_of}
-use Rattle.bk_kept.specs.Kept.{KeepsDatabases}
-use Rattle.bk_kept.proofs.Left.{cut-left}
-use Rattle.bk_world.specs.declared.item.Statement.{Statement}
+use Rattle.bk_instance.specs.Stands.{Stands, Covers}
+use Rattle.bk_items.specs.declared.item.ScriptEntry.{ScriptEntry}
+use Rattle.bk_machine.specs.Acts.{done_all}
+use Rattle.bk_machine.specs.Crash.{Leaves, cut_between, next_acts}
+use Rattle.bk_machine.specs.Machine.{May, behind}
+use Rattle.bk_machine.specs.Outcome.{Outcome}
+use Rattle.bk_machine.specs.Run.{IsRun, behind_all, replies_of}
+use Rattle.bk_machine.specs.Sound.{AreIdle, IsSound}
+use Rattle.bk_machine.specs.World.{World}
 use Rattle.bk_world.specs.declared.reply.Reply.{Reply}
-use Rattle.bk_world.specs.Crash.{CutsNext, Leaves}
-use Rattle.bk_world.specs.Machine.{step, last_world}
-use Rattle.bk_world.specs.Run.{IsRun}
 use Rattle.bk_world.specs.Text.{reply_text, replies_text}
-use Rattle.bk_world.specs.World.{World}
 use Rattle.bk_console.specs.Answers.{told_whole, LeavesOf}
 use Rattle.bk_console.proofs.Told.{told-none, told-all, told-front}
 
--- where the next statement isn't begun
-next-none : (w : World) (ss : List Statement) → CutsNext w ss [] w w
-next-none w [] = (refl, refl)
-next-none w (s ∷ ss) = (refl, refl)
+-- Runs.
 
--- so many statements are done, and the files hold the world behind them
-leaves-done : (number : ℕ) (first world : World) (statements : List Statement) (moments shown : List ℕ) (replies : List Reply) (image : Files) (done least : ℕ)
-    → IsRun first (take done statements) moments replies world → take done shown ≡ moments → drop done shown ≡ [] → least ≤ done → Covers number image world
-    → (left : World) × Leaves first statements shown least left × Stands number image left
-leaves-done number first world statements moments shown replies image done least run front none enough covers = (
-  left_of world covers.«record».counter,
-  cut-left first world world world statements shown least covers.kept covers.kept covers.«record».counter (record {
-    done = done;
-    enough = enough;
-    replies = replies;
-    run = subst (λ ms. IsRun first (take done statements) ms replies world) (sym front) run;
-    next = subst (λ ms. CutsNext world (drop done statements) ms world world) (sym none) (next-none world (drop done statements));
-  }) covers.databases covers.databases covers.no_less covers.no_more,
-  covers-stands number image world covers,
-)
+-- one statement more
+pub run-more : (w : World) (ss : List ScriptEntry) (ms : List ℕ) (os : List Outcome) (s : ScriptEntry) (now : ℕ) (o : Outcome)
+    → IsRun w ss ms os → May (behind_all w os) s now o → IsRun w (ss ++ s ∷ []) (ms ++ now ∷ []) (os ++ o ∷ [])
+run-more w [] [] [] s now o run may = (may, tt)
+run-more w [] [] (p ∷ os) s now o run may = absurd run
+run-more w [] (m ∷ ms) os s now o run may = absurd run
+run-more w (t ∷ ss) [] os s now o run may = absurd run
+run-more w (t ∷ ss) (m ∷ ms) [] s now o run may = absurd run
+run-more w (t ∷ ss) (m ∷ ms) (p ∷ os) s now o run may = (run.0, run-more (behind w p) ss ms os s now o run.1 may)
 
--- and the files hold the world within the next one
-leaves-within : (number : ℕ) (first world : World) (statements rest : List Statement) (s : Statement) (moments shown : List ℕ) (now : ℕ) (replies : List Reply) (image : Files) (done least : ℕ) (old : List KeptDatabase)
-    → IsRun first (take done statements) moments replies world → take done shown ≡ moments → drop done shown ≡ now ∷ [] → drop done statements ≡ s ∷ rest → least ≤ done
-    → KeepsDatabases world old → CutIn number world s now image
-    → (left : World) × Leaves first statements shown least left × Stands number image left
-leaves-within number first world statements rest s moments shown now replies image done least old run front one next enough keeps within =
-    let cut : World = last_world world (take within.n (step world within.choice s now).parts) in
-    let whole : World = last_world world (step world within.choice s now).parts in
-    let covers : Covers number image cut = within.covers in (
-      left_of cut covers.«record».counter,
-      cut-left first world cut whole statements shown least old covers.kept covers.«record».counter (record {
-        done = done;
-        enough = enough;
-        replies = replies;
-        run = subst (λ ms. IsRun first (take done statements) ms replies world) (sym front) run;
-        next = subst (λ ms. CutsNext world (drop done statements) ms cut whole) (sym one)
-            (subst (λ ss. CutsNext world ss (now ∷ []) cut whole) (sym next) (within.choice, within.n, within.allowed, refl, refl));
-      }) keeps covers.databases covers.no_less covers.no_more,
-      covers-stands number image cut covers,
-    )
+pub behind-more : (w : World) (os : List Outcome) (o : Outcome) → behind_all w (os ++ o ∷ []) ≡ behind (behind_all w os) o
+behind-more w [] o = refl
+behind-more w (p ∷ os) o = behind-more (behind w p) os o
 
--- no statement was begun
-pub LeavesOf-none : (number : ℕ) (first : World) (statements : List Statement) (moments : List ℕ) (replies : List Reply) (told : List ℕ) (image : Files) (heard : List ℕ)
-    → Covers number image first → heard ≡ told → LeavesOf number first statements moments replies told image heard
-LeavesOf-none number first statements moments replies told image heard covers same =
-    let to = leaves-done number first first statements [] [] [] image 0 (told_whole replies 0) refl refl refl (omega (arith, told-none replies)) covers in
-    record {
-      count = 0;
-      bytes = same ∙ sym (append-nil told);
-      within = omega arith;
-      asked = 0;
-      shown = omega arith;
-      left = to.0;
-      leaves = to.1;
-      stands = to.2;
-    }
+pub replies-more : (os : List Outcome) (o : Outcome) → replies_of (os ++ o ∷ []) ≡ replies_of os ++ o.reply ∷ []
+replies-more os o = map-append (λ (o : Outcome). o.reply) os (o ∷ [])
+
+pub replies-length : (os : List Outcome) → length (replies_of os) ≡ length os
+replies-length os = length-map os (λ (o : Outcome). o.reply)
+
+-- What a crash leaves of a run, from files that cover the world at the cut.
+abbrev pub CutLeaves : Type 0
+CutLeaves = (number : ℕ) (first : World) (statements : List ScriptEntry) (moments : List ℕ) (outcomes : List Outcome) (least done k : ℕ) (image : Files)
+    → IsSound first → AreIdle first → IsRun first statements moments outcomes → least ≤ done → done ≤ length outcomes
+    → Covers number image (cut_between first outcomes done k) → (left : World) × Leaves first outcomes least left × Stands number image left
 
 take-over : (bytes : List ℕ) (n : ℕ) → length bytes ≤ n → take n bytes ≡ bytes
 take-over [] zero le = refl
@@ -94,62 +62,87 @@ front-within bytes told heard front = by (cases_lt front.0 (length bytes))
     by (inl below) = (front.0, front.1, omega (arith, below))
     by (inr above) = (length bytes, front.1 ∙ ap (λ b. told ++ b) (take-over bytes front.0 above ∙ sym (take-length bytes)), omega arith)
 
--- all of them have their replies, of whose texts a front was told
-pub LeavesOf-done : (number : ℕ) (first world : World) (statements : List Statement) (moments : List ℕ) (replies : List Reply) (told : List ℕ) (image : Files) (heard : List ℕ)
-    → length moments ≡ length replies → IsRun first (take (length replies) statements) moments replies world → Covers number image world → TellsFront (replies_text replies) told heard
-    → LeavesOf number first statements moments replies told image heard
-LeavesOf-done number first world statements moments replies told image heard each run covers front =
-    let texts = front-within (replies_text replies) told heard front in
-    let to = leaves-done number first world statements moments (take (length moments) moments) replies image (length replies) (told_whole replies texts.0) run
-    (ap (λ ms. take (length replies) ms) (take-length moments) ∙ ap (λ n. take n moments) (sym each) ∙ take-length moments)
-    (ap (λ ms. drop (length replies) ms) (take-length moments) ∙ ap (λ n. drop n moments) (sym each) ∙ drop-length moments)
-    (told-all replies texts.0) covers in
-    record {
-      count = texts.0;
-      bytes = texts.1;
-      within = texts.2;
-      asked = length moments;
-      shown = omega arith;
-      left = to.0;
-      leaves = to.1;
-      stands = to.2;
-    }
+module _ (cut : CutLeaves) (number : ℕ) (first : World) (sound : IsSound first) (idle : AreIdle first) where
+  -- no statement was begun
+  pub LeavesOf-none : (outcomes : List Outcome) (told : List ℕ) (image : Files) (heard : List ℕ) → Covers number image first → heard ≡ told → LeavesOf number first outcomes told image heard
+  LeavesOf-none outcomes told image heard covers same =
+      let to = cut number first [] [] [] (told_whole (replies_of outcomes) 0) 0 0 image sound idle tt (omega (arith, told-none (replies_of outcomes))) (omega arith) covers in
+      record {
+        count = 0;
+        bytes = same ∙ sym (append-nil told);
+        within = omega arith;
+        begun = 0;
+        few = omega arith;
+        left = to.0;
+        leaves = to.1;
+        stands = to.2;
+      }
 
--- and the next one was cut
-pub LeavesOf-within : (number : ℕ) (first world : World) (statements rest : List Statement) (s : Statement) (moments : List ℕ) (now : ℕ) (replies : List Reply) (told : List ℕ) (image : Files) (heard : List ℕ) (old : List KeptDatabase)
-    → length moments ≡ length replies → IsRun first (take (length replies) statements) moments replies world → drop (length replies) statements ≡ s ∷ rest
-    → KeepsDatabases world old → CutIn number world s now image → heard ≡ told ++ replies_text replies
-    → LeavesOf number first statements (moments ++ now ∷ []) replies told image heard
-LeavesOf-within number first world statements rest s moments now replies told image heard old each run next keeps within same =
-    let all : List ℕ = moments ++ now ∷ [] in
-    let to = leaves-within number first world statements rest s moments (take (length all) all) now replies image (length replies) (told_whole replies (length (replies_text replies))) old run
-    (ap (λ ms. take (length replies) ms) (take-length all) ∙ ap (λ n. take n all) (sym each) ∙ take-append_seam moments (now ∷ []))
-    (ap (λ ms. drop (length replies) ms) (take-length all) ∙ ap (λ n. drop n all) (sym each) ∙ drop-append_seam moments (now ∷ []))
-    next (told-all replies (length (replies_text replies))) keeps within in
-    record {
-      count = length (replies_text replies);
-      bytes = same ∙ ap (λ texts. told ++ texts) (sym (take-length (replies_text replies)));
-      within = omega arith;
-      asked = length all;
-      shown = omega arith;
-      left = to.0;
-      leaves = to.1;
-      stands = to.2;
-    }
+  module _ (statements : List ScriptEntry) (moments : List ℕ) (outcomes : List Outcome) (run : IsRun first statements moments outcomes) where
+    -- behind all of them, of whose replies' texts a front was told
+    pub LeavesOf-done : (told : List ℕ) (image : Files) (heard : List ℕ) → Covers number image (behind_all first outcomes) → TellsFront (replies_text (replies_of outcomes)) told heard
+        → LeavesOf number first outcomes told image heard
+    LeavesOf-done told image heard covers front =
+        let texts = front-within (replies_text (replies_of outcomes)) told heard front in
+        let there : Covers number image (cut_between first outcomes (length outcomes) 0) = subst (λ os. Covers number image (behind_all first os)) (sym (take-length outcomes)) covers in
+        let to = cut number first statements moments outcomes (told_whole (replies_of outcomes) texts.0) (length outcomes) 0 image sound idle run
+        (omega (arith, told-all (replies_of outcomes) texts.0, replies-length outcomes)) (omega arith) there in
+        record {
+          count = texts.0;
+          bytes = texts.1;
+          within = texts.2;
+          begun = length outcomes;
+          few = omega arith;
+          left = to.0;
+          leaves = subst (λ os. Leaves first os (told_whole (replies_of outcomes) texts.0) to.0) (sym (take-length outcomes)) to.1;
+          stands = to.2;
+        }
 
--- further moments and replies
-pub LeavesOf-more : (number : ℕ) (first : World) (statements : List Statement) (moments ms : List ℕ) (replies rs : List Reply) (told : List ℕ) (image : Files) (heard : List ℕ)
-    → LeavesOf number first statements moments replies told image heard → LeavesOf number first statements (moments ++ ms) (replies ++ rs) told image heard
-LeavesOf-more number first statements moments ms replies rs told image heard leaves =
-    let texts : replies_text (replies ++ rs) ≡ replies_text replies ++ replies_text rs = flat_map-append reply_text replies rs in
+    -- behind some acts of the next one
+    pub LeavesOf-within : (s : ScriptEntry) (now : ℕ) (o : Outcome) → May (behind_all first outcomes) s now o → (k : ℕ) (told : List ℕ) (image : Files) (heard : List ℕ)
+        → Covers number image (done_all (behind_all first outcomes) (take k o.acts)) → heard ≡ told ++ replies_text (replies_of outcomes)
+        → LeavesOf number first (outcomes ++ o ∷ []) told image heard
+    LeavesOf-within s now o may k told image heard covers same =
+        let all : List Outcome = outcomes ++ o ∷ [] in
+        let count : ℕ = length (replies_text (replies_of outcomes)) in
+        let whole : told_whole (replies_of all) count ≡ told_whole (replies_of outcomes) count =
+        ap (λ rs. told_whole rs count) (replies-more outcomes o) ∙ told-front (replies_of outcomes) (o.reply ∷ []) count (omega arith) in
+        let there : Covers number image (cut_between first all (length outcomes) k) =
+        subst (λ os. Covers number image (done_all (behind_all first (take (length outcomes) all)) (take k (next_acts os)))) (sym (drop-append_seam outcomes (o ∷ [])))
+        (subst (λ os. Covers number image (done_all (behind_all first os) (take k o.acts))) (sym (take-append_seam outcomes (o ∷ []))) covers) in
+        let to = cut number first (statements ++ s ∷ []) (moments ++ now ∷ []) all (told_whole (replies_of all) count) (length outcomes) k image sound idle
+        (run-more first statements moments outcomes s now o run may)
+        (omega (arith, whole, told-all (replies_of outcomes) count, replies-length outcomes)) (omega (arith, length-append outcomes (o ∷ []))) there in
+        let texts : replies_text (replies_of all) ≡ replies_text (replies_of outcomes) ++ replies_text (o.reply ∷ []) =
+        ap replies_text (replies-more outcomes o) ∙ flat_map-append reply_text (replies_of outcomes) (o.reply ∷ []) in
+        record {
+          count = count;
+          bytes = same ∙ ap (λ b. told ++ b) (sym (ap (take count) texts ∙ take-append_seam (replies_text (replies_of outcomes)) (replies_text (o.reply ∷ []))));
+          within = omega (arith, ap (λ (b : List ℕ). length b) texts, length-append (replies_text (replies_of outcomes)) (replies_text (o.reply ∷ [])));
+          begun = length all;
+          few = omega arith;
+          left = to.0;
+          leaves = subst (λ os. Leaves first os (told_whole (replies_of all) count) to.0) (sym (take-length all)) to.1;
+          stands = to.2;
+        }
+
+-- one outcome more
+pub LeavesOf-more : (number : ℕ) (first : World) (outcomes : List Outcome) (o : Outcome) (told : List ℕ) (image : Files) (heard : List ℕ)
+    → LeavesOf number first outcomes told image heard → LeavesOf number first (outcomes ++ o ∷ []) told image heard
+LeavesOf-more number first outcomes o told image heard leaves =
+    let replies : List Reply = replies_of outcomes in
+    let texts : replies_text (replies_of (outcomes ++ o ∷ [])) ≡ replies_text replies ++ replies_text (o.reply ∷ []) =
+    ap replies_text (replies-more outcomes o) ∙ flat_map-append reply_text replies (o.reply ∷ []) in
+    let whole : told_whole (replies_of (outcomes ++ o ∷ [])) leaves.count ≡ told_whole replies leaves.count =
+    ap (λ rs. told_whole rs leaves.count) (replies-more outcomes o) ∙ told-front replies (o.reply ∷ []) leaves.count leaves.within in
     record {
       count = leaves.count;
-      bytes = leaves.bytes ∙ ap (λ b. told ++ b) (sym (ap (take leaves.count) texts ∙ take-append-le leaves.count (replies_text replies) (replies_text rs) leaves.within));
-      within = omega (arith, leaves.within, ap (λ (b : List ℕ). length b) texts, length-append (replies_text replies) (replies_text rs));
-      asked = leaves.asked;
-      shown = omega (arith, leaves.shown, length-append moments ms);
+      bytes = leaves.bytes ∙ ap (λ b. told ++ b) (sym (ap (take leaves.count) texts ∙ take-append-le leaves.count (replies_text replies) (replies_text (o.reply ∷ [])) leaves.within));
+      within = omega (arith, leaves.within, ap (λ (b : List ℕ). length b) texts, length-append (replies_text replies) (replies_text (o.reply ∷ [])));
+      begun = leaves.begun;
+      few = omega (arith, leaves.few, length-append outcomes (o ∷ []));
       left = leaves.left;
-      leaves = subst (λ shown. Leaves first statements shown (told_whole (replies ++ rs) leaves.count) leaves.left) (sym (take-append-le leaves.asked moments ms leaves.shown))
-          (subst (λ least. Leaves first statements (take leaves.asked moments) least leaves.left) (sym (told-front replies rs leaves.count leaves.within)) leaves.leaves);
+      leaves = subst (λ os. Leaves first os (told_whole (replies_of (outcomes ++ o ∷ [])) leaves.count) leaves.left) (sym (take-append-le leaves.begun outcomes (o ∷ []) leaves.few))
+          (subst (λ least. Leaves first (take leaves.begun outcomes) least leaves.left) (sym whole) leaves.leaves);
       stands = leaves.stands;
     }

@@ -1,8 +1,11 @@
 pub mod Told
+pub mod Covering
 pub mod Leaving
 pub mod Asking
+pub mod Sparing
 pub mod Answering
 pub mod OneByOne
 pub mod Running
 pub mod Taking
 pub mod Causes
+pub mod Living

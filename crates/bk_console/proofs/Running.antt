@@ -3,10 +3,11 @@ use Rattle.std.proofs.Common.{◌≡◌, ◌⊎◌, ◌<◌, ◌≤◌, ℕ, ◌
 use Rattle.std.specs.Prelude.{IsErrOf}
 use Rattle.std.proofs.lemmas.List.{append-nil}
 use Rattle.std.proofs.Math.Seq.{take-length}
-use Rattle.bk_device.specs.Calls.{Elapses}
+use Rattle.bk_device.specs.Calls.{ChangesNothing, Elapses}
 use Rattle.bk_device.specs.Compose.{keeps_then, left_begins, left_effect}
 use Rattle.bk_device.specs.Disk.{Files, Disk, MayLeave, IsSettled, IsLawful}
 use Rattle.bk_device.specs.Effects.{Effect, KeepsFiles, LeavesSince}
+use Rattle.bk_home.specs.Home.{IsMade}
 use Rattle.bk_instance.specs.declared.error.ExecuteError.{ExecuteError}
 use Rattle.bk_instance.specs.declared.error.ExecuteError.TheVariants as execute
 use Rattle.bk_instance.specs.declared.error.LoadError.{LoadError}
@@ -14,13 +15,13 @@ use Rattle.bk_instance.specs.declared.error.LoadError.TheVariants as load
 use Rattle.bk_instance.specs.declared.instance.Instance.{Instance}
 use Rattle.bk_instance.specs.Loading.{LeavesOpened}
 use Rattle.bk_instance.specs.Media.{MediaAreDurable, IfDurable}
-use Rattle.bk_instance.specs.Stands.{Stands, Covers, CutsEnd, StandsEnded, IsStored, StandsFor, IsOurs}
-use Rattle.bk_instance.proofs.Covering.{settled-covers}
-use Rattle.bk_syntax.specs.Machine.{AreStatements}
-use Rattle.bk_world.specs.declared.item.Statement.{Statement}
-use Rattle.bk_world.specs.declared.reply.Reply.{Reply}
-use Rattle.bk_world.specs.World.{World, opened, ended}
-use Rattle.bk_world.specs.Run.{IsRun}
+use Rattle.bk_instance.specs.Stands.{Stands, Covers, CutsEnd, StandsEnded, IsStored, ReservesNone, StandsFor, IsOurs}
+use Rattle.bk_instance.specs.Touched.{IsMaking, IsTouched, TouchesOnly, TouchesOwn}
+use Rattle.bk_items.specs.declared.item.ScriptEntry.{ScriptEntry}
+use Rattle.bk_machine.specs.Outcome.{Outcome}
+use Rattle.bk_machine.specs.Run.{IsRun, behind_all, replies_of}
+use Rattle.bk_machine.specs.World.{World, opened, ended}
+use Rattle.bk_syntax.specs.Items.{AreItems}
 use Rattle.bk_world.specs.Text.{replies_text}
 use Rattle.bk_console.specs.declared.reading.ReadError.{ReadError}
 use Rattle.bk_console.specs.declared.reading.ReadError.TheVariants.{TooLong, Fault, NoMemory}
@@ -35,9 +36,11 @@ use Rattle.bk_console.specs.declared.status.Status.TheVariants as status
 use Rattle.bk_console.specs.Answers.{NotOurs, NoneRefused, EndsRefused, GoesOnAccepted, Asked, LeavesOf, CrashLeaves, Runs, AnsweredAll, Stopped, AnsweredBy, CutAll}
 use Rattle.bk_console.proofs.Answering.{none-front}
 use Rattle.bk_console.proofs.Asking.{left-elapses, keeps-effect, settled-again}
-use Rattle.bk_console.proofs.Leaving.{LeavesOf-none, LeavesOf-done}
+use Rattle.bk_console.proofs.Leaving.{CutLeaves, LeavesOf-none, LeavesOf-done}
 use Rattle.bk_console.specs.Run.{code_of, words_status, read_status, answer_status, load_status, close_status, script_bytes, MayBegin, asked_number, IsWhole, Executed, Ran}
+use Rattle.bk_console.specs.Spares.{AreStill, IsFinished, LeavesAlone, NoName, OutcomesWrite, RunWrites, Spares}
 use Rattle.bk_console.specs.Words.{WordOptions}
+use Rattle.bk_console.proofs.Sparing.{spares-effect, spares-more, spares-none, spares-nothing, spares-own, spares-then}
 
 -- Statuses.
 
@@ -56,25 +59,61 @@ closed-as execute.Fault h = cc h
 closed-as execute.NoMemory h = cc h
 closed-as execute.Broken h = cc h
 
+-- What comes only from what is broken.
+
+pub load-broken : (e : LoadError) → load_status e ≡ status.Broken → e ≡ load.Broken
+load-broken load.NotAnInstance h = absurd cc
+load-broken load.Broken h = refl
+load-broken load.Fault h = absurd cc
+load-broken load.NoMemory h = absurd cc
+
+pub answer-broken : (e : AnswerError) → answer_status e ≡ status.Broken → e ≡ answer.Broken
+answer-broken answer.Console h = absurd cc
+answer-broken answer.Device h = absurd cc
+answer-broken answer.NoMemory h = absurd cc
+answer-broken answer.Broken h = refl
+
+pub close-broken : (e : ExecuteError) → close_status e ≡ status.Broken → e ≡ execute.Broken
+close-broken execute.Fault h = cc h
+close-broken execute.NoMemory h = cc h
+close-broken execute.Broken h = refl
+
 -- Worlds.
 
--- where nothing is pending, a crash leaves the world with which a run may begin
-begin-covers : (asks : Option WordOptions) (disk : Disk) (w : World) (image : Files) → IsSettled disk → MayLeave disk image → MayBegin asks disk.files w → Covers (asked_number asks) image (opened w)
-begin-covers None disk w image settled left may = absurd may
-begin-covers (Some options) disk w image settled left may = settled-covers options.instance disk w image settled (λ name ours. left name) may
+-- files that stand for a world cover it as a run opens it
+abbrev pub BegunCovers : Type 0
+BegunCovers = (number : ℕ) (w : World) (files image : Files) → ((name : List ℕ) → image name ≡ files name) → Stands number files w → Covers number image (opened w)
+
+-- what a crash leaves of a run that is begun
+abbrev pub NoneBegun : Type 0
+NoneBegun = (number : ℕ) (w : World) (outcomes : List Outcome) (told : List ℕ) (image : Files) (heard : List ℕ) → Covers number image w → heard ≡ told → LeavesOf number w outcomes told image heard
+
+none-begun : CutLeaves → NoneBegun
+none-begun cut number w outcomes told image heard covers same = LeavesOf-none cut number w covers.sound covers.idle outcomes told image heard covers same
+
+-- where nothing is pending, a crash leaves the world with which a run begins
+settled-covers : BegunCovers → (number : ℕ) (disk : Disk) (w : World) (image : Files) → IsSettled disk → MayLeave disk image → Stands number disk.files w → Covers number image (opened w)
+settled-covers begun number disk w image settled left stands = begun number w disk.files image (λ name. settled name (image name) (left name)) stands
+
+begin-covers : BegunCovers → (asks : Option WordOptions) (disk : Disk) (w : World) (image : Files) → IsSettled disk → MayLeave disk image → MayBegin asks disk.files w → Covers (asked_number asks) image (opened w)
+begin-covers begun None disk w image settled left may = absurd may
+begin-covers begun (Some options) disk w image settled left may = settled-covers begun options.instance disk w image settled left may
 
 -- no statement was begun
-pub nothing-executed : (asks : Option WordOptions) (statements : List Statement) (ct : Type 0) (coming : ℕ → ℕ) (dt : Type 0) (disk : Disk) (code : ℕ)
+pub nothing-executed : CutLeaves → BegunCovers → (asks : Option WordOptions) (statements : List ScriptEntry) (ct : Type 0) (coming : ℕ → ℕ) (dt : Type 0) (disk : Disk) (code : ℕ)
     → (dt → IsLawful disk) → 1 < code → (code ≡ 4 → ⊥) → Executed asks statements ct coming coming dt disk disk code
-nothing-executed asks statements ct coming dt disk code lawful above not_cut = record {
+nothing-executed cut begun asks statements ct coming dt disk code lawful above not_cut = record {
   moments = [];
-  replies = [];
+  outcomes = [];
   asked = record { shown = λ t i lt. absurd (omega (arith, lt)); moved = λ t i. ap coming (omega arith) };
   asked_each = (omega arith, omega arith);
-  runs = λ t settled w may. (opened w, refl, λ h. absurd (not_ended code above h));
+  runs = λ t settled w may. (tt, λ h. absurd (not_ended code above h));
   settled = λ t settled h. absurd (not_ended code above h);
+  made = λ t h. absurd (not_ended code above h);
   crashes = λ t settled w may. left_begins disk (lawful t) (λ image left.
-      LeavesOf-none (asked_number asks) (opened w) statements [] [] disk.told image disk.told (begin-covers asks disk w image settled left may) refl);
+      none-begun cut (asked_number asks) (opened w) [] disk.told image disk.told (begin-covers begun asks disk w image settled left may) refl);
+  spares = λ t settled w may. spares-none disk;
+  still = λ t settled w may h. absurd (not_ended code above h);
   front = λ t. (0, sym (append-nil disk.told));
   accepted = λ asked. refl;
   done = λ h. absurd (omega (arith, h));
@@ -83,46 +122,52 @@ nothing-executed asks statements ct coming dt disk code lawful above not_cut = r
 }
 
 -- What was answered, wherever it ended.
-pub record Came (stop : Bool) (old new : Instance) (ss : List Statement) (clock_tells : Type 0) (before after : ℕ → ℕ) (device_tells : Type 0) (disk disk_after : Disk) : Type 0 where
+pub record Came (stop : Bool) (old new : Instance) (ss : List ScriptEntry) (clock_tells : Type 0) (before after : ℕ → ℕ) (device_tells : Type 0) (disk disk_after : Disk) : Type 0 where
   pub moments : List ℕ
-  pub replies : List Reply
-  pub each : length moments ≡ length replies
+  pub outcomes : List Outcome
+  pub each : length moments ≡ length outcomes
   pub asked : Asked clock_tells before after moments
-  pub runs : device_tells → Runs old disk (take (length replies) ss) moments replies new disk_after
+  pub runs : device_tells → Runs old disk (take (length outcomes) ss) moments outcomes new disk_after
   pub media : device_tells → MediaAreDurable disk → MediaAreDurable disk_after
-  pub crashes : device_tells → Elapses disk disk_after (CrashLeaves old disk ss moments replies)
-  pub text : device_tells → disk_after.told ≡ disk.told ++ replies_text replies
-  pub accepted : stop ≡ true → GoesOnAccepted (length moments) replies
+  pub crashes : device_tells → Elapses disk disk_after (CrashLeaves old disk outcomes)
+  pub text : device_tells → disk_after.told ≡ disk.told ++ replies_text (replies_of outcomes)
+  pub accepted : stop ≡ true → GoesOnAccepted (length moments) (replies_of outcomes)
+  pub still : device_tells → (w : World) → StandsFor old disk w → AreStill outcomes → LeavesAlone old disk new disk_after
+  pub spares : device_tells → (w : World) → StandsFor old disk w → Spares (IsTouched (OutcomesWrite outcomes)) disk disk_after
 
-abbrev pub came-all : (stop : Bool) (old new : Instance) (ss : List Statement) (ct : Type 0) (before after : ℕ → ℕ) (dt : Type 0) (disk disk1 : Disk)
+abbrev pub came-all : (stop : Bool) (old new : Instance) (ss : List ScriptEntry) (ct : Type 0) (before after : ℕ → ℕ) (dt : Type 0) (disk disk1 : Disk)
     → AnsweredAll stop old new ss ct before after dt disk disk1 → Came stop old new ss ct before after dt disk disk1
 came-all stop old new ss ct before after dt disk disk1 all = record {
   moments = all.moments;
-  replies = all.replies;
-  each = all.each_moment ∙ sym all.each_reply;
+  outcomes = all.outcomes;
+  each = all.each_moment ∙ sym all.each_outcome;
   asked = all.asked;
-  runs = λ t. subst (λ xs. Runs old disk xs all.moments all.replies new disk1) (sym (ap (λ n. take n ss) all.each_reply ∙ take-length ss)) (all.runs t);
+  runs = λ t. subst (λ xs. Runs old disk xs all.moments all.outcomes new disk1) (sym (ap (λ n. take n ss) all.each_outcome ∙ take-length ss)) (all.runs t);
   media = all.media;
   crashes = all.crashes;
   text = all.text;
-  accepted = λ on. none-front _ all.replies (all.accepted on);
+  accepted = λ on. none-front _ (replies_of all.outcomes) (all.accepted on);
+  still = all.still;
+  spares = all.spares;
 }
 
-abbrev pub came-stopped : (stop : Bool) (old new : Instance) (ss : List Statement) (ct : Type 0) (before after : ℕ → ℕ) (dt : Type 0) (disk disk1 : Disk)
+abbrev pub came-stopped : (stop : Bool) (old new : Instance) (ss : List ScriptEntry) (ct : Type 0) (before after : ℕ → ℕ) (dt : Type 0) (disk disk1 : Disk)
     → Stopped stop old new ss ct before after dt disk disk1 → Came stop old new ss ct before after dt disk disk1
 came-stopped stop old new ss ct before after dt disk disk1 there = record {
   moments = there.moments;
-  replies = there.replies;
+  outcomes = there.outcomes;
   each = there.each_moment;
   asked = there.asked;
   runs = there.runs;
   media = there.media;
   crashes = there.crashes;
   text = there.text;
-  accepted = λ on. subst (λ n. GoesOnAccepted n there.replies) (sym there.each_moment) there.accepted;
+  accepted = λ on. subst (λ n. GoesOnAccepted n (replies_of there.outcomes)) (sym there.each_moment) there.accepted;
+  still = there.still;
+  spares = there.spares;
 }
 
-abbrev pub came : (end : Ended) (stop : Bool) (old new : Instance) (ss : List Statement) (ct : Type 0) (before after : ℕ → ℕ) (dt : Type 0) (disk disk1 : Disk)
+abbrev pub came : (end : Ended) (stop : Bool) (old new : Instance) (ss : List ScriptEntry) (ct : Type 0) (before after : ℕ → ℕ) (dt : Type 0) (disk disk1 : Disk)
     → AnsweredBy end stop old new ss ct before after dt disk disk1 → Came stop old new ss ct before after dt disk disk1
 came AtTheEnd stop old new ss ct before after dt disk disk1 all = came-all stop old new ss ct before after dt disk disk1 all
 came AtARefusal stop old new ss ct before after dt disk disk1 there = came-stopped stop old new ss ct before after dt disk disk1 there
@@ -131,27 +176,44 @@ came AtARefusal stop old new ss ct before after dt disk disk1 there = came-stopp
 abbrev pub Closes : Instance → Disk → Files → Type 0
 Closes finish disk = IfDurable disk (CutsEnd finish disk)
 
-module _ (options : WordOptions) (statements : List Statement) (ct : Type 0) (coming coming_after : ℕ → ℕ) (dt : Type 0) (disk disk1 : Disk)
-    (lawful : dt → IsLawful disk) (loading : dt → Effect IsOurs (LeavesOpened options.instance disk) disk disk1) where
-  since-load : dt → IsSettled disk → (w : World) → Stands options.instance disk.files w → (moments : List ℕ) (replies : List Reply)
-      → LeavesSince disk.moment (LeavesOf options.instance (opened w) statements moments replies disk.told) disk1
-  since-load t settled w stands moments replies = left_effect
+-- What loading an instance leaves alone.
+pub record LoadSpares (device_tells : Type 0) (disk disk_after : Disk) (start : Instance) : Type 0 where
+  pub still : device_tells → IsMade disk.files → ((path : List ℕ) → IsMaking disk.files path → ⊥) → ChangesNothing disk disk_after
+  pub exact : ReservesNone start
+
+-- What closing it leaves alone.
+pub record CloseSpares (device_tells : Type 0) (finish : Instance) (disk disk_after : Disk) : Type 0 where
+  pub still : device_tells → ReservesNone finish → ChangesNothing disk disk_after
+  pub spares : device_tells → TouchesOwn disk disk_after
+
+module _ (cut_leaves : CutLeaves) (begun : BegunCovers) (options : WordOptions) (statements : List ScriptEntry) (ct : Type 0) (coming coming_after : ℕ → ℕ) (dt : Type 0) (disk disk1 : Disk)
+    (lawful : dt → IsLawful disk) (loading : dt → Effect IsOurs (LeavesOpened options.instance disk) disk disk1) (loading_spares : dt → TouchesOnly (IsMaking disk.files) disk disk1) where
+  since-load : dt → IsSettled disk → (w : World) → Stands options.instance disk.files w → (outcomes : List Outcome)
+      → LeavesSince disk.moment (LeavesOf options.instance (opened w) outcomes disk.told) disk1
+  since-load t settled w stands outcomes = left_effect
       (left_begins disk (lawful t) (λ image left.
-      LeavesOf-none options.instance (opened w) statements moments replies disk.told image disk.told (begin-covers (Some options) disk w image settled left stands) refl))
+      none-begun cut_leaves options.instance (opened w) outcomes disk.told image disk.told (settled-covers begun options.instance disk w image settled left stands) refl))
       (λ image here others.
-      LeavesOf-none options.instance (opened w) statements moments replies disk.told image disk.told (here settled w stands) refl)
+      none-begun cut_leaves options.instance (opened w) outcomes disk.told image disk.told (here settled w stands) refl)
       (loading t)
+
+  -- loading may touch a medium that was being made
+  spares-load : dt → (os : List Outcome) → Spares (IsTouched (RunWrites disk.files os)) disk disk1
+  spares-load t os = spares-more (λ path making. inl making) (spares-effect (loading_spares t))
 
   -- the instance wasn't loaded
   pub not-loaded : (e : LoadError) → Executed (Some options) statements ct coming coming dt disk disk1 (code_of (load_status e))
   not-loaded e = record {
     moments = [];
-    replies = [];
+    outcomes = [];
     asked = record { shown = λ t i lt. absurd (omega (arith, lt)); moved = λ t i. ap coming (omega arith) };
     asked_each = (omega arith, omega arith);
-    runs = λ t settled w may. (opened w, refl, λ h. absurd (not_ended _ (above e) h));
+    runs = λ t settled w may. (tt, λ h. absurd (not_ended _ (above e) h));
     settled = λ t settled h. absurd (not_ended _ (above e) h);
-    crashes = λ t settled w may. since-load t settled w may [] [];
+    made = λ t h. absurd (not_ended _ (above e) h);
+    crashes = λ t settled w may. since-load t settled w may [];
+    spares = λ t settled w may. spares-load t [];
+    still = λ t settled w may h. absurd (not_ended _ (above e) h);
     front = λ t. (0, (loading t).told ∙ sym (append-nil disk.told));
     accepted = λ asked. refl;
     done = λ h. absurd (not_ended _ (above e) (inl h));
@@ -173,26 +235,27 @@ module _ (options : WordOptions) (statements : List Statement) (ct : Type 0) (co
 
   module _ (disk2 : Disk) (start : Instance) (calm : dt → IsSettled disk → MediaAreDurable disk1)
       (begins : dt → IsSettled disk → (w : World) → Stands options.instance disk.files w → StandsFor start disk1 (opened w)) where
-    since-answers : dt → IsSettled disk → (w : World) → Stands options.instance disk.files w → (moments : List ℕ) (replies : List Reply) → Elapses disk1 disk2 (CrashLeaves start disk1 statements moments replies)
-        → LeavesSince disk.moment (LeavesOf options.instance (opened w) statements moments replies disk.told) disk2
-    since-answers t settled w stands moments replies crashes = left-elapses disk.moment _ _ disk1 disk2 (since-load t settled w stands moments replies)
+    since-answers : dt → IsSettled disk → (w : World) → Stands options.instance disk.files w → (outcomes : List Outcome) → Elapses disk1 disk2 (CrashLeaves start disk1 outcomes)
+        → LeavesSince disk.moment (LeavesOf options.instance (opened w) outcomes disk.told) disk2
+    since-answers t settled w stands outcomes crashes = left-elapses disk.moment _ _ disk1 disk2 (since-load t settled w stands outcomes)
         (λ image heard leaves.
-        subst (λ told. LeavesOf options.instance (opened w) statements moments replies told image heard) (loading t).told (leaves (calm t settled) options.instance (opened w) (begins t settled w stands))) crashes
+        subst (λ told. LeavesOf options.instance (opened w) outcomes told image heard) (loading t).told (leaves (calm t settled) options.instance (opened w) (begins t settled w stands))) crashes
 
     -- an answer was cut short
     pub cut-short : (e : AnswerError) → CutAll options.stop start statements ct coming coming_after dt disk1 disk2 (IsErrOf {T = Ended} (Err e) answer.Console)
         → Executed (Some options) statements ct coming coming_after dt disk disk2 (code_of (answer_status e))
     cut-short e cut = record {
       moments = cut.moments;
-      replies = cut.replies;
+      outcomes = cut.outcomes;
       asked = cut.asked;
       asked_each = cut.asked_each;
-      runs = λ t settled w may.
-          let to = cut.runs t (opened w) (begins t settled w may) in
-          (to.0, to.1, λ h. absurd (not_ended _ (above e) h));
+      runs = λ t settled w may. (cut.runs t (opened w) (begins t settled w may), λ h. absurd (not_ended _ (above e) h));
       settled = λ t settled h. absurd (not_ended _ (above e) h);
-      crashes = λ t settled w may. since-answers t settled w may cut.moments cut.replies (cut.crashes t);
-      front = λ t. let some = cut.front t in (some.0, some.1 ∙ ap (λ told. told ++ take some.0 (replies_text cut.replies)) (loading t).told);
+      made = λ t h. absurd (not_ended _ (above e) h);
+      crashes = λ t settled w may. since-answers t settled w may cut.outcomes (cut.crashes t);
+      spares = λ t settled w may. spares-then (spares-load t cut.outcomes) (spares-more (λ path writes. inr writes) (cut.spares t (opened w) (begins t settled w may)));
+      still = λ t settled w may h. absurd (not_ended _ (above e) h);
+      front = λ t. let some = cut.front t in (some.0, some.1 ∙ ap (λ told. told ++ take some.0 (replies_text (replies_of cut.outcomes))) (loading t).told);
       accepted = cut.accepted;
       done = λ h. absurd (not_ended _ (above e) (inl h));
       stopped = λ h. absurd (not_ended _ (above e) (inr h));
@@ -217,40 +280,58 @@ module _ (options : WordOptions) (statements : List Statement) (ct : Type 0) (co
         keeps_then (keeps_then (keeps-effect (LeavesOpened options.instance disk) disk disk1 (loading t)) (others t)) (keeps-effect (Closes finish disk2) disk2 disk3 (closing t))
 
     module _ (disk3 : Disk) (finish : Instance) (there : Came options.stop start finish statements ct coming coming_after dt disk1 disk2)
-        (closing : dt → Effect IsOurs (Closes finish disk2) disk2 disk3) where
-      told-then : dt → disk3.told ≡ disk.told ++ replies_text there.replies
-      told-then t = (closing t).told ∙ there.text t ∙ ap (λ told. told ++ replies_text there.replies) (loading t).told
+        (closing : dt → Effect IsOurs (Closes finish disk2) disk2 disk3) (load_spares : LoadSpares dt disk disk1 start) (close_spares : CloseSpares dt finish disk2 disk3) where
+      told-then : dt → disk3.told ≡ disk.told ++ replies_text (replies_of there.outcomes)
+      told-then t = (closing t).told ∙ there.text t ∙ ap (λ told. told ++ replies_text (replies_of there.outcomes)) (loading t).told
 
-      moments-are : take (length there.replies) there.moments ≡ there.moments
+      moments-are : take (length there.outcomes) there.moments ≡ there.moments
       moments-are = ap (λ n. take n there.moments) (sym there.each) ∙ take-length there.moments
 
-      since-close : dt → IsSettled disk → (w : World) → Stands options.instance disk.files w → LeavesSince disk.moment (LeavesOf options.instance (opened w) statements there.moments there.replies disk.told) disk3
-      since-close t settled w stands = left_effect (since-answers t settled w stands there.moments there.replies (there.crashes t))
+      since-close : dt → IsSettled disk → (w : World) → Stands options.instance disk.files w → LeavesSince disk.moment (LeavesOf options.instance (opened w) there.outcomes disk.told) disk3
+      since-close t settled w stands = left_effect (since-answers t settled w stands there.outcomes (there.crashes t))
           (λ image here others.
-          let to = there.runs t (opened w) (begins t settled w stands) in
-          LeavesOf-done options.instance (opened w) to.0 statements there.moments there.replies disk.told image disk2.told there.each to.1
-          (here (there.media t (calm t settled)) options.instance to.0 to.2)
-          (length (replies_text there.replies), there.text t ∙ ap (λ told. told ++ replies_text there.replies) (loading t).told ∙ ap (λ texts. disk.told ++ texts) (sym (take-length (replies_text there.replies)))))
+          let begin = begins t settled w stands in
+          let to = there.runs t (opened w) begin in
+          let texts = replies_text (replies_of there.outcomes) in
+          LeavesOf-done cut_leaves options.instance (opened w) begin.sound begin.idle (take (length there.outcomes) statements) there.moments there.outcomes to.0 disk.told image disk2.told
+          (here (there.media t (calm t settled)) options.instance (behind_all (opened w) there.outcomes) to.1)
+          (length texts, there.text t ∙ ap (λ told. told ++ texts) (loading t).told ∙ ap (λ all. disk.told ++ all) (sym (take-length texts))))
           (closing t)
+
+      -- statements that were begun were answered
+      spares-close : dt → IsSettled disk → (w : World) → Stands options.instance disk.files w → Spares (IsTouched (RunWrites disk.files there.outcomes)) disk disk3
+      spares-close t settled w may = spares-then (spares-load t there.outcomes)
+          (spares-then (spares-more (λ path writes. inr writes) (there.spares t (opened w) (begins t settled w may))) (spares-own (close_spares.spares t)))
+
+      -- none of them stored something
+      still-close : dt → IsSettled disk → (w : World) → Stands options.instance disk.files w → IsFinished disk.files → AreStill there.outcomes → Spares NoName disk disk3
+      still-close t settled w may finished all =
+          let rests = there.still t (opened w) (begins t settled w may) all in
+          spares-then (spares-nothing (load_spares.still t finished.made finished.none))
+          (spares-then rests.files (spares-nothing (close_spares.still t (rests.reserves load_spares.exact))))
 
       -- the instance was closed, or it failed
       pub ended-by : (code : ℕ) → (code ≡ 4 → ⊥)
           → (dt → (code ≡ 0) ⊎ (code ≡ 1) → (w : World) → StandsFor finish disk2 w → Stands options.instance disk3.files (ended w))
           → (dt → IsSettled disk → (code ≡ 0) ⊎ (code ≡ 1) → IsSettled disk3)
-          → (code ≡ 0 → (length there.replies ≡ length statements) × (options.stop ≡ true → NoneRefused there.replies))
-          → (code ≡ 1 → (options.stop ≡ true) × EndsRefused there.replies)
+          → (dt → (code ≡ 0) ⊎ (code ≡ 1) → IsMade disk3.files)
+          → (code ≡ 0 → (length there.outcomes ≡ length statements) × (options.stop ≡ true → NoneRefused (replies_of there.outcomes)))
+          → (code ≡ 1 → (options.stop ≡ true) × EndsRefused (replies_of there.outcomes))
           → Executed (Some options) statements ct coming coming_after dt disk disk3 code
-      ended-by code not_cut stood still all refused = record {
+      ended-by code not_cut stood still made all refused = record {
         moments = there.moments;
-        replies = there.replies;
+        outcomes = there.outcomes;
         asked = there.asked;
         asked_each = (omega (arith, there.each), omega (arith, there.each));
         runs = λ t settled w may.
             let to = there.runs t (opened w) (begins t settled w may) in
-            (to.0, subst (λ ms. IsRun (opened w) (take (length there.replies) statements) ms there.replies to.0) (sym moments-are) to.1, λ h. stood t h to.0 to.2);
+            (subst (λ ms. IsRun (opened w) (take (length there.outcomes) statements) ms there.outcomes) (sym moments-are) to.0, λ h. stood t h (behind_all (opened w) there.outcomes) to.1);
         settled = still;
+        made = made;
         crashes = since-close;
-        front = λ t. (length (replies_text there.replies), told-then t ∙ ap (λ texts. disk.told ++ texts) (sym (take-length (replies_text there.replies))));
+        spares = spares-close;
+        still = λ t settled w may h finished all. still-close t settled w may finished all;
+        front = λ t. let texts = replies_text (replies_of there.outcomes) in (length texts, told-then t ∙ ap (λ all. disk.told ++ all) (sym (take-length texts)));
         accepted = there.accepted;
         done = λ h. ((all h).0, there.each, told-then, (all h).1);
         stopped = λ h. ((refused h).0, (refused h).1, there.each, told-then);
@@ -260,7 +341,7 @@ module _ (options : WordOptions) (statements : List Statement) (ct : Type 0) (co
       -- closing failed
       pub not-closed : (e : ExecuteError) → Executed (Some options) statements ct coming coming_after dt disk disk3 (code_of (close_status e))
       not-closed e = ended-by (code_of (close_status e)) (not_cut e) (λ t h. absurd (not_ended _ (above e) h)) (λ t settled h. absurd (not_ended _ (above e) h))
-          (λ h. absurd (not_ended _ (above e) (inl h))) (λ h. absurd (not_ended _ (above e) (inr h)))
+          (λ t h. absurd (not_ended _ (above e) h)) (λ h. absurd (not_ended _ (above e) (inl h))) (λ h. absurd (not_ended _ (above e) (inr h)))
         where
           above : (e : ExecuteError) → 1 < code_of (close_status e)
           above execute.Fault = omega arith
@@ -274,27 +355,27 @@ module _ (options : WordOptions) (statements : List Statement) (ct : Type 0) (co
 
     -- every statement was answered, and the instance closed
     pub all-ended : (disk3 : Disk) (finish closed : Instance) → AnsweredAll options.stop start finish statements ct coming coming_after dt disk1 disk2
-        → (dt → Effect IsOurs (Closes finish disk2) disk2 disk3) → (dt → KeepsFiles NotOurs disk1 disk2) → (dt → IsStored disk3 closed) → (dt → MediaAreDurable disk2 → MediaAreDurable disk3)
-        → (dt → StandsEnded finish disk2 disk3.files) → Executed (Some options) statements ct coming coming_after dt disk disk3 0
-    all-ended disk3 finish closed all closing others stored media stood =
-        ended-by disk3 finish (came-all options.stop start finish statements ct coming coming_after dt disk1 disk2 all) closing 0 (λ h. omega (arith, h))
+        → (dt → Effect IsOurs (Closes finish disk2) disk2 disk3) → LoadSpares dt disk disk1 start → CloseSpares dt finish disk2 disk3 → (dt → KeepsFiles NotOurs disk1 disk2) → (dt → IsStored disk3 closed)
+        → (dt → MediaAreDurable disk2 → MediaAreDurable disk3) → (dt → StandsEnded finish disk2 disk3.files) → Executed (Some options) statements ct coming coming_after dt disk disk3 0
+    all-ended disk3 finish closed all closing load_spares close_spares others stored media stood =
+        ended-by disk3 finish (came-all options.stop start finish statements ct coming coming_after dt disk1 disk2 all) closing load_spares close_spares 0 (λ h. omega (arith, h))
         (λ t h w stands. stood t options.instance w stands)
         (λ t settled h. settled-again closed disk disk3 settled (others-then disk3 finish closing others t) (stored t) (media t (all.media t (calm t settled))))
-        (λ h. (all.each_reply, all.accepted)) (λ h. absurd (omega (arith, h)))
+        (λ t h. (stored t).made) (λ h. (all.each_outcome, all.accepted)) (λ h. absurd (omega (arith, h)))
 
     -- a statement was refused where the run was to stop, and the instance closed
     pub stopped-there : (disk3 : Disk) (finish closed : Instance) → Stopped options.stop start finish statements ct coming coming_after dt disk1 disk2
-        → (dt → Effect IsOurs (Closes finish disk2) disk2 disk3) → (dt → KeepsFiles NotOurs disk1 disk2) → (dt → IsStored disk3 closed) → (dt → MediaAreDurable disk2 → MediaAreDurable disk3)
-        → (dt → StandsEnded finish disk2 disk3.files) → Executed (Some options) statements ct coming coming_after dt disk disk3 1
-    stopped-there disk3 finish closed there closing others stored media stood =
-        ended-by disk3 finish (came-stopped options.stop start finish statements ct coming coming_after dt disk1 disk2 there) closing 1 (λ h. omega (arith, h))
+        → (dt → Effect IsOurs (Closes finish disk2) disk2 disk3) → LoadSpares dt disk disk1 start → CloseSpares dt finish disk2 disk3 → (dt → KeepsFiles NotOurs disk1 disk2) → (dt → IsStored disk3 closed)
+        → (dt → MediaAreDurable disk2 → MediaAreDurable disk3) → (dt → StandsEnded finish disk2 disk3.files) → Executed (Some options) statements ct coming coming_after dt disk disk3 1
+    stopped-there disk3 finish closed there closing load_spares close_spares others stored media stood =
+        ended-by disk3 finish (came-stopped options.stop start finish statements ct coming coming_after dt disk1 disk2 there) closing load_spares close_spares 1 (λ h. omega (arith, h))
         (λ t h w stands. stood t options.instance w stands)
         (λ t settled h. settled-again closed disk disk3 settled (others-then disk3 finish closing others t) (stored t) (media t (there.media t (calm t settled))))
-        (λ h. absurd (omega (arith, h))) (λ h. (there.stops, there.refused))
+        (λ t h. (stored t).made) (λ h. absurd (omega (arith, h))) (λ h. (there.stops, there.refused))
 
 -- Runs.
 
-module _ (asks : Option WordOptions) (st : Type 0) (rest rest_after : List ℕ) (ct : Type 0) (coming : ℕ → ℕ) (dt : Type 0) (disk : Disk)
+module _ (cut_leaves : CutLeaves) (begun : BegunCovers) (asks : Option WordOptions) (st : Type 0) (rest rest_after : List ℕ) (ct : Type 0) (coming : ℕ → ℕ) (dt : Type 0) (disk : Disk)
     (lawful : dt → IsLawful disk) where
   -- no statement was begun
   nothing-ran : (code : ℕ) (bytes : List ℕ) → (st → rest ≡ bytes ++ rest_after) → length bytes ≤ script_bytes + 1 → (code ≡ 8 → script_bytes < length bytes)
@@ -307,11 +388,11 @@ module _ (asks : Option WordOptions) (st : Type 0) (rest rest_after : List ℕ) 
     few = few;
     too_long = too_long;
     long = long;
-    executed = nothing-executed asks [] ct coming dt disk code lawful above not_cut;
+    executed = nothing-executed cut_leaves begun asks [] ct coming dt disk code lawful above not_cut;
     whole = none;
   }
     where
-      none : (0 < length (nothing-executed asks [] ct coming dt disk code lawful above not_cut).moments) ⊎ (code ≡ 0) ⊎ (code ≡ 1) → IsWhole st bytes rest_after []
+      none : (0 < length (nothing-executed cut_leaves begun asks [] ct coming dt disk code lawful above not_cut).moments) ⊎ (code ≡ 0) ⊎ (code ≡ 1) → IsWhole st bytes rest_after []
       none (inl some) = absurd (omega (arith, some))
       none (inr h) = absurd (not_ended code above h)
 
@@ -336,12 +417,13 @@ is_too_long status.SourceFault h = absurd (omega (arith, h))
 is_too_long status.ConsoleFault h = absurd (omega (arith, h))
 is_too_long status.DeviceFault h = absurd (omega (arith, h))
 is_too_long status.NoMemory h = absurd (omega (arith, h))
+is_too_long status.Broken h = absurd (omega (arith, h))
 is_too_long status.NotAnInstance h = absurd (omega (arith, h))
 is_too_long status.ScriptTooLong h = refl
 
 -- the statements of the whole script were executed
 pub ran-whole : (asks : Option WordOptions) (st : Type 0) (rest rest_after : List ℕ) (ct : Type 0) (coming coming_after : ℕ → ℕ) (dt : Type 0) (disk disk_after : Disk) (s : Status)
-    (bytes : List ℕ) (statements : List Statement) → (st → (rest ≡ bytes) × (rest_after ≡ [])) → length bytes ≤ script_bytes → AreStatements bytes statements → (s ≡ status.ScriptTooLong → ⊥)
+    (bytes : List ℕ) (statements : List ScriptEntry) → (st → (rest ≡ bytes) × (rest_after ≡ [])) → length bytes ≤ script_bytes → AreItems bytes statements → (s ≡ status.ScriptTooLong → ⊥)
     → Executed asks statements ct coming coming_after dt disk disk_after (code_of s) → Ran asks st rest rest_after ct coming coming_after dt disk disk_after (code_of s)
 ran-whole asks st rest rest_after ct coming coming_after dt disk disk_after s bytes statements whole short script not_long executed = record {
   bytes = bytes;

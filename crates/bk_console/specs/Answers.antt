@@ -7,20 +7,24 @@ use Rattle.bk_instance.specs.declared.instance.Instance.{Instance}
 use Rattle.bk_instance.specs.declared.error.ExecuteError.{ExecuteError}
 use Rattle.bk_instance.specs.declared.error.ExecuteError.TheVariants as execute
 use Rattle.bk_instance.specs.Media.{MediaAreDurable, IfDurable}
-use Rattle.bk_instance.specs.Stands.{Stands, Covers, StandsFor, IsOurs, Answers, Cuts}
-use Rattle.bk_world.specs.declared.item.Statement.{Statement}
+use Rattle.bk_instance.specs.Stands.{Stands, Covers, StandsFor, IsOurs}
+use Rattle.bk_instance.specs.Steps.{MayCome, DoesAll, Cuts, IsStill, Stays}
+use Rattle.bk_instance.specs.Touched.{ActsWrite, IsTouched}
+use Rattle.bk_items.specs.declared.item.ScriptEntry.{ScriptEntry}
+use Rattle.bk_machine.specs.Crash.{Leaves}
+use Rattle.bk_machine.specs.Machine.{behind}
+use Rattle.bk_machine.specs.Outcome.{Outcome}
+use Rattle.bk_machine.specs.Run.{IsRun, behind_all, replies_of}
+use Rattle.bk_machine.specs.World.{World}
 use Rattle.bk_world.specs.declared.reply.Reply.{Reply}
 use Rattle.bk_world.specs.declared.reply.Reply.TheVariants.{Refused}
 use Rattle.bk_world.specs.declared.rule.Rule.{Rule}
-use Rattle.bk_world.specs.World.{World}
-use Rattle.bk_world.specs.Crash.{Leaves}
-use Rattle.bk_world.specs.Machine.{Step}
-use Rattle.bk_world.specs.Run.{IsRun}
 use Rattle.bk_world.specs.Text.{reply_text, replies_text}
 use Rattle.bk_console.specs.declared.answers.AnswerError.{AnswerError}
 use Rattle.bk_console.specs.declared.answers.AnswerError.TheVariants.{Device, NoMemory, Broken}
 use Rattle.bk_console.specs.declared.answers.Ended.{Ended}
 use Rattle.bk_console.specs.declared.answers.Ended.TheVariants.{AtTheEnd, AtARefusal}
+use Rattle.bk_console.specs.Spares.{AreStill, LeavesAlone, NoName, OutcomesWrite, Spares}
 
 -- Refusals.
 
@@ -55,132 +59,147 @@ unfoldable pub told_whole : List Reply → ℕ → ℕ
 told_whole [] m = 0
 told_whole (reply ∷ replies) m = if nat_le (length (reply_text reply)) m then suc (told_whole replies (m - length (reply_text reply))) else 0
 
--- These files, with these bytes told, are left by a crash of a run from this world: it did at least the statements whose text was told whole.
-pub record LeavesOf (number : ℕ) (first : World) (statements : List Statement) (moments : List ℕ) (replies : List Reply) (told : List ℕ) (image : Files) (heard : List ℕ) : Type 0 where
+-- These files, with these bytes told, are left by a crash of a run from this world that came to these outcomes: it did at least the statements whose text
+-- was told whole.
+pub record LeavesOf (number : ℕ) (first : World) (outcomes : List Outcome) (told : List ℕ) (image : Files) (heard : List ℕ) : Type 0 where
   -- how many bytes were told
   pub count : ℕ
-  pub bytes : heard ≡ told ++ take count (replies_text replies)
-  pub within : count ≤ length (replies_text replies)
-  -- how often the clock had been asked
-  pub asked : ℕ
-  pub shown : asked ≤ length moments
+  pub bytes : heard ≡ told ++ take count (replies_text (replies_of outcomes))
+  pub within : count ≤ length (replies_text (replies_of outcomes))
+  -- how many statements were begun
+  pub begun : ℕ
+  pub few : begun ≤ length outcomes
   -- the world that is left
   pub left : World
-  pub leaves : Leaves first statements (take asked moments) (told_whole replies count) left
+  pub leaves : Leaves first (take begun outcomes) (told_whole (replies_of outcomes) count) left
   pub stands : Stands number image left
 
 -- where nothing was pending in media, from each world for which the instance stands, under each number that is asked for
-abbrev pub CrashLeaves : Instance → Disk → List Statement → List ℕ → List Reply → Files → List ℕ → Type 0
-CrashLeaves old disk statements moments replies image heard =
-    MediaAreDurable disk → (number : ℕ) (w : World) → StandsFor old disk w → LeavesOf number w statements moments replies disk.told image heard
+abbrev pub CrashLeaves : Instance → Disk → List Outcome → Files → List ℕ → Type 0
+CrashLeaves old disk outcomes image heard =
+    MediaAreDurable disk → (number : ℕ) (w : World) → StandsFor old disk w → LeavesOf number w outcomes disk.told image heard
 
--- the machine may give this reply, and the files hold what a crash leaves of the world that it goes on to
-abbrev pub HoldsNext : Instance → Disk → Statement → ℕ → Reply → Files → Type 0
-HoldsNext old disk s now reply image = MediaAreDurable disk → (number : ℕ) (w : World) → StandsFor old disk w → (next : World) × Step w s now reply next × Covers number image next
+-- the files hold what a crash leaves of the world behind an outcome
+abbrev pub HoldsNext : Instance → Disk → Outcome → Files → Type 0
+HoldsNext old disk outcome image = MediaAreDurable disk → (number : ℕ) (w : World) → StandsFor old disk w → Covers number image (behind w outcome)
 
 -- what a crash leaves before a reply is told
-abbrev pub CutBefore : Instance → Disk → Statement → ℕ → Files → List ℕ → Type 0
-CutBefore old disk s now image heard = IfDurable disk (Cuts old disk s now) image × (heard ≡ disk.told)
+abbrev pub CutBefore : Instance → Disk → Outcome → Files → List ℕ → Type 0
+CutBefore old disk outcome image heard = IfDurable disk (Cuts old disk outcome) image × (heard ≡ disk.told)
 
 -- and what it leaves while a reply is told, or behind that
-abbrev pub CutWithin : Instance → Disk → Statement → ℕ → Reply → Files → List ℕ → Type 0
-CutWithin old disk s now reply image heard = CutBefore old disk s now image heard ⊎ (HoldsNext old disk s now reply image × TellsFront (reply_text reply) disk.told heard)
+abbrev pub CutWithin : Instance → Disk → Outcome → Files → List ℕ → Type 0
+CutWithin old disk outcome image heard = CutBefore old disk outcome image heard ⊎ (HoldsNext old disk outcome image × TellsFront (reply_text outcome.reply) disk.told heard)
+
+-- what a crash leaves before anything is done
+abbrev pub CutNowhere : Instance → Disk → Files → List ℕ → Type 0
+CutNowhere old disk image heard = IfDurable disk (Stays old disk) image × (heard ≡ disk.told)
 
 -- One statement.
 
--- At a moment, the machine may give this reply from each world for which the instance stands.
-abbrev pub MayReply : Instance → Disk → Statement → ℕ → Reply → Type 0
-MayReply old disk s now reply = (w : World) → StandsFor old disk w → (next : World) × Step w s now reply next
-
 -- A statement was answered: the clock was asked once, and the text of the reply was told, which is a refusal or isn't.
-pub record Answered (old new : Instance) (s : Statement) (clock_tells : Type 0) (before after : ℕ → ℕ) (device_tells : Type 0) (disk disk_after : Disk) (refused : Bool) : Type 0 where
+pub record Answered (old new : Instance) (s : ScriptEntry) (clock_tells : Type 0) (before after : ℕ → ℕ) (device_tells : Type 0) (disk disk_after : Disk) (refused : Bool) : Type 0 where
   pub now : ℕ
-  pub reply : Reply
+  pub outcome : Outcome
   pub asked : Asked clock_tells before after (now ∷ [])
-  pub moves : device_tells → Answers old disk s now reply new disk_after
+  pub may : device_tells → MayCome old disk s now outcome
+  pub does : device_tells → DoesAll old disk outcome new disk_after
   pub media : device_tells → MediaAreDurable disk → MediaAreDurable disk_after
-  pub crashes : device_tells → Elapses disk disk_after (CutWithin old disk s now reply)
-  pub text : device_tells → disk_after.told ≡ disk.told ++ reply_text reply
-  pub which : refused ≡ is_refusal reply
+  pub crashes : device_tells → Elapses disk disk_after (CutWithin old disk outcome)
+  pub text : device_tells → disk_after.told ≡ disk.told ++ reply_text outcome.reply
+  pub which : refused ≡ is_refusal outcome.reply
+  -- where the instance stood for a world: an outcome that stores nothing left all files as they were
+  pub still : device_tells → (w : World) → StandsFor old disk w → IsStill outcome → LeavesAlone old disk new disk_after
+  -- and no medium was touched but those to which its acts write
+  pub spares : device_tells → (w : World) → StandsFor old disk w → Spares (IsTouched (ActsWrite outcome.acts)) disk disk_after
 
--- It has a reply, of whose text a front was told.
-pub record CutTelling (old : Instance) (s : Statement) (now : ℕ) (device_tells : Type 0) (disk disk_after : Disk) : Type 0 where
-  pub reply : Reply
-  pub moves : device_tells → MayReply old disk s now reply
-  pub crashes : device_tells → Elapses disk disk_after (CutWithin old disk s now reply)
-  pub front : device_tells → TellsFront (reply_text reply) disk.told disk_after.told
+-- It comes to something, and of the text of its reply a front was told.
+pub record CutTelling (old : Instance) (s : ScriptEntry) (now : ℕ) (device_tells : Type 0) (disk disk_after : Disk) : Type 0 where
+  pub outcome : Outcome
+  pub may : device_tells → MayCome old disk s now outcome
+  pub crashes : device_tells → Elapses disk disk_after (CutWithin old disk outcome)
+  pub front : device_tells → TellsFront (reply_text outcome.reply) disk.told disk_after.told
+  pub spares : device_tells → (w : World) → StandsFor old disk w → Spares (IsTouched (ActsWrite outcome.acts)) disk disk_after
 
--- It has none, and nothing was told.
-pub record CutExecuting (old : Instance) (s : Statement) (now : ℕ) (device_tells : Type 0) (disk disk_after : Disk) : Type 0 where
-  pub crashes : device_tells → Elapses disk disk_after (CutBefore old disk s now)
+-- Nothing was done yet, and nothing was told.
+pub record CutExecuting (old : Instance) (device_tells : Type 0) (disk disk_after : Disk) : Type 0 where
+  pub crashes : device_tells → Elapses disk disk_after (CutNowhere old disk)
   pub silent : device_tells → disk_after.told ≡ disk.told
+  pub spares : device_tells → Spares NoName disk disk_after
 
 -- Answering a statement ended early: the clock was asked once.
-pub record CutShort (old : Instance) (s : Statement) (clock_tells : Type 0) (before after : ℕ → ℕ) (device_tells : Type 0) (disk disk_after : Disk) (has_reply : Type 0) : Type 0 where
+pub record CutShort (old : Instance) (s : ScriptEntry) (clock_tells : Type 0) (before after : ℕ → ℕ) (device_tells : Type 0) (disk disk_after : Disk) (has_reply : Type 0) : Type 0 where
   pub now : ℕ
   pub asked : Asked clock_tells before after (now ∷ [])
-  pub front : CutTelling old s now device_tells disk disk_after ⊎ ((has_reply → ⊥) × CutExecuting old s now device_tells disk disk_after)
+  pub front : CutTelling old s now device_tells disk disk_after ⊎ ((has_reply → ⊥) × CutExecuting old device_tells disk disk_after)
 
 -- Several.
 
 -- The machine goes from each world for which the instance and its device stand, by this run, to one for which they stand then.
-abbrev pub Runs : Instance → Disk → List Statement → List ℕ → List Reply → Instance → Disk → Type 0
-Runs old disk ss moments replies new disk_after = (w : World) → StandsFor old disk w → (next : World) × IsRun w ss moments replies next × StandsFor new disk_after next
+abbrev pub Runs : Instance → Disk → List ScriptEntry → List ℕ → List Outcome → Instance → Disk → Type 0
+Runs old disk ss moments outcomes new disk_after = (w : World) → StandsFor old disk w → IsRun w ss moments outcomes × StandsFor new disk_after (behind_all w outcomes)
 
 -- The same without saying what stands then.
-abbrev pub MayRun : Instance → Disk → List Statement → List ℕ → List Reply → Type 0
-MayRun old disk ss moments replies = (w : World) → StandsFor old disk w → (next : World) × IsRun w ss moments replies next
+abbrev pub MayRun : Instance → Disk → List ScriptEntry → List ℕ → List Outcome → Type 0
+MayRun old disk ss moments outcomes = (w : World) → StandsFor old disk w → IsRun w ss moments outcomes
 
 -- A front of a script was answered, one statement after the other; where a refusal stops it there was none.
-pub record AnsweredFront (stop : Bool) (old new : Instance) (script front : List Statement) (clock_tells : Type 0) (before after : ℕ → ℕ) (device_tells : Type 0) (disk disk_after : Disk) : Type 0 where
+pub record AnsweredFront (stop : Bool) (old new : Instance) (front : List ScriptEntry) (clock_tells : Type 0) (before after : ℕ → ℕ) (device_tells : Type 0) (disk disk_after : Disk) : Type 0 where
   pub moments : List ℕ
-  pub replies : List Reply
+  pub outcomes : List Outcome
   pub each_moment : length moments ≡ length front
-  pub each_reply : length replies ≡ length front
+  pub each_outcome : length outcomes ≡ length front
   pub asked : Asked clock_tells before after moments
-  pub runs : device_tells → Runs old disk front moments replies new disk_after
+  pub runs : device_tells → Runs old disk front moments outcomes new disk_after
   pub media : device_tells → MediaAreDurable disk → MediaAreDurable disk_after
-  pub crashes : device_tells → Elapses disk disk_after (CrashLeaves old disk script moments replies)
-  pub text : device_tells → disk_after.told ≡ disk.told ++ replies_text replies
-  pub accepted : stop ≡ true → NoneRefused replies
+  pub crashes : device_tells → Elapses disk disk_after (CrashLeaves old disk outcomes)
+  pub text : device_tells → disk_after.told ≡ disk.told ++ replies_text (replies_of outcomes)
+  pub accepted : stop ≡ true → NoneRefused (replies_of outcomes)
+  -- where the instance stood for a world: outcomes that store nothing left all files as they were
+  pub still : device_tells → (w : World) → StandsFor old disk w → AreStill outcomes → LeavesAlone old disk new disk_after
+  -- and no medium was touched but those to which their acts write
+  pub spares : device_tells → (w : World) → StandsFor old disk w → Spares (IsTouched (OutcomesWrite outcomes)) disk disk_after
 
 -- All these statements were.
-abbrev pub AnsweredAll : Bool → Instance → Instance → List Statement → Type 0 → (ℕ → ℕ) → (ℕ → ℕ) → Type 0 → Disk → Disk → Type 0
-AnsweredAll stop old new ss = AnsweredFront stop old new ss ss
+abbrev pub AnsweredAll : Bool → Instance → Instance → List ScriptEntry → Type 0 → (ℕ → ℕ) → (ℕ → ℕ) → Type 0 → Disk → Disk → Type 0
+AnsweredAll stop old new ss = AnsweredFront stop old new ss
 
 -- A front of these statements was answered, and the last of them was the first that was refused, where a refusal stops it.
-pub record Stopped (stop : Bool) (old new : Instance) (ss : List Statement) (clock_tells : Type 0) (before after : ℕ → ℕ) (device_tells : Type 0) (disk disk_after : Disk) : Type 0 where
+pub record Stopped (stop : Bool) (old new : Instance) (ss : List ScriptEntry) (clock_tells : Type 0) (before after : ℕ → ℕ) (device_tells : Type 0) (disk disk_after : Disk) : Type 0 where
   pub moments : List ℕ
-  pub replies : List Reply
-  pub each_moment : length moments ≡ length replies
-  pub within : length replies ≤ length ss
+  pub outcomes : List Outcome
+  pub each_moment : length moments ≡ length outcomes
+  pub within : length outcomes ≤ length ss
   pub asked : Asked clock_tells before after moments
-  pub runs : device_tells → Runs old disk (take (length replies) ss) moments replies new disk_after
+  pub runs : device_tells → Runs old disk (take (length outcomes) ss) moments outcomes new disk_after
   pub media : device_tells → MediaAreDurable disk → MediaAreDurable disk_after
-  pub crashes : device_tells → Elapses disk disk_after (CrashLeaves old disk ss moments replies)
-  pub text : device_tells → disk_after.told ≡ disk.told ++ replies_text replies
+  pub crashes : device_tells → Elapses disk disk_after (CrashLeaves old disk outcomes)
+  pub text : device_tells → disk_after.told ≡ disk.told ++ replies_text (replies_of outcomes)
   pub stops : stop ≡ true
-  pub accepted : GoesOnAccepted (length replies) replies
-  pub refused : EndsRefused replies
+  pub accepted : GoesOnAccepted (length outcomes) (replies_of outcomes)
+  pub refused : EndsRefused (replies_of outcomes)
+  pub still : device_tells → (w : World) → StandsFor old disk w → AreStill outcomes → LeavesAlone old disk new disk_after
+  pub spares : device_tells → (w : World) → StandsFor old disk w → Spares (IsTouched (OutcomesWrite outcomes)) disk disk_after
 
 -- how answering ended
-abbrev pub AnsweredBy : Ended → Bool → Instance → Instance → List Statement → Type 0 → (ℕ → ℕ) → (ℕ → ℕ) → Type 0 → Disk → Disk → Type 0
+abbrev pub AnsweredBy : Ended → Bool → Instance → Instance → List ScriptEntry → Type 0 → (ℕ → ℕ) → (ℕ → ℕ) → Type 0 → Disk → Disk → Type 0
 AnsweredBy AtTheEnd = AnsweredAll
 AnsweredBy AtARefusal = Stopped
 
--- A front of these statements has its replies, of whose texts a front was told.
-pub record CutAll (stop : Bool) (old : Instance) (ss : List Statement) (clock_tells : Type 0) (before after : ℕ → ℕ) (device_tells : Type 0) (disk disk_after : Disk) (has_reply : Type 0) : Type 0 where
-  -- one moment for each reply, and perhaps one for a statement that has none
+-- A front of these statements came to outcomes, and of the texts of their replies a front was told. One more may have been begun.
+pub record CutAll (stop : Bool) (old : Instance) (ss : List ScriptEntry) (clock_tells : Type 0) (before after : ℕ → ℕ) (device_tells : Type 0) (disk disk_after : Disk) (has_reply : Type 0) : Type 0 where
   pub moments : List ℕ
-  pub replies : List Reply
-  pub asked_each : (length replies ≤ length moments) × (length moments ≤ length replies + 1)
-  pub within : length replies ≤ length ss
+  pub outcomes : List Outcome
+  pub asked_each : (length outcomes ≤ length moments) × (length moments ≤ length outcomes + 1)
+  pub within : length outcomes ≤ length ss
   pub asked : Asked clock_tells before after moments
-  pub runs : device_tells → MayRun old disk (take (length replies) ss) (take (length replies) moments) replies
-  pub crashes : device_tells → Elapses disk disk_after (CrashLeaves old disk ss moments replies)
-  pub front : device_tells → TellsFront (replies_text replies) disk.told disk_after.told
-  pub some : has_reply → 0 < length replies
-  pub accepted : stop ≡ true → GoesOnAccepted (length moments) replies
+  pub runs : device_tells → MayRun old disk (take (length outcomes) ss) (take (length outcomes) moments) outcomes
+  pub crashes : device_tells → Elapses disk disk_after (CrashLeaves old disk outcomes)
+  pub front : device_tells → TellsFront (replies_text (replies_of outcomes)) disk.told disk_after.told
+  pub some : has_reply → 0 < length outcomes
+  pub accepted : stop ≡ true → GoesOnAccepted (length moments) (replies_of outcomes)
+  -- no medium was touched but those to which acts of the outcomes write
+  pub spares : device_tells → (w : World) → StandsFor old disk w → Spares (IsTouched (OutcomesWrite outcomes)) disk disk_after
 
 -- why an answer is cut short where executing its statement fails
 abbrev pub executed_error : ExecuteError → AnswerError

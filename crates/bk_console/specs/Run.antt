@@ -8,14 +8,16 @@ use Rattle.bk_instance.specs.declared.error.ExecuteError.TheVariants as execute
 use Rattle.bk_instance.specs.declared.error.LoadError.{LoadError}
 use Rattle.bk_instance.specs.declared.error.LoadError.TheVariants as load
 use Rattle.bk_instance.specs.Stands.{Stands}
-use Rattle.bk_syntax.specs.Machine.{AreStatements}
-use Rattle.bk_world.specs.declared.item.Statement.{Statement}
-use Rattle.bk_world.specs.declared.reply.Reply.{Reply}
-use Rattle.bk_world.specs.World.{World, opened, ended}
-use Rattle.bk_world.specs.Run.{IsRun}
+use Rattle.bk_instance.specs.Touched.{IsTouched}
+use Rattle.bk_home.specs.Home.{IsMade}
+use Rattle.bk_items.specs.declared.item.ScriptEntry.{ScriptEntry}
+use Rattle.bk_machine.specs.Outcome.{Outcome}
+use Rattle.bk_machine.specs.Run.{IsRun, behind_all, replies_of}
+use Rattle.bk_machine.specs.World.{World, opened, ended}
+use Rattle.bk_syntax.specs.Items.{AreItems}
 use Rattle.bk_world.specs.Text.{replies_text}
 use Rattle.bk_console.specs.declared.status.Status.{Status}
-use Rattle.bk_console.specs.declared.status.Status.TheVariants.{Done, StoppedAtRefusal, Usage, SourceFault, ConsoleFault, DeviceFault, NoMemory, NotAnInstance, ScriptTooLong}
+use Rattle.bk_console.specs.declared.status.Status.TheVariants.{Done, StoppedAtRefusal, Usage, SourceFault, ConsoleFault, DeviceFault, NoMemory, Broken, NotAnInstance, ScriptTooLong}
 use Rattle.bk_console.specs.declared.reading.ReadError.{ReadError}
 use Rattle.bk_console.specs.declared.reading.ReadError.TheVariants as read
 use Rattle.bk_console.specs.declared.answers.AnswerError.{AnswerError}
@@ -23,6 +25,7 @@ use Rattle.bk_console.specs.declared.answers.AnswerError.TheVariants as answer
 use Rattle.bk_console.specs.declared.command_line.WordsError.{WordsError}
 use Rattle.bk_console.specs.declared.command_line.WordsError.TheVariants as words
 use Rattle.bk_console.specs.Answers.{Asked, NoneRefused, EndsRefused, GoesOnAccepted, LeavesOf}
+use Rattle.bk_console.specs.Spares.{AreStill, IsFinished, NoName, RunWrites, Spares}
 use Rattle.bk_console.specs.Words.{WordOptions}
 
 -- the exit status
@@ -34,6 +37,7 @@ code_of SourceFault = 3
 code_of ConsoleFault = 4
 code_of DeviceFault = 5
 code_of NoMemory = 6
+code_of Broken = 6
 code_of NotAnInstance = 7
 code_of ScriptTooLong = 8
 
@@ -51,18 +55,18 @@ abbrev pub answer_status : AnswerError → Status
 answer_status answer.Console = ConsoleFault
 answer_status answer.Device = DeviceFault
 answer_status answer.NoMemory = NoMemory
-answer_status answer.Broken = NoMemory
+answer_status answer.Broken = Broken
 
 abbrev pub load_status : LoadError → Status
 load_status load.NotAnInstance = NotAnInstance
-load_status load.Broken = NoMemory
+load_status load.Broken = Broken
 load_status load.Fault = DeviceFault
 load_status load.NoMemory = NoMemory
 
 abbrev pub close_status : ExecuteError → Status
 close_status execute.Fault = DeviceFault
 close_status execute.NoMemory = NoMemory
-close_status execute.Broken = NoMemory
+close_status execute.Broken = Broken
 
 -- how a run ended
 abbrev pub status_of : Result (Unit {0}) Status → Status
@@ -88,47 +92,58 @@ abbrev pub asked_number : Option WordOptions → ℕ
 asked_number None = 0
 asked_number (Some options) = options.instance
 
--- These bytes are the whole source, and the statements are its items, as the machine takes them.
-pub record IsWhole (tells : Type 0) (bytes rest_after : List ℕ) (statements : List Statement) : Type 0 where
-  pub script : AreStatements bytes statements
+-- These bytes are the whole source, and the statements are its items.
+pub record IsWhole (tells : Type 0) (bytes rest_after : List ℕ) (statements : List ScriptEntry) : Type 0 where
+  pub script : AreItems bytes statements
   pub to_its_end : tells → rest_after ≡ []
   pub short : length bytes ≤ script_bytes
 
--- Executing statements, from each world with which the run may begin: the machine's replies, what was told of them, and what is left.
-pub record Executed (asks : Option WordOptions) (statements : List Statement) (clock_tells : Type 0) (coming coming_after : ℕ → ℕ)
+-- Executing statements, from each world with which the run may begin: the machine's outcomes, what was told of their replies, and what is left.
+pub record Executed (asks : Option WordOptions) (statements : List ScriptEntry) (clock_tells : Type 0) (coming coming_after : ℕ → ℕ)
     (device_tells : Type 0) (disk disk_after : Disk) (status : ℕ) : Type 0 where
   -- one moment for each time that the clock was asked
   pub moments : List ℕ
-  pub replies : List Reply
+  -- what statements came to, from the first one on
+  pub outcomes : List Outcome
   pub asked : Asked clock_tells coming coming_after moments
-  pub asked_each : (length replies ≤ length moments) × (length moments ≤ length replies + 1)
+  pub asked_each : (length outcomes ≤ length moments) × (length moments ≤ length outcomes + 1)
   -- where nothing was pending at entry: the machine's run over a front of the statements; at the end the files stand for its last world
   pub runs : device_tells → IsSettled disk → (w : World) → MayBegin asks disk.files w
-      → (last : World) × IsRun (opened w) (take (length replies) statements) (take (length replies) moments) replies last
-      × ((status ≡ 0) ⊎ (status ≡ 1) → MayBegin asks disk_after.files (ended last))
+      → IsRun (opened w) (take (length outcomes) statements) (take (length outcomes) moments) outcomes
+      × ((status ≡ 0) ⊎ (status ≡ 1) → MayBegin asks disk_after.files (ended (behind_all (opened w) outcomes)))
   -- and nothing is pending
   pub settled : device_tells → IsSettled disk → (status ≡ 0) ⊎ (status ≡ 1) → IsSettled disk_after
+  -- the instance is made then, also by an empty script
+  pub made : device_tells → (status ≡ 0) ⊎ (status ≡ 1) → IsMade disk_after.files
   -- each crash meanwhile left what a crash of this run leaves, so that the next run with these words may begin with it
   pub crashes : device_tells → IsSettled disk → (w : World) → MayBegin asks disk.files w
-      → LeavesSince disk.moment (LeavesOf (asked_number asks) (opened w) statements moments replies disk.told) disk_after
+      → LeavesSince disk.moment (LeavesOf (asked_number asks) (opened w) outcomes disk.told) disk_after
+  -- No file was touched but the instance's own three, a medium that was being made at entry, and media to which acts of the outcomes write: the others are byte
+  -- for byte as they were, and each crash meanwhile left them so.
+  pub spares : device_tells → IsSettled disk → (w : World) → MayBegin asks disk.files w
+      → Spares (IsTouched (RunWrites disk.files outcomes)) disk disk_after
+  -- Where all that was executed stores nothing, as what is refused, USE and SELECT, no file was touched at all. The instance was made, and none of its media was
+  -- being made.
+  pub still : device_tells → IsSettled disk → (w : World) → MayBegin asks disk.files w → (status ≡ 0) ⊎ (status ≡ 1) → IsFinished disk.files → AreStill outcomes
+      → Spares NoName disk disk_after
   -- whole texts of replies, and then perhaps a front of the next
-  pub front : device_tells → TellsFront (replies_text replies) disk.told disk_after.told
+  pub front : device_tells → TellsFront (replies_text (replies_of outcomes)) disk.told disk_after.told
   -- where a refusal stops the run, no statement is begun behind one
-  pub accepted : AsksStop asks → GoesOnAccepted (length moments) replies
+  pub accepted : AsksStop asks → GoesOnAccepted (length moments) (replies_of outcomes)
   -- at the end every statement has its reply, and all are told whole
-  pub done : status ≡ 0 → (length replies ≡ length statements) × (length moments ≡ length replies)
-      × (device_tells → disk_after.told ≡ disk.told ++ replies_text replies) × (AsksStop asks → NoneRefused replies)
+  pub done : status ≡ 0 → (length outcomes ≡ length statements) × (length moments ≡ length outcomes)
+      × (device_tells → disk_after.told ≡ disk.told ++ replies_text (replies_of outcomes)) × (AsksStop asks → NoneRefused (replies_of outcomes))
   -- it was asked to stop at a refusal, and the last reply is one; all replies are told whole
-  pub stopped : status ≡ 1 → AsksStop asks × EndsRefused replies × (length moments ≡ length replies)
-      × (device_tells → disk_after.told ≡ disk.told ++ replies_text replies)
+  pub stopped : status ≡ 1 → AsksStop asks × EndsRefused (replies_of outcomes) × (length moments ≡ length outcomes)
+      × (device_tells → disk_after.told ≡ disk.told ++ replies_text (replies_of outcomes))
   -- a fault of the console comes where a reply is told
-  pub cut : status ≡ 4 → 0 < length replies
+  pub cut : status ≡ 4 → 0 < length outcomes
 
 -- A run: what was read, and what was executed of it.
 pub record Ran (asks : Option WordOptions) (source_tells : Type 0) (rest rest_after : List ℕ) (clock_tells : Type 0) (coming coming_after : ℕ → ℕ)
     (device_tells : Type 0) (disk disk_after : Disk) (status : ℕ) : Type 0 where
   pub bytes : List ℕ
-  pub statements : List Statement
+  pub statements : List ScriptEntry
   -- the bytes that were read, at most one above the limit, which is exactly where the script is too long
   pub read : source_tells → rest ≡ bytes ++ rest_after
   pub few : length bytes ≤ script_bytes + 1

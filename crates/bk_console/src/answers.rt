@@ -1,19 +1,22 @@
 // Answering statements, one after the other.
 ghost use Rattle.std.specs.Prelude.{◌≡◌, List, IfOk, OnOk, OnErr, IsErrOf};
 ghost use Rattle.bk_device.specs.Effects.{KeepsFiles};
-ghost use Rattle.bk_instance.specs.Stands.{IsReady, IsStored};
-ghost use Rattle.bk_syntax.specs.Machine.{AreStatements};
-ghost use Rattle.bk_world.specs.declared.item.Statement.{Statement as StatementOf};
+ghost use Rattle.bk_instance.specs.Stands.{IsReady, IsStored, StandsFor};
+ghost use Rattle.bk_items.specs.declared.item.ScriptEntry.{ScriptEntry as EntryOf};
+ghost use Rattle.bk_machine.specs.World.{World};
+ghost use Rattle.bk_syntax.specs.Items.{AreItems};
 ghost use Rattle.bk_console.specs.Answers as spec;
 ghost use Rattle.bk_console.specs.Answers.{NotOurs, Answered, CutShort, AnsweredBy, CutAll, executed_error};
 ghost use Rattle.bk_console.specs.Causes.{HasCauses};
 ghost use Rattle.bk_console.specs.declared.answers.AnswerError.TheVariants as answer_error;
 
+use crate::laws::crashes_leave_worlds;
 use crate::report;
 use bk_device::{Clock, Device, Failed};
 use bk_instance::{ExecuteError, Instance};
-use bk_syntax::{Reader, next_statement};
-use bk_world::{Reply, Statement};
+use bk_items::ScriptEntry;
+use bk_syntax::Reader;
+use bk_world::Reply;
 use std::alloc::{AllocError, Global};
 use thiserror::Error;
 
@@ -29,7 +32,7 @@ pub enum AnswerError {
     /// Memory was wanting.
     #[error("out of memory")]
     NoMemory,
-    /// A change didn't fit the databases.
+    /// The instance stands for no world.
     #[error("the instance is broken")]
     Broken,
 }
@@ -81,7 +84,7 @@ fn is_refusal(reply: &Reply) -> bool
 pub fn answer<D: Device, C: Clock>(
     alloc: Global,
     instance: &mut Instance,
-    statement: &Statement,
+    statement: &ScriptEntry,
     device: &mut D,
     clock: &mut C,
 ) -> Result<bool, AnswerError>
@@ -94,6 +97,7 @@ pub fn answer<D: Device, C: Clock>(
     ensures ready { OnOk result (IsReady instance.new) }
     ensures stored { D.tells → OnOk result (IsStored (D.disk device.new) instance.new) }
     ensures others { D.tells → KeepsFiles NotOurs (D.disk device.old) (D.disk device.new) }
+    ensures broken { D.tells → IsErrOf result answer_error.Broken → (w : World) → StandsFor instance.old (D.disk device.old) w → ⊥ }
     ensures causes { HasCauses D.disk_faults D.tell_faults device.old device.new (IsErrOf result answer_error.Device) (IsErrOf result answer_error.Console) }
 {
     let now = clock.now();
@@ -103,7 +107,7 @@ pub fn answer<D: Device, C: Clock>(
     Ok(is_refusal(&reply))
 }
 
-fn let_go(_statement: Statement) {}
+fn let_go(_statement: ScriptEntry) {}
 
 /// Answers the statements of a script in their order: all of them, or up to the first that is refused, where `stop` asks for
 /// that. They are read one by one. At an error the rest isn't begun. A crash leaves what it may leave of the machine's run,
@@ -118,17 +122,19 @@ pub fn answer_all<D: Device, C: Clock>(
 ) -> Result<Ended, AnswerError>
     requires ready { IsReady instance.old }
     requires stored { D.tells → IsStored (D.disk device.old) instance.old }
-    ensures answered { (ss : List StatementOf) → AreStatements script.now ss → IfOk result (λ ended. AnsweredBy ended stop instance.old instance.new ss C.tells (C.coming clock.old) (C.coming clock.new)
+    ensures answered { (ss : List EntryOf) → AreItems script.now ss → IfOk result (λ ended. AnsweredBy ended stop instance.old instance.new ss C.tells (C.coming clock.old) (C.coming clock.new)
         D.tells (D.disk device.old) (D.disk device.new)) }
-    ensures cut_short { (ss : List StatementOf) → AreStatements script.now ss → OnErr result (CutAll stop instance.old ss C.tells (C.coming clock.old) (C.coming clock.new)
+    ensures cut_short { (ss : List EntryOf) → AreItems script.now ss → OnErr result (CutAll stop instance.old ss C.tells (C.coming clock.old) (C.coming clock.new)
         D.tells (D.disk device.old) (D.disk device.new) (IsErrOf result answer_error.Console)) }
     ensures ready { OnOk result (IsReady instance.new) }
     ensures stored { D.tells → OnOk result (IsStored (D.disk device.new) instance.new) }
     ensures others { D.tells → KeepsFiles NotOurs (D.disk device.old) (D.disk device.new) }
+    ensures broken { D.tells → IsErrOf result answer_error.Broken → (w : World) → StandsFor instance.old (D.disk device.old) w → ⊥ }
     ensures causes { HasCauses D.disk_faults D.tell_faults device.old device.new (IsErrOf result answer_error.Device) (IsErrOf result answer_error.Console) }
 {
+    crashes_leave_worlds();
     let mut reader = Reader::new(alloc);
-    while let Some(statement) = next_statement(alloc, &mut reader, script)? {
+    while let Some(statement) = reader.next(alloc, script)? {
         let answered = answer(alloc, instance, &statement, device, clock);
         let_go(statement);
         let refused = answered?;

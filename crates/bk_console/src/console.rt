@@ -1,24 +1,29 @@
 // The top call.
-ghost use Rattle.std.specs.Prelude.{◌≡◌, ◌⊎◌, ◌≤◌, ◌↔◌, List, None, Some, map};
+ghost use Rattle.std.specs.Prelude.{◌≡◌, ◌≢◌, ◌⊎◌, ◌≤◌, ◌↔◌, List, None, Some, map};
 ghost use Rattle.std.specs.String.{string_bytes};
 ghost use Rattle.bk_device.specs.Calls.{ChangesNothing};
 ghost use Rattle.bk_device.specs.Counts.{HasRisen};
+ghost use Rattle.bk_device.specs.Disk.{IsSettled};
 ghost use Rattle.bk_device.specs.Effects.{KeepsFiles};
 ghost use Rattle.bk_home.specs.Home.{IsNoInstance};
-ghost use Rattle.bk_syntax.specs.Machine.{AreStatements};
-ghost use Rattle.bk_world.specs.declared.item.Statement.{Statement as StatementOf};
+ghost use Rattle.bk_instance.specs.Stands.{Stands};
+ghost use Rattle.bk_items.specs.declared.item.ScriptEntry.{ScriptEntry as EntryOf};
+ghost use Rattle.bk_machine.specs.World.{World};
+ghost use Rattle.bk_syntax.specs.Items.{AreItems};
 ghost use Rattle.bk_console.specs.Answers.{NotOurs};
 ghost use Rattle.bk_console.specs.Causes.{HasCauses};
+ghost use Rattle.bk_console.specs.Life.{Called};
 ghost use Rattle.bk_console.specs.Words.{options_of, as_asked};
-ghost use Rattle.bk_console.specs.Run.{code_of, status_of, Executed, Ran};
+ghost use Rattle.bk_console.specs.Run.{code_of, status_of, MayBegin, Executed, Ran};
 
 use crate::answers::{Ended, answer_all};
 use crate::command_line::{self, Options};
+use crate::laws::crashes_leave_worlds;
 use crate::reading::read_script;
 use crate::status::Status;
 use bk_device::{Clock, Device, Source};
 use bk_instance::Instance;
-use bk_syntax::one_statement_list;
+use bk_syntax::one_item_list;
 use std::alloc::Global;
 use std::thread::Threads;
 
@@ -41,6 +46,10 @@ pub fn run<R: Threads + Sync, D: Device, S: Source, C: Clock>(
     ensures run { Ran (options_of (map string_bytes words.now)) S.tells (S.rest source.old) (S.rest source.new) C.tells (C.coming clock.old) (C.coming clock.new)
         D.tells (D.disk device.old) (D.disk device.new) result }
 
+    // A call in the life of its device.
+    ensures called { D.tells → IsSettled (D.disk device.old)
+        → Called S.tells C.tells D.tells D.disk (options_of (map string_bytes words.now)) (D.disk device.old).files device.old device.new result }
+
     // Which statuses there are, and when they come.
     ensures statuses { (status : Status) × (result ≡ code_of status) }
     ensures usage { (result ≡ 2) ↔ (options_of (map string_bytes words.now) ≡ None) }
@@ -56,37 +65,46 @@ pub fn run<R: Threads + Sync, D: Device, S: Source, C: Clock>(
     ensures others { D.tells → KeepsFiles NotOurs (D.disk device.old) (D.disk device.new) }
     ensures read_faults { S.read_faults source.old ≤ S.read_faults source.new }
 {
-    match console(alloc, words, source, device, clock) {
-        Ok(()) => Status::Done.code(),
-        Err(status) => status.code(),
-    }
+    run_script(alloc, words, source, device, clock).code()
 }
 
-// The same, up to the first thing that ends it.
-fn console<D: Device, S: Source, C: Clock>(
+/// The same by its status, which tells `Broken` apart from `NoMemory`, though their code is one: `Broken` comes only where
+/// something was pending at entry, or the files stand for no world.
+pub fn run_script<D: Device, S: Source, C: Clock>(
     alloc: Global,
     words: &[String],
     source: &mut S,
     device: &mut D,
     clock: &mut C,
-) -> Result<(), Status>
+) -> Status
     ensures run { Ran (options_of (map string_bytes words.now)) S.tells (S.rest source.old) (S.rest source.new) C.tells (C.coming clock.old) (C.coming clock.new)
-        D.tells (D.disk device.old) (D.disk device.new) (code_of (status_of result)) }
-    ensures usage { (status_of result ≡ Status.Usage) ↔ (options_of (map string_bytes words.now) ≡ None) }
-    ensures source_fault { status_of result ≡ Status.SourceFault → HasRisen (S.read_faults source.old) (S.read_faults source.new) }
-    ensures causes { HasCauses D.disk_faults D.tell_faults device.old device.new (status_of result ≡ Status.DeviceFault) (status_of result ≡ Status.ConsoleFault) }
-    ensures not_an_instance { D.tells → status_of result ≡ Status.NotAnInstance → IsNoInstance (D.disk device.old).files }
-    ensures no_instance { D.tells → IsNoInstance (D.disk device.old).files → (status_of result ≡ Status.Done) ⊎ (status_of result ≡ Status.StoppedAtRefusal) ⊎ (status_of result ≡ Status.ConsoleFault) → ⊥ }
-    ensures unread { status_of result ≡ Status.Usage → source.new ≡ source.old }
-    ensures untouched { (status_of result ≡ Status.Usage) ⊎ (status_of result ≡ Status.SourceFault) ⊎ (status_of result ≡ Status.ScriptTooLong) → device.new ≡ device.old }
-    ensures unchanged { D.tells → status_of result ≡ Status.NotAnInstance → ChangesNothing (D.disk device.old) (D.disk device.new) }
+        D.tells (D.disk device.old) (D.disk device.new) (code_of result) }
+    ensures usage { (result ≡ Status.Usage) ↔ (options_of (map string_bytes words.now) ≡ None) }
+    ensures source_fault { result ≡ Status.SourceFault → HasRisen (S.read_faults source.old) (S.read_faults source.new) }
+    ensures causes { HasCauses D.disk_faults D.tell_faults device.old device.new (result ≡ Status.DeviceFault) (result ≡ Status.ConsoleFault) }
+    ensures not_an_instance { D.tells → result ≡ Status.NotAnInstance → IsNoInstance (D.disk device.old).files }
+    ensures no_instance { D.tells → IsNoInstance (D.disk device.old).files → (result ≡ Status.Done) ⊎ (result ≡ Status.StoppedAtRefusal) ⊎ (result ≡ Status.ConsoleFault) → ⊥ }
+    ensures unbroken { D.tells → IsSettled (D.disk device.old) → (w : World) → MayBegin (options_of (map string_bytes words.now)) (D.disk device.old).files w → result ≢ Status.Broken }
+    ensures unread { result ≡ Status.Usage → source.new ≡ source.old }
+    ensures untouched { (result ≡ Status.Usage) ⊎ (result ≡ Status.SourceFault) ⊎ (result ≡ Status.ScriptTooLong) → device.new ≡ device.old }
+    ensures unchanged { D.tells → result ≡ Status.NotAnInstance → ChangesNothing (D.disk device.old) (D.disk device.new) }
     ensures others { D.tells → KeepsFiles NotOurs (D.disk device.old) (D.disk device.new) }
     ensures read_faults { S.read_faults source.old ≤ S.read_faults source.new }
 {
-    let options = command_line::words(alloc, words)?;
-    let script = read_script(alloc, source)?;
-    one_statement_list();
-    over_instance(alloc, &options, &script, device, clock)
+    crashes_leave_worlds();
+    let options = match command_line::words(alloc, words) {
+        Ok(options) => options,
+        Err(error) => return Status::from(error),
+    };
+    let script = match read_script(alloc, source) {
+        Ok(script) => script,
+        Err(error) => return Status::from(error),
+    };
+    one_item_list();
+    match over_instance(alloc, &options, &script, device, clock) {
+        Ok(()) => Status::Done,
+        Err(status) => status,
+    }
 }
 
 // Executes the statements of a script over the instance on the device.
@@ -97,15 +115,17 @@ fn over_instance<D: Device, C: Clock>(
     device: &mut D,
     clock: &mut C,
 ) -> Result<(), Status>
-    ensures executed { (ss : List StatementOf) → AreStatements script.now ss → Executed (Some (as_asked options.now)) ss C.tells (C.coming clock.old) (C.coming clock.new)
+    ensures executed { (ss : List EntryOf) → AreItems script.now ss → Executed (Some (as_asked options.now)) ss C.tells (C.coming clock.old) (C.coming clock.new)
         D.tells (D.disk device.old) (D.disk device.new) (code_of (status_of result)) }
     ensures begun { (status_of result ≡ Status.Usage) ⊎ (status_of result ≡ Status.SourceFault) ⊎ (status_of result ≡ Status.ScriptTooLong) → ⊥ }
     ensures causes { HasCauses D.disk_faults D.tell_faults device.old device.new (status_of result ≡ Status.DeviceFault) (status_of result ≡ Status.ConsoleFault) }
     ensures not_an_instance { D.tells → status_of result ≡ Status.NotAnInstance → IsNoInstance (D.disk device.old).files }
     ensures no_instance { D.tells → IsNoInstance (D.disk device.old).files → (status_of result ≡ Status.Done) ⊎ (status_of result ≡ Status.StoppedAtRefusal) ⊎ (status_of result ≡ Status.ConsoleFault) → ⊥ }
+    ensures unbroken { D.tells → IsSettled (D.disk device.old) → (w : World) → Stands options.now.instance (D.disk device.old).files w → status_of result ≢ Status.Broken }
     ensures unchanged { D.tells → status_of result ≡ Status.NotAnInstance → ChangesNothing (D.disk device.old) (D.disk device.new) }
     ensures others { D.tells → KeepsFiles NotOurs (D.disk device.old) (D.disk device.new) }
 {
+    crashes_leave_worlds();
     let mut instance = Instance::load(alloc, device, options.instance)?;
     let ended = answer_all(alloc, &mut instance, script, options.stop, device, clock)?;
     instance.close(device)?;

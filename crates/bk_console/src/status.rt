@@ -8,35 +8,47 @@ use crate::reading::ReadError;
 use bk_instance::{ExecuteError, LoadError};
 use std::alloc::AllocError;
 
-/// How a call of `run` ended: the program's exit status.
+/// How a run ended. Its code is the program's exit status.
 #[derive(Clone, Copy, Debug, PartialEq, Eq)]
 pub enum Status {
     /// Each statement had its reply.
-    Done = 0,
+    Done,
     /// The last reply is a refusal, and `-b` asked to stop there.
-    StoppedAtRefusal = 1,
+    StoppedAtRefusal,
     /// The words are in no form; nothing was read or touched.
-    Usage = 2,
+    Usage,
     /// Reading the script failed.
-    SourceFault = 3,
+    SourceFault,
     /// Telling a reply failed.
-    ConsoleFault = 4,
+    ConsoleFault,
     /// A file call of the device failed.
-    DeviceFault = 5,
-    /// Memory was wanting, or the files hold what no instance writes.
-    NoMemory = 6,
+    DeviceFault,
+    /// Memory was wanting.
+    NoMemory,
+    /// The files hold what no instance writes; the code is that of `NoMemory`.
+    Broken,
     /// The directory is made as an instance, and its control file holds no control.
-    NotAnInstance = 7,
+    NotAnInstance,
     /// The script has more than 16,777,216 bytes.
-    ScriptTooLong = 8,
+    ScriptTooLong,
 }
 
 impl Status {
-    /// Its number.
+    /// Its code, which the program answers.
     pub fn code(self) -> u8
         ensures { result ≡ code_of self }
     {
-        self as u8
+        match self {
+            Status::Done => 0,
+            Status::StoppedAtRefusal => 1,
+            Status::Usage => 2,
+            Status::SourceFault => 3,
+            Status::ConsoleFault => 4,
+            Status::DeviceFault => 5,
+            Status::NoMemory | Status::Broken => 6,
+            Status::NotAnInstance => 7,
+            Status::ScriptTooLong => 8,
+        }
     }
 }
 
@@ -70,7 +82,8 @@ impl From<AnswerError> for Status {
         match error {
             AnswerError::Console => Status::ConsoleFault,
             AnswerError::Device => Status::DeviceFault,
-            AnswerError::NoMemory | AnswerError::Broken => Status::NoMemory,
+            AnswerError::NoMemory => Status::NoMemory,
+            AnswerError::Broken => Status::Broken,
         }
     }
 }
@@ -82,7 +95,8 @@ impl From<LoadError> for Status {
         match error {
             LoadError::NotAnInstance => Status::NotAnInstance,
             LoadError::Fault => Status::DeviceFault,
-            LoadError::NoMemory | LoadError::Broken => Status::NoMemory,
+            LoadError::NoMemory => Status::NoMemory,
+            LoadError::Broken => Status::Broken,
         }
     }
 }
@@ -93,7 +107,8 @@ impl From<ExecuteError> for Status {
     fn from(error: ExecuteError) -> Self {
         match error {
             ExecuteError::Fault => Status::DeviceFault,
-            ExecuteError::NoMemory | ExecuteError::Broken => Status::NoMemory,
+            ExecuteError::NoMemory => Status::NoMemory,
+            ExecuteError::Broken => Status::Broken,
         }
     }
 }

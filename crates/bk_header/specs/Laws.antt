@@ -148,7 +148,7 @@ expiry_small (Some time) h = omega (arith, h)
 data_range : (f c l : ℕ) → is_data_range f c l ≡ true → (f ≤ c) × (c < l)
 data_range f c l e = let p = and_parts (leb f c) (ltb c l) e in (leb-true _ _ p.0, ltb-true _ _ p.1)
 
-range_true : (kind : SetKind) (f c l : ℕ) → is_range kind f c l ≡ true → IsRange kind f c l
+pub range_true : (kind : SetKind) (f c l : ℕ) → is_range kind f c l ≡ true → IsRange kind f c l
 range_true Log f c l e = ltb-true _ _ e
 range_true Full f c l e = data_range f c l e
 range_true File f c l e = data_range f c l e
@@ -163,7 +163,7 @@ range_from Full f c l h = data_range_from f c l h
 range_from File f c l h = data_range_from f c l h
 range_from Differential f c l h = data_range_from f c l h
 
-has_base_true : (kind : SetKind) (b : Option Base) → has_its_base kind b ≡ true → HasItsBase kind b
+pub has_base_true : (kind : SetKind) (b : Option Base) → has_its_base kind b ≡ true → HasItsBase kind b
 has_base_true Differential b e = e
 has_base_true Full b e = tt
 has_base_true Log b e = tt
@@ -175,7 +175,7 @@ has_base_from Full b h = refl
 has_base_from Log b h = refl
 has_base_from File b h = refl
 
-rise_true : (least : ℕ) (path : List Branch) → starts_rise least path ≡ true → StartsRiseFrom least path
+pub rise_true : (least : ℕ) (path : List Branch) → starts_rise least path ≡ true → StartsRiseFrom least path
 rise_true least [] e = tt
 rise_true least (b ∷ path) e = let p = and_parts (leb least b.start) (starts_rise b.start path) e in (leb-true _ _ p.0, rise_true b.start path p.1)
 
@@ -212,7 +212,7 @@ path_branches : (last : ℕ) (path : List Branch) → last < 2 ^ 64 → IsHeader
 path_branches last [] small h = absurd h
 path_branches last (b ∷ path) small h = branches_fit last (b ∷ path) small h.1.1
 
-numbered_true : (n : ℕ) (files : List HeaderFile) → are_numbered n files ≡ true → AreNumbered n files
+pub numbered_true : (n : ℕ) (files : List HeaderFile) → are_numbered n files ≡ true → AreNumbered n files
 numbered_true n [] e = tt
 numbered_true n (f ∷ files) e = let p = and_parts (eqb f.spec.number n) (are_numbered (n + 1) files) e in (eqb-true _ _ p.0, numbered_true (n + 1) files p.1)
 

@@ -4,4 +4,5 @@ pub mod Reading
 pub mod Decoding
 pub mod Found
 pub mod FormLaws
+pub mod Keeping
 pub mod Laws

@@ -6,9 +6,11 @@
 mod decoding;
 mod encoding;
 mod fixed;
+mod keeping;
 mod lists;
 mod making;
 mod unread;
 
 pub use decoding::{decode, header_law};
 pub use encoding::encode;
+pub use keeping::keeps;

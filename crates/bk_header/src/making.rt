@@ -12,7 +12,7 @@ use bk_ids::{Branch, Lsn};
 use bk_world::{Base, Header, HeaderFile, SetKind};
 
 /// 9999-12-31 23:59:59.999 in milliseconds since 1970-01-01 00:00:00.
-const LAST_TIME: u64 = 253_402_300_799_999;
+pub(crate) const LAST_TIME: u64 = 253_402_300_799_999;
 
 fn is_set(flags: u8, worth: u8) -> bool
     requires { 0 < worth }
@@ -48,7 +48,7 @@ fn expiry_of(there: bool, time: u64) -> Option<Option<u64>>
     if time == 0 { Some(None) } else { None }
 }
 
-fn is_in_order(kind: SetKind, range: Range) -> bool
+pub(crate) fn is_in_order(kind: SetKind, range: Range) -> bool
     ensures { result ≡ is_range kind range.first range.checkpoint range.last }
 {
     match kind {
@@ -59,7 +59,7 @@ fn is_in_order(kind: SetKind, range: Range) -> bool
     }
 }
 
-fn has_base(kind: SetKind, base: Option<Base>) -> bool
+pub(crate) fn has_base(kind: SetKind, base: Option<Base>) -> bool
     ensures { result ≡ has_its_base kind base }
 {
     match kind {
@@ -87,7 +87,7 @@ fn are_below(path: &[Branch], last: Lsn) -> bool
     path.iter().all(|branch| branch.start < last)
 }
 
-fn is_recovery_path(path: &[Branch], last: Lsn) -> bool
+pub(crate) fn is_recovery_path(path: &[Branch], last: Lsn) -> bool
     ensures { result ≡ is_path last path.now }
 {
     let Some((first, others)) = path.split_first() else {
@@ -125,7 +125,7 @@ fn extents(files: &[HeaderFile]) -> u64
     files.iter().map(|file| u64::from(file.spec.extents)).sum()
 }
 
-fn are_data_files(files: &[HeaderFile], groups: usize) -> bool
+pub(crate) fn are_data_files(files: &[HeaderFile], groups: usize) -> bool
     ensures { result ≡ are_files groups files.now }
 {
     !files.is_empty()

@@ -1,60 +1,70 @@
 -- What the end of a run leaves of an instance's files.
-use Rattle.std.proofs.Common.{◌≡◌, ◌≤◌, ◌⊎◌, inl, inr, ℕ, ◌+◌, None, refl, sym, ◌∙◌, ap, subst, arith}
-use Rattle.bk_changes.specs.Replayed.{replayed}
+use Rattle.std.proofs.Common.{◌≡◌, ◌≤◌, ◌⊎◌, inl, inr, ℕ, ◌+◌, List, Option, None, refl, sym, ◌∙◌, ap, subst, arith}
 use Rattle.bk_device.specs.Compose.{effect_none, effect_widen}
 use Rattle.bk_device.specs.Disk.{Files, Disk}
 use Rattle.bk_device.specs.Effects.{Effect}
 use Rattle.bk_home.specs.declared.record.Record.{Record}
 use Rattle.bk_home.specs.Home.{HomeIs, IsHome, IsOwn, blobs_of}
-use Rattle.bk_home.specs.Laws.{home_files}
-use Rattle.bk_kept.specs.Goes.{LeadsTo}
-use Rattle.bk_kept.proofs.Changing.{keeps-same}
+use Rattle.bk_home.specs.Laws.{home_files, home_left}
+use Rattle.bk_machine.specs.Sound.{IsSound}
+use Rattle.bk_machine.specs.World.{World, ended}
 use Rattle.bk_media.specs.Names.{medium_file}
-use Rattle.bk_world.specs.World.{World, ended}
 use Rattle.bk_instance.specs.declared.instance.Instance.{Instance}
 use Rattle.bk_instance.specs.Media.{KeepsMedia, IfDurable}
-use Rattle.bk_instance.specs.Stands.{Stored, Stands, Covers, CutsEnd, IsReady, IsStored, StandsFor, IsOurs}
-use Rattle.bk_instance.proofs.Covering.{SameMedia, media-in, media-on, now-covers}
-use Rattle.bk_instance.proofs.Stores.{not-own}
+use Rattle.bk_instance.specs.Stands.{Stands, Covers, CutsEnd, IsReady, IsStored, StandsFor, IsOurs}
+use Rattle.bk_instance.proofs.Opened.{SameMedia, media-in, media-ended, not-own}
+use Rattle.bk_instance.proofs.Replays.{made-same, same-ended}
 
 -- own files with a record that reserves enough, and not too much, hold what a crash leaves of the world
-pub covers-with : (number : ℕ) (i : Instance) (disk : Disk) (w : World) (image : Files) (r : Record) → Stored image r i.kept.databases.items → r.number ≡ i.kept.number → i.kept.counter ≤ r.counter → r.counter ≤ i.kept.counter + 1024
+pub covers-with : (number : ℕ) (i : Instance) (disk : Disk) (w : World) (image : Files) (r : Record) → HomeIs image r (blobs_of disk.files) → r.number ≡ i.kept.number → i.kept.counter ≤ r.counter → r.counter ≤ i.kept.counter + 1024
     → r.making ≡ None → SameMedia disk.files image → StandsFor i disk w → Covers number image w
-covers-with number i disk w image r stored own no_less no_more none same stands = record {
-  «record» = r;
-  kept = i.kept.databases.items;
-  holds = inr stored;
-  instance = stands.keeps.number ∙ sym own;
-  no_less = omega (arith, stands.keeps.counter, no_less);
-  no_more = omega (arith, stands.keeps.counter, no_more);
-  databases = stands.keeps.databases;
-  media = subst (λ making. KeepsMedia w making image) (sym none) (media-in w None disk.files image same stands.media);
-}
+covers-with number i disk w image r home own no_less no_more none same stands =
+    let Media : Option (List ℕ) → Type 0 = λ making. KeepsMedia w making image in
+    record {
+      sound = stands.sound;
+      idle = stands.idle;
+      «record» = r;
+      blobs = blobs_of disk.files;
+      holds = inr home;
+      instance = stands.keeps.number ∙ sym own;
+      no_less = omega (arith, stands.keeps.counter, no_less);
+      no_more = omega (arith, stands.keeps.counter, no_more);
+      made = stands.made;
+      media = subst Media (sym none) (media-in w None disk.files image same stands.media);
+    }
+
+-- a run ends in a sound world
+abbrev pub EndSound : Type 0
+EndSound = (w : World) → IsSound w → IsSound (ended w)
 
 -- where the record reserves no more than was drawn, the files stand for the world that ended
-pub ended-stands : (number : ℕ) (i : Instance) (disk : Disk) (files : Files) (w : World) (r : Record) → Stored files r i.kept.databases.items → r.number ≡ i.kept.number → r.counter ≡ i.kept.counter → r.making ≡ None
+pub ended-stands : EndSound → (number : ℕ) (i : Instance) (disk : Disk) (files : Files) (w : World) (r : Record) → HomeIs files r (blobs_of disk.files) → r.number ≡ i.kept.number → r.counter ≡ i.kept.counter → r.making ≡ None
     → SameMedia disk.files files → StandsFor i disk w → Stands number files (ended w)
 unfolding ended
-ended-stands number i disk files w r stored own counter none same stands =
-    let to : LeadsTo w (ended w) i.kept.databases.items = keeps-same w (ended w) i.kept.databases.items refl (omega arith) refl refl stands.keeps.databases in
+ended-stands ends number i disk files w r home own counter none same stands =
+    let Media : Option (List ℕ) → Type 0 = λ making. KeepsMedia (ended w) making files in
     record {
+      sound = ends w stands.sound;
+      idle = stands.idle;
       «record» = r;
-      kept = i.kept.databases.items;
-      holds = inr stored;
+      blobs = blobs_of disk.files;
+      holds = inr home;
       instance = stands.keeps.number ∙ sym own;
       counter = stands.keeps.counter ∙ sym counter;
-      databases = to.keeps;
-      media = subst (λ making. KeepsMedia (ended w) making files) (sym none) (media-on w (ended w) None files to.goes refl (media-in w None disk.files files same stands.media));
+      made = made-same (blobs_of disk.files) w (ended w) (same-ended w) stands.made;
+      media = subst Media (sym none) (media-ended w None files (media-in w None disk.files files same stands.media));
       finished = λ closed. none;
     }
 
 -- nothing was done
 pub close-none : (i : Instance) (disk : Disk) → IsReady i → IsStored disk i → Effect IsOurs (IfDurable disk (CutsEnd i disk)) disk disk
-close-none i disk ready stored = effect_none disk (λ image left durable number w stands. now-covers number i disk w image ready stored durable left stands)
+close-none i disk ready stored = effect_none disk (λ image left durable number w stands.
+    covers-with number i disk w image i.home.«record» (home_left image stored (λ name own. left name (inl own))) (sym ready.number) ready.no_less ready.no_more ready.none
+    (λ path bytes. durable path bytes (image (medium_file path)) (left (medium_file path) (inr (path, bytes, refl)))) stands)
 
-pub none-stands : (number : ℕ) (i : Instance) (disk : Disk) (w : World) → IsReady i → IsStored disk i → i.home.«record».counter ≡ i.kept.counter → StandsFor i disk w → Stands number disk.files (ended w)
-none-stands number i disk w ready stored exact stands =
-    ended-stands number i disk disk.files w i.home.«record» (record { blobs = blobs_of disk.files; home = home_files stored.home; rows = stored.rows }) (sym ready.number) exact ready.none (λ path bytes. refl) stands
+pub none-stands : EndSound → (number : ℕ) (i : Instance) (disk : Disk) (w : World) → IsReady i → IsStored disk i → i.home.«record».counter ≡ i.kept.counter → StandsFor i disk w → Stands number disk.files (ended w)
+none-stands ends number i disk w ready stored exact stands =
+    ended-stands ends number i disk disk.files w i.home.«record» (home_files stored) (sym ready.number) exact ready.none (λ path bytes. refl) stands
 
 -- the exact record is put
 pub close-put : (i : Instance) (before after : Disk) (next : Record) → IsReady i → IsStored before i → next.number ≡ i.kept.number → next.counter ≡ i.kept.counter → next.making ≡ None
@@ -64,13 +74,14 @@ close-put i before after next ready stored own counter none effect =
     effect_widen (λ name own. inl own) (λ image here others durable number w stands.
     let same : SameMedia before.files image = λ path bytes. durable path bytes (image (medium_file path)) (others (medium_file path) (not-own path) (inr (path, bytes, refl))) in
     elim here [
-      | inl old ↦ covers-with number i before w image i.home.«record» (record { blobs = blobs_of before.files; home = old; rows = stored.rows }) (sym ready.number) ready.no_less ready.no_more ready.none same stands
-      | inr new ↦ covers-with number i before w image next (record { blobs = blobs_of before.files; home = new; rows = stored.rows }) own (omega (arith, counter)) (omega (arith, counter)) none same stands
+      | inl old ↦ covers-with number i before w image i.home.«record» old (sym ready.number) ready.no_less ready.no_more ready.none same stands
+      | inr new ↦ covers-with number i before w image next new own (omega (arith, counter)) (omega (arith, counter)) none same stands
     ]) effect
 
-pub put-stands : (number : ℕ) (i j : Instance) (before after : Disk) (w : World) (next : Record) → IsReady i → IsStored before i → next.number ≡ i.kept.number → next.counter ≡ i.kept.counter → next.making ≡ None
+pub put-stands : EndSound → (number : ℕ) (i j : Instance) (before after : Disk) (w : World) (next : Record) → IsReady i → next.number ≡ i.kept.number → next.counter ≡ i.kept.counter → next.making ≡ None
     → IsHome after j.home → j.home.«record» ≡ next → blobs_of after.files ≡ blobs_of before.files → {P : Files → Type 0} → Effect IsOwn P before after → StandsFor i before w → Stands number after.files (ended w)
-put-stands number i j before after w next ready stored own counter none home is blobs effect stands =
-    ended-stands number i before after.files w j.home.«record» (record { blobs = blobs_of after.files; home = home_files home; rows = ap replayed blobs ∙ stored.rows })
+put-stands ends number i j before after w next ready own counter none home is blobs effect stands =
+    let Blobs : List (List ℕ) → Type 0 = λ bs. HomeIs after.files j.home.«record» bs in
+    ended-stands ends number i before after.files w j.home.«record» (subst Blobs blobs (home_files home))
     (ap (λ (r : Record). r.number) is ∙ own) (ap (λ (r : Record). r.counter) is ∙ counter) (ap (λ (r : Record). r.making) is ∙ none)
     (λ path bytes. effect.others (medium_file path) (not-own path)) stands

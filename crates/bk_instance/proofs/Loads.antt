@@ -1,17 +1,13 @@
--- How an instance is loaded: its changes are replayed, and a medium that was being made is let go.
-use Rattle.std.proofs.Common.{◌≡◌, ◌≢◌, ◌≤◌, ◌⊎◌, inl, inr, ℕ, zero, suc, ◌+◌, true, false, nat_eq, List, [], ◌∷◌, length, take, map, Option, None, Some, refl, sym, ◌∙◌, ap, subst, arith, add-one}
+-- How an instance is loaded: its own files are opened, and a medium that was being made is let go.
+use Rattle.std.proofs.Common.{◌≡◌, ◌≢◌, ◌⊎◌, inl, inr, ℕ, zero, suc, true, false, nat_eq, List, [], ◌∷◌, length, map, Option, None, Some, refl, sym, ◌∙◌, ap, subst, arith}
 use Rattle.std.specs.Prelude.{slice_get, option_map}
 use Rattle.std.specs.Str.{bytes_eq}
 use Rattle.std.proofs.lemmas.Bool.Decides.{nat_tests}
 use Rattle.std.proofs.lemmas.Slice.Eq.{bytes_eq-Decides}
 use Rattle.std.proofs.lemmas.Option.{same_Some}
-use Rattle.bk_bytes.specs.Codec.{◌>>=◌}
 use Rattle.bk_bytes.specs.Field.{AreBytes}
-use Rattle.bk_bytes.specs.CodecLaws.{bind_some}
-use Rattle.bk_changes.specs.declared.state.Database.{Database as KeptDatabase}
-use Rattle.bk_changes.specs.Replayed.{replayed, replayed_from, step_of}
-use Rattle.bk_device.specs.Calls.{contents, LeavesSame, CallsOn, ChangesNothing}
-use Rattle.bk_device.specs.Compose.{effect_none, effect_weaken, effect_widen, effect_then, effect_of_nothing, effect_of_sync, keeps_by_nothing, keeps_by_effect}
+use Rattle.bk_device.specs.Calls.{contents, ChangesNothing}
+use Rattle.bk_device.specs.Compose.{effect_none, effect_weaken, effect_widen, effect_then, effect_of_nothing, keeps_by_nothing, keeps_by_effect}
 use Rattle.bk_device.specs.Laws.{durable_by_nothing}
 use Rattle.bk_device.specs.Disk.{Files, Disk, IsDurable, IsSettled, IsLawful}
 use Rattle.bk_device.specs.Effects.{Effect, MayLeaveOwn, IsName}
@@ -21,75 +17,24 @@ use Rattle.bk_gate.specs.BlobLaws.{foreign_blobs, gate_blobs}
 use Rattle.bk_home.specs.declared.record.Record.{Record}
 use Rattle.bk_home.specs.Home.{Kept as KeptHome, IsNotMade, IsMade, HomeIs, IsHome, IsOwn, AreDurable, blobs_of, fresh, made_file, control_file, rows_file}
 use Rattle.bk_home.specs.Laws.{home_files, home_blobs, home_left, home_kept, home_durable, own_made, own_rows, blobs_same}
-use Rattle.bk_kept.specs.Goes.{LeadsTo}
-use Rattle.bk_kept.specs.Kept.{KeepsDatabases}
-use Rattle.bk_kept.proofs.Changing.{keeps-same}
+use Rattle.bk_machine.specs.Sound.{AreIdle, IsSound}
+use Rattle.bk_machine.specs.World.{World, opened}
 use Rattle.bk_media.specs.Laws.{nothing_sealed, none_read}
 use Rattle.bk_media.specs.Media.{read_medium, found_at}
 use Rattle.bk_media.specs.Names.{medium_file}
+use Rattle.bk_kept.specs.Keeps.{KeepsDatabases}
+use Rattle.bk_kept.specs.Stored.{Carries}
 use Rattle.bk_set.specs.declared.body.SetBody.{SetBody}
 use Rattle.bk_set.specs.declared.found.Found.TheVariants as was
 use Rattle.bk_set.specs.Found.{found}
-use Rattle.bk_world.specs.World.{World, opened}
-use Rattle.bk_kept.specs.Carried.{IsCarried}
 use Rattle.bk_instance.specs.declared.instance.Instance.{Instance}
-use Rattle.bk_instance.specs.Loading.{IsCleared, LeavesCleared, LetsGo, LeavesOpened}
+use Rattle.bk_instance.specs.Loading.{IsCleared, LeavesCleared, LetsGo, LeavesOpened, MakeNone, ShowMade}
 use Rattle.bk_instance.specs.Media.{KeepsMedia, MediaAreDurable, IfDurable, shown_medium, is_making, is_begun}
-use Rattle.bk_instance.specs.Stands.{Holds, Stands, StandsFor, IsOurs}
-use Rattle.bk_instance.proofs.Covering.{SameMedia, media-in, media-on, media-on-nothing, holds-same, stands-covers, covers-same, settled-covers}
-use Rattle.bk_instance.proofs.Stores.{not-own, media-kept}
-
--- Replaying.
-
--- one blob more
-pub one-more : (first ds new : List KeptDatabase) (blobs : List (List ℕ)) (i : ℕ) (blob : List ℕ) → replayed_from first (take i blobs) ≡ Some ds → slice_get blobs i ≡ Some blob → step_of blob ds ≡ Some new
-    → replayed_from first (take (i + 1) blobs) ≡ Some new
-one-more first ds new blobs i blob before is steps = rw add-one (by first blobs i before is)
-  where
-    by : (first : List KeptDatabase) (blobs : List (List ℕ)) (i : ℕ) → replayed_from first (take i blobs) ≡ Some ds → slice_get blobs i ≡ Some blob → replayed_from first (take (suc i) blobs) ≡ Some new
-    by first [] i before is = absurd cc
-    by first (b ∷ bs) zero before is =
-        let same : step_of b first ≡ Some new = ap (λ d. step_of b d) (same_Some first ds before) ∙ ap (λ x. step_of x ds) (same_Some b blob is) ∙ steps in
-        ap (λ (o : Option (List KeptDatabase)). o >>= λ next. Some next) same
-    by first (b ∷ bs) (suc i) before is =
-        let on = bind_some (step_of b first) (λ next. replayed_from next (take i bs)) ds before in
-        ap (λ (o : Option (List KeptDatabase)). o >>= λ next. replayed_from next (take (suc i) bs)) on.1 ∙ by on.0 bs i on.2 is
-
--- a blob that doesn't fit
-pub stuck : (first ds : List KeptDatabase) (blobs : List (List ℕ)) (i : ℕ) (blob : List ℕ) → replayed_from first (take i blobs) ≡ Some ds → slice_get blobs i ≡ Some blob → step_of blob ds ≡ None
-    → replayed_from first blobs ≡ None
-stuck first ds [] i blob before is none = absurd cc
-stuck first ds (b ∷ bs) zero blob before is none =
-    let same : step_of b first ≡ None = ap (λ d. step_of b d) (same_Some first ds before) ∙ ap (λ x. step_of x ds) (same_Some b blob is) ∙ none in
-    ap (λ (o : Option (List KeptDatabase)). o >>= λ next. replayed_from next bs) same
-stuck first ds (b ∷ bs) (suc i) blob before is none =
-    let on = bind_some (step_of b first) (λ next. replayed_from next (take i bs)) ds before in
-    ap (λ (o : Option (List KeptDatabase)). o >>= λ next. replayed_from next bs) on.1 ∙ stuck on.0 ds bs i blob on.2 is none
-
--- all of them
-pub whole : (blobs : List (List ℕ)) (ds : List KeptDatabase) (n : ℕ) → length blobs ≤ n → replayed (take n blobs) ≡ Some ds → replayed blobs ≡ Some ds
-whole blobs ds n all is = ap replayed (sym (take-all blobs n all)) ∙ is
-  where
-    take-all : (bs : List (List ℕ)) (k : ℕ) → length bs ≤ k → take k bs ≡ bs
-    take-all [] zero le = refl
-    take-all [] (suc k) le = refl
-    take-all (b ∷ bs) zero le = absurd (omega (arith, le))
-    take-all (b ∷ bs) (suc k) le = ap (λ rest. b ∷ rest) (take-all bs k (omega (arith, le)))
+use Rattle.bk_instance.specs.Stands.{AreMade, Holds, Stands, StandsFor, IsOurs}
+use Rattle.bk_instance.proofs.Opened.{BeginSound, SameMedia, media-in, media-opened, media-on-nothing, holds-same, stands-covers, covers-same, settled-covers, not-own, media-kept}
+use Rattle.bk_instance.proofs.Replays.{made-same, same-opened}
 
 -- Devices.
-
--- nothing was done
-pub nothing-none : (a : Disk) → ChangesNothing a a
-nothing-none a = record {
-  files = λ _. refl;
-  nothing_more = λ _ _ may. may;
-  told = refl;
-  time = record { later = omega arith; nothing_else = λ _ _ _ _ left. inl left; nothing_forgotten = λ _ _ _ _ left. left };
-}
-
--- a file is synced after an effect
-pub synced-then : {name : List ℕ} {P : Files → Type 0} {a b c : Disk} → IsOwn name → Effect IsOwn P a b → CallsOn name LeavesSame b c → Effect IsOwn P a c
-synced-then own first call = effect_then first (effect_of_sync own (λ image mine. first.now image mine) call)
 
 pub own-durable : (disk : Disk) → IsDurable disk made_file → IsDurable disk control_file → IsDurable disk rows_file → AreDurable disk
 own-durable disk made control rows name own =
@@ -114,58 +59,60 @@ ours-durable disk home is media name ours =
 pub settled-on : {a b : Disk} → ChangesNothing a b → IsSettled a → IsSettled b
 settled-on nothing settled name = durable_by_nothing name nothing (settled name)
 
-pub blobs-on : {a b : Disk} → ChangesNothing a b → blobs_of b.files ≡ blobs_of a.files
-blobs-on {a = a} {b = b} nothing = blobs_same a.files b.files (nothing.files rows_file)
-
 -- Files that stand for a world.
 
 -- they stand for it where nothing is changed
 pub stands-on : {a b : Disk} (number : ℕ) (w : World) → ChangesNothing a b → Stands number a.files w → Stands number b.files w
 stands-on {a = a} {b = b} number w nothing stands = record {
+  sound = stands.sound;
+  idle = stands.idle;
   «record» = stands.«record»;
-  kept = stands.kept;
-  holds = holds-same number a.files b.files stands.«record» stands.kept (λ name own. nothing.files name) stands.holds;
+  blobs = stands.blobs;
+  holds = holds-same number a.files b.files stands.«record» stands.blobs (λ name own. nothing.files name) stands.holds;
   instance = stands.instance;
   counter = stands.counter;
-  databases = stands.databases;
+  made = stands.made;
   media = media-in w stands.«record».making a.files b.files (λ path bytes. nothing.files (medium_file path)) stands.media;
   finished = stands.finished;
 }
 
 -- an instance that isn't made is made, or not yet
-fresh-holds : (number : ℕ) (image : Files) (r : Record) (kept : List KeptDatabase) → IsNotMade image ⊎ HomeIs image (fresh number) [] → r ≡ fresh number → kept ≡ [] → Holds number image r kept
-fresh-holds number image r kept here is none =
+fresh-holds : (number : ℕ) (image : Files) (r : Record) (blobs : List (List ℕ)) → IsNotMade image ⊎ HomeIs image (fresh number) [] → r ≡ fresh number → blobs ≡ [] → Holds number image r blobs
+fresh-holds number image r blobs here is none =
     elim here [
       | inl not ↦ inl (not, is, none)
       | inr home ↦
           let Home : Record → Type 0 = λ x. HomeIs image x [] in
-          inr (record { blobs = []; home = subst Home (sym is) home; rows = ap (λ (k : List KeptDatabase). Some k) (sym none) })
+          let Blobs : List (List ℕ) → Type 0 = λ bs. HomeIs image r bs in
+          inr (subst Blobs (sym none) (subst Home (sym is) home))
     ]
 
 pub fresh-stands : (number : ℕ) (files image : Files) (w : World) → IsNotMade files → IsNotMade image ⊎ HomeIs image (fresh number) [] → SameMedia files image → Stands number files w → Stands number image w
 fresh-stands number files image w not here same stands =
-    let holds : Holds number image stands.«record» stands.kept = elim stands.holds [
-      | inl new ↦ fresh-holds number image stands.«record» stands.kept here new.1 new.2
-      | inr made ↦ absurd (made.home.made not)
+    let holds : Holds number image stands.«record» stands.blobs = elim stands.holds [
+      | inl new ↦ fresh-holds number image stands.«record» stands.blobs here new.1 new.2
+      | inr made ↦ absurd (made.made not)
     ] in
     record {
+      sound = stands.sound;
+      idle = stands.idle;
       «record» = stands.«record»;
-      kept = stands.kept;
+      blobs = stands.blobs;
       holds = holds;
       instance = stands.instance;
       counter = stands.counter;
-      databases = stands.databases;
+      made = stands.made;
       media = media-in w stands.«record».making files image same stands.media;
       finished = stands.finished;
     }
 
--- the record of a made instance, and its databases
+-- the record of a made instance, and the world that its blobs made
 pub record Made (number : ℕ) (files : Files) (w : World) (r : Record) : Type 0 where
-  pub kept : List KeptDatabase
-  pub rows : replayed (blobs_of files) ≡ Some kept
+  pub sound : IsSound w
+  pub idle : AreIdle w
   pub instance : w.instance ≡ r.number
   pub counter : w.counter ≡ r.counter
-  pub databases : KeepsDatabases w kept
+  pub made : AreMade (blobs_of files) w
   pub media : KeepsMedia w r.making files
   pub finished : w.closed ≡ true → r.making ≡ None
 
@@ -174,14 +121,15 @@ stands-made number files w r home stands =
     elim stands.holds [
       | inl new ↦ absurd (home.made new.0)
       | inr made ↦
-          let same : stands.«record» ≡ r = same_Some stands.«record» r (sym made.home.is ∙ home.is) in
+          let same : stands.«record» ≡ r = same_Some stands.«record» r (sym made.is ∙ home.is) in
           let Media : Record → Type 0 = λ x. KeepsMedia w x.making files in
+          let Blobs : List (List ℕ) → Type 0 = λ bs. AreMade bs w in
           record {
-            kept = stands.kept;
-            rows = ap replayed (home_blobs made.home) ∙ made.rows;
+            sound = stands.sound;
+            idle = stands.idle;
             instance = stands.instance ∙ ap (λ (x : Record). x.number) same;
             counter = stands.counter ∙ ap (λ (x : Record). x.counter) same;
-            databases = stands.databases;
+            made = subst Blobs (sym (home_blobs made)) stands.made;
             media = subst Media same stands.media;
             finished = λ closed. ap (λ (x : Record). x.making) (sym same) ∙ stands.finished closed;
           }
@@ -191,12 +139,14 @@ stands-made number files w r home stands =
 pub made-stands : (number : ℕ) (files image : Files) (w : World) (r next : Record) (made : Made number files w r) → HomeIs image next (blobs_of files) → next.number ≡ r.number → next.counter ≡ r.counter
     → KeepsMedia w next.making image → (r.making ≡ None → next.making ≡ None) → Stands number image w
 made-stands number files image w r next made home n counter media none = record {
+  sound = made.sound;
+  idle = made.idle;
   «record» = next;
-  kept = made.kept;
-  holds = inr (record { blobs = blobs_of files; home = home; rows = made.rows });
+  blobs = blobs_of files;
+  holds = inr home;
   instance = made.instance ∙ sym n;
   counter = made.counter ∙ sym counter;
-  databases = made.databases;
+  made = made.made;
   media = media;
   finished = λ closed. none (made.finished closed);
 }
@@ -217,8 +167,8 @@ made-or-not files = by (files made_file) refl
     by (Some file) is = inr (λ none. absurd cc)
 
 -- they are synced
-pub sync-crash : (number : ℕ) (a b : Disk) → Effect IsOwn (MayLeaveOwn IsOwn a) a b → Effect IsOurs (LeavesOpened number a) a b
-sync-crash number a b effect =
+pub sync-crash : BeginSound → (number : ℕ) (a b : Disk) → Effect IsOwn (MayLeaveOwn IsOwn a) a b → Effect IsOurs (LeavesOpened number a) a b
+sync-crash begins number a b effect =
     effect_widen (λ name own. inl own) (λ image here others settled w stands.
     covers-same number a.files image (opened w) (λ name ours.
     elim ours [
@@ -226,19 +176,19 @@ sync-crash number a b effect =
       | inr path ↦
           let Same : List ℕ → Type 0 = λ n. image n ≡ a.files n in
           subst Same (sym path.2) (settled (medium_file path.0) (image (medium_file path.0)) (others (medium_file path.0) (not-own path.0) (inr (path.0, path.1, refl))))
-    ]) (stands-covers number a.files w stands)) effect
+    ]) (stands-covers begins number a.files w stands)) effect
 
 -- and opened
-pub open-crash : (number : ℕ) (a b c : Disk) → AreDurable b → ChangesNothing a b → Effect IsOurs (LeavesOpened number a) a b → (IsMade b.files → ChangesNothing b c)
+pub open-crash : BeginSound → (number : ℕ) (a b c : Disk) → AreDurable b → ChangesNothing a b → Effect IsOurs (LeavesOpened number a) a b → (IsMade b.files → ChangesNothing b c)
     → (IsNotMade b.files → IsDurable b made_file → Effect IsOwn (λ image. IsNotMade image ⊎ HomeIs image (fresh number) []) b c) → Effect IsOurs (LeavesOpened number a) a c
-open-crash number a b c durable nothing first made new =
+open-crash begins number a b c durable nothing first made new =
     effect_then first (
     elim (made-or-not b.files) [
       | inl not ↦ effect_widen (λ name own. inl own) (λ image here others settled w stands.
-          stands-covers number image w (fresh-stands number b.files image w not here
+          stands-covers begins number image w (fresh-stands number b.files image w not here
           (λ path bytes. settled-on nothing settled (medium_file path) (image (medium_file path)) (others (medium_file path) (not-own path) (inr (path, bytes, refl))))
           (stands-on number w nothing stands))) (new not (durable made_file own_made))
-      | inr is ↦ effect_of_nothing (λ image left settled w stands. settled-covers number b w image (settled-on nothing settled) left (stands-on number w nothing stands)) (made is)
+      | inr is ↦ effect_of_nothing (λ image left settled w stands. settled-covers begins number b w image (settled-on nothing settled) left (stands-on number w nothing stands)) (made is)
     ])
 
 pub open-stands : (number : ℕ) (a b c : Disk) (home : KeptHome) (w : World) → AreDurable b → ChangesNothing a b → IsHome c home → (IsNotMade b.files → home.«record» ≡ fresh number)
@@ -320,8 +270,8 @@ OtherMedia making files image = (path : List ℕ) → AreBytes path → path ≢
 
 -- what sets hold stays so where no more files than the one medium are gone
 carried-cleared : (w : World) (making : List ℕ) (files image : Files) → (image (medium_file making) ≡ files (medium_file making)) ⊎ (image (medium_file making) ≡ None) → OtherMedia making files image
-    → ((path : List ℕ) (p : ℕ) (body : SetBody) → AreBytes path → found_at (files (medium_file path)) p ≡ Some (was.Holds body) → IsCarried w body)
-    → (path : List ℕ) (p : ℕ) (body : SetBody) → AreBytes path → found_at (image (medium_file path)) p ≡ Some (was.Holds body) → IsCarried w body
+    → ((path : List ℕ) (p : ℕ) (body : SetBody) → AreBytes path → found_at (files (medium_file path)) p ≡ Some (was.Holds body) → Carries w.history body)
+    → (path : List ℕ) (p : ℕ) (body : SetBody) → AreBytes path → found_at (image (medium_file path)) p ≡ Some (was.Holds body) → Carries w.history body
 carried-cleared w making files image cleared others carried path p body bytes is =
     elim (same_or_other making path) [
       | inr differ ↦ on path bytes (others path bytes differ) is
@@ -335,7 +285,7 @@ carried-cleared w making files image cleared others carried path p body bytes is
       ]
     ]
   where
-    on : (path : List ℕ) → AreBytes path → image (medium_file path) ≡ files (medium_file path) → found_at (image (medium_file path)) p ≡ Some (was.Holds body) → IsCarried w body
+    on : (path : List ℕ) → AreBytes path → image (medium_file path) ≡ files (medium_file path) → found_at (image (medium_file path)) p ≡ Some (was.Holds body) → Carries w.history body
     on path bytes same is = carried path p body bytes (ap (λ (f : Option (List ℕ)). found_at f p) (sym same) ∙ is)
 
 -- while a record names it, the medium is shown as before
@@ -485,18 +435,18 @@ let-go-then path a b c home next names is bytes making first cleared calm number
 -- All of it.
 
 -- the changes are read
-pub read-crash : (number : ℕ) (a b c : Disk) (home : KeptHome) → Effect IsOurs (LeavesOpened number a) a b → ((w : World) → Stands number a.files w → Stands number b.files w)
+pub read-crash : BeginSound → (number : ℕ) (a b c : Disk) (home : KeptHome) → Effect IsOurs (LeavesOpened number a) a b → ((w : World) → Stands number a.files w → Stands number b.files w)
     → IsHome b home → (IsSettled a → MediaAreDurable b) → ChangesNothing b c → Effect IsOurs (LeavesOpened number a) a c
-read-crash number a b c home first same is media nothing =
+read-crash begins number a b c home first same is media nothing =
     effect_then first (effect_of_nothing (λ image left settled w stands.
-    covers-same number b.files image (opened w) (λ name ours. ours-durable b home is (media settled) name ours (image name) (left name ours)) (stands-covers number b.files w (same w stands))) nothing)
+    covers-same number b.files image (opened w) (λ name ours. ours-durable b home is (media settled) name ours (image name) (left name ours)) (stands-covers begins number b.files w (same w stands))) nothing)
 
 -- then the medium is let go
-pub load-crash : (number : ℕ) (a b c d : Disk) (home : KeptHome) → Effect IsOurs (LeavesOpened number a) a b → ((w : World) → Stands number a.files w → Stands number b.files w)
+pub load-crash : BeginSound → (number : ℕ) (a b c d : Disk) (home : KeptHome) → Effect IsOurs (LeavesOpened number a) a b → ((w : World) → Stands number a.files w → Stands number b.files w)
     → IsHome b home → (IsSettled a → MediaAreDurable b) → ChangesNothing b c → Effect IsOurs (IfDurable c (LetsGo home.«record» c.files)) c d → Effect IsOurs (LeavesOpened number a) a d
-load-crash number a b c d home first same is media nothing second =
-    effect_then (read-crash number a b c home first same is media nothing) (effect_weaken (λ image here settled w stands.
-    stands-covers number image w (lets-go-stands number c.files image w home.«record» (home_files (home_kept (keeps_by_nothing nothing) is)) (here (media-on-nothing nothing (media settled))) (stands-on number w nothing (same w stands)))) second)
+load-crash begins number a b c d home first same is media nothing second =
+    effect_then (read-crash begins number a b c home first same is media nothing) (effect_weaken (λ image here settled w stands.
+    stands-covers begins number image w (lets-go-stands number c.files image w home.«record» (home_files (home_kept (keeps_by_nothing nothing) is)) (here (media-on-nothing nothing (media settled))) (stands-on number w nothing (same w stands)))) second)
 
 -- and the files stand for the same worlds
 pub load-stands : (number : ℕ) (a b c d : Disk) (home : KeptHome) (w : World) → IsLawful d → ((w : World) → Stands number a.files w → Stands number b.files w) → IsHome b home → ChangesNothing b c
@@ -504,12 +454,11 @@ pub load-stands : (number : ℕ) (a b c d : Disk) (home : KeptHome) (w : World) 
 load-stands number a b c d home w lawful same is nothing durable second stands =
     lets-go-stands number c.files d.files w home.«record» (home_files (home_kept (keeps_by_nothing nothing) is)) (second.now d.files (λ name ours. lawful.reads name) durable) (stands-on number w nothing (same w stands))
 
--- where the changes don't fit there is no such world
-pub broken-rows : (number : ℕ) (b : Disk) (home : KeptHome) (w : World) → IsHome b home → replayed (blobs_of b.files) ≡ None → Stands number b.files w → ⊥
-broken-rows number b home w is none stands =
+-- where the blobs make no world there is none for which the files stand
+pub broken-blobs : (number : ℕ) (b : Disk) (home : KeptHome) (w : World) → IsHome b home → MakeNone (blobs_of b.files) → Stands number b.files w → ⊥
+broken-blobs number b home w is none stands =
     let made = stands-made number b.files w home.«record» (home_files is) stands in
-    let some = made.rows in
-    absurd cc
+    none w made.made
 
 -- the number is that of the world
 pub load-number : (number : ℕ) (b : Disk) (home : KeptHome) (w : World) → IsHome b home → Stands number b.files w → w.instance ≡ home.«record».number
@@ -518,21 +467,23 @@ load-number number b home w is stands =
     made.instance
 
 -- the instance stands for the world in which a run begins
-pub instance-stands : (number : ℕ) (i : Instance) (disk : Disk) (w : World) → IsHome disk i.home → i.kept.number ≡ i.home.«record».number → i.kept.counter ≡ i.home.«record».counter → i.kept.current ≡ None
-    → i.home.«record».making ≡ None → replayed (blobs_of disk.files) ≡ Some i.kept.databases.items → Stands number disk.files w → StandsFor i disk (opened w)
+pub instance-stands : BeginSound → (number : ℕ) (i : Instance) (disk : Disk) (w : World) → IsHome disk i.home → i.kept.number ≡ i.home.«record».number → i.kept.counter ≡ i.home.«record».counter → i.kept.current ≡ None
+    → i.home.«record».making ≡ None → ShowMade (blobs_of disk.files) i.kept.databases.items → Stands number disk.files w → StandsFor i disk (opened w)
 unfolding opened
-instance-stands number i disk w is n counter current none rows stands =
+instance-stands begins number i disk w is n counter current none shows stands =
     let made : Made number disk.files w i.home.«record» = stands-made number disk.files w i.home.«record» (home_files is) stands in
-    let same : made.kept ≡ i.kept.databases.items = same_Some made.kept i.kept.databases.items (sym made.rows ∙ rows) in
-    let Kept : List KeptDatabase → Type 0 = λ kept. KeepsDatabases w kept in
     let Media : Option (List ℕ) → Type 0 = λ making. KeepsMedia w making disk.files in
-    let to : LeadsTo w (opened w) i.kept.databases.items = keeps-same w (opened w) i.kept.databases.items refl (omega arith) refl refl (subst Kept same made.databases) in
+    let databases : KeepsDatabases w i.kept.databases.items = shows w made.made in
     record {
+      sound = begins w made.sound;
+      idle = made.idle;
       keeps = record {
         number = made.instance ∙ sym n;
         counter = made.counter ∙ sym counter;
         current = sym current;
-        databases = to.keeps;
+        databases = databases.same;
+        shown = databases.shown;
       };
-      media = media-on w (opened w) None disk.files to.goes refl (subst Media none made.media);
+      made = made-same (blobs_of disk.files) w (opened w) (same-opened w) made.made;
+      media = media-opened w None disk.files (subst Media none made.media);
     }

@@ -1,215 +1,128 @@
--- The one part of each statement that changes databases.
-use Rattle.std.proofs.Common.{◌≡◌, ℕ, ◌+◌, cond, List, [], Option, None, Some, Ok, Result, refl, sym, ◌∙◌, ap, subst, max, min, arith, Bor}
-use Rattle.std.specs.Prelude.{if◌then◌else◌}
-use Rattle.bk_changes.specs.declared.change.Change.{Change}
-use Rattle.bk_changes.specs.declared.change.Change.TheVariants as change
-use Rattle.bk_changes.specs.declared.state.Database.{Database as KeptDatabase}
-use Rattle.bk_changes.specs.declared.state.Table.{Table as KeptTable}
-use Rattle.bk_changes.specs.Applied.{applied, changed, dropped as kept_dropped, table_made, row_added as kept_row}
-use Rattle.bk_changes.specs.Sound.{AllSound}
-use Rattle.bk_kept.specs.declared.kept.Kept.{Kept}
-use Rattle.bk_device.specs.Disk.{Disk}
-use Rattle.bk_kept.specs.Finds.{FindsTable}
-use Rattle.bk_kept.specs.Goes.{LeadsTo}
-use Rattle.bk_kept.specs.Kept.{Keeps, KeepsDatabase, KeepsDatabases, KeepsTable}
-use Rattle.bk_kept.specs.Rules.{online_in, current_of, HasCurrent, TakesRow, or_refused, but_for, allowed, offline_by}
-use Rattle.bk_kept.proofs.Fits.{held}
-use Rattle.bk_kept.proofs.Left.{found-by-own, is-online}
-use Rattle.bk_kept.proofs.Logging.{table-leads, row-leads}
-use Rattle.bk_kept.proofs.Making.{created-leads, dropped-leads, used-leads, used-current}
-use Rattle.bk_kept.proofs.Selects.{select-allowed, select-accepted}
-use Rattle.bk_kept.proofs.Related.{both-some, named-keeps, online-found}
-use Rattle.bk_world.specs.declared.database.TableSpec.{TableSpec}
-use Rattle.bk_world.specs.declared.item.Item.{Item}
-use Rattle.bk_world.specs.declared.item.Item.TheVariants.{CreateDatabase, DropDatabase, Use, CreateTable, Insert, Select, Syntax, TooLong, NotBuilt}
-use Rattle.bk_world.specs.declared.reply.Reply.TheVariants.{Done, Counted, Selected, Refused}
+-- What the acts of each statement write to, and which statements store nothing.
+use Rattle.std.proofs.Common.{◌≡◌, ◌⊎◌, inl, inr, ℕ, List, Option, Ok, Err, sym, subst}
+use Rattle.bk_items.specs.declared.item.ScriptEntry.{ScriptEntry}
+use Rattle.bk_items.specs.declared.item.ScriptItem.{ScriptItem}
+use Rattle.bk_items.specs.declared.item.ScriptItem.TheVariants.{CreateDatabase, BackupDatabase, BackupLog, RestoreDatabase, RestoreLog, QueryMedium, CreateTable, Insert, Update, Delete, Select, BulkInsert, Begin, Commit, Rollback, Checkpoint, Use, SetRecovery, DropDatabase, SelectCatalog, Session, Start, Step, Wait, Syntax, TooLong}
+use Rattle.bk_machine.specs.Acts.{Act, turned}
+use Rattle.bk_machine.specs.Checks.{Checked}
+use Rattle.bk_machine.specs.Machine.{ItemMay, May}
+use Rattle.bk_machine.specs.Outcome.{ComesTo, Outcome, answered, in_one, refused}
+use Rattle.bk_machine.specs.World.{World}
+use Rattle.bk_machine.specs.statements.CreateDatabase.{check_create_database, DoesCreateDatabase}
+use Rattle.bk_machine.specs.statements.DropDatabase.{check_drop_database, DoesDropDatabase}
+use Rattle.bk_machine.specs.statements.Use.{check_use, DoesUse}
+use Rattle.bk_machine.specs.statements.CreateTable.{check_create_table, DoesCreateTable}
+use Rattle.bk_machine.specs.statements.Insert.{check_insert, DoesInsert}
+use Rattle.bk_machine.specs.statements.Select.{check_select, DoesSelect}
+use Rattle.bk_machine.specs.statements.Backup.{check_backup, DoesBackup}
+use Rattle.bk_machine.specs.statements.Restore.{check_restore, DoesRestore}
+use Rattle.bk_world.specs.declared.reply.Reply.{Reply}
+use Rattle.bk_world.specs.declared.reply.Reply.TheVariants as reply
+use Rattle.bk_world.specs.declared.reply.Reply.TheVariants.{Done, Selected}
 use Rattle.bk_world.specs.declared.rule.Rule.{Rule}
-use Rattle.bk_world.specs.declared.rule.Rule.TheVariants.{NoSuchDatabase, Syntax as no_syntax, TooLong as over_long, NotBuilt as unbuilt}
-use Rattle.bk_world.specs.Changes.{created, dropped, with_current, table_added, row_added, logged, logged_with, drawn, latest, entry_time}
-use Rattle.bk_world.specs.Checks.{is_system}
-use Rattle.bk_world.specs.Machine.{broken, accepted, last_world, with_found, in_one}
-use Rattle.bk_world.specs.Seen.{tables, table_named}
-use Rattle.bk_world.specs.World.{World, Database, database_named, database_of, current_name, current_database}
-use Rattle.bk_instance.specs.declared.instance.Instance.{Instance}
-use Rattle.bk_instance.specs.Stands.{Answers}
-use Rattle.bk_instance.specs.Plans.{PlansDrop, PlansTable, PlansRow}
-use Rattle.bk_instance.proofs.Covering.{media-on}
-use Rattle.bk_instance.proofs.OneParts.{ByChange, some_choice, fine-parts, fine-reply, stepped-still, refused-answers}
+use Rattle.bk_instance.specs.Steps.{IsStill}
+use Rattle.bk_instance.specs.Touched.{ActsWrite, StatementWrites}
 
--- no rule is broken, in each world for which something is kept
-abbrev pub Fine : Kept → ℕ → Item → Type 0
-Fine kept line item = (w : World) → Keeps w kept → None ≡ broken w line item
+-- What an item comes to writes to no other medium than the item does, and stores nothing where it is refused.
+record Fits (item : ScriptItem) (outcome : Outcome) : Type 0 where
+  writes : (path : List ℕ) → ActsWrite outcome.acts path → StatementWrites item path
+  refused : (rule : Rule) → outcome.reply ≡ reply.Refused rule → IsStill outcome
 
--- CREATE DATABASE
+-- Each item.
 
-pub create-law : (i : Instance) (line : ℕ) (name : List ℕ) (now : ℕ) → Fine i.kept line (CreateDatabase name)
-    → ByChange i (record { item = CreateDatabase name; line = line }) now Done 2
-    (change.Created name (record { high = i.kept.number; low = i.kept.counter }) (record { high = i.kept.number; low = i.kept.counter + 1 }) (min now latest))
-unfolding accepted created
-create-law i line name now fine w keeps kept fits =
-    let family : drawn w w.counter ≡ record { high = i.kept.number; low = i.kept.counter } = λ x. record { high = keeps.number x; low = keeps.counter x } in
-    let branch : drawn w (w.counter + 1) ≡ record { high = i.kept.number; low = i.kept.counter + 1 } = λ x. record { high = keeps.number x; low = keeps.counter x + 1 } in
-    record {
-      choice = some_choice;
-      v = created w name now;
-      allowed = λ none. tt;
-      parts = fine-parts w line (CreateDatabase name) some_choice now (fine w keeps);
-      replied = sym (fine-reply w line (CreateDatabase name) some_choice now (fine w keeps));
-      leads = created-leads w name now i.kept.databases.items kept keeps.databases
-          ((λ x. applied (change.Created name (family x) (branch x) (min now latest)) i.kept.databases.items) ∙ fits);
-      media = refl;
-      counter = refl;
-      current = refl;
-    }
+comes-to : {A : Type 0} (Q : Outcome → Type 0) (checked : Checked A) (may : A → Outcome → Type 0) → ((rule : Rule) → Q (refused rule)) → ((found : A) (outcome : Outcome) → may found outcome → Q outcome)
+    → (outcome : Outcome) → ComesTo checked may outcome → Q outcome
+comes-to Q (Err rule) may none some outcome is = subst Q (sym is) (none rule)
+comes-to Q (Ok found) may none some outcome is = some found outcome is
 
--- DROP DATABASE
+stops : (item : ScriptItem) (rule : Rule) → Fits item (refused rule)
+stops item rule = record { writes = λ path writes. absurd writes; refused = λ other is. tt }
 
-pub drop-law : (i : Instance) (line : ℕ) (name : List ℕ) (now : ℕ) (c : Change) → Fine i.kept line (DropDatabase name) → PlansDrop i.kept name c
-    → ByChange i (record { item = DropDatabase name; line = line }) now Done 0 c
-unfolding accepted dropped
-drop-law i line name now c fine plans w keeps kept fits =
-    let d : KeptDatabase = plans.0 in
-    let the = both-some (KeepsDatabase w) (database_named w.databases name) _ d (named-keeps w i.kept name keeps) (sym plans.1) in
-    let db : Database = the.0 in
-    record {
-      choice = some_choice;
-      v = dropped w db;
-      allowed = λ none. tt;
-      parts = fine-parts w line (DropDatabase name) some_choice now (fine w keeps) ∙ ap (λ o. (with_found o (λ x. in_one (dropped w x) Done)).parts) the.1;
-      replied = sym (fine-reply w line (DropDatabase name) some_choice now (fine w keeps) ∙ ap (λ o. (with_found o (λ x. in_one (dropped w x) Done)).reply) the.1);
-      leads = dropped-leads w db i.kept.databases.items kept keeps.databases
-          (ap (λ n. kept_dropped n i.kept.databases.items) the.2.name ∙ ap (λ x. applied x i.kept.databases.items) (sym plans.2) ∙ fits);
-      media = refl;
-      counter = omega arith;
-      current = refl;
-    }
+nothing : (item : ScriptItem) (rule : Rule) (outcome : Outcome) → outcome ≡ refused rule → Fits item outcome
+nothing item rule outcome is = subst (Fits item) (sym is) (stops item rule)
 
--- The current database.
+-- an outcome that is no refusal
+accepts : (item : ScriptItem) (acts : List Act) (answer : Reply) (outcome : Outcome) → outcome ≡ (record { acts = acts; reply = answer }) → ((rule : Rule) → answer ≡ reply.Refused rule → ⊥) → ((path : List ℕ) → ActsWrite acts path → StatementWrites item path)
+    → Fits item outcome
+accepts item acts answer outcome is never writes = subst (Fits item) (sym is) (record { writes = writes; refused = λ rule e. absurd (never rule e) })
 
--- it is found by its own name
-own-found : (w : World) (db : Database) → current_database w ≡ Some db → database_named w.databases db.name ≡ Some db
-own-found w db is = by (current_name w) is
-  where
-    by : (n : Option (List ℕ)) → database_of w.databases n ≡ Some db → database_named w.databases db.name ≡ Some db
-    by None e = absurd cc
-    by (Some n) e = found-by-own w.databases n db e
+-- one act that writes to none
+one : (item : ScriptItem) (path : List ℕ) → ⊥ ⊎ ⊥ → StatementWrites item path
+one item path (inl writes) = absurd writes
+one item path (inr writes) = absurd writes
 
-timed : (w : World) (db : Database) (d : KeptDatabase) (now : ℕ) → KeepsDatabase w db d → entry_time w db now ≡ max (min now latest) d.time
-unfolding entry_time
-timed w db d now is = ap (max (min now latest)) is.shows.time
+-- three
+three : (item : ScriptItem) (path : List ℕ) → ⊥ ⊎ (⊥ ⊎ (⊥ ⊎ ⊥)) → StatementWrites item path
+three item path (inl writes) = absurd writes
+three item path (inr (inl writes)) = absurd writes
+three item path (inr (inr (inl writes))) = absurd writes
+three item path (inr (inr (inr writes))) = absurd writes
 
--- CREATE TABLE
+-- those of a backup
+backup : (disk path : List ℕ) → (path ≡ disk) ⊎ (⊥ ⊎ (⊥ ⊎ ((path ≡ disk) ⊎ (⊥ ⊎ ⊥)))) → path ≡ disk
+backup disk path (inl is) = is
+backup disk path (inr (inl writes)) = absurd writes
+backup disk path (inr (inr (inl writes))) = absurd writes
+backup disk path (inr (inr (inr (inl is)))) = is
+backup disk path (inr (inr (inr (inr (inl writes))))) = absurd writes
+backup disk path (inr (inr (inr (inr (inr writes))))) = absurd writes
 
-pub table-law : (i : Instance) (line : ℕ) (name : List ℕ) (now : ℕ) (c : Change) → AllSound i.kept.databases.items → Fine i.kept line (CreateTable name) → PlansTable i.kept name now c
-    → ByChange i (record { item = CreateTable name; line = line }) now Done 0 c
-unfolding accepted table_added logged logged_with
-table-law i line name now c sound fine plans w keeps kept fits =
-    let d : KeptDatabase = plans.0 in
-    let the = online-found w i.kept d keeps sound plans.1 in
-    let db : Database = the.0 in
-    let is : KeepsDatabase w db d = the.3.keeps in
-    record {
-      choice = some_choice;
-      v = table_added w db name now;
-      allowed = λ none. tt;
-      parts = fine-parts w line (CreateTable name) some_choice now (fine w keeps) ∙ ap (λ o. (with_found o (λ x. in_one (table_added w x name now) Done)).parts) the.1;
-      replied = sym (fine-reply w line (CreateTable name) some_choice now (fine w keeps) ∙ ap (λ o. (with_found o (λ x. in_one (table_added w x name now) Done)).reply) the.1);
-      leads = table-leads w db name now i.kept.databases.items kept keeps.databases (own-found w db the.1) (is-online db the.2)
-          ((λ x. changed (is.name x) (table_made name (timed w db d now is x)) i.kept.databases.items) ∙ ap (λ x. applied x i.kept.databases.items) (sym plans.2) ∙ fits);
-      media = refl;
-      counter = omega arith;
-      current = refl;
-    }
+item-fits : (w : World) (line : ℕ) (item : ScriptItem) (now : ℕ) (outcome : Outcome) → ItemMay w line item now outcome → Fits item outcome
+item-fits w line (CreateDatabase name primary groups log) now outcome may = comes-to (Fits (CreateDatabase name primary groups log)) (check_create_database w line name primary groups log) (DoesCreateDatabase w name now) (stops _)
+    (λ found o is. accepts _ _ _ o is (λ rule e. cc e) (one (CreateDatabase name primary groups log))) outcome may
+item-fits w line (DropDatabase name) now outcome may = comes-to (Fits (DropDatabase name)) (check_drop_database w name) DoesDropDatabase (stops _) (λ found o is. accepts _ _ _ o is (λ rule e. cc e) (one (DropDatabase name))) outcome may
+item-fits w line (Use name) now outcome may = comes-to (Fits (Use name)) (check_use w name) DoesUse (stops _) (λ found o is. accepts _ _ _ o is (λ rule e. cc e) (one (Use name))) outcome may
+item-fits w line (CreateTable name group) now outcome may = comes-to (Fits (CreateTable name group)) (check_create_table w line name group) (DoesCreateTable w name now) (stops _) (λ found o is. accepts _ _ _ o is (λ rule e. cc e) (one (CreateTable name group))) outcome may
+item-fits w line (Insert table key value) now outcome may = comes-to (Fits (Insert table key value)) (check_insert w line table key value) (DoesInsert w key value now) (stops _) (λ found o is. accepts _ _ _ o is.2 (λ rule e. cc e) (one (Insert table key value))) outcome may
+item-fits w line (Select table key) now outcome may = comes-to (Fits (Select table key)) (check_select w line table key) DoesSelect (stops _) (λ found o is. accepts _ _ _ o is (λ rule e. cc e) (λ path writes. absurd writes)) outcome may
+item-fits w line (BackupDatabase name units disk options) now outcome may = comes-to (Fits (BackupDatabase name units disk options)) (check_backup w line name units disk options) (DoesBackup w disk now) (stops _)
+    (λ found o is. accepts _ _ _ o is (λ rule e. cc e) (backup disk)) outcome may
+item-fits w line (RestoreDatabase name units disk options) now outcome may = comes-to (Fits (RestoreDatabase name units disk options)) (check_restore w line name units disk options) (DoesRestore w name) (stops _)
+    (λ found o is. accepts _ _ _ o is.4 (λ rule e. cc e) (three (RestoreDatabase name units disk options))) outcome may
+item-fits w line (BackupLog name disk options) now outcome may = nothing _ _ outcome may
+item-fits w line (RestoreLog name disk options) now outcome may = nothing _ _ outcome may
+item-fits w line (QueryMedium query disk file) now outcome may = nothing _ _ outcome may
+item-fits w line (Update table value key) now outcome may = nothing _ _ outcome may
+item-fits w line (Delete table key) now outcome may = nothing _ _ outcome may
+item-fits w line (BulkInsert table first count value) now outcome may = nothing _ _ outcome may
+item-fits w line (Begin transaction) now outcome may = nothing _ _ outcome may
+item-fits w line Commit now outcome may = nothing _ _ outcome may
+item-fits w line Rollback now outcome may = nothing _ _ outcome may
+item-fits w line Checkpoint now outcome may = nothing _ _ outcome may
+item-fits w line (SetRecovery name model) now outcome may = nothing _ _ outcome may
+item-fits w line (SelectCatalog catalog) now outcome may = nothing _ _ outcome may
+item-fits w line (Session number) now outcome may = nothing _ _ outcome may
+item-fits w line Start now outcome may = nothing _ _ outcome may
+item-fits w line (Step count) now outcome may = nothing _ _ outcome may
+item-fits w line Wait now outcome may = nothing _ _ outcome may
+item-fits w line (Syntax at) now outcome may = nothing _ _ outcome may
+item-fits w line TooLong now outcome may = nothing _ _ outcome may
 
--- INSERT
+-- a statement writes to no medium but the one that it names
+pub statement-writes : (w : World) (s : ScriptEntry) (now : ℕ) (outcome : Outcome) (path : List ℕ) → May w s now outcome → ActsWrite outcome.acts path → StatementWrites s.item path
+unfolding May
+statement-writes w s now outcome path may writes = (item-fits w s.line s.item now outcome may).writes path writes
 
--- the database that is online is the current one
-same-current : (k : Kept) (d e : KeptDatabase) → Ok d ≡ online_in k → current_of k ≡ Some e → offline_by e.standing ≡ None → d ≡ e
-same-current k d e online current fine =
-    ok-is online (ap (λ o. allowed (or_refused o NoSuchDatabase) (λ x. but_for (offline_by x.standing) x)) current ∙ ap (λ r. but_for r e) fine)
-  where
-    ok-is : {r : Result KeptDatabase Rule} → Ok d ≡ r → r ≡ Ok e → d ≡ e
-    ok-is first second = cc
+-- a refused statement stores nothing
+pub refused-still : (w : World) (s : ScriptEntry) (now : ℕ) (outcome : Outcome) (rule : Rule) → May w s now outcome → outcome.reply ≡ reply.Refused rule → IsStill outcome
+unfolding May
+refused-still w s now outcome rule may is = (item-fits w s.line s.item now outcome may).refused rule is
 
-pub row-law : (i : Instance) (line : ℕ) (table : List ℕ) (key : ℕ) (value : List ℕ) (now : ℕ) (c : Change) → AllSound i.kept.databases.items → Fine i.kept line (Insert table key value)
-    → HasCurrent i.kept (TakesRow table key value) → PlansRow i.kept key value now c → ByChange i (record { item = Insert table key value; line = line }) now (Counted 1) 0 c
-unfolding accepted row_added logged logged_with tables
-row-law i line table key value now c sound fine takes plans w keeps kept fits =
-    let d : KeptDatabase = plans.0 in
-    let the = online-found w i.kept d keeps sound plans.1 in
-    let db : Database = the.0 in
-    let is : KeepsDatabase w db d = the.3.keeps in
-    let e = held (current_of i.kept) (TakesRow table key value) takes in
-    let same : d ≡ e.0 = same-current i.kept d e.0 plans.1 e.1 (ap offline_by e.2.online) in
-    let there : d.table ≡ Some e.2.table = ap (λ (x : KeptDatabase). x.table) same ∙ e.2.there in
-    let has : KeepsTable w.history db.path db.end (Some e.2.table) = subst (KeepsTable w.history db.path db.end) there is.shows.table in
-    let spec : TableSpec = e.2.table.spec in
-    let named : table_named (tables w db) table ≡ Some spec = ap (λ ts. table_named ts table) has.0 ∙ ap (λ t. cond t (Some spec) None) e.2.named in
-    record {
-      choice = some_choice;
-      v = row_added w db spec key value now;
-      allowed = λ none. tt;
-      parts = fine-parts w line (Insert table key value) some_choice now (fine w keeps)
-          ∙ ap (λ o. (with_found o (λ x. with_found (table_named (tables w x) table) (λ t. in_one (row_added w x t key value now) (Counted 1)))).parts) the.1
-          ∙ ap (λ o. (with_found o (λ t. in_one (row_added w db t key value now) (Counted 1))).parts) named;
-      replied = sym (fine-reply w line (Insert table key value) some_choice now (fine w keeps)
-          ∙ ap (λ o. (with_found o (λ x. with_found (table_named (tables w x) table) (λ t. in_one (row_added w x t key value now) (Counted 1)))).reply) the.1
-          ∙ ap (λ o. (with_found o (λ t. in_one (row_added w db t key value now) (Counted 1))).reply) named);
-      leads = row-leads w db spec key value now i.kept.databases.items kept keeps.databases (own-found w db the.1) (is-online db the.2) has.0
-          ((λ x. changed (is.name x) (kept_row key value (timed w db d now is x)) i.kept.databases.items) ∙ ap (λ x. applied x i.kept.databases.items) (sym plans.2) ∙ fits);
-      media = refl;
-      counter = omega arith;
-      current = refl;
-    }
+turned-still : (name : Option (List ℕ)) (outcome : Outcome) → outcome ≡ in_one (turned name) Done → IsStill outcome
+turned-still name outcome is =
+    let still : IsStill (in_one (turned name) Done) = (tt, tt) in
+    subst IsStill (sym is) still
 
--- USE
+-- nor does USE
+pub use-still : (w : World) (line : ℕ) (name : List ℕ) (now : ℕ) (outcome : Outcome) → May w (record { item = Use name; line = line }) now outcome → IsStill outcome
+unfolding May
+use-still w line name now outcome may = comes-to IsStill (check_use w name) DoesUse (λ rule. tt) (λ found o is. turned-still found o is) outcome may
 
-pub use-answers : (i new : Instance) (disk : Disk) (line : ℕ) (name : List ℕ) (now : ℕ) → Fine i.kept line (Use name) → new.kept.number ≡ i.kept.number → new.kept.counter ≡ i.kept.counter
-    → new.kept.databases.items ≡ i.kept.databases.items → new.kept.current ≡ (if is_system name then None else Some name)
-    → Answers i disk (record { item = Use name; line = line }) now Done new disk
-unfolding accepted with_current
-use-answers i new disk line name now fine number counter databases current w stands =
-    let v : World = with_current w (if is_system name then None else Some name) in
-    let leads : LeadsTo w v i.kept.databases.items = used-leads w (if is_system name then None else Some name) i.kept.databases.items stands.keeps.databases in (
-      v,
-      record {
-        choice = some_choice;
-        allowed = λ none. tt;
-        replied = sym (fine-reply w line (Use name) some_choice now (fine w stands.keeps));
-        becomes = sym (ap (last_world w) (fine-parts w line (Use name) some_choice now (fine w stands.keeps)));
-      },
-      record {
-        keeps = record {
-          number = stands.keeps.number ∙ sym number;
-          counter = stands.keeps.counter ∙ sym counter;
-          current = used-current w (if is_system name then None else Some name) ∙ sym current;
-          databases = subst (KeepsDatabases v) (sym databases) leads.keeps;
-        };
-        media = media-on w v None disk.files leads.goes refl stands.media;
-      },
-    )
+-- a statement that only answers stores nothing
+answered-still : (answer : Reply) (outcome : Outcome) → outcome ≡ answered answer → IsStill outcome
+answered-still answer outcome is = subst IsStill (sym is) tt
 
--- SELECT
-
-pub select-answers : (i : Instance) (disk : Disk) (line : ℕ) (name : List ℕ) (now : ℕ) (t : Bor KeptTable) (rows : List (ℕ × List ℕ)) → ((w : World) → Keeps w i.kept → FindsTable w name (Ok t)) → rows ≡ t.now.rows
-    → Answers i disk (record { item = Select name; line = line }) now (Selected rows) i disk
-select-answers i disk line name now t rows finds same w stands = (
-  w,
-  stepped-still w line (Select name) now (Selected rows) (select-allowed w name t line (finds w stands.keeps)) tt
-      (select-accepted w name t some_choice now (finds w stands.keeps) ∙ ap (λ r. record { parts = []; reply = Selected r }) (sym same)),
-  stands,
-)
-
--- What is no statement, what is too long, and what isn't built.
-
-pub syntax-answers : (i : Instance) (disk : Disk) (line there now : ℕ) → Answers i disk (record { item = Syntax there; line = line }) now (Refused (no_syntax there)) i disk
-unfolding broken
-syntax-answers i disk line there now = refused-answers i disk line (Syntax there) now (no_syntax there) (λ w keeps. refl)
-
-pub too_long-answers : (i : Instance) (disk : Disk) (line now : ℕ) → Answers i disk (record { item = TooLong; line = line }) now (Refused over_long) i disk
-unfolding broken
-too_long-answers i disk line now = refused-answers i disk line TooLong now over_long (λ w keeps. refl)
-
-pub not_built-answers : (i : Instance) (disk : Disk) (line now : ℕ) → Answers i disk (record { item = NotBuilt; line = line }) now (Refused (unbuilt line)) i disk
-unfolding broken
-not_built-answers i disk line now = refused-answers i disk line NotBuilt now (unbuilt line) (λ w keeps. refl)
+-- as SELECT
+pub select-still : (w : World) (line : ℕ) (table : List ℕ) (key : Option ℕ) (now : ℕ) (outcome : Outcome) → May w (record { item = Select table key; line = line }) now outcome → IsStill outcome
+unfolding May
+select-still w line table key now outcome may = comes-to IsStill (check_select w line table key) DoesSelect (λ rule. tt) (λ found o is. answered-still (Selected found) o is) outcome may

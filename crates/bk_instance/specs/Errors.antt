@@ -1,12 +1,14 @@
 -- What the errors of the layers below come to.
-use Rattle.bk_changes.specs.declared.error.ApplyError.{ApplyError}
-use Rattle.bk_changes.specs.declared.error.ApplyError.TheVariants as apply
-use Rattle.bk_changes.specs.declared.unread.Unread.{Unread}
-use Rattle.bk_changes.specs.declared.unread.Unread.TheVariants as unread
+use Rattle.bk_kept.specs.declared.error.ApplyError.{ApplyError}
+use Rattle.bk_kept.specs.declared.error.ApplyError.TheVariants as apply
+use Rattle.bk_acts.specs.declared.unread.Unread.{Unread}
+use Rattle.bk_acts.specs.declared.unread.Unread.TheVariants as unread
 use Rattle.bk_home.specs.declared.error.HomeError.{HomeError}
 use Rattle.bk_home.specs.declared.error.HomeError.TheVariants as home
 use Rattle.bk_media.specs.declared.error.AddError.{AddError}
 use Rattle.bk_media.specs.declared.error.AddError.TheVariants as add
+use Rattle.bk_media.specs.declared.error.LoadError.{LoadError as MediumError}
+use Rattle.bk_media.specs.declared.error.LoadError.TheVariants as medium
 use Rattle.bk_media.specs.declared.error.MakeError.{MakeError}
 use Rattle.bk_media.specs.declared.error.MakeError.TheVariants as make
 use Rattle.bk_instance.specs.declared.error.ExecuteError.{ExecuteError}
@@ -34,6 +36,12 @@ abbrev pub added_error : AddError → ExecuteError
 added_error add.Fault = Fault
 added_error add.NoMemory = NoMemory
 
+abbrev pub medium_error : MediumError → ExecuteError
+medium_error medium.Missing = Broken
+medium_error medium.NotMedia = Broken
+medium_error medium.Fault = Fault
+medium_error medium.NoMemory = NoMemory
+
 -- where an instance is loaded
 
 abbrev pub opened_error : HomeError → LoadError
@@ -43,7 +51,7 @@ opened_error home.Fault = load.Fault
 opened_error home.NoMemory = load.NoMemory
 
 abbrev pub unread_error : Unread → LoadError
-unread_error unread.NoChange = load.Broken
+unread_error unread.NoAct = load.Broken
 unread_error unread.NoMemory = load.NoMemory
 
 abbrev pub unfit_error : ApplyError → LoadError

@@ -7,8 +7,8 @@ use Rattle.bk_media.specs.Media.{read_medium, found_at}
 use Rattle.bk_media.specs.Names.{medium_file}
 use Rattle.bk_set.specs.declared.body.SetBody.{SetBody}
 use Rattle.bk_set.specs.declared.found.Found.TheVariants.{Holds}
-use Rattle.bk_world.specs.Events.{MediumRemoved, StandbyRemoved, MediumChanged, MediumAdded}
-use Rattle.bk_world.specs.World.{World}
+use Rattle.bk_machine.specs.Events.{MediumRemoved, StandbyRemoved, MediumChanged, MediumAdded}
+use Rattle.bk_machine.specs.World.{World}
 use Rattle.bk_instance.specs.Stands.{Stands}
 
 -- a run has ended, or the instance isn't made yet

@@ -1,7 +1,7 @@
 pub mod Media
 pub mod Stands
+pub mod Touched
 pub mod Steps
 pub mod Loading
 pub mod Errors
-pub mod Plans
 pub mod Events

@@ -8,12 +8,11 @@ use Rattle.bk_media.specs.Media.{read_medium, found_at}
 use Rattle.bk_media.specs.Names.{medium_file}
 use Rattle.bk_set.specs.declared.body.SetBody.{SetBody}
 use Rattle.bk_set.specs.declared.found.Found.TheVariants.{Holds}
-use Rattle.bk_world.specs.declared.header.Header.{Header}
 use Rattle.bk_world.specs.declared.rule.Rule.{Rule}
-use Rattle.bk_world.specs.Medium.{Slot, Reading, readable, medium, medium_at}
-use Rattle.bk_world.specs.Restore.{set_broken}
-use Rattle.bk_world.specs.World.{World}
-use Rattle.bk_kept.specs.Carried.{IsCarried}
+use Rattle.bk_world.specs.Medium.{Reading, medium_at}
+use Rattle.bk_machine.specs.World.{World}
+use Rattle.bk_machine.specs.statements.Restore.{first_set}
+use Rattle.bk_kept.specs.Stored.{Carries}
 
 -- the medium at this path is the one that is being made
 abbrev pub is_making : Option (List ℕ) → List ℕ → Bool
@@ -32,7 +31,7 @@ shown_medium making path file = if is_making making path && is_begun (sealed fil
 -- the media of the world are those in the files, and their sets hold what their paths show
 pub record KeepsMedia (w : World) (making : Option (List ℕ)) (files : Files) : Type 0 where
   pub read : (path : List ℕ) → AreBytes path → medium_at w.media path ≡ shown_medium making path (files (medium_file path))
-  pub carried : (path : List ℕ) (p : ℕ) (body : SetBody) → AreBytes path → found_at (files (medium_file path)) p ≡ Some (Holds body) → IsCarried w body
+  pub carried : (path : List ℕ) (p : ℕ) (body : SetBody) → AreBytes path → found_at (files (medium_file path)) p ≡ Some (Holds body) → Carries w.history body
 
 -- nothing is pending in any medium
 abbrev pub MediaAreDurable : Disk → Type 0
@@ -44,5 +43,5 @@ IfDurable disk Is image = MediaAreDurable disk → Is image
 
 -- what the first set of a file is: the body that it holds, or the rule by which it is refused
 abbrev pub IsFirst : Option (List ℕ) → Result SetBody Rule → Type 0
-IsFirst file (Ok body) = (slots : List Slot) × (read_medium file ≡ Some (medium (readable body.header ∷ slots))) × (found_at file 1 ≡ Some (Holds body))
-IsFirst file (Err rule) = (next : Header → Option Rule) → set_broken (read_medium file) next ≡ Some rule
+IsFirst file (Ok body) = (first_set (read_medium file) ≡ Ok body.header) × (found_at file 1 ≡ Some (Holds body))
+IsFirst file (Err rule) = first_set (read_medium file) ≡ Err rule

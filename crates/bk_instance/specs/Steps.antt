@@ -1,134 +1,124 @@
--- What the calls of an instance leave of its own files on the way.
-use Rattle.std.specs.Prelude.{◌≡◌, ◌≢◌, ◌⊎◌, ◌≤◌, ℕ, ◌+◌, List, [], ◌∷◌, Option, None, Some}
-use Rattle.bk_bytes.specs.Field.{AreBytes}
-use Rattle.bk_changes.specs.declared.change.Change.{Change}
-use Rattle.bk_changes.specs.declared.change.Change.TheVariants.{Logged, Based}
-use Rattle.bk_changes.specs.declared.state.Database.{Database as KeptDatabase}
-use Rattle.bk_changes.specs.Applied.{applied}
-use Rattle.bk_device.specs.Disk.{Files}
-use Rattle.bk_gate.specs.Blobs.{sealed}
-use Rattle.bk_home.specs.declared.record.Record.{Record}
-use Rattle.bk_kept.specs.declared.kept.Kept.{Kept}
-use Rattle.bk_media.specs.Media.{HasSets, HasAdded}
-use Rattle.bk_media.specs.Names.{medium_file}
-use Rattle.bk_set.specs.declared.body.SetBody.{SetBody}
+-- What the calls of an instance do, part by part and statement by statement.
+use Rattle.std.specs.Prelude.{◌≡◌, ◌⊎◌, ℕ, List, []}
+use Rattle.std.specs.List.{AllByRecursion}
+use Rattle.bk_device.specs.Calls.{ChangesNothing}
+use Rattle.bk_device.specs.Disk.{Files, Disk}
+use Rattle.bk_device.specs.Effects.{Effect}
+use Rattle.bk_items.specs.declared.item.ScriptEntry.{ScriptEntry}
+use Rattle.bk_machine.specs.Acts.{Act, turned, done, done_all}
+use Rattle.bk_machine.specs.Machine.{May}
+use Rattle.bk_machine.specs.Outcome.{Outcome}
+use Rattle.bk_machine.specs.World.{World}
+use Rattle.bk_plans.specs.declared.parts.Part.{Part}
+use Rattle.bk_plans.specs.declared.parts.Plan.{Plan}
+use Rattle.bk_plans.specs.declared.parts.Plan.TheVariants.{Parts}
+use Rattle.bk_plans.specs.Planning.{IsPart, AreParts, AreActsOf}
+use Rattle.bk_world.specs.declared.reply.Reply.{Reply}
 use Rattle.bk_instance.specs.declared.instance.Instance.{Instance}
-use Rattle.bk_instance.specs.Stands.{Stored}
+use Rattle.bk_instance.specs.Media.{IfDurable}
+use Rattle.bk_instance.specs.Stands.{Covers, CutIn, IsOurs, ReservesNone, StandsFor}
+use Rattle.bk_instance.specs.Touched.{ActsWrite, TouchesOnly}
 
--- the databases before a change, or after it
-abbrev pub Changed : Change → Record → List KeptDatabase → Files → Type 0
-Changed c r kept image = Stored image r kept ⊎ ((new : List KeptDatabase) × (applied c kept ≡ Some new) × Stored image r new)
+-- One part.
 
--- Own files hold databases that are reached once so many GUIDs are drawn, and a record in which these are reserved.
-pub record Reaches (old : Kept) (Reached : ℕ → List KeptDatabase → Type 0) (image : Files) : Type 0 where
-  pub «record» : Record
-  pub kept : List KeptDatabase
-  pub drawn : ℕ
-  pub stored : Stored image «record» kept
-  pub number : «record».number ≡ old.number
-  pub none : «record».making ≡ None
-  pub no_less : old.counter + drawn ≤ «record».counter
-  pub no_more : «record».counter ≤ old.counter + 1024
-  pub reached : Reached drawn kept
+-- a part is done: from each world for which the instance stood and in which it is an act, it goes to the world behind that
+abbrev pub DoesPart : Instance → Disk → Part → Instance → Disk → Type 0
+DoesPart old before part new after = (w : World) (act : Act) → StandsFor old before w → IsPart w part act → StandsFor new after (done w act)
 
--- nothing is changed yet
-abbrev pub Unchanged : Kept → ℕ → List KeptDatabase → Type 0
-Unchanged old drawn kept = (drawn ≡ 0) × (kept ≡ old.databases.items)
+-- a crash leaves the world before a part, or the one behind it
+abbrev pub CutsPart : Instance → Disk → Part → Files → Type 0
+CutsPart old before part image = (number : ℕ) (w : World) (act : Act) → StandsFor old before w → IsPart w part act → Covers number image w ⊎ Covers number image (done w act)
 
--- one change, once so many GUIDs are drawn
-abbrev pub OneChange : Kept → ℕ → Change → ℕ → List KeptDatabase → Type 0
-OneChange old need c drawn kept = Unchanged old drawn kept ⊎ ((drawn ≡ need) × (applied c old.databases.items ≡ Some kept))
+-- there is no world for which the instance stands and in which a part is an act
+abbrev pub IsNoPart : Instance → Disk → Part → Type 0
+IsNoPart old before part = (w : World) (act : Act) → StandsFor old before w → IsPart w part act → ⊥
 
--- a call that left all but the databases
-pub record IsSame (old new : Instance) : Type 0 where
-  pub number : new.kept.number ≡ old.kept.number
-  pub counter : new.kept.counter ≡ old.kept.counter
-  pub current : new.kept.current ≡ old.kept.current
-  pub «record» : new.home.«record» ≡ old.home.«record»
+-- Several parts.
 
--- a call that drew so many GUIDs and made a change
-pub record Draws (old : Instance) (n : ℕ) (c : Change) (new : Instance) : Type 0 where
-  pub applies : applied c old.kept.databases.items ≡ Some new.kept.databases.items
-  pub number : new.kept.number ≡ old.kept.number
-  pub counter : new.kept.counter ≡ old.kept.counter + n
-  pub current : new.kept.current ≡ old.kept.current
+abbrev pub DoesParts : Instance → Disk → List Part → Instance → Disk → Type 0
+DoesParts old before parts new after = (w : World) (acts : List Act) → StandsFor old before w → AreParts w parts acts → StandsFor new after (done_all w acts)
 
--- Backups.
+-- a crash leaves the world behind some of them
+abbrev pub CutsParts : Instance → Disk → List Part → Files → Type 0
+CutsParts old before parts image = (number : ℕ) (w : World) (acts : List Act) → StandsFor old before w → AreParts w parts acts → CutIn number w acts image
 
--- what the medium at a path is while it isn't made yet: nothing, or named in the record with no blob sealed
-abbrev pub NotMade : List ℕ → Option (List ℕ) → Option (List ℕ) → Type 0
-NotMade path making file = ((making ≡ None) × (file ≡ None)) ⊎ ((making ≡ Some path) × (sealed file ≡ []))
+abbrev pub AreNoParts : Instance → Disk → List Part → Type 0
+AreNoParts old before parts = (w : World) (acts : List Act) → StandsFor old before w → AreParts w parts acts → ⊥
 
--- it is made, without a set
-abbrev pub MadeEmpty : List ℕ → Option (List ℕ) → Option (List ℕ) → Type 0
-MadeEmpty path making file = ((making ≡ None) ⊎ (making ≡ Some path)) × HasSets [] file
+-- A plan.
 
--- Own files hold these databases once so many GUIDs are drawn, and the medium at a path is like this; other media are as they were.
-pub record BackupAt (old : Kept) (files : Files) (path : List ℕ) (drawn : ℕ) (kept : List KeptDatabase) (Is : List ℕ → Option (List ℕ) → Option (List ℕ) → Type 0) (image : Files) : Type 0 where
-  pub «record» : Record
-  pub stored : Stored image «record» kept
-  pub number : «record».number ≡ old.number
-  pub no_less : old.counter + drawn ≤ «record».counter
-  pub no_more : «record».counter ≤ old.counter + 1024
-  pub is : Is path «record».making (image (medium_file path))
-  pub others : (other : List ℕ) → AreBytes other → medium_file other ≢ medium_file path → image (medium_file other) ≡ files (medium_file other)
+abbrev pub DoesPlan : Instance → Disk → Plan → Instance → Disk → Type 0
+DoesPlan old before plan new after = (w : World) (acts : List Act) → StandsFor old before w → AreActsOf w plan acts → StandsFor new after (done_all w acts)
 
--- the medium is made, or not yet
-abbrev pub Making : Kept → Files → List ℕ → Files → Type 0
-Making old files path image = BackupAt old files path 0 old.databases.items NotMade image ⊎ BackupAt old files path 1 old.databases.items MadeEmpty image
+abbrev pub CutsPlan : Instance → Disk → Plan → Files → Type 0
+CutsPlan old before plan image = (number : ℕ) (w : World) (acts : List Act) → StandsFor old before w → AreActsOf w plan acts → CutIn number w acts image
 
--- the changes that a full backup makes: its checkpoint and its stamp are both this mark, and then its database is based on it
-abbrev pub mark_of : SetBody → Change
-mark_of body = Logged body.header.database body.header.finish
+abbrev pub IsNoPlan : Instance → Disk → Plan → Type 0
+IsNoPlan old before plan = (w : World) (acts : List Act) → StandsFor old before w → AreActsOf w plan acts → ⊥
 
-abbrev pub base_of : SetBody → Change
-base_of body = Based body.header.database body.header.set body.header.checkpoint
+-- a plan stores nothing
+abbrev pub HasNoParts : Plan → Type 0
+HasNoParts (Parts parts answer) = parts.items ≡ []
+HasNoParts _ = Unit {0}
 
--- databases behind both marks
-abbrev pub IsMarked : SetBody → List KeptDatabase → List KeptDatabase → Type 0
-IsMarked body old kept = (one : List KeptDatabase) × (applied (mark_of body) old ≡ Some one) × (applied (mark_of body) one ≡ Some kept)
+-- What changes nothing.
 
--- before them, behind one or behind both
-abbrev pub Marks : SetBody → List KeptDatabase → List KeptDatabase → Type 0
-Marks body old kept = (kept ≡ old) ⊎ ((applied (mark_of body) old ≡ Some kept) ⊎ IsMarked body old kept)
+-- an act that touches memory alone: the one of USE
+abbrev pub IsTurn : Act → Type 0
+IsTurn (turned name) = Unit {0}
+IsTurn _ = ⊥
 
--- behind both, and the database is based on the set, or not yet
-abbrev pub IsBased : SetBody → List KeptDatabase → List KeptDatabase → Type 0
-IsBased body old kept = (two : List KeptDatabase) × IsMarked body old two × (applied (base_of body) two ≡ Some kept)
+-- An outcome that changes nothing that is stored: that of each refused statement, of USE, of SELECT.
+abbrev pub IsStill : Outcome → Type 0
+IsStill outcome = AllByRecursion IsTurn outcome.acts
 
-abbrev pub Bases : SetBody → List KeptDatabase → List KeptDatabase → Type 0
-Bases body old kept = IsMarked body old kept ⊎ IsBased body old kept
+-- The device was left as it was, and no GUID was reserved.
+pub record Rests (old : Instance) (before : Disk) (new : Instance) (after : Disk) : Type 0 where
+  pub device : ChangesNothing before after
+  pub reserves : ReservesNone old → ReservesNone new
 
--- databases and the new medium on the way of a full backup: the marks come before the set, and the base behind it
-abbrev pub OnWay : SetBody → List KeptDatabase → List KeptDatabase → Option (List ℕ) → Type 0
-OnWay body old kept file = (Marks body old kept × HasSets [] file) ⊎ (Bases body old kept × HasAdded [] body file)
+-- A statement.
 
--- own files and the new medium are on the way of a full backup, and other media are as they were
-pub record Finishes (r : Record) (old : List KeptDatabase) (files : Files) (path : List ℕ) (body : SetBody) (image : Files) : Type 0 where
-  pub kept : List KeptDatabase
-  pub stored : Stored image r kept
-  pub is : OnWay body old kept (image (medium_file path))
-  pub others : (other : List ℕ) → AreBytes other → medium_file other ≢ medium_file path → image (medium_file other) ≡ files (medium_file other)
+-- from each world for which the instance stands, a statement may come to this at a moment
+abbrev pub MayCome : Instance → Disk → ScriptEntry → ℕ → Outcome → Type 0
+MayCome i disk s now outcome = (w : World) → StandsFor i disk w → May w s now outcome
 
--- Several changes.
+-- and then it stands for the world behind its acts
+abbrev pub DoesAll : Instance → Disk → Outcome → Instance → Disk → Type 0
+DoesAll old before outcome new after = (w : World) → StandsFor old before w → StandsFor new after (done_all w outcome.acts)
 
--- the databases once these changes were made, one after the other
-abbrev pub AllOf : List Change → List KeptDatabase → List KeptDatabase → Type 0
-AllOf [] old new = new ≡ old
-AllOf (c ∷ cs) old new = (mid : List KeptDatabase) × (applied c old ≡ Some mid) × AllOf cs mid new
+-- each crash leaves a world behind a front of them
+abbrev pub Cuts : Instance → Disk → Outcome → Files → Type 0
+Cuts old before outcome image = (number : ℕ) (w : World) → StandsFor old before w → CutIn number w outcome.acts image
 
--- once some of them were made, from the first one on
-abbrev pub SomeOf : List Change → List KeptDatabase → List KeptDatabase → Type 0
-SomeOf [] old new = new ≡ old
-SomeOf (c ∷ cs) old new = (new ≡ old) ⊎ ((mid : List KeptDatabase) × (applied c old ≡ Some mid) × SomeOf cs mid new)
+-- each crash leaves the world as it was
+abbrev pub Stays : Instance → Disk → Files → Type 0
+Stays old before image = (number : ℕ) (w : World) → StandsFor old before w → Covers number image w
 
--- some of several changes, once so many GUIDs are drawn
-abbrev pub SomeChanges : Kept → ℕ → List Change → ℕ → List KeptDatabase → Type 0
-SomeChanges old need cs drawn kept = Unchanged old drawn kept ⊎ ((drawn ≡ need) × SomeOf cs old.databases.items kept)
+-- A statement was executed: it has one outcome for its reply, for the world to which it leads, and for what each crash meanwhile leaves.
+pub record Executed (tells : Type 0) (old : Instance) (before : Disk) (s : ScriptEntry) (now : ℕ) (reply : Reply) (new : Instance) (after : Disk) : Type 0 where
+  pub outcome : Outcome
+  pub replies : outcome.reply ≡ reply
+  pub may : tells → MayCome old before s now outcome
+  pub does : tells → DoesAll old before outcome new after
+  pub crash : tells → Effect IsOurs (IfDurable before (Cuts old before outcome)) before after
+  -- where it stood for a world: an outcome that stores nothing left the device as it was
+  pub still : tells → (w : World) → StandsFor old before w → IsStill outcome → Rests old before new after
+  -- and no medium was touched but those to which its acts write
+  pub spares : tells → (w : World) → StandsFor old before w → TouchesOnly (ActsWrite outcome.acts) before after
 
--- a call that drew so many GUIDs and made several changes
-pub record DrawsAll (old : Instance) (n : ℕ) (cs : List Change) (new : Instance) : Type 0 where
-  pub applies : AllOf cs old.kept.databases.items new.kept.databases.items
-  pub number : new.kept.number ≡ old.kept.number
-  pub counter : new.kept.counter ≡ old.kept.counter + n
-  pub current : new.kept.current ≡ old.kept.current
+-- It was cut off in what it comes to.
+pub record CutOff (tells : Type 0) (old : Instance) (before : Disk) (s : ScriptEntry) (now : ℕ) (after : Disk) : Type 0 where
+  pub outcome : Outcome
+  pub may : tells → MayCome old before s now outcome
+  pub crash : tells → Effect IsOurs (IfDurable before (Cuts old before outcome)) before after
+  pub spares : tells → (w : World) → StandsFor old before w → TouchesOnly (ActsWrite outcome.acts) before after
+
+-- Nothing was done yet.
+pub record DidNothing (old : Instance) (before after : Disk) : Type 0 where
+  pub crash : Effect IsOurs (IfDurable before (Stays old before)) before after
+  pub device : ChangesNothing before after
+
+-- It failed: nothing was done yet, or it was cut off.
+abbrev pub Failed : Type 0 → Instance → Disk → ScriptEntry → ℕ → Disk → Type 0
+Failed tells old before s now after = (tells → DidNothing old before after) ⊎ CutOff tells old before s now after

@@ -4,10 +4,11 @@ ghost use Rattle.bk_instance.specs.declared.error.ExecuteError.TheVariants as ex
 ghost use Rattle.bk_instance.specs.declared.error.LoadError.TheVariants as load;
 ghost use Rattle.bk_instance.specs.Errors as errors;
 
-use bk_changes::{ApplyError, Unread};
+use bk_acts::Unread;
 use bk_device::Failed;
 use bk_home::HomeError;
-use bk_media::{AddError, MakeError};
+use bk_kept::ApplyError;
+use bk_media::{AddError, LoadError as MediumError, MakeError};
 use std::alloc::AllocError;
 use thiserror::Error;
 
@@ -20,9 +21,8 @@ pub enum ExecuteError {
     /// Memory was wanting.
     #[error("out of memory")]
     NoMemory,
-    /// A change didn't fit the databases, or no medium can have the path of a backup, which is empty or above 100 bytes.
-    /// Nothing of that change is in the files.
-    #[error("the change doesn't fit the databases")]
+    /// The instance stands for no world.
+    #[error("the instance is broken")]
     Broken,
 }
 
@@ -104,6 +104,18 @@ impl From<AddError> for ExecuteError {
     }
 }
 
+impl From<MediumError> for ExecuteError {
+    ghost from_gives = { λ error e. e ≡ errors.medium_error error };
+
+    fn from(error: MediumError) -> Self {
+        match error {
+            MediumError::Fault => ExecuteError::Fault,
+            MediumError::NoMemory => ExecuteError::NoMemory,
+            MediumError::Missing | MediumError::NotMedia => ExecuteError::Broken,
+        }
+    }
+}
+
 impl From<Failed> for LoadError {
     ghost from_gives = { λ _ e. e ≡ load.Fault };
 
@@ -138,7 +150,7 @@ impl From<Unread> for LoadError {
 
     fn from(error: Unread) -> Self {
         match error {
-            Unread::NoChange => LoadError::Broken,
+            Unread::NoAct => LoadError::Broken,
             Unread::NoMemory => LoadError::NoMemory,
         }
     }

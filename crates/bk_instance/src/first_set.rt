@@ -7,7 +7,7 @@ ghost use Rattle.bk_media.specs.Media.{ShowsMedium};
 ghost use Rattle.bk_media.specs.Names.{medium_file};
 ghost use Rattle.bk_set.specs.Conditions.{IsBody};
 ghost use Rattle.bk_instance.specs.Media.{IsFirst};
-ghost use Rattle.bk_instance.specs.declared.error.ExecuteError.TheVariants.{Fault};
+ghost use Rattle.bk_instance.specs.declared.error.ExecuteError.TheVariants.{Broken, Fault};
 
 use crate::error::ExecuteError;
 use bk_device::Device;
@@ -26,6 +26,7 @@ pub fn first_set<D: Device>(
     ensures first { D.tells → IfOk result (IsFirst ((D.disk dev.old).files (medium_file path.now))) }
     ensures is_body { IfOk result (λ first. IfOk first IsBody) }
     ensures effect { D.tells → ChangesNothing (D.disk dev.old) (D.disk dev.new) }
+    ensures sound { IsErrOf result Broken → ⊥ }
     ensures cause { HasCause D.disk_faults D.tell_faults dev.old dev.new (IsErrOf result Fault) }
 {
     match Medium::load(alloc, dev, path) {
@@ -48,6 +49,7 @@ fn set_of<D: Device>(
     ensures first { D.tells → IfOk result (IsFirst ((D.disk dev.old).files medium.now.name)) }
     ensures is_body { IfOk result (λ first. IfOk first IsBody) }
     ensures effect { D.tells → ChangesNothing (D.disk dev.old) (D.disk dev.new) }
+    ensures sound { IsErrOf result Broken → ⊥ }
     ensures cause { HasCause D.disk_faults D.tell_faults dev.old dev.new (IsErrOf result Fault) }
 {
     match medium.set(alloc, dev, 1) {

@@ -1,16 +1,30 @@
-ghost use Rattle.std.specs.Prelude.{◌≡◌, ℕ, List, None};
+ghost use Rattle.std.specs.Prelude.{◌≡◌, ℕ, List, Option, None};
 ghost use Rattle.bk_bytes.specs.Field.{AreBytes};
 ghost use Rattle.bk_device.specs.Disk.{Files};
 ghost use Rattle.bk_home.specs.Home.{IsNotMade};
 ghost use Rattle.bk_media.specs.Names.{medium_file};
-ghost use Rattle.bk_world.specs.Events.{Happen};
-ghost use Rattle.bk_world.specs.World.{World, empty_world};
+ghost use Rattle.bk_items.specs.declared.item.ScriptEntry.{ScriptEntry};
+ghost use Rattle.bk_items.specs.declared.item.ScriptItem.TheVariants as script;
+ghost use Rattle.bk_machine.specs.Events.{Happen};
+ghost use Rattle.bk_machine.specs.Machine.{May};
+ghost use Rattle.bk_machine.specs.Outcome.{Outcome};
+ghost use Rattle.bk_machine.specs.World.{World, empty_world};
+ghost use Rattle.bk_world.specs.declared.reply.Reply.TheVariants.{Refused};
+ghost use Rattle.bk_world.specs.declared.rule.Rule.{Rule};
 ghost use Rattle.bk_instance.specs.Events.{StandsAtRest, RemovesMedium, RemovesStandby, ChangesMedium, AddsMedium, HappenOn};
+ghost use Rattle.bk_instance.specs.Steps.{IsStill};
+ghost use Rattle.bk_instance.specs.Touched.{ActsWrite, StatementWrites};
+
+use bk_machine::{
+    empty_worlds_are_sound, events_keep_worlds_sound, logs_that_stay, sets_that_stay,
+};
 
 /// Where no instance is made and there is no medium, the files stand for the empty world of each number.
 pub fn empty_files_stand()
     ensures { (number : ℕ) (files : Files) → IsNotMade files → ((path : List ℕ) → AreBytes path → files (medium_file path) ≡ None) → StandsAtRest number files (empty_world number) }
-{}
+{
+    empty_worlds_are_sound();
+}
 
 /// What may happen between two runs, done to the files and to the world together, keeps that they stand for it.
 pub fn events_keep_what_stands()
@@ -20,4 +34,17 @@ pub fn events_keep_what_stands()
     ensures added { (number : ℕ) (f g : Files) (w v : World) → StandsAtRest number f w → AddsMedium f w g v → StandsAtRest number g v }
     ensures any { (number : ℕ) (f g : Files) (w v : World) → HappenOn f w g v → StandsAtRest number f w → StandsAtRest number g v }
     ensures of_world { (f g : Files) (w v : World) → HappenOn f w g v → Happen w v }
+{
+    events_keep_worlds_sound();
+    logs_that_stay();
+    sets_that_stay();
+}
+
+/// What statements write to: one that is refused, USE and SELECT store nothing, and only BACKUP writes to a medium, the one
+/// that it names.
+pub fn what_statements_write_to()
+    ensures refused { (w : World) (s : ScriptEntry) (now : ℕ) (outcome : Outcome) (rule : Rule) → May w s now outcome → outcome.reply ≡ Refused rule → IsStill outcome }
+    ensures uses { (w : World) (line : ℕ) (name : List ℕ) (now : ℕ) (outcome : Outcome) → May w (record { item = script.Use name; line = line }) now outcome → IsStill outcome }
+    ensures selects { (w : World) (line : ℕ) (table : List ℕ) (key : Option ℕ) (now : ℕ) (outcome : Outcome) → May w (record { item = script.Select table key; line = line }) now outcome → IsStill outcome }
+    ensures media { (w : World) (s : ScriptEntry) (now : ℕ) (outcome : Outcome) (path : List ℕ) → May w s now outcome → ActsWrite outcome.acts path → StatementWrites s.item path }
 {}

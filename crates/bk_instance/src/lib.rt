@@ -4,20 +4,18 @@
 
 mod backing_up;
 mod closing;
-mod databases;
 mod error;
 mod first_set;
+mod following;
 mod instance;
 mod laws;
 mod loading;
 mod making;
-mod planning;
 mod replaying;
 mod restoring;
 mod storing;
-mod tables;
 mod unfinished;
 
 pub use error::{ExecuteError, LoadError};
 pub use instance::Instance;
-pub use laws::{empty_files_stand, events_keep_what_stands};
+pub use laws::{empty_files_stand, events_keep_what_stands, what_statements_write_to};

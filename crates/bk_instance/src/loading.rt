@@ -1,15 +1,16 @@
 // How an instance is opened.
-ghost use Rattle.std.specs.Prelude.{◌≡◌, ◌≢◌, ◌≤◌, false, IfOk, OnOk, OnErr, IsErrOf, MatchResult, IsErr};
+ghost use Rattle.std.specs.Prelude.{◌≡◌, ◌≢◌, ◌⊎◌, ◌≤◌, ℕ, List, [], Some, false, IfOk, OnOk, OnErr, IsErrOf, MatchResult, IsErr};
 ghost use Rattle.bk_device.specs.Calls.{ChangesNothing};
 ghost use Rattle.bk_device.specs.Counts.{HasCause};
 ghost use Rattle.bk_device.specs.Disk.{IsSettled};
 ghost use Rattle.bk_device.specs.Effects.{Effect, MayLeaveOwn};
-ghost use Rattle.bk_home.specs.Home.{AreDurable, IsHome, IsNoInstance, IsOwn};
+ghost use Rattle.bk_home.specs.Home.{AreDurable, IsHome, IsMade, IsNoInstance, IsOwn, blobs_of};
 ghost use Rattle.bk_instance.specs.Loading.{LeavesOpened};
 ghost use Rattle.bk_instance.specs.Media.{MediaAreDurable};
-ghost use Rattle.bk_instance.specs.Stands.{Stands, IsReady, IsStored, StandsFor, IsOurs};
+ghost use Rattle.bk_instance.specs.Stands.{Stands, IsReady, IsStored, ReservesNone, StandsFor, IsOurs};
+ghost use Rattle.bk_instance.specs.Touched.{IsMaking, TouchesOnly, TouchesOwn};
 ghost use Rattle.bk_instance.specs.declared.error.LoadError.TheVariants as load;
-ghost use Rattle.bk_world.specs.World.{World, opened};
+ghost use Rattle.bk_machine.specs.World.{World, opened};
 
 use crate::error::LoadError;
 use crate::instance::Instance;
@@ -18,6 +19,7 @@ use crate::unfinished::let_go;
 use bk_device::{Device, Failed};
 use bk_home::Home;
 use bk_kept::Kept;
+use bk_machine::runs_begin_and_end_in_sound_worlds;
 use std::alloc::Global;
 
 // Makes durable what a read shows of an instance's own files: a process that was stopped may have left writes there
@@ -39,14 +41,20 @@ fn open_home<D: Device>(alloc: Global, dev: &mut D, number: u64) -> Result<Home,
     ensures fit { IfOk result (λ home. home.failed ≡ false) }
     ensures stands { D.tells → IfOk result (λ home. IsHome (D.disk dev.new) home) }
     ensures same { D.tells → OnOk result ((w : World) → Stands number (D.disk dev.old).files w → Stands number (D.disk dev.new).files w) }
+    ensures found { D.tells → OnOk result (ChangesNothing (D.disk dev.old) (D.disk dev.new) ⊎ (blobs_of (D.disk dev.new).files ≡ [])) }
+    ensures still { D.tells → IsMade (D.disk dev.old).files → OnOk result (ChangesNothing (D.disk dev.old) (D.disk dev.new)) }
+    ensures making { D.tells → IfOk result (λ home. (path : List ℕ) → home.record.making ≡ Some path → IsMaking (D.disk dev.old).files path) }
+    ensures spares { D.tells → TouchesOwn (D.disk dev.old) (D.disk dev.new) }
     ensures media { D.tells → IsSettled (D.disk dev.old) → OnOk result (MediaAreDurable (D.disk dev.new)) }
     ensures crash { D.tells → Effect IsOurs (LeavesOpened number (D.disk dev.old)) (D.disk dev.old) (D.disk dev.new) }
     ensures not_an_instance { D.tells → IsErrOf result load.NotAnInstance → IsNoInstance (D.disk dev.old).files }
     ensures no_instance { D.tells → IsNoInstance (D.disk dev.old).files → MatchResult result (λ _. ⊥) (λ e. e ≢ load.Broken) }
     ensures untouched { D.tells → IsErrOf result load.NotAnInstance → ChangesNothing (D.disk dev.old) (D.disk dev.new) }
+    ensures unbroken { D.tells → IsErrOf result load.Broken → ChangesNothing (D.disk dev.old) (D.disk dev.new) }
     ensures broken { D.tells → IsErrOf result load.Broken → (w : World) → Stands number (D.disk dev.old).files w → ⊥ }
     ensures cause { HasCause D.disk_faults D.tell_faults dev.old dev.new (IsErrOf result load.Fault) }
 {
+    runs_begin_and_end_in_sound_worlds();
     sync_own(dev)?;
     let home = Home::load(alloc, dev, number)?;
     Ok(home)
@@ -54,24 +62,30 @@ fn open_home<D: Device>(alloc: Global, dev: &mut D, number: u64) -> Result<Home,
 
 impl Instance {
     /// Opens the instance on a device, or makes it with this number where it isn't made; session 1 is current, with no
-    /// current database. A medium that was begun is removed where no blob of it is
-    /// sealed, and a crash meanwhile leaves the same instance.
+    /// current database. A medium that was begun is removed where no blob of it is sealed, and a crash meanwhile leaves
+    /// the same instance. No other medium is touched; where the instance is made and no medium was begun, nothing is.
     ///
     /// `NotAnInstance` is answered exactly where the instance is made and its control file holds no control, and then
-    /// nothing is changed; `Broken` only where the files stand for no world.
+    /// nothing is changed; `Broken` only where the files stand for no world, and then nothing is changed either.
     pub fn load<D: Device>(alloc: Global, dev: &mut D, number: u64) -> Result<Instance, LoadError>
         ensures ready { IfOk result IsReady }
         ensures stored { D.tells → IfOk result (IsStored (D.disk dev.new)) }
+        ensures made { D.tells → OnOk result (IsMade (D.disk dev.new).files) }
         ensures media { D.tells → IsSettled (D.disk dev.old) → OnOk result (MediaAreDurable (D.disk dev.new)) }
         ensures stands { D.tells → IsSettled (D.disk dev.old) → IfOk result (λ i. (w : World) → Stands number (D.disk dev.old).files w → StandsFor i (D.disk dev.new) (opened w)) }
         ensures number { D.tells → IfOk result (λ i. (w : World) → Stands number (D.disk dev.old).files w → i.kept.number ≡ w.instance) }
         ensures crash { D.tells → Effect IsOurs (LeavesOpened number (D.disk dev.old)) (D.disk dev.old) (D.disk dev.new) }
+        ensures exact { IfOk result ReservesNone }
+        ensures still { D.tells → IsMade (D.disk dev.old).files → ((path : List ℕ) → IsMaking (D.disk dev.old).files path → ⊥) → OnOk result (ChangesNothing (D.disk dev.old) (D.disk dev.new)) }
+        ensures spares { D.tells → TouchesOnly (IsMaking (D.disk dev.old).files) (D.disk dev.old) (D.disk dev.new) }
         ensures not_an_instance { D.tells → IsErrOf result load.NotAnInstance → IsNoInstance (D.disk dev.old).files }
         ensures no_instance { D.tells → IsNoInstance (D.disk dev.old).files → MatchResult result (λ _. ⊥) (λ e. e ≢ load.Broken) }
         ensures untouched { D.tells → IsErrOf result load.NotAnInstance → ChangesNothing (D.disk dev.old) (D.disk dev.new) }
+        ensures unbroken { D.tells → IsErrOf result load.Broken → ChangesNothing (D.disk dev.old) (D.disk dev.new) }
         ensures broken { D.tells → IsErrOf result load.Broken → (w : World) → Stands number (D.disk dev.old).files w → ⊥ }
         ensures cause { HasCause D.disk_faults D.tell_faults dev.old dev.new (IsErrOf result load.Fault) }
     {
+        runs_begin_and_end_in_sound_worlds();
         let mut home = open_home(alloc, dev, number)?;
         let databases = replay(alloc, dev, &home)?;
         let_go(alloc, dev, &mut home)?;

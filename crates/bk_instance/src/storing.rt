@@ -1,86 +1,54 @@
-// How an instance changes what its files hold.
+// How an instance does an act that its file stores.
 
 use crate::error::ExecuteError;
 use crate::instance::Instance;
-use bk_changes::{Change, apply, changes_law, encode_change};
+use bk_acts::{StoredAct, encode_act};
 use bk_device::Device;
 use bk_home::Record;
+use bk_kept::draws;
+use bk_machine::{acts_keep_worlds_sound, acts_of_statements, logs_that_stay, sets_that_stay};
+
+// GUIDs from here on, 2^62 - 2^32, are kept for what is never refused.
+const KEPT_NUMBERS: u64 = 4_611_686_014_132_420_608;
 
 impl Instance {
-    ghost use Rattle.std.specs.Prelude.{◌≡◌, ◌<◌, ◌≤◌, ◌+◌, Some, OnOk, IsErrOf};
-    ghost use Rattle.bk_changes.specs.Applied.{applied};
-    ghost use Rattle.bk_changes.specs.Spelling.{KeepsChange};
+    ghost use Rattle.std.specs.Prelude.{◌≡◌, ◌<◌, ◌≤◌, ◌+◌, true, OnOk, IsErrOf};
+    ghost use Rattle.bk_acts.specs.Spelling.{KeepsAct};
     ghost use Rattle.bk_device.specs.Counts.{HasCause};
     ghost use Rattle.bk_device.specs.Effects.{Effect};
-    ghost use Rattle.bk_home.specs.Home.{IsOwn};
-    ghost use Rattle.bk_instance.specs.Media.{MediaAreDurable};
-    ghost use Rattle.bk_instance.specs.Stands.{IsReady, IsStored};
-    ghost use Rattle.bk_instance.specs.Steps.{Changed, Draws, IsSame, OneChange, Reaches, Unchanged};
-    ghost use Rattle.bk_instance.specs.declared.error.ExecuteError.TheVariants.{Fault};
-    ghost use Rattle.bk_world.specs.Checks.{kept_numbers};
+    ghost use Rattle.bk_plans.specs.declared.parts.Part.TheVariants as part;
+    ghost use Rattle.bk_instance.specs.Media.{MediaAreDurable, IfDurable};
+    ghost use Rattle.bk_instance.specs.Stands.{IsReady, IsStored, IsOurs, StandsFor};
+    ghost use Rattle.bk_instance.specs.Steps.{CutsPart, DoesPart, IsNoPart, Stays};
+    ghost use Rattle.bk_instance.specs.Touched.{PartWrites, TouchesOnly, TouchesOwn};
+    ghost use Rattle.bk_instance.specs.declared.error.ExecuteError.TheVariants.{Broken, Fault};
+    ghost use Rattle.bk_machine.specs.Checks.{used_up};
+    ghost use Rattle.bk_machine.specs.World.{World};
 
-    /// Makes a change of the databases, in memory and then in the instance's files. A crash leaves the databases before
-    /// it or after it.
-    pub(crate) fn change<D: Device>(
-        &mut self,
-        dev: &mut D,
-        change: &Change,
-    ) -> Result<(), ExecuteError>
-        requires ready { IsReady self.old }
-        requires keeps { KeepsChange change.now }
-        requires stored { D.tells → IsStored (D.disk dev.old) self.old }
-        ensures ready { OnOk result (IsReady self.new) }
-        ensures stored { D.tells → OnOk result (IsStored (D.disk dev.new) self.new) }
-        ensures media { D.tells → MediaAreDurable (D.disk dev.old) → OnOk result (MediaAreDurable (D.disk dev.new)) }
-        ensures applied { OnOk result (applied change.now self.old.kept.databases.items ≡ Some self.new.kept.databases.items) }
-        ensures same { OnOk result (IsSame self.old self.new) }
-        ensures crash { D.tells → Effect IsOwn (Changed change.now self.old.home.record self.old.kept.databases.items) (D.disk dev.old) (D.disk dev.new) }
-        ensures cause { HasCause D.disk_faults D.tell_faults dev.old dev.new (IsErrOf result Fault) }
-    {
-        changes_law();
-        let bytes = encode_change(self.alloc, change)?;
-        apply(self.alloc, &mut self.kept.databases, change)?;
-        self.home.append(dev, &bytes)?;
-        Ok(())
-    }
-
-    /// The same with a change that is let go behind it.
-    pub(crate) fn change_by<D: Device>(
-        &mut self,
-        dev: &mut D,
-        change: Change,
-    ) -> Result<(), ExecuteError>
-        requires ready { IsReady self.old }
-        requires keeps { KeepsChange change }
-        requires stored { D.tells → IsStored (D.disk dev.old) self.old }
-        ensures ready { OnOk result (IsReady self.new) }
-        ensures stored { D.tells → OnOk result (IsStored (D.disk dev.new) self.new) }
-        ensures media { D.tells → MediaAreDurable (D.disk dev.old) → OnOk result (MediaAreDurable (D.disk dev.new)) }
-        ensures applied { OnOk result (applied change self.old.kept.databases.items ≡ Some self.new.kept.databases.items) }
-        ensures same { OnOk result (IsSame self.old self.new) }
-        ensures crash { D.tells → Effect IsOwn (Changed change self.old.home.record self.old.kept.databases.items) (D.disk dev.old) (D.disk dev.new) }
-        ensures cause { HasCause D.disk_faults D.tell_faults dev.old dev.new (IsErrOf result Fault) }
-    {
-        let done = self.change(dev, &change);
-        drop(change);
-        done
-    }
-
-    /// Reserves so many GUIDs beyond those that were drawn, where they aren't reserved yet.
+    /// Reserves so many GUIDs beyond those that were drawn, at most 2, where they aren't reserved yet. `Broken` comes only where
+    /// some are to be drawn and all are used up.
     pub(crate) fn reserve<D: Device>(&mut self, dev: &mut D, n: u64) -> Result<(), ExecuteError>
         requires ready { IsReady self.old }
         requires few { n ≤ 2 }
-        requires room { 0 < n → self.old.kept.counter < kept_numbers }
         requires stored { D.tells → IsStored (D.disk dev.old) self.old }
         ensures ready { OnOk result (IsReady self.new) }
         ensures stored { D.tells → OnOk result (IsStored (D.disk dev.new) self.new) }
         ensures media { D.tells → MediaAreDurable (D.disk dev.old) → OnOk result (MediaAreDurable (D.disk dev.new)) }
         ensures kept { self.new.kept ≡ self.old.kept }
         ensures reserved { OnOk result (self.old.kept.counter + n ≤ self.new.home.record.counter) }
-        ensures crash { D.tells → Effect IsOwn (Reaches self.old.kept (Unchanged self.old.kept)) (D.disk dev.old) (D.disk dev.new) }
+        ensures stands { D.tells → OnOk result ((w : World) → StandsFor self.old (D.disk dev.old) w → StandsFor self.new (D.disk dev.new) w) }
+        ensures crash { D.tells → Effect IsOurs (IfDurable (D.disk dev.old) (Stays self.old (D.disk dev.old))) (D.disk dev.old) (D.disk dev.new) }
+        ensures spares { D.tells → TouchesOwn (D.disk dev.old) (D.disk dev.new) }
+        ensures broken { IsErrOf result Broken → (0 < n) × (used_up self.old.kept.counter ≡ true) }
         ensures cause { HasCause D.disk_faults D.tell_faults dev.old dev.new (IsErrOf result Fault) }
     {
+        if n == 0 {
+            return Ok(());
+        }
         let drawn = self.kept.counter;
+        if drawn >= KEPT_NUMBERS {
+            return Err(ExecuteError::Broken);
+        }
         if drawn + n <= self.home.record().counter {
             return Ok(());
         }
@@ -93,52 +61,34 @@ impl Instance {
         Ok(())
     }
 
-    /// Draws so many GUIDs, which are reserved first, and makes a change of the databases.
-    pub(crate) fn log<D: Device>(
+    /// Does a stored act: reserves the GUIDs that it draws, takes it in in memory, and then in the instance's file. A crash
+    /// leaves the world before it, or behind it.
+    pub(crate) fn store<D: Device>(
         &mut self,
         dev: &mut D,
-        n: u64,
-        change: &Change,
+        act: &StoredAct,
     ) -> Result<(), ExecuteError>
         requires ready { IsReady self.old }
-        requires few { n ≤ 2 }
-        requires room { 0 < n → self.old.kept.counter < kept_numbers }
-        requires keeps { KeepsChange change.now }
+        requires keeps { KeepsAct act.now }
         requires stored { D.tells → IsStored (D.disk dev.old) self.old }
         ensures ready { OnOk result (IsReady self.new) }
         ensures stored { D.tells → OnOk result (IsStored (D.disk dev.new) self.new) }
         ensures media { D.tells → MediaAreDurable (D.disk dev.old) → OnOk result (MediaAreDurable (D.disk dev.new)) }
-        ensures done { OnOk result (Draws self.old n change.now self.new) }
-        ensures crash { D.tells → Effect IsOwn (Reaches self.old.kept (OneChange self.old.kept n change.now)) (D.disk dev.old) (D.disk dev.new) }
+        ensures number { OnOk result (self.new.kept.number ≡ self.old.kept.number) }
+        ensures does { D.tells → OnOk result (DoesPart self.old (D.disk dev.old) (part.Stored act.now) self.new (D.disk dev.new)) }
+        ensures crash { D.tells → Effect IsOurs (IfDurable (D.disk dev.old) (CutsPart self.old (D.disk dev.old) (part.Stored act.now))) (D.disk dev.old) (D.disk dev.new) }
+        ensures spares { D.tells → TouchesOnly (PartWrites (part.Stored act.now)) (D.disk dev.old) (D.disk dev.new) }
+        ensures broken { D.tells → IsErrOf result Broken → IsNoPart self.old (D.disk dev.old) (part.Stored act.now) }
         ensures cause { HasCause D.disk_faults D.tell_faults dev.old dev.new (IsErrOf result Fault) }
     {
-        self.reserve(dev, n)?;
-        self.change(dev, change)?;
-        self.kept.counter += n;
+        acts_keep_worlds_sound();
+        acts_of_statements();
+        logs_that_stay();
+        sets_that_stay();
+        self.reserve(dev, draws(act))?;
+        let bytes = encode_act(self.alloc, act)?;
+        self.kept.apply(self.alloc, act)?;
+        self.home.append(dev, &bytes)?;
         Ok(())
-    }
-
-    /// The same with a change that is let go behind it.
-    pub(crate) fn log_change<D: Device>(
-        &mut self,
-        dev: &mut D,
-        n: u64,
-        change: Change,
-    ) -> Result<(), ExecuteError>
-        requires ready { IsReady self.old }
-        requires few { n ≤ 2 }
-        requires room { 0 < n → self.old.kept.counter < kept_numbers }
-        requires keeps { KeepsChange change }
-        requires stored { D.tells → IsStored (D.disk dev.old) self.old }
-        ensures ready { OnOk result (IsReady self.new) }
-        ensures stored { D.tells → OnOk result (IsStored (D.disk dev.new) self.new) }
-        ensures media { D.tells → MediaAreDurable (D.disk dev.old) → OnOk result (MediaAreDurable (D.disk dev.new)) }
-        ensures done { OnOk result (Draws self.old n change self.new) }
-        ensures crash { D.tells → Effect IsOwn (Reaches self.old.kept (OneChange self.old.kept n change)) (D.disk dev.old) (D.disk dev.new) }
-        ensures cause { HasCause D.disk_faults D.tell_faults dev.old dev.new (IsErrOf result Fault) }
-    {
-        let done = self.log(dev, n, &change);
-        drop(change);
-        done
     }
 }

@@ -1,5 +1,5 @@
 // The medium that was being made when an instance was left.
-ghost use Rattle.std.specs.Prelude.{◌≡◌, ◌≤◌, None, false, IfOk, OnOk, IsErrOf};
+ghost use Rattle.std.specs.Prelude.{◌≡◌, ◌≤◌, None, Some, false, IfOk, OnOk, IsErrOf};
 ghost use Rattle.bk_bytes.specs.Field.{AreBytes};
 ghost use Rattle.bk_device.specs.Calls.{ChangesNothing};
 ghost use Rattle.bk_device.specs.Counts.{HasCause};
@@ -12,6 +12,7 @@ ghost use Rattle.bk_instance.specs.Loading.{IsCleared, LeavesCleared, LetsGo};
 ghost use Rattle.bk_instance.specs.Media as media;
 ghost use Rattle.bk_instance.specs.Media.{MediaAreDurable, IfDurable};
 ghost use Rattle.bk_instance.specs.Stands.{IsOurs};
+ghost use Rattle.bk_instance.specs.Touched.{TouchesOnly};
 ghost use Rattle.bk_instance.specs.declared.error.LoadError.TheVariants.{Broken, Fault, NotAnInstance};
 
 use crate::error::LoadError;
@@ -56,7 +57,8 @@ fn clear<D: Device>(alloc: Global, dev: &mut D, path: &str) -> Result<(), LoadEr
 }
 
 /// Lets the medium go that was being made, if there is one: its file is removed where no blob of it is sealed, and then
-/// the record names it no longer. A crash meanwhile leaves media that are read as before.
+/// the record names it no longer. A crash meanwhile leaves media that are read as before. No other medium is touched, and
+/// nothing at all where there is none.
 pub(crate) fn let_go<D: Device>(
     alloc: Global,
     dev: &mut D,
@@ -71,6 +73,8 @@ pub(crate) fn let_go<D: Device>(
     ensures blobs { D.tells → OnOk result (blobs_of (D.disk dev.new).files ≡ blobs_of (D.disk dev.old).files) }
     ensures media { D.tells → MediaAreDurable (D.disk dev.old) → OnOk result (MediaAreDurable (D.disk dev.new)) }
     ensures crash { D.tells → Effect IsOurs (IfDurable (D.disk dev.old) (LetsGo home.old.record (D.disk dev.old).files)) (D.disk dev.old) (D.disk dev.new) }
+    ensures still { D.tells → home.old.record.making ≡ None → ChangesNothing (D.disk dev.old) (D.disk dev.new) }
+    ensures spares { D.tells → TouchesOnly (λ path. home.old.record.making ≡ Some path) (D.disk dev.old) (D.disk dev.new) }
     ensures not_an_instance { IsErrOf result NotAnInstance → ⊥ }
     ensures broken { IsErrOf result Broken → ⊥ }
     ensures cause { HasCause D.disk_faults D.tell_faults dev.old dev.new (IsErrOf result Fault) }

@@ -1,7 +1,7 @@
-pub mod Kept
-pub mod Carried
-pub mod Finds
-pub mod Goes
-pub mod Grows
-pub mod Paths
-pub mod Rules
+pub mod Keeps
+pub mod KeepsLaws
+pub mod Made
+pub mod Stored
+pub mod Errors
+pub mod Saying
+pub mod SetLaws

@@ -1,5 +1,38 @@
-use bk_changes::Database;
-use bk_ids::Name;
+//! What an instance keeps in memory.
+
+use bk_ids::{Guid, Lsn, Name, Path, Sequence, Text};
+use bk_shown::Shown;
+use bk_world::{Base, FileSpec, Status, Unit};
+
+/// A database, with what its log shows.
+#[derive(Drop)]
+pub struct Database {
+    pub name: Name,
+    pub family: Guid,
+    /// PRIMARY first.
+    pub groups: Sequence<Name>,
+    /// By number.
+    pub files: Sequence<FileSpec>,
+    pub log_name: Name,
+    pub log_path: Text,
+    pub path: Path,
+    /// Where its next log backup begins.
+    pub archive: Lsn,
+    /// The least number that the live log still holds.
+    pub kept: Lsn,
+    /// Its latest checkpoint.
+    pub checkpoint: Lsn,
+    /// Whether its log can be backed up.
+    pub chain: bool,
+    /// Whether a log backup began the chain.
+    pub began: bool,
+    /// What a differential would be based on.
+    pub base: Option<Base>,
+    pub status: Status,
+    pub units: Sequence<Unit>,
+    /// What its log shows, up to its end.
+    pub shown: Shown,
+}
 
 /// What an instance keeps in memory.
 #[derive(Drop)]
@@ -8,8 +41,8 @@ pub struct Kept {
     pub number: u64,
     /// The low number of the GUID that it draws next.
     pub counter: u64,
-    /// The name of the current database.
-    pub current: Option<Name>,
+    /// The name of the current database, as it was asked for.
+    pub current: Option<Text>,
     /// Its databases, in the order in which they were made.
     pub databases: Vec<Database>,
 }

@@ -1,13 +1,20 @@
-//! The databases that an instance keeps in memory, and what ties them to the written machine.
+//! The databases that an instance keeps in memory, the worlds that they stand for, and what stored acts make of them.
 #![tactic(auto)]
 
-mod databases;
+mod applying;
+mod error;
 mod finding;
 mod kept;
-mod limits;
-mod paths;
-mod restoring;
-mod rules;
+mod log_name;
+mod making;
+mod numbers;
+mod recovering;
+mod replacing;
+mod saying;
+mod telling;
 
-pub use databases::is_system;
-pub use kept::Kept;
+pub use applying::{apply, draws};
+pub use error::ApplyError;
+pub use kept::{Database, Kept};
+pub use numbers::used_up;
+pub use replacing::{copy_file, copy_groups};

@@ -3,7 +3,7 @@ use Rattle.std.proofs.Common.{◌≡◌, ℕ, List, [], ◌∷◌, Option, Some,
 use Rattle.bk_ids.specs.declared.path.Branch.{Branch}
 use Rattle.bk_world.specs.Lines.{log_below}
 use Rattle.bk_world.specs.Records.{Counts, Said}
-use Rattle.bk_world.proofs.Growing.{records-grown}
+use Rattle.bk_world.specs.GrowthLaws.{records-grown}
 use Rattle.bk_machine.specs.Acts.{Act, Recovery, turned, created, dropped, logged, medium_made, set_sealed, based, replaced, restored, recovered, done, done_all, goes_online, says, where_found}
 use Rattle.bk_machine.specs.MayDo.{HoldsOf, MayDo, MayDoAll, MayLog, MayRecover}
 use Rattle.bk_machine.specs.Sound.{IsSound}
@@ -12,7 +12,7 @@ use Rattle.bk_machine.proofs.ActsBegin.{created-follows, created-sound, recovere
 use Rattle.bk_machine.proofs.ActsPlain.{based-follows, based-sound, dropped-follows, dropped-sound, medium_made-follows, medium_made-sound, replaced-follows, replaced-sound, restored-follows, restored-sound, sealed-follows, sealed-sound, turned-follows, turned-sound}
 use Rattle.bk_machine.proofs.ActsSays.{says-follows, says-opens, says-whole}
 use Rattle.bk_machine.proofs.ActsStay.{Follows}
-use Rattle.bk_machine.proofs.Named.{named-own}
+use Rattle.bk_machine.specs.NamedLaws.{named-own}
 
 -- a sound world behind another
 record Keeps (old new : World) : Type 0 where

@@ -17,7 +17,7 @@ use Rattle.bk_world.specs.ListLaws.{all_both, all_mapped}
 use Rattle.bk_world.specs.Pending.{Pending, pending, pending_after}
 use Rattle.bk_world.specs.Records.{Counts, Deed, Logged, Said, more, numbered, database_made, table_made, begun, written, committed, rolled_back, undone, checkpointed, stamped, model_set, loaded, recovered}
 use Rattle.bk_world.specs.Telling.{entries, entries_from, entry_of, model, tables}
-use Rattle.bk_world.proofs.Histories.{branch_at-last}
+use Rattle.bk_world.specs.BranchLaws.{branch_at-last}
 use Rattle.bk_machine.specs.Acts.{Creation, Recovery, created, creation_said, done, drawn, forked, goes_online, gone_online, new_database, new_line}
 use Rattle.bk_machine.specs.MayDo.{MayCreate, MayRecover}
 use Rattle.bk_machine.specs.Sound.{AreApart, AreNumbered, AreOpen, ArePlaced, Differ, IsIdle, IsLog, IsNotToCome, IsPassed, IsPlaced, IsSound, IsSoundLine, IsWholeDatabase, OpenBy, has_begin}
@@ -27,7 +27,7 @@ use Rattle.bk_machine.proofs.ActsLogs.{log-of-front, log-of-more, tables-quiet}
 use Rattle.bk_machine.proofs.ActsStay.{Follows, database-stays, lines-stay, media-stay, open-stays}
 use Rattle.bk_machine.proofs.Forking.{all-forked, branch_at-forked, goes_on-forked, last-forked, log-forked, path-forked, starts-forked}
 use Rattle.bk_machine.proofs.Histories.{before-or-not, counts-front, goes_on-beside, grew-new, log-front, none-drawn, not-last, not_to_come-later, passed-grew, path-later, path-new, rise-numbered}
-use Rattle.bk_machine.proofs.Named.{all-changed, all-one_more, differ-sym, different-changed, different-one_more, named-changed, none-named, of-named}
+use Rattle.bk_machine.specs.NamedLaws.{all-changed, all-one_more, differ-sym, different-changed, different-one_more, named-changed, none-named, of-named}
 
 -- A database on a new branch.
 
@@ -111,7 +111,7 @@ module _ (w : World) (c : Creation) (is : IsSound w) (may : MayCreate w c) where
   unfolding new_database log_below tables entries
   created-log = record { counts = (refl, refl); sound = (tt, tt); tables = tt; places = (tt, tt) }
 
-  made-log : log_of (done w (created c)).history (new_database c) ≡ more (log_below w.history [] 1) 1 (creation_said c)
+  pub made-log : log_of (done w (created c)).history (new_database c) ≡ more (log_below w.history [] 1) 1 (creation_said c)
   unfolding done new_database
   made-log = on_branch-log w (done w (created c)) created-follows [] 1 c.branch (creation_said c) refl tt (omega arith) (new_database c)
 

@@ -10,7 +10,7 @@ use Rattle.bk_world.specs.Records.{Counts, Logged, Said, more, numbered}
 use Rattle.bk_world.specs.Rows.{table_of, tables_of}
 use Rattle.bk_world.specs.SoundLogs.{MayFollow}
 use Rattle.bk_world.specs.Telling.{entries, entries_from, tables}
-use Rattle.bk_world.proofs.Sounds.{follow-front, follow-join}
+use Rattle.bk_world.specs.SoundLaws.{follow-front, follow-join}
 use Rattle.bk_machine.specs.Sound.{AreNumbered, ArePlaced, IsLog}
 use Rattle.bk_machine.proofs.Histories.{counts-more}
 

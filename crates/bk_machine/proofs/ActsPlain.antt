@@ -15,7 +15,7 @@ use Rattle.bk_machine.specs.Sound.{AreDifferent, IsOnce, IsSound, IsSoundLine, I
 use Rattle.bk_machine.specs.World.{World, Database, log_of}
 use Rattle.bk_machine.proofs.ActsStay.{Follows, database-stays, lines-stay, media-stay, open-retouched, whole-retouched}
 use Rattle.bk_machine.proofs.Histories.{grew-same}
-use Rattle.bk_machine.proofs.Named.{all-placed, all-with, all-without, different-placed, different-with, different-without}
+use Rattle.bk_machine.specs.NamedLaws.{all-placed, all-with, all-without, different-placed, different-with, different-without}
 
 -- A world with the history of another: each of its databases could stand in the other, and each of its media.
 record Plain (old new : World) : Type 0 where

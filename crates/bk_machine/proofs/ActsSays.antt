@@ -11,8 +11,8 @@ use Rattle.bk_world.specs.Lines.{MayGoOn, line_on, said_on, said_on_last}
 use Rattle.bk_world.specs.ListLaws.{all_both, all_mapped}
 use Rattle.bk_world.specs.Records.{Deed, Logged, Said, more, numbered, database_made, table_made, begun, written, committed, rolled_back, undone, checkpointed, stamped, model_set, loaded, recovered}
 use Rattle.bk_world.specs.Telling.{model}
-use Rattle.bk_world.proofs.Histories.{branch_at-last}
-use Rattle.bk_world.proofs.Saying.{GoesOn-said, records-said}
+use Rattle.bk_world.specs.BranchLaws.{branch_at-last}
+use Rattle.bk_world.specs.SaidLaws.{GoesOn-said, records-said}
 use Rattle.bk_machine.specs.Acts.{gone_on, kept_after, pointed, pointed_by, says}
 use Rattle.bk_machine.specs.MayDo.{MaySay}
 use Rattle.bk_machine.specs.Sound.{AreDifferent, AreOpen, Differ, IsLog, IsOnce, IsOnline, IsSound, IsSoundLine, IsWhole, IsWholeDatabase, OpenBy, RiseFrom}
@@ -20,7 +20,7 @@ use Rattle.bk_machine.specs.World.{World, Database, Open, database_named, log_of
 use Rattle.bk_machine.proofs.ActsLogs.{log-of-more}
 use Rattle.bk_machine.proofs.ActsStay.{Follows, database-stays, line-stays, media-stay, open-stays}
 use Rattle.bk_machine.proofs.Histories.{before-or-not, counts-positive, goes_on-elsewhere, grew-said, lines-said, not_to_come-later, once-said, passed-grew, path-later, rise-said}
-use Rattle.bk_machine.proofs.Named.{all-changed, different-with, named-changed, of-named}
+use Rattle.bk_machine.specs.NamedLaws.{all-changed, different-with, named-changed, of-named}
 
 -- A database that has gone on.
 

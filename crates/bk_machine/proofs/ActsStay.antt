@@ -12,7 +12,7 @@ use Rattle.bk_world.specs.ListLaws.{all_mapped}
 use Rattle.bk_world.specs.Medium.{Slot, Reading, readable, damaged, no_set, not_media, medium}
 use Rattle.bk_world.specs.Records.{Counts}
 use Rattle.bk_world.specs.Telling.{model, time}
-use Rattle.bk_world.proofs.Growing.{records-grown}
+use Rattle.bk_world.specs.GrowthLaws.{records-grown}
 use Rattle.bk_machine.specs.Sound.{AreOpen, IsHeld, IsLog, IsOnline, IsSoundLine, IsSoundReading, IsSoundSet, IsSoundSlot, IsWholeDatabase, OpenBy, files_of_set}
 use Rattle.bk_machine.specs.World.{World, Database, log_of}
 use Rattle.bk_machine.proofs.Histories.{held-grew, not_to_come-later, passed-grew, path-later}

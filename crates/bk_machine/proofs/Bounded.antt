@@ -12,8 +12,8 @@ use Rattle.bk_world.specs.ReadingLaws.{pending-more, rise-length}
 use Rattle.bk_world.specs.Records.{Counts, Deed, Load, Logged, database_made, table_made, begun, written, committed, rolled_back, undone, checkpointed, stamped, model_set, loaded, recovered}
 use Rattle.bk_world.specs.Says.{settle_said}
 use Rattle.bk_world.specs.SoundLogs.{IsSound, MayCome, MayFollow, NoLoadPends}
-use Rattle.bk_world.proofs.Settled.{end-more, length-undoing}
-use Rattle.bk_world.proofs.Sounds.{follow-front, sound-lying, sound-rise}
+use Rattle.bk_world.specs.SettledLaws.{end-more, length-undoing}
+use Rattle.bk_world.specs.SoundLaws.{follow-front, sound-lying, sound-rise}
 use Rattle.bk_machine.specs.Crash.{begin_in, begins_of, greatest_end, most_end, open_begins, own_begin}
 use Rattle.bk_machine.specs.Sound.{IsWholeDatabase}
 use Rattle.bk_machine.specs.Stays.{IsCutOf, IsFront}
@@ -50,7 +50,7 @@ behind-more rs (r ∷ ss) may all =
     let one : AllByRecursion Behind (pending (rs ++ r ∷ [])) = subst (AllByRecursion Behind) (sym (pending-more rs (r ∷ []))) (behind-after rs (pending rs) r.lsn r.begin r.deed may.0 all) in
     subst (λ log. AllByRecursion Behind (pending log)) (append_assoc rs (r ∷ []) ss) (behind-more (rs ++ r ∷ []) ss may.1 one)
 
-sound-behind : (rs : List Logged) → IsSound rs → AllByRecursion Behind (pending rs)
+pub sound-behind : (rs : List Logged) → IsSound rs → AllByRecursion Behind (pending rs)
 unfolding pending
 sound-behind rs sound = behind-more [] rs sound tt
 

@@ -10,7 +10,7 @@ use Rattle.bk_world.specs.Telling.{entries}
 use Rattle.bk_world.specs.declared.database.Status.{Status}
 use Rattle.bk_world.specs.declared.database.Status.TheVariants.{Online, Standby, Down}
 use Rattle.bk_world.specs.declared.header.Header.{Header}
-use Rattle.bk_world.proofs.Crashing.{left-tells}
+use Rattle.bk_world.specs.CrashLaws.{left-tells}
 use Rattle.bk_machine.specs.Crash.{DatabaseLeft, LineLeft, OfflineLeft, OnlineLeft, StatusLeft, WorldLeft, open_begins}
 use Rattle.bk_machine.specs.Sound.{AreDifferent, AreIdle, Differ, IsHeld, IsIdle, IsNotToCome, IsPassed, IsSound, IsSoundLine, IsSoundReading, IsSoundSet, IsWhole, IsWholeDatabase, OpenBy}
 use Rattle.bk_machine.specs.World.{Database, World, log_of}
@@ -20,7 +20,7 @@ use Rattle.bk_machine.proofs.Left.{behind_crash, open-offline, open-online, whol
 use Rattle.bk_machine.proofs.Lost.{held-left, once-left, passed-left, reads-left}
 
 -- one of two lists, element by element
-zipped : {A B : Type 0} (P : A → Type 0) (R : A → B → Type 0) (Q : B → Type 0) → ((a : A) (b : B) → P a → R a b → Q b) → (xs : List A) (ys : List B) → AllByRecursion P xs → AllZip R xs ys → AllByRecursion Q ys
+pub zipped : {A B : Type 0} (P : A → Type 0) (R : A → B → Type 0) (Q : B → Type 0) → ((a : A) (b : B) → P a → R a b → Q b) → (xs : List A) (ys : List B) → AllByRecursion P xs → AllZip R xs ys → AllByRecursion Q ys
 zipped P R Q leads [] [] all each = tt
 zipped P R Q leads [] (y ∷ ys) all each = absurd each
 zipped P R Q leads (x ∷ xs) [] all each = absurd each

@@ -4,57 +4,36 @@ use Rattle.std.specs.Prelude.{◌==◌}
 use Rattle.std.specs.List.{AllByRecursion, AllZip}
 use Rattle.std.proofs.lemmas.Bool.Decides.{nat_tests}
 use Rattle.std.proofs.lemmas.List.{take-append-drop}
-use Rattle.bk_ids.specs.declared.guid.Guid.{Guid}
-use Rattle.bk_ids.specs.declared.record.Place.{Place}
 use Rattle.bk_items.specs.declared.item.ScriptEntry.{ScriptEntry}
-use Rattle.bk_items.specs.declared.item.ScriptItem.{ScriptItem}
-use Rattle.bk_items.specs.declared.item.ScriptItem.TheVariants.{CreateDatabase, BackupDatabase, BackupLog, RestoreDatabase, RestoreLog, QueryMedium, CreateTable, Insert, Update, Delete, Select, BulkInsert, Begin, Commit, Rollback, Checkpoint, Use, SetRecovery, DropDatabase, SelectCatalog, Session, Start, Step, Wait, Syntax, TooLong}
 use Rattle.bk_world.specs.Cut.{is_among, settled}
-use Rattle.bk_world.specs.Entry.{RowChange}
 use Rattle.bk_world.specs.ListLaws.{all_both}
 use Rattle.bk_world.specs.Records.{Logged, Said, checkpointed, stamped, table_made}
 use Rattle.bk_world.specs.Says.{alone, single_said}
 use Rattle.bk_world.specs.Telling.{telling}
 use Rattle.bk_world.specs.declared.database.Base.{Base}
 use Rattle.bk_world.specs.declared.database.Status.TheVariants.{Online}
-use Rattle.bk_world.specs.declared.database.TableSpec.{TableSpec}
 use Rattle.bk_world.specs.declared.header.Header.{Header}
-use Rattle.bk_world.specs.declared.rule.Rule.{Rule}
 use Rattle.bk_machine.specs.Acts.{Act, Recovery, turned, created, dropped, logged, medium_made, set_sealed, based, replaced, restored, recovered, done, done_all, drawn}
 use Rattle.bk_machine.specs.Crash.{CutsRun, IsQuiet, Leaves, begin_in, front_of, greatest_end, next_acts, own_begin}
 use Rattle.bk_machine.specs.Machine.{ItemMay, May, behind}
-use Rattle.bk_machine.specs.MayDo.{MayDoAll}
+use Rattle.bk_machine.specs.MayDo.{LeavesIdle, MayDoAll}
 use Rattle.bk_machine.specs.Outcome.{Outcome, refused}
 use Rattle.bk_machine.specs.Run.{IsRun, behind_all}
 use Rattle.bk_machine.specs.Sound.{AreIdle, IsIdle, IsSound, IsWhole, IsWholeDatabase}
 use Rattle.bk_machine.specs.Stays.{IsCutOf, IsFront, MayStay}
 use Rattle.bk_machine.specs.World.{Database, Open, World, database_named, log_of}
-use Rattle.bk_machine.specs.statements.Backup.{check_backup, DoesBackup}
-use Rattle.bk_machine.specs.statements.CreateDatabase.{check_create_database, DoesCreateDatabase}
-use Rattle.bk_machine.specs.statements.CreateTable.{check_create_table, DoesCreateTable, new_table}
-use Rattle.bk_machine.specs.statements.DropDatabase.{check_drop_database, DoesDropDatabase}
-use Rattle.bk_machine.specs.statements.Insert.{check_insert, DoesInsert}
-use Rattle.bk_machine.specs.statements.Restore.{check_restore, DoesRestore, name_known}
-use Rattle.bk_machine.specs.statements.Select.{check_select, DoesSelect}
-use Rattle.bk_machine.specs.statements.Use.{check_use, DoesUse}
 use Rattle.bk_machine.proofs.Acting.{acts-sound}
 use Rattle.bk_machine.proofs.Bounded.{front-bound}
 use Rattle.bk_machine.proofs.Cutting.{IsOwn, PendsOwn, cut-pends}
 use Rattle.bk_machine.proofs.Ends.{IsSteady, IsWithin, Rose, rose-cut, within-before, within-replaced, within-restored, within-rose, within-whole}
 use Rattle.bk_machine.proofs.Remaining.{what-stays}
-use Rattle.bk_machine.proofs.statements.Checking.{comes-to}
-use Rattle.bk_machine.proofs.statements.Each.{item-opens}
-use Rattle.bk_machine.proofs.statements.Idling.{OpensNothing, idle-done-all}
-use Rattle.bk_machine.proofs.statements.Insert as insert
-use Rattle.bk_machine.proofs.statements.Leaving.{cut-whole}
+use Rattle.bk_machine.proofs.statements.Each.{statement-facts}
+use Rattle.bk_machine.proofs.statements.Facts.{EndWell, Facts, NotLogged, all-take}
+use Rattle.bk_machine.proofs.statements.Fronts.{cut-whole}
+use Rattle.bk_machine.proofs.statements.Idling.{idle-done-all}
 use Rattle.bk_machine.proofs.statements.Running.{IsCalm, Within, calm-behind, done-joined, may-front, may-rest, within-run}
 
 -- ---- lists
-
-all-take : {X : Type 0} (P : X → Type 0) (n : ℕ) (xs : List X) → AllByRecursion P xs → AllByRecursion P (take n xs)
-all-take P zero xs all = tt
-all-take P (suc n) [] all = tt
-all-take P (suc n) (x ∷ xs) all = (all.0, all-take P n xs all.1)
 
 all-drop : {X : Type 0} (P : X → Type 0) (n : ℕ) (xs : List X) → AllByRecursion P xs → AllByRecursion P (drop n xs)
 all-drop P zero xs all = all
@@ -75,22 +54,8 @@ front-none (suc n) = refl
 
 -- ---- what a statement does, as far as it can be cut
 
-abbrev NotLogged : Act → Type 0
-NotLogged (logged name said transactions) = ⊥
-NotLogged _ = Unit {0}
-
--- one act that isn't cut
-abbrev IsOne : List Act → Type 0
-IsOne acts = (act : Act) × NotLogged act × (acts ≡ act ∷ [])
-
-abbrev IsRestore : List Act → Type 0
-IsRestore acts = (name : List ℕ) × (header : Header) × (base : Option Base) × (redo : ℕ) × (r : Recovery) × (acts ≡ replaced name header ∷ restored name base redo ∷ recovered name r ∷ [])
-
-abbrev EndWell : List Act → Type 0
-EndWell acts = AllByRecursion IsSteady acts ⊎ (IsOne acts ⊎ IsRestore acts)
-
 record CutWell (w : World) (acts : List Act) : Type 0 where
-  opens : AllByRecursion OpensNothing acts
+  opens : AllByRecursion LeavesIdle acts
   own : AllByRecursion (IsOwn w) acts
   ends : EndWell acts
 
@@ -164,7 +129,7 @@ module _ (before : World) (sound : IsSound before) where
           (subst (λ rest. AllByRecursion (IsWithin before last) (done_all last rest).databases) (sym taken) (within-whole before last (acts-sound before (replaced name header ∷ restored name base redo ∷ recovered name r ∷ []) sound may).whole.different))
 
 -- a front opens nothing, either
-opens-front : (acts : List Act) (n : ℕ) → AllByRecursion OpensNothing acts → AllByRecursion OpensNothing (front_of n acts)
+opens-front : (acts : List Act) (n : ℕ) → AllByRecursion LeavesIdle acts → AllByRecursion LeavesIdle (front_of n acts)
 opens-front acts zero opens = tt
 opens-front [] (suc n) opens = tt
 opens-front (logged name said transactions ∷ acts) (suc n) opens = (opens.0, tt)
@@ -184,10 +149,10 @@ module _ (before : World) (sound : IsSound before) (idle : AreIdle before) (acts
   mid-sound = acts-sound before (take k acts) sound (may-front before acts k may)
 
   mid-idle : AreIdle (done_all before (take k acts))
-  mid-idle = idle-done-all before (take k acts) idle (all-take OpensNothing k acts well.opens)
+  mid-idle = idle-done-all before (take k acts) idle (all-take LeavesIdle k acts well.opens)
 
   cut-idle : AreIdle (cut_at before acts k n)
-  cut-idle = idle-done-all (done_all before (take k acts)) (front_of n (drop k acts)) mid-idle (opens-front (drop k acts) n (all-drop OpensNothing k acts well.opens))
+  cut-idle = idle-done-all (done_all before (take k acts)) (front_of n (drop k acts)) mid-idle (opens-front (drop k acts) n (all-drop LeavesIdle k acts well.opens))
 
   is-whole : IsWhole (cut_at before acts k n)
   is-whole = cut-whole (done_all before (take k acts)) (drop k acts) n mid-sound.whole (may-rest before acts k may)
@@ -204,74 +169,15 @@ module _ (before : World) (sound : IsSound before) (idle : AreIdle before) (acts
 
 -- ---- statements
 
--- one record that tells an entry isn't cut
-own-table : (w : World) (name : List ℕ) (time : ℕ) (spec : TableSpec) (transactions : List Open) → IsOwn w (logged name (alone (table_made time spec)) transactions)
-own-table w name time spec transactions n quiet = let wrong : telling (table_made time spec) ≡ None = quiet.0 in absurd (cc)
-
-own-checkpoint : (w : World) (name : List ℕ) (time : ℕ) (transactions : List Open) → IsOwn w (logged name (alone (checkpointed time)) transactions)
-own-checkpoint w name time transactions n quiet = let wrong : telling (checkpointed time) ≡ None = quiet.0 in absurd (cc)
-
-own-stamp : (w : World) (name : List ℕ) (time : ℕ) (set : Guid) (transactions : List Open) → IsOwn w (logged name (alone (stamped time set)) transactions)
-own-stamp w name time set transactions n quiet = let wrong : telling (stamped time set) ≡ None = quiet.0 in absurd (cc)
-
--- a row is written by a transaction that begins at the end
-own-single : (w : World) (db : Database) (at : Place) (note : Option (List ℕ)) (c : RowChange) (time : ℕ) (transactions : List Open) → database_named w.databases db.name ≡ Some db
-    → IsOwn w (logged db.name (single_said db.end at note c time) transactions)
-own-single w db at note c time transactions named n quiet =
-    let its : is_among (own_begin (database_named w.databases db.name)) db.end ≡ true = ap (λ o. is_among (own_begin o) db.end) named ∙ itself db.end in
-    all-take (λ (s : Said). is_among (own_begin (database_named w.databases db.name)) s.begin ≡ true) (suc n) (single_said db.end at note c time) (its, (its, (its, tt)))
-  where
-    itself : (m : ℕ) → is_among (m ∷ []) m ≡ true
-    itself m = let same : (m == m) ≡ true = grind (arith, nat_tests) in rw same refl
-
 module _ (w : World) (sound : IsSound w) (idle : AreIdle w) where
-  abbrev Shape : Outcome → Type 0
-  Shape outcome = AllByRecursion (IsOwn w) outcome.acts × EndWell outcome.acts
-
-  shaped : (known outcome : Outcome) → AllByRecursion (IsOwn w) known.acts × EndWell known.acts → outcome ≡ known → AllByRecursion (IsOwn w) outcome.acts × EndWell outcome.acts
-  shaped known outcome shape is = subst (λ (o : Outcome). AllByRecursion (IsOwn w) o.acts × EndWell o.acts) (sym is) shape
-
-  plain : (rule : Rule) (outcome : Outcome) → outcome ≡ refused rule → AllByRecursion (IsOwn w) outcome.acts × EndWell outcome.acts
-  plain rule outcome is = shaped (refused rule) outcome (tt, inl tt) is
-
-  item-shape : (line : ℕ) (item : ScriptItem) (now : ℕ) (outcome : Outcome) → ItemMay w line item now outcome → AllByRecursion (IsOwn w) outcome.acts × EndWell outcome.acts
-  item-shape line (CreateDatabase name primary groups log) now outcome may = comes-to Shape (check_create_database w line name primary groups log) (DoesCreateDatabase w name now) (λ rule. (tt, inl tt))
-      (λ found e o is. shaped _ o ((tt, tt), inr (inl (created _, tt, refl))) is) outcome may
-  item-shape line (DropDatabase name) now outcome may = comes-to Shape (check_drop_database w name) DoesDropDatabase (λ rule. (tt, inl tt)) (λ found e o is. shaped _ o ((tt, tt), inr (inl (dropped _, tt, refl))) is) outcome may
-  item-shape line (Use name) now outcome may = comes-to Shape (check_use w name) DoesUse (λ rule. (tt, inl tt)) (λ found e o is. shaped _ o ((tt, tt), inl (tt, tt)) is) outcome may
-  item-shape line (CreateTable name group) now outcome may = comes-to Shape (check_create_table w line group) (DoesCreateTable w name now) (λ rule. (tt, inl tt))
-      (λ db e o is. shaped _ o ((own-table w db.name _ (new_table w db name) db.transactions, tt), inl (tt, tt)) is) outcome may
-  item-shape line (Insert table key value) now outcome may = comes-to Shape (check_insert w line table key value) (DoesInsert w key value now) (λ rule. (tt, inl tt))
-      (λ to e o is. shaped _ o ((own-single w to.database is.0 None _ _ to.database.transactions (insert.its-ready w line table key value to sound idle e).named, tt), inl (tt, tt)) is.2) outcome may
-  item-shape line (Select table key) now outcome may = comes-to Shape (check_select w line table key) DoesSelect (λ rule. (tt, inl tt)) (λ found e o is. shaped _ o (tt, inl tt) is) outcome may
-  item-shape line (BackupDatabase name units disk options) now outcome may = comes-to Shape (check_backup w line name units disk options) (DoesBackup w disk now) (λ rule. (tt, inl tt))
-      (λ db e o is. shaped _ o ((tt, (own-checkpoint w db.name _ db.transactions, (own-stamp w db.name _ (drawn w w.counter) db.transactions, (tt, (tt, tt))))), inl (tt, (tt, (tt, (tt, (tt, tt)))))) is) outcome may
-  item-shape line (RestoreDatabase name units disk options) now outcome may = comes-to Shape (check_restore w line name units disk options) (DoesRestore w name) (λ rule. (tt, inl tt))
-      (λ header e o is. shaped _ o ((tt, (tt, (tt, tt))), inr (inr (name_known (database_named w.databases name) name, header, _, header.last, is.0, refl))) is.4) outcome may
-  item-shape line (BackupLog name disk options) now outcome may = plain _ outcome may
-  item-shape line (RestoreLog name disk options) now outcome may = plain _ outcome may
-  item-shape line (QueryMedium query disk file) now outcome may = plain _ outcome may
-  item-shape line (Update table value key) now outcome may = plain _ outcome may
-  item-shape line (Delete table key) now outcome may = plain _ outcome may
-  item-shape line (BulkInsert table first count value) now outcome may = plain _ outcome may
-  item-shape line (Begin transaction) now outcome may = plain _ outcome may
-  item-shape line Commit now outcome may = plain _ outcome may
-  item-shape line Rollback now outcome may = plain _ outcome may
-  item-shape line Checkpoint now outcome may = plain _ outcome may
-  item-shape line (SetRecovery name model) now outcome may = plain _ outcome may
-  item-shape line (SelectCatalog catalog) now outcome may = plain _ outcome may
-  item-shape line (Session number) now outcome may = plain _ outcome may
-  item-shape line Start now outcome may = plain _ outcome may
-  item-shape line (Step count) now outcome may = plain _ outcome may
-  item-shape line Wait now outcome may = plain _ outcome may
-  item-shape line (Syntax at) now outcome may = plain _ outcome may
-  item-shape line TooLong now outcome may = plain _ outcome may
-
   statement-well : (s : ScriptEntry) (now : ℕ) (outcome : Outcome) → May w s now outcome → CutWell w outcome.acts
-  unfolding May
   statement-well s now outcome may =
-      let shape = item-shape s.line s.item now outcome may in
-      record { opens = item-opens w sound idle s.line s.item now outcome may; own = shape.0; ends = shape.1 }
+      let facts : Facts w outcome = statement-facts w sound idle s now outcome may in
+      record { opens = facts.opens; own = facts.own; ends = facts.ends }
+
+  -- each act of a statement leaves nothing open
+  pub acts-open : (s : ScriptEntry) (now : ℕ) (outcome : Outcome) → May w s now outcome → AllByRecursion LeavesIdle outcome.acts
+  acts-open s now outcome may = (statement-facts w sound idle s now outcome may).opens
 
 -- ---- runs
 
@@ -286,6 +192,10 @@ well-run w (s ∷ ss) (m ∷ ms) (o ∷ os) zero calm run = statement-well w cal
 well-run w (s ∷ ss) (m ∷ ms) (o ∷ os) (suc n) calm run =
     let later : CutWell (behind_all (behind w o) (take n os)) (next_acts (drop n os)) = well-run (behind w o) ss ms os n (calm-behind w s m o calm run.0) run.1 in
     record { opens = later.opens; own = later.own; ends = later.ends }
+
+pub run-opens : (old : World) (statements : List ScriptEntry) (moments : List ℕ) (outcomes : List Outcome) (n : ℕ) → IsSound old → AreIdle old → IsRun old statements moments outcomes
+    → AllByRecursion LeavesIdle (next_acts (drop n outcomes))
+run-opens old statements moments outcomes n sound idle run = (well-run old statements moments outcomes n (record { sound = sound; idle = idle }) run).opens
 
 module _ (old : World) (statements : List ScriptEntry) (moments : List ℕ) (outcomes : List Outcome) (least : ℕ) (before cut whole : World) (sound : IsSound old) (idle : AreIdle old) (run : IsRun old statements moments outcomes)
     (cuts : CutsRun old outcomes least before cut whole) where

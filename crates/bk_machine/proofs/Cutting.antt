@@ -18,9 +18,9 @@ use Rattle.bk_machine.specs.World.{Database, Open, World, database_named, log_of
 use Rattle.bk_machine.proofs.ActsSays.{gone_on-is, says-follows, says-log}
 use Rattle.bk_machine.proofs.ActsStay.{Follows, log-stays}
 use Rattle.bk_machine.proofs.Ends.{named-each}
-use Rattle.bk_machine.proofs.Named.{all-changed, name-of-named, named-alike, named-own}
-use Rattle.bk_machine.proofs.statements.Leaving.{says-front}
-use Rattle.bk_machine.proofs.statements.Ready.{ready}
+use Rattle.bk_machine.specs.NamedLaws.{all-changed, name-of-named, named-alike, named-own}
+use Rattle.bk_machine.proofs.statements.Fronts.{says-front}
+use Rattle.bk_machine.specs.ReadyLaws.{ready}
 
 -- ---- begins
 

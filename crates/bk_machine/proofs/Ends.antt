@@ -9,13 +9,13 @@ use Rattle.bk_world.specs.Records.{Said}
 use Rattle.bk_world.specs.Telling.{model}
 use Rattle.bk_world.specs.declared.database.Status.TheVariants.{Online, Down}
 use Rattle.bk_world.specs.declared.header.Header.{Header}
-use Rattle.bk_world.proofs.Worlds.{same_name-refl}
+use Rattle.bk_world.specs.SameLaws.{same_name-refl}
 use Rattle.bk_machine.specs.Acts.{Act, turned, created, dropped, logged, medium_made, set_sealed, based, replaced, restored, recovered, done, done_all, gone_on, says, taken_over, where_found}
 use Rattle.bk_machine.specs.Crash.{end_in, front_of, greatest_end}
 use Rattle.bk_machine.specs.Sound.{AreDifferent, Differ}
 use Rattle.bk_machine.specs.World.{Database, Open, World, database_named, log_of, with_database}
 use Rattle.bk_machine.proofs.ActsSays.{gone_on-is}
-use Rattle.bk_machine.proofs.Named.{all-placed, all-with, apart-named}
+use Rattle.bk_machine.specs.NamedLaws.{all-placed, all-with, apart-named}
 
 -- ---- each database is found by its name
 

@@ -11,9 +11,9 @@ use Rattle.bk_world.specs.History.{is_guid, at_branch, along}
 use Rattle.bk_world.specs.Lines.{MayGoOn, RecordLine, RecordLines, has_record_line, line_on, log_below, logged_on, said_on, said_on_last}
 use Rattle.bk_world.specs.ListLaws.{all_filter, all_joined, all_mapped, filter_passed}
 use Rattle.bk_world.specs.Records.{Said, more, numbered}
-use Rattle.bk_world.proofs.Apart.{OfBranch, branch_at-of}
-use Rattle.bk_world.proofs.Saying.{GoesOn-said, records-said}
-use Rattle.bk_world.proofs.Worlds.{is_guid-refl}
+use Rattle.bk_world.specs.ApartLaws.{OfBranch, branch_at-of}
+use Rattle.bk_world.specs.SaidLaws.{GoesOn-said, records-said}
+use Rattle.bk_world.specs.SameLaws.{is_guid-refl}
 use Rattle.bk_machine.specs.Acts.{forked, new_line}
 use Rattle.bk_machine.proofs.Histories.{line_on-beside}
 

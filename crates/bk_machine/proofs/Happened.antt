@@ -12,7 +12,7 @@ use Rattle.bk_world.specs.Records.{Logged}
 use Rattle.bk_world.specs.declared.database.Status.TheVariants.{Online}
 use Rattle.bk_world.specs.declared.database.Unit.{Unit as RestoreUnit}
 use Rattle.bk_world.specs.declared.header.Header.{Header}
-use Rattle.bk_world.proofs.Growing.{records-grown}
+use Rattle.bk_world.specs.GrowthLaws.{records-grown}
 use Rattle.bk_machine.specs.Events.{Happen, Happens, IsLatest, Joins, ReadingChanged, ReadingIsNotToCome, SlotChanged, SlotIsNotToCome, file_lost, is_page_of, nothing_more, one_more, page_lost}
 use Rattle.bk_machine.specs.Sound.{AreIdle, Differ, IsIdle, IsNotToCome, IsSound, IsSoundLine, IsSoundReading, IsSoundSet, IsSoundSlot, IsWholeDatabase, OpenBy, RiseFrom}
 use Rattle.bk_machine.specs.World.{Database, World, with_database}
@@ -21,7 +21,7 @@ use Rattle.bk_machine.proofs.Histories.{grew-same, held-grew}
 use Rattle.bk_machine.proofs.Joined.{have-lines, here-grew, joined-rises, not-longer, of-lines, own-line, there-grew}
 use Rattle.bk_machine.proofs.Kept.{set-moved, sound-later}
 use Rattle.bk_machine.proofs.Lost.{rise-line}
-use Rattle.bk_machine.proofs.Named.{all-with, different-with}
+use Rattle.bk_machine.specs.NamedLaws.{all-with, different-with}
 
 -- ---- units change
 
@@ -81,7 +81,7 @@ module _ (old : World) (media : List (List ℕ × Reading)) (is : IsSound old) (
       }
 
 -- the medium at a path is one of all
-of-medium : (P : Reading → Type 0) (media : List (List ℕ × Reading)) (path : List ℕ) (reading : Reading) → AllByRecursion (λ (m : List ℕ × Reading). P m.1) media → medium_at media path ≡ Some reading → P reading
+pub of-medium : (P : Reading → Type 0) (media : List (List ℕ × Reading)) (path : List ℕ) (reading : Reading) → AllByRecursion (λ (m : List ℕ × Reading). P m.1) media → medium_at media path ≡ Some reading → P reading
 of-medium P [] path reading all is = absurd (cc)
 of-medium P (m ∷ media) path reading all is = by (bytes_eq m.0 path) is (of-medium P media path reading all.1)
   where

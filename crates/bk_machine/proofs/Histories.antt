@@ -10,10 +10,10 @@ use Rattle.bk_world.specs.History.{is_guid, at_branch, along}
 use Rattle.bk_world.specs.Lines.{MayGoOn, RecordLine, RecordLines, Grew, LineGrew, has_record_line, line_on, log_below, logged_on, longer_line, said_on, said_on_last}
 use Rattle.bk_world.specs.ListLaws.{all_joined, all_mapped, filter_passed}
 use Rattle.bk_world.specs.Records.{Counts, Logged, Said, numbered}
-use Rattle.bk_world.proofs.Elsewhere.{guid_is, line_of-other}
-use Rattle.bk_world.proofs.Growing.{grows-said}
-use Rattle.bk_world.proofs.Saying.{has_line-appended}
-use Rattle.bk_world.proofs.Worlds.{is_guid-refl}
+use Rattle.bk_world.specs.ElsewhereLaws.{guid_is, line_of-other}
+use Rattle.bk_world.specs.GrowthLaws.{grows-said}
+use Rattle.bk_world.specs.SaidLaws.{has_line-appended}
+use Rattle.bk_world.specs.SameLaws.{is_guid-refl}
 use Rattle.bk_machine.specs.Acts.{drawn, new_line}
 use Rattle.bk_machine.specs.Sound.{IsHeld, IsNotToCome, IsOnce, IsPassed, IsReached, IsSoundLine, RiseFrom}
 use Rattle.bk_machine.specs.World.{World}

@@ -7,8 +7,8 @@ use Rattle.bk_world.specs.History.{is_guid}
 use Rattle.bk_world.specs.Lines.{Grew, LineGrew, RecordLine, RecordLines, has_record_line, line_on}
 use Rattle.bk_world.specs.ListLaws.{all_mapped}
 use Rattle.bk_world.specs.Records.{Logged}
-use Rattle.bk_world.proofs.Elsewhere.{guid_is}
-use Rattle.bk_world.proofs.Worlds.{is_guid-refl}
+use Rattle.bk_world.specs.ElsewhereLaws.{guid_is}
+use Rattle.bk_world.specs.SameLaws.{is_guid-refl}
 use Rattle.bk_machine.specs.Events.{IsLonger, Joins}
 use Rattle.bk_machine.specs.Sound.{IsOnce, RiseFrom}
 use Rattle.bk_machine.proofs.Lost.{rise-all}

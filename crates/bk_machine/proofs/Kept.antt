@@ -8,7 +8,7 @@ use Rattle.bk_world.specs.Medium.{Reading}
 use Rattle.bk_world.specs.Records.{Logged}
 use Rattle.bk_world.specs.Telling.{model, time}
 use Rattle.bk_world.specs.declared.header.Header.{Header}
-use Rattle.bk_machine.specs.Sound.{AreDifferent, IsHeld, IsLog, IsNotToCome, IsOnce, IsSound, IsSoundLine, IsSoundReading, IsSoundSet, IsWholeDatabase, OpenBy, files_of_set}
+use Rattle.bk_machine.specs.Sound.{AreDifferent, IsHeld, IsLog, IsNotToCome, IsOnce, IsSound, IsSoundLine, IsSoundReading, IsSoundSet, IsWhole, IsWholeDatabase, OpenBy, files_of_set}
 use Rattle.bk_machine.specs.World.{Database, World}
 use Rattle.bk_machine.proofs.ActsStay.{Follows, database-stays, lines-stay, media-stay, open-stays}
 
@@ -28,22 +28,23 @@ set-moved old new header is same held path set family =
       finish = is.finish ∙ ap time (sym same);
     }
 
--- where history, databases and media are the same, all stays sound
-pub sound-later : (old new : World) → Follows old new → new.history ≡ old.history → new.databases ≡ old.databases → new.media ≡ old.media → IsSound old → IsSound new
-sound-later old new on history databases media is =
-    let OfDatabases : List Database → Type 0 = AllByRecursion (IsWholeDatabase new) in
-    let OfMedia : List (List ℕ × Reading) → Type 0 = AllByRecursion (λ (m : List ℕ × Reading). IsSoundReading new m.1) in
-    let OfOpens : List Database → Type 0 = AllByRecursion (OpenBy new.history) in record {
-      whole = record {
-        once = subst IsOnce (sym history) is.whole.once;
-        lines = subst (AllByRecursion (IsSoundLine new)) (sym history) (lines-stay old new on old.history is.whole.lines);
-        databases = subst OfDatabases (sym databases)
-            (all_mapped (IsWholeDatabase old) (IsWholeDatabase new) (λ db one. database-stays old new on db (λ up. goes db (one.online up).goes_on) one) old.databases is.whole.databases);
-        different = subst AreDifferent (sym databases) is.whole.different;
-        media = subst OfMedia (sym media) (media-stay old new on old.media is.whole.media);
-      };
-      opens = subst OfOpens (sym databases) (all_both (IsWholeDatabase old) (OpenBy old.history) (OpenBy new.history) (open-stays old new on) old.databases is.whole.databases is.opens);
-    }
-  where
-    goes : (db : Database) → MayGoOn old.history db.path db.end → MayGoOn new.history db.path db.end
-    goes db on = subst (λ lines. MayGoOn lines db.path db.end) (sym history) on
+-- where history, databases and media are the same, all stays whole and sound
+module _ (old new : World) (on : Follows old new) (history : new.history ≡ old.history) (databases : new.databases ≡ old.databases) (media : new.media ≡ old.media) where
+  goes : (db : Database) → MayGoOn old.history db.path db.end → MayGoOn new.history db.path db.end
+  goes db on = subst (λ lines. MayGoOn lines db.path db.end) (sym history) on
+
+  pub whole-later : IsWhole old → IsWhole new
+  whole-later is =
+      let OfDatabases : List Database → Type 0 = AllByRecursion (IsWholeDatabase new) in
+      let OfMedia : List (List ℕ × Reading) → Type 0 = AllByRecursion (λ (m : List ℕ × Reading). IsSoundReading new m.1) in record {
+        once = subst IsOnce (sym history) is.once;
+        lines = subst (AllByRecursion (IsSoundLine new)) (sym history) (lines-stay old new on old.history is.lines);
+        databases = subst OfDatabases (sym databases) (all_mapped (IsWholeDatabase old) (IsWholeDatabase new) (λ db one. database-stays old new on db (λ up. goes db (one.online up).goes_on) one) old.databases is.databases);
+        different = subst AreDifferent (sym databases) is.different;
+        media = subst OfMedia (sym media) (media-stay old new on old.media is.media);
+      }
+
+  pub sound-later : IsSound old → IsSound new
+  sound-later is =
+      let OfOpens : List Database → Type 0 = AllByRecursion (OpenBy new.history) in
+      record { whole = whole-later is.whole; opens = subst OfOpens (sym databases) (all_both (IsWholeDatabase old) (OpenBy old.history) (OpenBy new.history) (open-stays old new on) old.databases is.whole.databases is.opens) }

@@ -5,7 +5,7 @@ use Rattle.std.specs.List.{AllByRecursion, AllZip}
 use Rattle.bk_ids.specs.Name.{same_name}
 use Rattle.bk_world.specs.Lines.{Grew, RecordLines}
 use Rattle.bk_world.specs.declared.database.Unit.{Unit as RestoreUnit}
-use Rattle.bk_world.proofs.Growing.{grows-on, records-grown}
+use Rattle.bk_world.specs.GrowthLaws.{grows-on, records-grown}
 use Rattle.bk_machine.specs.Events.{Happen, Happens, file_lost, is_page_of, nothing_more, one_more, page_lost}
 use Rattle.bk_machine.specs.Sound.{IsSound, IsWholeDatabase}
 use Rattle.bk_machine.specs.World.{Database, World, log_of, with_database}

@@ -17,8 +17,8 @@ use Rattle.bk_world.specs.Telling.{tables}
 use Rattle.bk_world.specs.Rows.{tables_of}
 use Rattle.bk_world.specs.declared.database.FileSpec.{FileSpec}
 use Rattle.bk_world.specs.declared.database.Status.TheVariants.{Online}
-use Rattle.bk_world.proofs.Crashing.{left-counts, left-pends, left-sound, left-tells}
-use Rattle.bk_world.proofs.Histories.{branch_at-last}
+use Rattle.bk_world.specs.CrashLaws.{left-counts, left-pends, left-sound, left-tells}
+use Rattle.bk_world.specs.BranchLaws.{branch_at-last}
 use Rattle.bk_machine.specs.Sound.{AreNumbered, ArePlaced, IsLog, IsNotToCome, IsOnline, IsPassed, IsWholeDatabase, OpenBy, has_begin}
 use Rattle.bk_machine.specs.World.{Database, World, log_of}
 use Rattle.bk_machine.proofs.ActsLogs.{placed-front, placed-join}

@@ -1,4 +1,3 @@
-pub mod Named
 pub mod Histories
 pub mod ActsLogs
 pub mod ActsStay
@@ -15,6 +14,7 @@ mod Crashed
 mod Joined
 mod Happened
 mod Lasting
+mod Same
 mod Truncated
 mod Settling
 mod Remaining
@@ -23,4 +23,13 @@ pub mod statements
 mod Ends
 mod Cutting
 mod CutRuns
+mod Between
+mod Sets
+mod Numbers
+mod Cells
+mod Lying
+mod Room
+mod Recovering
+mod Loads
 mod Reaching
+mod RunsBuilt

@@ -11,8 +11,8 @@ use Rattle.bk_world.specs.Lines.{RecordLines, has_record_line, line_on, log_belo
 use Rattle.bk_world.specs.ListLaws.{all_mapped}
 use Rattle.bk_world.specs.Records.{Logged}
 use Rattle.bk_world.specs.Telling.{telling}
-use Rattle.bk_world.proofs.Apart.{along-on}
-use Rattle.bk_world.proofs.Saying.{filter-above}
+use Rattle.bk_world.specs.ApartLaws.{along-on}
+use Rattle.bk_world.specs.SaidLaws.{filter-above}
 use Rattle.bk_machine.specs.Crash.{LineLeft}
 use Rattle.bk_machine.specs.Sound.{IsHeld, IsOnce, IsPassed, IsReached, IsSoundLine, RiseFrom}
 use Rattle.bk_machine.specs.World.{World}

@@ -13,8 +13,8 @@ use Rattle.bk_world.specs.Records.{Logged, numbered}
 use Rattle.bk_world.specs.Says.{settle_said}
 use Rattle.bk_world.specs.declared.database.Status.{Status}
 use Rattle.bk_world.specs.declared.database.Status.TheVariants.{Online, Standby, Down}
-use Rattle.bk_world.proofs.Elsewhere.{guid_is}
-use Rattle.bk_world.proofs.Worlds.{is_guid-refl}
+use Rattle.bk_world.specs.ElsewhereLaws.{guid_is}
+use Rattle.bk_world.specs.SameLaws.{is_guid-refl}
 use Rattle.bk_machine.specs.Crash.{DatabaseLeft, IsNoOnes, LineLeft, OfflineLeft, StatusLeft, WorldLeft, open_begins}
 use Rattle.bk_machine.specs.Sound.{AreDifferent, Differ, IsSoundLine, IsWhole, IsWholeDatabase, RiseFrom}
 use Rattle.bk_machine.specs.Stays.{MayStay}

@@ -17,12 +17,12 @@ use Rattle.bk_world.specs.Records.{Counts, Logged, Said, numbered}
 use Rattle.bk_world.specs.Says.{settle_said, undoing}
 use Rattle.bk_world.specs.Telling.{telling}
 use Rattle.bk_world.specs.declared.database.Status.TheVariants.{Online}
-use Rattle.bk_world.proofs.Apart.{along-on}
-use Rattle.bk_world.proofs.Elsewhere.{along_at, guid_is, line_of-other}
-use Rattle.bk_world.proofs.Histories.{branch_at-last}
-use Rattle.bk_world.proofs.Saying.{filter-below, line_of-appended, records-said}
-use Rattle.bk_world.proofs.Settled.{end-more}
-use Rattle.bk_world.proofs.Worlds.{is_guid-refl}
+use Rattle.bk_world.specs.ApartLaws.{along-on}
+use Rattle.bk_world.specs.ElsewhereLaws.{along_at, guid_is, line_of-other}
+use Rattle.bk_world.specs.BranchLaws.{branch_at-last}
+use Rattle.bk_world.specs.SaidLaws.{filter-below, line_of-appended, records-said}
+use Rattle.bk_world.specs.SettledLaws.{end-more}
+use Rattle.bk_world.specs.SameLaws.{is_guid-refl}
 use Rattle.bk_machine.specs.Crash.{IsUndoing, LineLeft}
 use Rattle.bk_machine.specs.Sound.{IsPassed, IsSoundLine, IsWholeDatabase, RiseFrom}
 use Rattle.bk_machine.specs.Stays.{MayStay}

@@ -1,10 +1,9 @@
 -- Each statement does acts that may be done.
-pub mod Checking
-pub mod Finding
 pub mod Idling
 pub mod Telling
-pub mod Ready
 pub mod Begins
+pub mod Fronts
+pub mod Facts
 pub mod CreateDatabase
 pub mod CreateTable
 pub mod Insert

@@ -1,5 +1,5 @@
 -- Checks, one after the other: the first rule that is broken ends them, and what they find is handed on.
-use Rattle.std.specs.Prelude.{ℕ, Bool, true, false, ◌||◌, nat_le, List, [], ◌∷◌, map, flat_map, codes, not, filter, Option, Some, None, Result, Ok, Err, if◌then◌else◌}
+use Rattle.std.specs.Prelude.{ℕ, Bool, true, false, ◌||◌, ◌&&◌, nat_le, nat_lt, List, [], ◌∷◌, length, map, flat_map, codes, not, filter, Option, Some, None, Result, Ok, Err, if◌then◌else◌}
 use Rattle.std.specs.List.{list_any}
 use Rattle.std.specs.Str.{bytes_eq}
 use Rattle.bk_ids.specs.Name.{same_name}
@@ -54,6 +54,14 @@ limit test = refuse_if test (LimitReached Lsn)
 -- the names of the databases that the server keeps for itself
 abbrev pub is_system : List ℕ → Bool
 is_system name = same_name name (codes "master") || same_name name (codes "msdb") || same_name name (codes "tempdb")
+
+-- a name has 1 to 64 bytes (a script has no others: their items are TooLong there)
+abbrev pub is_name : List ℕ → Bool
+is_name name = nat_lt 0 (length name) && nat_le (length name) 64
+
+-- a path of a medium has 1 to 100 bytes (a script has no others, either)
+abbrev pub is_path : List ℕ → Bool
+is_path path = nat_lt 0 (length path) && nat_le (length path) 100
 
 -- how many databases an instance has at most
 abbrev pub most_databases : ℕ

@@ -1,6 +1,6 @@
 -- What a crash leaves: the acts of a front of a run, without what was open.
 -- SQL Server: "Restore and Recovery Overview", the undo phase.
-use Rattle.std.specs.Prelude.{◌≡◌, ◌≢◌, ◌<◌, ◌≤◌, ℕ, zero, suc, ◌+◌, ◌-◌, max, false, List, [], ◌∷◌, ◌++◌, Option, None, Some, take, drop, map}
+use Rattle.std.specs.Prelude.{◌≡◌, ◌≢◌, ◌<◌, ◌≤◌, ℕ, zero, suc, ◌+◌, ◌-◌, max, false, List, [], ◌∷◌, ◌++◌, Option, None, Some, length, take, drop, map}
 use Rattle.std.specs.List.{AllByRecursion, AllZip}
 use Rattle.bk_ids.specs.declared.guid.Guid.{Guid}
 use Rattle.bk_ids.specs.Path.{last_branch}
@@ -39,16 +39,21 @@ IsQuiet (logged name said transactions) = AreQuiet said
 IsQuiet _ = Unit {0}
 
 -- A run is cut in one statement at most, behind some of its acts, and inside of an act only among records that tell no entry. At least so many
--- statements are done; before is the world behind them, cut the one at the cut, and whole the one behind the statement that is cut.
+-- statements are done, and no more than were begun; before is the world behind them, cut the one at the cut, and whole the one behind the statement that is cut.
 pub record CutsRun (old : World) (outcomes : List Outcome) (least : ℕ) (before cut whole : World) : Type 0 where
   pub done : ℕ
   pub enough : least ≤ done
+  pub within : done ≤ length outcomes
   pub acts : ℕ
   pub records : ℕ
   pub quiet : AllByRecursion IsQuiet (front_of records (drop acts (next_acts (drop done outcomes))))
   pub is_before : before ≡ behind_all old (take done outcomes)
   pub is_cut : cut ≡ done_all before (take acts (next_acts (drop done outcomes)) ++ front_of records (drop acts (next_acts (drop done outcomes))))
   pub is_whole : whole ≡ done_all before (next_acts (drop done outcomes))
+
+-- the world where a run is cut between two acts: behind so many of its statements, and so many acts of the next one
+abbrev pub cut_between : World → List Outcome → ℕ → ℕ → World
+cut_between old outcomes done k = done_all (behind_all old (take done outcomes)) (take k (next_acts (drop done outcomes)))
 
 -- What is left.
 

@@ -1,4 +1,5 @@
 pub mod World
+pub mod Same
 pub mod Checks
 pub mod Acts
 pub mod Outcome
@@ -13,3 +14,10 @@ pub mod Stays
 pub mod Events
 pub mod MayDo
 pub mod Reached
+pub mod Built
+pub mod NamedLaws
+pub mod CheckLaws
+pub mod FindingLaws
+pub mod ReadyLaws
+pub mod TargetLaws
+pub mod FirstLaws

@@ -22,7 +22,7 @@ abbrev pub ItemMay : World → ℕ → ScriptItem → ℕ → Outcome → Type 0
 ItemMay w line (CreateDatabase name primary groups log) now = ComesTo (check_create_database w line name primary groups log) (DoesCreateDatabase w name now)
 ItemMay w line (DropDatabase name) now = ComesTo (check_drop_database w name) DoesDropDatabase
 ItemMay w line (Use name) now = ComesTo (check_use w name) DoesUse
-ItemMay w line (CreateTable name group) now = ComesTo (check_create_table w line group) (DoesCreateTable w name now)
+ItemMay w line (CreateTable name group) now = ComesTo (check_create_table w line name group) (DoesCreateTable w name now)
 ItemMay w line (Insert table key value) now = ComesTo (check_insert w line table key value) (DoesInsert w key value now)
 ItemMay w line (Select table key) now = ComesTo (check_select w line table key) DoesSelect
 ItemMay w line (BackupDatabase name units disk options) now = ComesTo (check_backup w line name units disk options) (DoesBackup w disk now)

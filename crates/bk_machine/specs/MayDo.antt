@@ -56,3 +56,8 @@ MayDo w (recovered name r) = HoldsOf (database_named w.databases name) (λ db. M
 abbrev pub MayDoAll : World → List Act → Type 0
 MayDoAll w [] = Unit {0}
 MayDoAll w (act ∷ acts) = MayDo w act × MayDoAll (done w act) acts
+
+-- an act behind which no transaction is open
+abbrev pub LeavesIdle : Act → Type 0
+LeavesIdle (logged name said transactions) = transactions ≡ []
+LeavesIdle _ = Unit {0}

@@ -11,7 +11,7 @@ use Rattle.bk_world.specs.declared.database.TableSpec.{TableSpec}
 use Rattle.bk_world.specs.declared.header.Header.{Header}
 use Rattle.bk_world.specs.declared.header.HeaderFile.{HeaderFile}
 use Rattle.bk_world.specs.Lines.{RecordLine, RecordLines, has_record_line, line_on, log_below, MayGoOn}
-use Rattle.bk_world.specs.Medium.{Slot, Reading, readable, damaged, no_set, not_media, medium}
+use Rattle.bk_world.specs.Medium.{Slot, Reading, readable, damaged, no_set, not_media, medium, medium_at}
 use Rattle.bk_world.specs.Pending.{Pending, pending}
 use Rattle.bk_world.specs.Places.{IsCellOf}
 use Rattle.bk_world.specs.Records.{Deed, Logged, Counts, written}
@@ -169,6 +169,10 @@ IsSoundSlot w no_set = Unit {0}
 abbrev pub IsSoundReading : World → Reading → Type 0
 IsSoundReading w not_media = Unit {0}
 IsSoundReading w (medium slots) = AllByRecursion (IsSoundSlot w) slots
+
+-- there is a set with this header on the medium at a path
+abbrev pub SetIn : World → List ℕ → Header → Type 0
+SetIn w path header = (slots : List Slot) × (medium_at w.media path ≡ Some (medium slots)) × Contains slots (readable header)
 
 -- Worlds.
 

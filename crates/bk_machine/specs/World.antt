@@ -95,7 +95,7 @@ pub record World : Type 0 where
   pub session : ℕ
   -- the sessions of which there is something to say
   pub sessions : List Session
-  -- whether the last run ended with its sessions closed
+  -- whether no run was cut off in it: the last one, if there was one, ended with its sessions closed
   pub closed : Bool
 
 -- the world of an instance that has nothing yet
@@ -112,7 +112,7 @@ empty_world instance = record {
   marks = [];
   session = 1;
   sessions = [];
-  closed = false;
+  closed = true;
 }
 
 -- a run begins with session 1 and no current database
@@ -122,6 +122,10 @@ opened w = record w { session = 1; sessions = []; closed = false }
 -- a run has ended: no session is there any more (there is no job yet, and no open transaction)
 unfoldable pub ended : World → World
 ended w = record w { session = 1; sessions = []; closed = true }
+
+-- a world behind a crash: no session is there, and so many GUIDs are drawn
+unfoldable pub restarted : ℕ → World → World
+restarted counter w = record w { counter = counter; session = 1; sessions = []; closed = false }
 
 -- Logs.
 

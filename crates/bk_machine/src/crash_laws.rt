@@ -1,13 +1,13 @@
-ghost use Rattle.std.specs.Prelude.{◌≡◌, ◌≤◌, ℕ, ◌+◌, List};
+ghost use Rattle.std.specs.Prelude.{◌≡◌, ◌≤◌, ℕ, ◌+◌, List, length};
 ghost use Rattle.std.specs.List.{AllByRecursion, AllZip};
 ghost use Rattle.bk_ids.specs.declared.path.Branch.{Branch};
 ghost use Rattle.bk_items.specs.declared.item.ScriptEntry.{ScriptEntry};
-ghost use Rattle.bk_machine.specs.Crash.{CutsRun, Leaves, WorldLeft};
+ghost use Rattle.bk_machine.specs.Crash.{CutsRun, Leaves, WorldLeft, cut_between};
 ghost use Rattle.bk_machine.specs.Outcome.{Outcome};
 ghost use Rattle.bk_machine.specs.Run.{IsRun};
 ghost use Rattle.bk_machine.specs.Sound.{AreIdle, IsHeld, IsSound, IsWhole, IsWholeDatabase};
 ghost use Rattle.bk_machine.specs.Stays.{IsCutOf, IsFront, MayStay};
-ghost use Rattle.bk_machine.specs.World.{Database, World, log_of};
+ghost use Rattle.bk_machine.specs.World.{Database, World, log_of, restarted};
 ghost use Rattle.bk_world.specs.Cut.{settled};
 ghost use Rattle.bk_world.specs.Lines.{log_below};
 ghost use Rattle.bk_world.specs.Records.{Logged};
@@ -56,4 +56,17 @@ pub fn runs_are_cut_in_whole_worlds()
         → cut.counter ≤ counter → counter ≤ cut.counter + 1024
         → (left : World) × Leaves old outcomes least left × (left.counter ≡ counter)
         × AllZip (λ (now new : Database). now.status ≡ Online → log_of left.history new ≡ settled (kept now)) cut.databases left.databases }
+{}
+
+/// Let a run from a sound world in which nothing is open be cut between two acts. The world at the cut is sound, nothing is
+/// open in it, and a crash of the run may leave just this world, with no session and whatever counter within the bounds.
+pub fn runs_are_cut_between_acts()
+    ensures sound { (old : World) (statements : List ScriptEntry) (moments : List ℕ) (outcomes : List Outcome) (done k : ℕ)
+        → IsSound old → AreIdle old → IsRun old statements moments outcomes → IsSound (cut_between old outcomes done k) }
+    ensures idle { (old : World) (statements : List ScriptEntry) (moments : List ℕ) (outcomes : List Outcome) (done k : ℕ)
+        → IsSound old → AreIdle old → IsRun old statements moments outcomes → AreIdle (cut_between old outcomes done k) }
+    ensures leaves { (old : World) (statements : List ScriptEntry) (moments : List ℕ) (outcomes : List Outcome) (least done k counter : ℕ)
+        → IsSound old → AreIdle old → IsRun old statements moments outcomes → least ≤ done → done ≤ length outcomes
+        → (cut_between old outcomes done k).counter ≤ counter → counter ≤ (cut_between old outcomes done k).counter + 1024
+        → Leaves old outcomes least (restarted counter (cut_between old outcomes done k)) }
 {}

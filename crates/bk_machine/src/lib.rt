@@ -3,21 +3,33 @@
 #![tactic(auto)]
 
 mod act_laws;
+mod built_laws;
 mod crash_laws;
 mod event_laws;
 mod laws;
+mod progress_laws;
 mod reaching_laws;
+mod room_laws;
+mod same_laws;
+mod set_laws;
 mod statement_laws;
 
 pub use act_laws::{
     a_recovery_is_said_last, acts_keep_what_is_read, acts_keep_worlds_sound,
     what_is_said_comes_last,
 };
+pub use built_laws::{acts_keep_worlds_built, events_keep_worlds_built, runs_keep_worlds_built};
 pub use crash_laws::{
     crashes_keep_worlds_sound, crashes_leave_what_stays, fronts_may_stay,
-    runs_are_cut_in_whole_worlds,
+    runs_are_cut_between_acts, runs_are_cut_in_whole_worlds,
 };
 pub use event_laws::events_keep_worlds_sound;
-pub use laws::{empty_worlds_are_sound, runs_begin_and_end_in_sound_worlds};
+pub use laws::{
+    empty_worlds_are_sound, restarts_keep_worlds_sound, runs_begin_and_end_in_sound_worlds,
+};
+pub use progress_laws::statements_come_to_outcomes;
 pub use reaching_laws::reached_worlds_are_sound;
-pub use statement_laws::{runs_keep_worlds_sound, statements_do_what_they_may};
+pub use room_laws::groups_are_full_where_no_cell_is_free;
+pub use same_laws::logs_that_stay;
+pub use set_laws::sets_that_stay;
+pub use statement_laws::{acts_of_statements, runs_keep_worlds_sound, statements_do_what_they_may};

@@ -1,8 +1,10 @@
-ghost use Rattle.std.specs.Prelude.{ℕ, List};
+ghost use Rattle.std.specs.Prelude.{ℕ, List, take};
+ghost use Rattle.std.specs.List.{AllByRecursion};
 ghost use Rattle.bk_items.specs.declared.item.ScriptEntry.{ScriptEntry};
+ghost use Rattle.bk_machine.specs.Acts.{Act, done, done_all};
 ghost use Rattle.bk_machine.specs.Crash.{Leaves};
 ghost use Rattle.bk_machine.specs.Machine.{May, behind};
-ghost use Rattle.bk_machine.specs.MayDo.{MayDoAll};
+ghost use Rattle.bk_machine.specs.MayDo.{LeavesIdle, MayDo, MayDoAll};
 ghost use Rattle.bk_machine.specs.Outcome.{Outcome};
 ghost use Rattle.bk_machine.specs.Run.{IsRun, behind_all};
 ghost use Rattle.bk_machine.specs.Sound.{AreIdle, IsSound};
@@ -12,6 +14,15 @@ ghost use Rattle.bk_machine.specs.World.{World};
 pub fn statements_do_what_they_may()
     ensures may { (w : World) (s : ScriptEntry) (now : ℕ) (outcome : Outcome) → IsSound w → AreIdle w → May w s now outcome → MayDoAll w outcome.acts }
     ensures idle { (w : World) (s : ScriptEntry) (now : ℕ) (outcome : Outcome) → IsSound w → AreIdle w → May w s now outcome → AreIdle (behind w outcome) }
+{}
+
+/// Behind each front of what a statement comes to the world is sound, and nothing is open in it: no act of a statement leaves anything open.
+pub fn acts_of_statements()
+    ensures fronts { (w : World) (s : ScriptEntry) (now : ℕ) (outcome : Outcome) → IsSound w → AreIdle w → May w s now outcome
+        → (k : ℕ) → IsSound (done_all w (take k outcome.acts)) × AreIdle (done_all w (take k outcome.acts)) }
+    ensures opens { (w : World) (s : ScriptEntry) (now : ℕ) (outcome : Outcome) → IsSound w → AreIdle w → May w s now outcome
+        → AllByRecursion LeavesIdle outcome.acts }
+    ensures idle { (w : World) (act : Act) → IsSound w → AreIdle w → MayDo w act → LeavesIdle act → AreIdle (done w act) }
 {}
 
 /// A run keeps a sound world sound, and opens nothing. So does a crash of it.

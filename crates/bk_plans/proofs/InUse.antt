@@ -8,8 +8,8 @@ use Rattle.bk_ids.specs.Name.{same_name}
 use Rattle.bk_machine.specs.Checks.{has_path, paths_of, others}
 use Rattle.bk_machine.specs.World.{Database}
 use Rattle.bk_world.specs.declared.database.FileSpec.{FileSpec}
-use Rattle.bk_plans.specs.declared.kept.Database.{Database as KeptDatabase}
-use Rattle.bk_plans.specs.Keeps.{database_of}
+use Rattle.bk_kept.specs.declared.kept.Database.{Database as KeptDatabase}
+use Rattle.bk_kept.specs.Keeps.{database_of}
 use Rattle.bk_plans.specs.Paths.{has_file}
 
 path-mapped : (path : List ℕ) (files : List FileSpec) → has_path (map (λ (f : FileSpec). f.path) files) path ≡ has_file files path

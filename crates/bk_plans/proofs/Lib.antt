@@ -1,8 +1,10 @@
-pub mod Named
 pub mod InUse
-pub mod Tells
-pub mod SetFiles
-pub mod Places
-pub mod Acted
-pub mod Cuts
-pub mod Fresh
+pub mod Sounds
+pub mod FullGroups
+pub mod SaidActs
+pub mod PlannedCreateDatabase
+pub mod PlannedDropDatabase
+pub mod PlannedUse
+pub mod PlannedCreateTable
+pub mod PlannedInsert
+pub mod PlannedSelect

@@ -1,7 +1,6 @@
 -- A check in memory, beside the machine's.
-use Rattle.std.specs.Prelude.{◌≡◌, ℕ, List, Option, Some, None, Result, Ok, Err}
+use Rattle.std.specs.Prelude.{◌≡◌, ℕ, List, Result, Ok, Err}
 use Rattle.bk_machine.specs.Checks.{Checked}
-use Rattle.bk_world.specs.declared.header.HeaderFile.{HeaderFile}
 use Rattle.bk_world.specs.declared.rule.Rule.TheVariants.{FileInUse}
 use Rattle.bk_plans.specs.declared.refusal.Refusal.{Refusal}
 use Rattle.bk_plans.specs.declared.refusal.Refusal.TheVariants.{Broken, NoMemory}
@@ -20,8 +19,3 @@ IsCheck view (Err refusal) machine = IsRefused refusal machine
 abbrev pub IsInUse : List ℕ → Refusal → Type 0
 IsInUse path (Broken rule) = rule ≡ FileInUse path
 IsInUse path NoMemory = Unit {0}
-
--- refused at a file of a set, if one was found
-abbrev pub file_check : Option HeaderFile → Checked (Unit {0})
-file_check None = Ok tt
-file_check (Some file) = Err (FileInUse file.spec.path)

@@ -1,4 +1,5 @@
-pub mod Keeps
 pub mod Checking
 pub mod Paths
-pub mod Made
+pub mod Planning
+pub mod Planned
+pub mod PlanLaws

@@ -1,68 +1,56 @@
-//! Looking for databases.
+//! Databases and tables, refused where there is none.
 
-ghost use Rattle.std.specs.Prelude.{◌≡◌};
-ghost use Rattle.std.specs.List.{find};
-ghost use Rattle.std.specs.Option.{option_map};
-ghost use Rattle.bk_ids.specs.Name.{same_name};
+ghost use Rattle.std.specs.Prelude.{◌≡◌, IfOk};
+ghost use Rattle.bk_machine.specs.Checks.{or_refuse, table_named};
+ghost use Rattle.bk_machine.specs.Seen.{tables_in};
+ghost use Rattle.bk_machine.specs.World.{World, current_database, database_named};
+ghost use Rattle.bk_world.specs.declared.rule.Rule.TheVariants.{NoSuchDatabase, NoSuchTable};
+ghost use Rattle.bk_kept.specs.Keeps.{Keeps, ShowsLog, database_of};
+ghost use Rattle.bk_plans.specs.Checking.{IsCheck};
 
-use crate::kept::{Database, Kept};
 use crate::refusal::Refusal;
-use bk_world::Rule;
+use bk_kept::{Database, Kept};
+use bk_world::{Rule, TableSpec};
 
-// The first database of a name, in any case of ASCII letters.
-fn first_named<'a>(databases: &'a [Database], name: &str) -> Option<&'a Database>
-    ensures { option_map (λ d. d.now) result ≡ find (λ d. same_name d.name name.now) databases.now }
-{
-    databases
-        .iter()
-        .find(|d| d.name.as_str().eq_ignore_ascii_case(name))
+/// A table of a database.
+#[derive(Clone, Copy)]
+pub struct Target<'a> {
+    pub database: &'a Database,
+    pub table: &'a TableSpec,
 }
 
-impl Kept {
-    ghost use Rattle.std.specs.Prelude.{◌≡◌, IfSome, IfOk};
-    ghost use Rattle.std.specs.Option.{option_map};
-    ghost use Rattle.bk_machine.specs.Checks.{or_refuse};
-    ghost use Rattle.bk_machine.specs.World.{World, database_named, current_database};
-    ghost use Rattle.bk_world.specs.declared.rule.Rule.TheVariants.{NoSuchDatabase};
-    ghost use Rattle.bk_plans.specs.Checking.{IsCheck};
-    ghost use Rattle.bk_plans.specs.Keeps.{Keeps, ShowsLog, database_of};
-
-    /// The database of this name, in any case of ASCII letters.
-    pub fn named(&self, name: &str) -> Option<&Database>
-        ensures found { (w : World) → Keeps w self.now → option_map (λ d. database_of d.now) result ≡ database_named w.databases name.now }
-        ensures shows { (w : World) → Keeps w self.now → IfSome result (λ d. ShowsLog w.history d.now) }
-    {
-        first_named(&self.databases, name)
+/// The database of this name, in any case of ASCII letters, refused where there is none.
+pub fn named_or_refuse<'a>(kept: &'a Kept, name: &str) -> Result<&'a Database, Refusal>
+    ensures check { (w : World) → Keeps w kept.now → IsCheck (λ d. database_of d.now) result (or_refuse (database_named w.databases name.now) NoSuchDatabase) }
+    ensures shows { (w : World) → Keeps w kept.now → IfOk result (λ d. ShowsLog w.history d.now) }
+{
+    match kept.named(name) {
+        Some(database) => Ok(database),
+        None => Err(Refusal::Broken(Rule::NoSuchDatabase)),
     }
+}
 
-    // The database of this name, refused where there is none.
-    pub(crate) fn named_or_refuse(&self, name: &str) -> Result<&Database, Refusal>
-        ensures check { (w : World) → Keeps w self.now → IsCheck (λ d. database_of d.now) result (or_refuse (database_named w.databases name.now) NoSuchDatabase) }
-        ensures shows { (w : World) → Keeps w self.now → IfOk result (λ d. ShowsLog w.history d.now) }
-    {
-        match self.named(name) {
-            Some(database) => Ok(database),
-            None => Err(Refusal::Broken(Rule::NoSuchDatabase)),
-        }
+// The current database, refused where there is none.
+pub(crate) fn current_or_refuse(kept: &Kept) -> Result<&Database, Refusal>
+    ensures check { (w : World) → Keeps w kept.now → IsCheck (λ d. database_of d.now) result (or_refuse (current_database w) NoSuchDatabase) }
+    ensures shows { (w : World) → Keeps w kept.now → IfOk result (λ d. ShowsLog w.history d.now) }
+{
+    match kept.current_database() {
+        Some(database) => Ok(database),
+        None => Err(Refusal::Broken(Rule::NoSuchDatabase)),
     }
+}
 
-    /// The current database.
-    pub fn current_database(&self) -> Option<&Database>
-        ensures found { (w : World) → Keeps w self.now → option_map (λ d. database_of d.now) result ≡ current_database w }
-        ensures shows { (w : World) → Keeps w self.now → IfSome result (λ d. ShowsLog w.history d.now) }
-    {
-        let name = self.current.as_ref()?;
-        self.named(name.as_str())
-    }
-
-    // The current database, refused where there is none.
-    pub(crate) fn current_or_refuse(&self) -> Result<&Database, Refusal>
-        ensures check { (w : World) → Keeps w self.now → IsCheck (λ d. database_of d.now) result (or_refuse (current_database w) NoSuchDatabase) }
-        ensures shows { (w : World) → Keeps w self.now → IfOk result (λ d. ShowsLog w.history d.now) }
-    {
-        match self.current_database() {
-            Some(database) => Ok(database),
-            None => Err(Refusal::Broken(Rule::NoSuchDatabase)),
-        }
+// A table of a database by its name, refused where there is none.
+pub(crate) fn table_or_refuse<'a>(
+    database: &'a Database,
+    name: &str,
+) -> Result<&'a TableSpec, Refusal>
+    ensures { (w : World) → ShowsLog w.history database.now
+        → IsCheck (λ t. t.now) result (or_refuse (table_named (tables_in w (database_of database.now)) name.now) NoSuchTable) }
+{
+    match database.table_named(name) {
+        Some(table) => Ok(table),
+        None => Err(Refusal::Broken(Rule::NoSuchTable)),
     }
 }

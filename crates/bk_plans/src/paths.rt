@@ -4,10 +4,15 @@ ghost use Rattle.std.specs.Prelude.{◌≡◌, ◌&&◌, not, map};
 ghost use Rattle.std.specs.List.{list_any};
 ghost use Rattle.bk_ids.specs.Name.{same_name};
 ghost use Rattle.bk_machine.specs.Checks.{has_path, paths_of, others};
-ghost use Rattle.bk_plans.specs.Keeps.{database_of};
+ghost use Rattle.bk_kept.specs.Keeps.{database_of};
+ghost use Rattle.bk_plans.specs.Checking.{IsInUse};
 ghost use Rattle.bk_plans.specs.Paths as paths;
 
-use crate::kept::Database;
+use crate::refusal::Refusal;
+use bk_ids::Text;
+use bk_kept::Database;
+use bk_world::Rule;
+use std::alloc::Global;
 
 // Whether a data file of a database has a path.
 fn has_file(database: &Database, path: &str) -> bool
@@ -40,9 +45,19 @@ pub(crate) fn is_in_use(databases: &[Database], path: &str) -> bool
     any_has_file(databases, path)
 }
 
-// Whether a path of a data file is in use by a database of another name.
-pub(crate) fn is_in_use_by_others(databases: &[Database], name: &str, path: &str) -> bool
+/// Whether a path of a data file is in use by a database of another name.
+pub fn is_in_use_by_others(databases: &[Database], name: &str, path: &str) -> bool
     ensures { result ≡ has_path (paths_of (others (map database_of databases.now) name.now)) path.now }
 {
     any_other_has_file(databases, name, path)
+}
+
+/// The refusal by a path that is in use.
+pub fn in_use(alloc: Global, path: &Text) -> Refusal
+    ensures { IsInUse path.now result }
+{
+    match path.copy(alloc) {
+        Ok(path) => Refusal::Broken(Rule::FileInUse { path }),
+        Err(_) => Refusal::NoMemory,
+    }
 }

@@ -1,25 +1,23 @@
 //! Checks that several statements make.
 
-ghost use Rattle.std.specs.Prelude.{◌≡◌, IfOk, Some};
+ghost use Rattle.std.specs.Prelude.{◌≡◌, false, IfOk, Some};
 ghost use Rattle.std.specs.List.{list_any};
 ghost use Rattle.bk_machine.specs.Checks as checks;
 ghost use Rattle.bk_world.specs.declared.database.Status.TheVariants.{Down};
+ghost use Rattle.bk_kept.specs.Keeps.{database_of};
 ghost use Rattle.bk_plans.specs.Checking.{IsCheck};
-ghost use Rattle.bk_plans.specs.Keeps.{database_of};
 
-use crate::kept::Database;
 use crate::refusal::Refusal;
+use bk_kept::Database;
 use bk_world::{Limit, Rule, State, Status, StatusWord, Unit};
 
-// Log sequence numbers and GUIDs from here on, 2^62 - 2^32, are kept for what is never refused.
-const KEPT_NUMBERS: u64 = 4_611_686_014_132_420_608;
-
 /// How many databases an instance has at most.
-pub(crate) const MOST_DATABASES: usize = 16;
+pub const MOST_DATABASES: usize = 16;
 
-// Refused by this rule where the test holds.
-pub(crate) fn refuse_if(test: bool, rule: Rule) -> Result<(), Refusal>
-    ensures { IsCheck (λ u. u) result (checks.refuse_if test rule) }
+/// Refused by this rule where the test holds.
+pub fn refuse_if(test: bool, rule: Rule) -> Result<(), Refusal>
+    ensures check { IsCheck (λ u. u) result (checks.refuse_if test rule) }
+    ensures passes { IfOk result (λ u. test ≡ false) }
 {
     if test {
         return Err(Refusal::Broken(rule));
@@ -28,21 +26,29 @@ pub(crate) fn refuse_if(test: bool, rule: Rule) -> Result<(), Refusal>
     Ok(())
 }
 
-// Whether numbers are used up at `n`.
-pub(crate) fn used_up(n: u64) -> bool
-    ensures { result ≡ checks.used_up n }
-{
-    n >= KEPT_NUMBERS
-}
-
-// Refused where numbers are used up.
-pub(crate) fn limit(used_up: bool) -> Result<(), Refusal>
-    ensures { IsCheck (λ u. u) result (checks.limit used_up) }
+/// Refused where numbers are used up.
+pub fn limit(used_up: bool) -> Result<(), Refusal>
+    ensures check { IsCheck (λ u. u) result (checks.limit used_up) }
+    ensures passes { IfOk result (λ u. used_up ≡ false) }
 {
     if used_up {
         return Err(Refusal::Broken(Rule::LimitReached { which: Limit::Lsn }));
     }
     Ok(())
+}
+
+/// Whether a text has 1 to 64 bytes, as a name has.
+pub fn is_name(text: &str) -> bool
+    ensures { result ≡ checks.is_name text.now }
+{
+    0 < text.len() && text.len() <= 64
+}
+
+/// Whether a text has 1 to 100 bytes, as the path of a medium has.
+pub fn is_path(text: &str) -> bool
+    ensures { result ≡ checks.is_path text.now }
+{
+    0 < text.len() && text.len() <= 100
 }
 
 // Whether the server keeps a name for itself: master, msdb or tempdb, in any case of ASCII letters.
@@ -88,8 +94,8 @@ fn word(status: &Status, units: &[Unit]) -> Option<StatusWord>
     }
 }
 
-// The database, refused where it isn't online.
-pub(crate) fn online(database: &Database) -> Result<&Database, Refusal>
+/// The database, refused where it isn't online.
+pub fn online(database: &Database) -> Result<&Database, Refusal>
     ensures check { IsCheck (λ d. database_of d.now) result (checks.online (database_of database.now)) }
     ensures same { IfOk result (λ d. d.now ≡ database.now) }
 {

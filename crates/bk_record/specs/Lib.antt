@@ -6,3 +6,5 @@ pub mod Log
 pub mod Laws
 pub mod LengthLaws
 pub mod WalkLaws
+pub mod Records
+pub mod RecordsLaws

@@ -8,12 +8,14 @@
 mod check;
 mod extents;
 mod reading;
+mod records;
 mod view;
 mod walk;
 mod writing;
 
-pub use check::{check_log, log_law};
+pub use check::{check_log, log_law, records_law};
 pub use extents::Extents;
+pub use records::Records;
 pub use view::{BodyRef, MarkRef, RecRef};
 pub use walk::{BadRecord, LogCursor, cursor};
 pub use writing::encode;

@@ -1,28 +1,29 @@
 -- A body that is read is spelled so and keeps the conditions, and a body that keeps them is read.
 use Rattle.std.proofs.Common.{◌≡◌, ◌⊎◌, ℕ, ◌+◌, ◌^◌, ◌<◌, ◌≤◌, Bool, true, false, eqb, ltb, leb, List, [], ◌∷◌, ◌++◌, length, Some, refl, inl, inr, sym, ap, subst, ◌∙◌, arith}
-use Rattle.std.specs.Prelude.{◌&&◌, ◌||◌, not}
-use Rattle.std.specs.List.{list_all, AllByRecursion}
+use Rattle.std.specs.Prelude.{◌&&◌, ◌||◌, ◌==◌, not}
+use Rattle.std.specs.List.{list_all, find, AllByRecursion}
 use Rattle.std.proofs.lemmas.Bool.{not-true, lt-ltb, ltb-true, le-leb, leb-true, eqb-true, eq-eqb, ne_eqb, and_parts, and_from}
 use Rattle.bk_ids.specs.Name.{same_name}
 use Rattle.bk_world.specs.declared.database.TableSpec.{TableSpec}
+use Rattle.bk_world.specs.declared.row.PlacedRow.{PlacedRow}
 use Rattle.bk_world.specs.declared.header.SetKind.{SetKind}
 use Rattle.bk_world.specs.declared.header.SetKind.TheVariants.{Full, Log, File, Differential}
 use Rattle.bk_world.specs.declared.header.Header.{Header}
+use Rattle.bk_world.specs.PlacedRows.{ComesBefore, RowsRise}
 use Rattle.bk_bytes.specs.Field.{AreBytes}
-use Rattle.bk_bytes.specs.Codec.{IsCodec}
+use Rattle.bk_bytes.specs.Codec.{IsCodec, IsString}
 use Rattle.bk_bytes.specs.CodecLaws.{followed-IsCodec, converted-IsCodec, counted-IsCodec, guard_true, some}
-use Rattle.bk_header.specs.Conditions.{IsHeader}
+use Rattle.bk_header.specs.Conditions.{IsHeader, KeepsConditions}
 use Rattle.bk_header.specs.Reading.{header_form}
-use Rattle.bk_header.specs.Laws.{header_form-IsCodec, header_form-spelling}
-use Rattle.bk_set.specs.declared.body.SetRow.{SetRow}
+use Rattle.bk_header.specs.Laws.{header_form-IsCodec, header_form-spelling, header_keeps}
 use Rattle.bk_set.specs.declared.body.SetBody.{SetBody}
-use Rattle.bk_set.specs.Conditions.{IsTable, Differ, AreDifferent, KeepTables, IsRow, has_table, IsFrom, RiseFrom, IsBody, KeepsBody}
+use Rattle.bk_record.specs.Records.{AreRecords}
+use Rattle.bk_set.specs.Conditions.{IsTable, Differ, AreDifferent, KeepTables, IsRow, has_table, IsFrom, RiseFrom, IsRowAmong, KeepParts, IsBody, KeepsBody}
 use Rattle.bk_set.specs.Spelling.{body_bytes}
-use Rattle.bk_set.specs.Reading.{table_form, row_form, is_full, differ, are_different, keep_tables, is_from, keeps_row, rise_from, body_from, body_form}
-use Rattle.bk_set.specs.FormLaws.{table_form-IsCodec, row_form-IsCodec}
-use Rattle.std.proofs.lemmas.List.Elements.{All-from_recursion}
+use Rattle.bk_set.specs.Reading.{table_form, place_form, row_form, is_full, differ, are_different, keep_tables, is_from, keeps_row, rise_from, keep_rows, keep_parts, body_from, body_form}
+use Rattle.bk_set.specs.FormLaws.{table_form-IsCodec, row_form-IsCodec, log_form-IsCodec}
+use Rattle.std.proofs.lemmas.List.Elements.{All-from_recursion, recursion_from_All}
 use Rattle.std.proofs.lemmas.Option.{same_Some}
-use Rattle.bk_header.specs.Laws.{header_keeps}
 
 -- ---- tests
 
@@ -87,14 +88,14 @@ or_right : (a b : Bool) → b ≡ true → (a || b) ≡ true
 or_right true b e = refl
 or_right false b e = e
 
-from_true : (table key : ℕ) (row : SetRow) → is_from table key row ≡ true → IsFrom table key row
+from_true : (table key : ℕ) (row : PlacedRow) → is_from table key row ≡ true → IsFrom table key row
 from_true table key row e =
     elim (or_either (ltb table row.table) (eqb table row.table && leb key row.key) e) [
       | inl less ↦ inl (ltb-true _ _ less)
       | inr both ↦ let p = and_parts (eqb table row.table) (leb key row.key) both in inr (eqb-true _ _ p.0, leb-true _ _ p.1)
     ]
 
-from_from : (table key : ℕ) (row : SetRow) → IsFrom table key row → is_from table key row ≡ true
+from_from : (table key : ℕ) (row : PlacedRow) → IsFrom table key row → is_from table key row ≡ true
 from_from table key row h =
     elim h [
       | inl less ↦ or_left (ltb table row.table) (eqb table row.table && leb key row.key) (lt-ltb _ _ less)
@@ -102,77 +103,118 @@ from_from table key row h =
     ]
 
 -- the parts of rows that rise
-pub record Rises (tables : List TableSpec) (table key : ℕ) (rows : List SetRow) : Type 0 where
+pub record Rises (tables : List TableSpec) (table key : ℕ) (rows : List PlacedRow) : Type 0 where
   pub rise : RiseFrom table key rows
   pub tables_there : AllByRecursion (λ row. has_table tables row.table ≡ true) rows
   pub keys : AllByRecursion (λ row. row.key ≤ 9223372036854775807) rows
+  pub values : AllByRecursion (λ row. length row.value ≤ 112) rows
 
-rise_true : (tables : List TableSpec) (table key : ℕ) (rows : List SetRow) → rise_from tables table key rows ≡ true → Rises tables table key rows
-rise_true tables table key [] e = record { rise = tt; tables_there = tt; keys = tt }
+rise_true : (tables : List TableSpec) (table key : ℕ) (rows : List PlacedRow) → rise_from tables table key rows ≡ true → Rises tables table key rows
+rise_true tables table key [] e = record { rise = tt; tables_there = tt; keys = tt; values = tt }
 rise_true tables table key (row ∷ rows) e =
     let p = and_parts (is_from table key row && keeps_row tables row) (rise_from tables row.table (row.key + 1) rows) e in
     let q = and_parts (is_from table key row) (keeps_row tables row) p.0 in
-    let r = and_parts (leb row.key 9223372036854775807) (has_table tables row.table) q.1 in
+    let r = and_parts (leb row.key 9223372036854775807 && leb (length row.value) 112) (has_table tables row.table) q.1 in
+    let s = and_parts (leb row.key 9223372036854775807) (leb (length row.value) 112) r.0 in
     let others = rise_true tables row.table (row.key + 1) rows p.1 in
     record {
       rise = (from_true table key row q.0, others.rise);
       tables_there = (r.1, others.tables_there);
-      keys = (leb-true _ _ r.0, others.keys);
+      keys = (leb-true _ _ s.0, others.keys);
+      values = (leb-true _ _ s.1, others.values);
     }
 
-rise_of : (tables : List TableSpec) (table key : ℕ) (rows : List SetRow) → RiseFrom table key rows → AllByRecursion (λ row. has_table tables row.table ≡ true) rows → AllByRecursion (λ row. row.key ≤ 9223372036854775807) rows → rise_from tables table key rows ≡ true
-rise_of tables table key [] rise there keys = refl
-rise_of tables table key (row ∷ rows) rise there keys =
-    and_from _ _ (and_from _ _ (from_from table key row rise.0) (and_from _ _ (le-leb _ _ keys.0) there.0)) (rise_of tables row.table (row.key + 1) rows rise.1 there.1 keys.1)
+rise_of : (tables : List TableSpec) (table key : ℕ) (rows : List PlacedRow) → RiseFrom table key rows → AllByRecursion (λ row. has_table tables row.table ≡ true) rows → AllByRecursion (λ row. row.key ≤ 9223372036854775807) rows
+    → AllByRecursion (λ row. length row.value ≤ 112) rows → rise_from tables table key rows ≡ true
+rise_of tables table key [] rise there keys values = refl
+rise_of tables table key (row ∷ rows) rise there keys values =
+    let kept : keeps_row tables row ≡ true = and_from _ _ (and_from _ _ (le-leb _ _ keys.0) (le-leb _ _ values.0)) there.0 in
+    and_from _ _ (and_from _ _ (from_from table key row rise.0) kept) (rise_of tables row.table (row.key + 1) rows rise.1 there.1 keys.1 values.1)
+
+-- ---- parts
+
+-- the test passes exactly where they keep the conditions
+pub parts_true : (header : Header) (tables : List TableSpec) (rows : List PlacedRow) → keep_parts header tables rows ≡ true → KeepParts header tables rows
+parts_true header tables rows e =
+    let p = and_parts (is_full header.kind && keep_tables (length header.groups) tables) (keep_rows tables rows) e in
+    let q = and_parts (is_full header.kind) (keep_tables (length header.groups) tables) p.0 in
+    let r = and_parts (leb (length rows) 4294967295) (rise_from tables 0 0 rows) p.1 in
+    let few : length rows ≤ 4294967295 = leb-true _ _ r.0 in
+    let rises = rise_true tables 0 0 rows r.1 in
+    record {
+      full = full_true header.kind q.0;
+      tables = tables_true (length header.groups) tables q.1;
+      rows = record { few = omega (arith, few); rise = rises.rise; tables_there = rises.tables_there; keys = rises.keys };
+      values = All-from_recursion (λ row. length row.value ≤ 112) rows rises.values;
+    }
+
+pub parts_from : (header : Header) (tables : List TableSpec) (rows : List PlacedRow) → KeepParts header tables rows → keep_parts header tables rows ≡ true
+parts_from header tables rows keep =
+    let full : is_full header.kind ≡ true = ap is_full keep.full in
+    let few : leb (length rows) 4294967295 ≡ true = le-leb _ _ (omega (arith, keep.rows.few)) in
+    let rise = rise_of tables 0 0 rows keep.rows.rise keep.rows.tables_there keep.rows.keys (recursion_from_All (λ row. length row.value ≤ 112) rows keep.values) in
+    and_from _ _ (and_from _ _ full (tables_from (length header.groups) tables keep.tables)) (and_from _ _ few rise)
 
 -- ---- bodies
 
 -- what the codec's parts say
-abbrev Fit : Header → List TableSpec → List SetRow → Type 0
-Fit header tables rows = IsHeader header × (((length tables < 256 ^ 2) × AllByRecursion IsTable tables) × ((length rows < 256 ^ 4) × AllByRecursion IsRow rows))
+abbrev Fit : Header → List TableSpec → List PlacedRow → List ℕ → Type 0
+Fit header tables rows log = IsHeader header × (((length tables < 256 ^ 2) × AllByRecursion IsTable tables) × (((length rows < 256 ^ 4) × AllByRecursion IsRow rows) × ((length log < 2 ^ 64) × AreRecords log)))
 
-body_takes : (header : Header) (tables : List TableSpec) (rows : List SetRow) (body : SetBody) → Fit header tables rows → body_from header tables rows ≡ Some body
-    → (◌≡◌ {A = Header × (List TableSpec × List SetRow)} (body.header, (body.tables, body.rows)) (header, (tables, rows))) × IsBody body
+-- the parts of a body
+abbrev Parts : Type 0
+Parts = Header × (List TableSpec × (List PlacedRow × List ℕ))
+
+body_takes : (header : Header) (tables : List TableSpec) (rows : List PlacedRow) (log : List ℕ) (body : SetBody) → Fit header tables rows log → body_from header tables rows log ≡ Some body
+    → (◌≡◌ {A = Parts} (body.header, (body.tables, (body.rows, body.log))) (header, (tables, (rows, log)))) × IsBody body
 unfolding body_from
-body_takes header tables rows body fits e =
-    let g = guard_true (is_full header.kind && keep_tables (length header.groups) tables && rise_from tables 0 0 rows) (record { header = header; tables = tables; rows = rows }) body e in
-    let p = and_parts (is_full header.kind && keep_tables (length header.groups) tables) (rise_from tables 0 0 rows) g.0 in
-    let q = and_parts (is_full header.kind) (keep_tables (length header.groups) tables) p.0 in
-    let rises = rise_true tables 0 0 rows p.1 in
-    subst (λ (b : SetBody). (◌≡◌ {A = Header × (List TableSpec × List SetRow)} (b.header, (b.tables, b.rows)) (header, (tables, rows))) × IsBody b) g.1 (
+body_takes header tables rows log body fits e =
+    let g = guard_true (keep_parts header tables rows) (record { header = header; tables = tables; rows = rows; log = log }) body e in
+    let keep = parts_true header tables rows g.0 in
+    subst (λ (b : SetBody). (◌≡◌ {A = Parts} (b.header, (b.tables, (b.rows, b.log))) (header, (tables, (rows, log)))) × IsBody b) g.1 (
       refl,
       record {
         header = fits.0;
-        full = full_true header.kind q.0;
+        full = keep.full;
         each_table = fits.1.0.1;
-        tables = tables_true (length header.groups) tables q.1;
-        each_row = fits.1.1.1;
-        rows = record { few = omega (arith, fits.1.1.0); rise = rises.rise; tables_there = rises.tables_there; keys = rises.keys };
+        tables = keep.tables;
+        each_row = fits.1.1.0.1;
+        rows = keep.rows;
+        log = fits.1.1.1.1;
+        log_short = fits.1.1.1.0;
       },
     )
 
-body_gives : (body : SetBody) → IsBody body → body_from body.header body.tables body.rows ≡ Some body
-unfolding body_from
-body_gives body is =
-    let full : is_full body.header.kind ≡ true = ap is_full is.full in
-    let rise = rise_of body.tables 0 0 body.rows is.rows.rise is.rows.tables_there is.rows.keys in
-    let test : (is_full body.header.kind && keep_tables (length body.header.groups) body.tables && rise_from body.tables 0 0 body.rows) ≡ true =
-    and_from _ _ (and_from _ _ full (tables_from (length body.header.groups) body.tables is.tables)) rise in
-    rw test refl
+values_of : (rows : List PlacedRow) → AllByRecursion IsRow rows → AllByRecursion (λ row. length row.value ≤ 112) rows
+values_of [] h = tt
+values_of (row ∷ rows) h = (h.0.value.most_bytes, values_of rows h.1)
 
-body_fits : (body : SetBody) → IsBody body → Fit body.header body.tables body.rows
-body_fits body is = (is.header, ((omega (arith, is.tables.few), is.each_table), (omega (arith, is.rows.few), is.each_row)))
+-- what has a spelling keeps the conditions
+pub body_parts : (body : SetBody) → IsBody body → KeepParts body.header body.tables body.rows
+body_parts body is = record {
+  full = is.full;
+  tables = is.tables;
+  rows = is.rows;
+  values = All-from_recursion (λ row. length row.value ≤ 112) body.rows (values_of body.rows is.each_row);
+}
+
+body_gives : (body : SetBody) → IsBody body → body_from body.header body.tables body.rows body.log ≡ Some body
+unfolding body_from
+body_gives body is = rw (parts_from body.header body.tables body.rows (body_parts body is)) refl
+
+body_fits : (body : SetBody) → IsBody body → Fit body.header body.tables body.rows body.log
+body_fits body is = (is.header, ((omega (arith, is.tables.few), is.each_table), ((omega (arith, is.rows.few), is.each_row), (is.log_short, is.log))))
 
 pub body_form-IsCodec : IsCodec SetBody body_form
 unfolding body_form header_form table_form row_form
-body_form-IsCodec = converted-IsCodec _ (λ x. body_from x.0 x.1.0 x.1.1) (λ body. (body.header, (body.tables, body.rows))) IsBody
-    (followed-IsCodec _ _ header_form-IsCodec (λ _. followed-IsCodec _ _ (counted-IsCodec 2 _ table_form-IsCodec) (λ _. counted-IsCodec 4 _ row_form-IsCodec))) (record {
-      takes = λ x body fits e. body_takes x.0 x.1.0 x.1.1 body fits e;
+body_form-IsCodec = converted-IsCodec _ (λ x. body_from x.0 x.1.0 x.1.1.0 x.1.1.1) (λ body. (body.header, (body.tables, (body.rows, body.log)))) IsBody
+    (followed-IsCodec _ _ header_form-IsCodec (λ _. followed-IsCodec _ _ (counted-IsCodec 2 _ table_form-IsCodec) (λ _. followed-IsCodec _ _ (counted-IsCodec 4 _ row_form-IsCodec) (λ _. log_form-IsCodec)))) (record {
+      takes = λ x body fits e. body_takes x.0 x.1.0 x.1.1.0 x.1.1.1 body fits e;
       gives = λ body is. (body_gives body is, body_fits body is);
     })
 
 pub body_form-spelling : (body : SetBody) → IsBody body → body_form.spelling body ≡ body_bytes body
-unfolding body_form table_form row_form body_bytes
+unfolding body_form table_form place_form row_form body_bytes
 body_form-spelling body is = rw (header_form-spelling body.header is.header) refl
 
 -- what is read is a body's spelling
@@ -194,18 +236,60 @@ one_body body other a b is_body is_other same =
     let pairs : ◌≡◌ {A = SetBody × List ℕ} (body, a) (other, b) = same_Some (body, a) (other, b) both in
     (ap (λ (p : SetBody × List ℕ). p.0) pairs, ap (λ (p : SetBody × List ℕ). p.1) pairs)
 
--- ---- conditions
+-- ---- what a body keeps
 
--- what has a spelling keeps them
-values_of : (rows : List SetRow) → AllByRecursion IsRow rows → AllByRecursion (λ row. length row.value ≤ 112) rows
-values_of [] h = tt
-values_of (row ∷ rows) h = (h.0.value.most_bytes, values_of rows h.1)
+-- a header and parts that keep their conditions are a body's
+pub parts_keep : (body : SetBody) → KeepsConditions body.header → KeepParts body.header body.tables body.rows → KeepsBody body
+parts_keep body header keep = record { header = header; full = keep.full; tables = keep.tables; rows = keep.rows; values = keep.values }
 
+-- what has a spelling keeps the conditions
 pub body_keeps : (body : SetBody) → IsBody body → KeepsBody body
-body_keeps body is = record {
-  header = header_keeps body.header is.header;
-  full = is.full;
-  tables = is.tables;
-  rows = is.rows;
-  values = All-from_recursion (λ row. length row.value ≤ 112) body.rows (values_of body.rows is.each_row);
-}
+body_keeps body is = parts_keep body (header_keeps body.header is.header) (body_parts body is)
+
+-- rows rise by table and key
+rise_pairs : (table key : ℕ) (rows : List PlacedRow) → RiseFrom table key rows → RowsRise rows
+rise_pairs table key [] rise = tt
+rise_pairs table key (a ∷ []) rise = tt
+rise_pairs table key (a ∷ b ∷ rows) rise = (before a b rise.1.0, rise_pairs a.table (a.key + 1) (b ∷ rows) rise.1)
+  where
+    before : (a b : PlacedRow) → IsFrom a.table (a.key + 1) b → ComesBefore a b
+    before a b (inl less) = inl less
+    before a b (inr same) = inr (same.0, omega (arith, same.1))
+
+pub rows_rise : (body : SetBody) → IsBody body → RowsRise body.rows
+rows_rise body is = rise_pairs 0 0 body.rows is.rows.rise
+
+-- a table is found behind another, or is that one
+found_more : (table : TableSpec) (tables : List TableSpec) (number : ℕ) → (has_table tables number ≡ true → (t : TableSpec) × (find (λ (made : TableSpec). made.number == number) tables ≡ Some t)) → has_table (table ∷ tables) number ≡ true
+    → (t : TableSpec) × (find (λ (made : TableSpec). made.number == number) (table ∷ tables) ≡ Some t)
+found_more table tables number later has = by (eqb table.number number) refl has
+  where
+    by : (test : Bool) → eqb table.number number ≡ test → (test || has_table tables number) ≡ true → (t : TableSpec) × (find (λ (made : TableSpec). made.number == number) (table ∷ tables) ≡ Some t)
+    by true is has = (table, rw is refl)
+    by false is has = let others = later has in (others.0, rw is others.1)
+
+is_found : (tables : List TableSpec) (number : ℕ) → has_table tables number ≡ true → (t : TableSpec) × (find (λ (made : TableSpec). made.number == number) tables ≡ Some t)
+is_found [] number has = absurd cc
+is_found (table ∷ tables) number has = found_more table tables number (is_found tables number) has
+
+each_among : (tables : List TableSpec) (rows : List PlacedRow) → AllByRecursion IsRow rows → AllByRecursion (λ row. has_table tables row.table ≡ true) rows
+    → AllByRecursion (λ row. row.key ≤ 9223372036854775807) rows → AllByRecursion (IsRowAmong tables) rows
+each_among tables [] are there keys = tt
+each_among tables (row ∷ rows) are there keys =
+    (record { listed = is_found tables row.table there.0; key = keys.0; value = are.0.value; place = are.0.place }, each_among tables rows are.1 there.1 keys.1)
+
+-- each row is such a row
+pub rows_among : (body : SetBody) → IsBody body → AllByRecursion (IsRowAmong body.tables) body.rows
+rows_among body is = each_among body.tables body.rows is.each_row is.rows.tables_there is.rows.keys
+
+-- tables have different numbers and different names
+pub tables_differ : (body : SetBody) → IsBody body → AreDifferent body.tables
+tables_differ body is = is.tables.different
+
+-- names of tables have 1 to 64 bytes
+table_names : (tables : List TableSpec) → AllByRecursion IsTable tables → AllByRecursion (λ table. IsString 1 64 table.name) tables
+table_names [] are = tt
+table_names (table ∷ tables) are = (are.0.name, table_names tables are.1)
+
+pub tables_named : (body : SetBody) → IsBody body → AllByRecursion (λ table. IsString 1 64 table.name) body.tables
+tables_named body is = table_names body.tables is.each_table

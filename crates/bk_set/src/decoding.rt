@@ -8,7 +8,7 @@ ghost use Rattle.bk_set.specs.Decoding.{Reads};
 
 use crate::body::SetBody;
 use crate::conditions::make;
-use crate::lists::{read_rows, read_tables};
+use crate::lists::{read_log, read_rows, read_tables};
 use crate::unread::Unread;
 use bk_header::decode;
 use bk_world::Header;
@@ -30,7 +30,8 @@ fn read_body(alloc: Global, bytes: &[u8]) -> Result<(SetBody, &[u8]), Unread>
     let (header, rest) = read_header(alloc, bytes)?;
     let (tables, rest) = read_tables(alloc, rest)?;
     let (rows, rest) = read_rows(alloc, rest)?;
-    match make(header, tables, rows) {
+    let (log, rest) = read_log(alloc, rest)?;
+    match make(header, tables, rows, log) {
         Some(body) => Ok((body, rest)),
         None => Err(Unread::NoBody),
     }

@@ -4,13 +4,17 @@ ghost use Rattle.std.specs.Prelude.{◌≡◌, ◌^◌, ◌<◌, ◌≤◌, ◌+
 ghost use Rattle.std.specs.List.{flat_map, All, AllByRecursion};
 ghost use Rattle.bk_bytes.specs.Field.{bytes_of};
 ghost use Rattle.bk_header.specs.Spelling.{text_bytes};
-ghost use Rattle.bk_set.specs.Conditions.{IsTable, IsRow, IsBody, KeepsBody};
-ghost use Rattle.bk_set.specs.Spelling.{table_bytes, row_bytes, body_bytes, set_bytes};
+ghost use Rattle.bk_record.specs.Records.{AreRecords};
+ghost use Rattle.bk_record.specs.Spelling.{place_bytes};
+ghost use Rattle.bk_set.specs.Conditions.{IsTable, IsPlace, IsRow, IsBody, KeepsBody};
+ghost use Rattle.bk_set.specs.Spelling.{table_bytes, row_bytes, log_bytes, body_bytes, set_bytes};
 
-use crate::body::{SetBody, SetRow};
+use crate::body::SetBody;
 use bk_bytes::{append_text, append_u8, append_u16, append_u32, append_u64};
 use bk_header::encode;
-use bk_world::TableSpec;
+use bk_ids::Place;
+use bk_record::Records;
+use bk_world::{PlacedRow, TableSpec};
 use sha2::{Digest, Sha256};
 use std::alloc::{AllocError, Global};
 
@@ -25,7 +29,17 @@ fn append_table(out: &mut Vec<u8>, table: &TableSpec) -> Result<(), AllocError>
     Ok(())
 }
 
-fn append_row(out: &mut Vec<u8>, row: &SetRow) -> Result<(), AllocError>
+fn append_place(out: &mut Vec<u8>, place: Place) -> Result<(), AllocError>
+    ensures ok { OnOk result (out.new.items ≡ out.old.items ++ place_bytes place) }
+    ensures fits { OnOk result (IsPlace place) }
+{
+    append_u16(out, place.file)?;
+    append_u32(out, place.page)?;
+    append_u16(out, place.slot)?;
+    Ok(())
+}
+
+fn append_row(out: &mut Vec<u8>, row: &PlacedRow) -> Result<(), AllocError>
     requires { length row.now.value ≤ 112 }
     ensures ok { OnOk result (out.new.items ≡ out.old.items ++ row_bytes row.now) }
     ensures fits { OnOk result (IsRow row.now) }
@@ -34,7 +48,7 @@ fn append_row(out: &mut Vec<u8>, row: &SetRow) -> Result<(), AllocError>
     append_u64(out, row.key)?;
     let value = row.value.as_str();
     append_text(out, value.as_bytes())?;
-    Ok(())
+    append_place(out, row.place)
 }
 
 fn append_tables(out: &mut Vec<u8>, tables: &[TableSpec]) -> Result<(), AllocError>
@@ -49,7 +63,7 @@ fn append_tables(out: &mut Vec<u8>, tables: &[TableSpec]) -> Result<(), AllocErr
     Ok(())
 }
 
-fn append_rows(out: &mut Vec<u8>, rows: &[SetRow]) -> Result<(), AllocError>
+fn append_rows(out: &mut Vec<u8>, rows: &[PlacedRow]) -> Result<(), AllocError>
     requires few { length rows.now < 2 ^ 32 }
     requires values { All (λ row. length row.value ≤ 112) rows.now }
     ensures ok { OnOk result (out.new.items ≡ out.old.items ++ (bytes_of 4 (length rows.now) ++ flat_map row_bytes rows.now)) }
@@ -59,6 +73,17 @@ fn append_rows(out: &mut Vec<u8>, rows: &[SetRow]) -> Result<(), AllocError>
     for row in rows {
         append_row(out, row)?;
     }
+    Ok(())
+}
+
+fn append_log(out: &mut Vec<u8>, log: &Records) -> Result<(), AllocError>
+    ensures ok { OnOk result (out.new.items ≡ out.old.items ++ log_bytes log.now) }
+    ensures short { OnOk result (length log.now < 2 ^ 64) }
+    ensures whole { OnOk result (AreRecords log.now) }
+{
+    let bytes = log.as_slice();
+    append_u64(out, bytes.len() as u64)?;
+    out.extend_from_slice(bytes)?;
     Ok(())
 }
 
@@ -72,6 +97,7 @@ fn encode_body(alloc: Global, body: &SetBody) -> Result<Vec<u8>, AllocError>
     encode(alloc, &body.header, &mut bytes)?;
     append_tables(&mut bytes, body.tables.as_slice())?;
     append_rows(&mut bytes, body.rows.as_slice())?;
+    append_log(&mut bytes, &body.log)?;
     Ok(bytes)
 }
 

@@ -1,4 +1,4 @@
-//! A backup set as bytes: its header, its tables with their rows, and the digest of all that.
+//! A backup set as bytes: its header, its tables with their rows, its part of the log, and the digest of all that.
 //!
 //! A set has one spelling. Bytes are read as the set that they spell, as damaged, or as no set.
 #![tactic(auto)]
@@ -11,6 +11,7 @@ mod found;
 mod lists;
 mod unread;
 
-pub use body::{SetBody, SetRow};
+pub use body::SetBody;
+pub use conditions::make;
 pub use encoding::encode_set;
 pub use found::{Found, read_set, set_law};

@@ -1,15 +1,15 @@
-//! The tables and the rows.
+//! The tables, the rows and the log.
 
 ghost use Rattle.std.specs.Prelude.{◌≡◌, ◌<◌, ◌≤◌, length};
-ghost use Rattle.bk_bytes.specs.Codec.{string, times, counted};
-ghost use Rattle.bk_set.specs.Reading.{table_form, row_form};
+ghost use Rattle.bk_bytes.specs.Codec.{Gives, string, times, counted, text_at};
+ghost use Rattle.bk_set.specs.Reading.{table_form, place_form, row_form, log_at};
 ghost use Rattle.bk_set.specs.Decoding.{Reads};
 
-use crate::body::SetRow;
 use crate::unread::Unread;
-use bk_bytes::{split_str, split_u8, split_u16, split_u32, split_u64};
-use bk_ids::{Name, Sequence, Text};
-use bk_world::TableSpec;
+use bk_bytes::{split_run, split_str, split_u8, split_u16, split_u32, split_u64};
+use bk_ids::{Name, Place, Sequence, Text};
+use bk_record::Records;
+use bk_world::{PlacedRow, TableSpec};
 use std::alloc::Global;
 
 fn read_name(alloc: Global, bytes: &[u8]) -> Result<(Name, &[u8]), Unread>
@@ -50,8 +50,18 @@ fn read_table(alloc: Global, bytes: &[u8]) -> Result<(TableSpec, &[u8]), Unread>
     Ok((table, rest))
 }
 
+#[tactic(auto, unfolding(crate::specs::Reading::place_form))]
+fn split_place(bytes: &[u8]) -> Option<(Place, &[u8])>
+    ensures { Gives (λ x. (x.0, x.1.now)) result (place_form.reading bytes.now) }
+{
+    let (file, rest) = split_u16(bytes)?;
+    let (page, rest) = split_u32(rest)?;
+    let (slot, rest) = split_u16(rest)?;
+    Some((Place { file, page, slot }, rest))
+}
+
 #[tactic(auto, unfolding(crate::specs::Reading::row_form))]
-fn read_row(alloc: Global, bytes: &[u8]) -> Result<(SetRow, &[u8]), Unread>
+fn read_row(alloc: Global, bytes: &[u8]) -> Result<(PlacedRow, &[u8]), Unread>
     ensures { Reads (λ x. (x.0, x.1.now)) result (row_form.reading bytes.now) }
 {
     let Some((table, rest)) = split_u32(bytes) else {
@@ -61,7 +71,16 @@ fn read_row(alloc: Global, bytes: &[u8]) -> Result<(SetRow, &[u8]), Unread>
         return Err(Unread::NoBody);
     };
     let (value, rest) = read_value(alloc, rest)?;
-    Ok((SetRow { table, key, value }, rest))
+    let Some((place, rest)) = split_place(rest) else {
+        return Err(Unread::NoBody);
+    };
+    let row = PlacedRow {
+        table,
+        key,
+        value,
+        place,
+    };
+    Ok((row, rest))
 }
 
 fn read_some_tables(
@@ -81,7 +100,11 @@ fn read_some_tables(
     Ok((tables, rest))
 }
 
-fn read_some_rows(alloc: Global, count: u32, bytes: &[u8]) -> Result<(Vec<SetRow>, &[u8]), Unread>
+fn read_some_rows(
+    alloc: Global,
+    count: u32,
+    bytes: &[u8],
+) -> Result<(Vec<PlacedRow>, &[u8]), Unread>
     ensures { Reads (λ x. (x.0.items, x.1.now)) result ((times row_form count).reading bytes.now) }
 {
     let mut rows = Vec::new(alloc);
@@ -108,7 +131,7 @@ pub fn read_tables(alloc: Global, bytes: &[u8]) -> Result<(Sequence<TableSpec>, 
 
 /// The rows behind their number, and what follows them.
 #[tactic(auto, unfolding(bk_bytes::specs::Codec::list_at))]
-pub fn read_rows(alloc: Global, bytes: &[u8]) -> Result<(Sequence<SetRow>, &[u8]), Unread>
+pub fn read_rows(alloc: Global, bytes: &[u8]) -> Result<(Sequence<PlacedRow>, &[u8]), Unread>
     ensures { Reads (λ x. (x.0, x.1.now)) result ((counted 4 row_form).reading bytes.now) }
 {
     let Some((count, rest)) = split_u32(bytes) else {
@@ -116,4 +139,27 @@ pub fn read_rows(alloc: Global, bytes: &[u8]) -> Result<(Sequence<SetRow>, &[u8]
     };
     let (rows, rest) = read_some_rows(alloc, count, rest)?;
     Ok((Sequence::new(rows), rest))
+}
+
+// A length of 8 bytes, so many bytes, and the rest.
+#[tactic(auto, unfolding(bk_bytes::specs::Codec::text_at))]
+fn split_long(bytes: &[u8]) -> Option<(&[u8], &[u8])>
+    ensures { Gives (λ x. (x.0.now, x.1.now)) result (text_at 8 bytes.now) }
+{
+    let (size, rest) = split_u64(bytes)?;
+    split_run(rest, size as usize)
+}
+
+/// The log behind its length, and what follows it.
+#[tactic(auto, unfolding(crate::specs::Reading::log_at))]
+pub fn read_log(alloc: Global, bytes: &[u8]) -> Result<(Records, &[u8]), Unread>
+    ensures { Reads (λ x. (x.0, x.1.now)) result (log_at bytes.now) }
+{
+    let Some((log, rest)) = split_long(bytes) else {
+        return Err(Unread::NoBody);
+    };
+    match Records::read(alloc, log)? {
+        Some(records) => Ok((records, rest)),
+        None => Err(Unread::NoBody),
+    }
 }

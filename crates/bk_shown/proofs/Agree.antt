@@ -70,6 +70,14 @@ module _ (p : Pending → Bool) (ws : List Pending) (home : RowId → Option Pla
       homed-at id at e None is = ap (λ l. place_behind l (home id)) is ∙ e
       homed-at id at e (Some u) is = lies-now id u is ∙ sym (lies-last id u is) ∙ agree.homed id at e
 
+-- where a row lies with fewer writes, it lay
+pub fewer-lies : (p : Pending → Bool) (ws : List Pending) (home : RowId → Option Place) → PlacesAgree ws home → (id : RowId) (at : Place) → lies_at (filter p ws) home id ≡ Some at → lies_at ws home id ≡ Some at
+fewer-lies p ws home agree id at e = by (last_of id (filter p ws)) refl
+  where
+    by : (l : Option Pending) → last_of id (filter p ws) ≡ l → lies_at ws home id ≡ Some at
+    by None is = agree.homed id at (ap (λ l. place_behind l (home id)) (sym is) ∙ e)
+    by (Some u) is = lies-last p ws home agree id u is ∙ sym (lies-now p ws home agree id u is) ∙ e
+
 -- ---- a commit
 
 -- a row's pending writes are all of the transaction, or none is

@@ -1,5 +1,5 @@
 -- The row that two cells spell is the one that is read from them.
-use Rattle.std.proofs.Common.{◌≡◌, ℕ, ◌<◌, ◌^◌, true, List, [], ◌++◌, Option, Some, None, refl, sym, ap, ◌∙◌}
+use Rattle.std.proofs.Common.{◌≡◌, ℕ, ◌<◌, ◌≤◌, ◌^◌, true, List, [], ◌++◌, Option, Some, None, refl, sym, ap, ◌∙◌, arith}
 use Rattle.std.specs.Prelude.{◌||◌, is_some}
 use Rattle.std.specs.Option.{option_or}
 use Rattle.bk_bytes.specs.Cell.{Row, IsCellValue, cell_bytes, cell_form}
@@ -13,12 +13,12 @@ cell-one a b fits_a fits_b same =
     (one_spelling cell_form cell_form-IsCodec a b [] [] (cell_form-Fits a fits_a) (cell_form-Fits b fits_b)
     (ap (λ (bytes : List ℕ). bytes ++ []) (cell_form-spelling a ∙ same ∙ sym (cell_form-spelling b)))).0
 
-fits-cell : (table key : ℕ) (value : Option (List ℕ)) → table < 2 ^ 32 → key < 2 ^ 64 → IsValue value → IsCellValue (cell table key value)
+fits-cell : (table key : ℕ) (value : Option (List ℕ)) → table < 2 ^ 32 → key ≤ 9223372036854775807 → IsValue value → IsCellValue (cell table key value)
 fits-cell table key None t k v = tt
-fits-cell table key (Some text) t k v = record { table = t; key = k; value = v.0 }
+fits-cell table key (Some text) t k v = let low : key < 2 ^ 64 = omega (arith, k) in record { table = t; key = low; value = v.0 }
 
 -- the cell that is read from the bytes of a row is the row's
-pub read-one : (bytes : List ℕ) (found : Option Row) (table key : ℕ) (value : Option (List ℕ)) → IsCellValue found → bytes ≡ cell_bytes found → table < 2 ^ 32 → key < 2 ^ 64
+pub read-one : (bytes : List ℕ) (found : Option Row) (table key : ℕ) (value : Option (List ℕ)) → IsCellValue found → bytes ≡ cell_bytes found → table < 2 ^ 32 → key ≤ 9223372036854775807
     → IsValue value → bytes ≡ cell_bytes (cell table key value) → found ≡ cell table key value
 read-one bytes found table key value fits is t k v spelled = cell-one found (cell table key value) fits (fits-cell table key value t k v) (sym is ∙ spelled)
 

@@ -1,5 +1,5 @@
 -- What each log has, it has with one record more.
-use Rattle.std.proofs.Common.{◌≡◌, ◌<◌, ◌≤◌, ℕ, ◌+◌, not, List, [], ◌∷◌, ◌++◌, Some, None, ◌⊎◌, inl, inr, refl, sym, subst, arith}
+use Rattle.std.proofs.Common.{◌≡◌, ◌<◌, ◌≤◌, ℕ, ◌+◌, not, List, [], ◌∷◌, ◌++◌, Some, None, ◌⊎◌, inl, inr, refl, sym, subst, arith, append_assoc}
 use Rattle.std.specs.Prelude.{◌==◌, ◌&&◌}
 use Rattle.std.specs.List.{filter, AllByRecursion}
 use Rattle.std.proofs.lemmas.List.{append-nil}
@@ -9,10 +9,10 @@ use Rattle.bk_world.specs.ListLaws.{all_filter, all_joined, all_mapped}
 use Rattle.bk_world.specs.Pending.{Lies, Pending, pending, pending_after}
 use Rattle.bk_world.specs.Places.{homes, homes_after, place_of, IsFreePlace}
 use Rattle.bk_world.specs.ReadingLaws.{LieAt, lies-later, rise-filter, rise-one_more}
-use Rattle.bk_world.specs.Records.{Deed, Logged, RowId, database_made, table_made, begun, written, committed, rolled_back, undone, checkpointed, stamped, model_set, loaded, recovered, id_of}
-use Rattle.bk_world.specs.SoundLogs.{MayCome}
+use Rattle.bk_world.specs.Records.{Counts, Deed, Logged, RowId, database_made, table_made, begun, written, committed, rolled_back, undone, checkpointed, stamped, model_set, loaded, recovered, id_of}
+use Rattle.bk_world.specs.SoundLogs.{MayCome, MayFollow}
 use Rattle.bk_world.specs.Telling as telling
-use Rattle.bk_shown.specs.Shown.{AreNumbered, IsPlaced, LogKeeps, PlacesAgree, lies_at}
+use Rattle.bk_shown.specs.Shown.{AreNumbered, ArePlaced, IsPlaced, LogKeeps, PlacesAgree, lies_at}
 use Rattle.bk_shown.proofs.Agree.{agree-commit, agree-filter, agree-write}
 use Rattle.bk_shown.proofs.Readings.{counts-more, follow-more, homes-with, made_by, pending-with, tables-with, with}
 use Rattle.bk_shown.proofs.Tables.{numbered-more}
@@ -106,3 +106,21 @@ module _ (files : List FileSpec) (rs : List Logged) (n begin : ℕ) where
     places = subst (λ ws. PlacesAgree ws (homes (with rs n begin d))) (sym (pending-with rs n begin d))
         (subst (PlacesAgree (then d)) (sym (homes-with rs n begin d)) (agree-by d placed may log.places));
   }
+
+pub placed-more : (files : List FileSpec) (front rs : List Logged) (r : Logged) → ArePlaced files front rs → IsPlaced files (telling.tables (front ++ rs)) r.deed → ArePlaced files front (rs ++ r ∷ [])
+placed-more files front [] r all placed = (subst (λ (l : List Logged). IsPlaced files (telling.tables l) r.deed) (append-nil front) placed, tt)
+placed-more files front (s ∷ rs) r all placed =
+    (all.0, placed-more files (front ++ s ∷ []) rs r all.1 (subst (λ (l : List Logged). IsPlaced files (telling.tables l) r.deed) (sym (append_assoc front (s ∷ []) rs)) placed))
+
+-- a log whose records come one behind the other, in their places
+pub keeps-along : (files : List FileSpec) (front rest : List Logged) (n end : ℕ) → Counts n rest end → MayFollow front rest → ArePlaced files front rest → LogKeeps front n → LogKeeps (front ++ rest) end
+keeps-along files front [] n end counts follow placed log = subst (λ (l : List Logged). LogKeeps l end) (sym (append-nil front)) (subst (LogKeeps front) counts log)
+keeps-along files front (r ∷ rest) n end counts follow placed log =
+    subst (λ (l : List Logged). LogKeeps l end) (append_assoc front (r ∷ []) rest)
+    (keeps-along files (front ++ r ∷ []) rest (n + 1) end counts.1 follow.1 placed.1
+    (subst (λ (k : ℕ). LogKeeps (front ++ r ∷ []) (k + 1)) counts.0 (keeps-more files front r.lsn r.begin r.deed placed.0 follow.0 (subst (LogKeeps front) (sym counts.0) log))))
+
+pub placed-join : (files : List FileSpec) (front rs next : List Logged) → ArePlaced files front rs → ArePlaced files (front ++ rs) next → ArePlaced files front (rs ++ next)
+placed-join files front [] next first then = subst (λ (l : List Logged). ArePlaced files l next) (append-nil front) then
+placed-join files front (r ∷ rs) next first then =
+    (first.0, placed-join files (front ++ r ∷ []) rs next first.1 (subst (λ (l : List Logged). ArePlaced files l next) (sym (append_assoc front (r ∷ []) rs)) then))

@@ -12,3 +12,6 @@ mod Unfits
 mod Starts
 mod Listing
 mod FreeCells
+mod Committed
+mod WithPlaces
+mod Restored

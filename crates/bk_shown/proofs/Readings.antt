@@ -4,7 +4,7 @@ use Rattle.std.proofs.lemmas.List.{append-nil}
 use Rattle.bk_ids.specs.declared.record.Place.{Place}
 use Rattle.bk_ids.specs.declared.record.RecoveryModel.TheVariants.{Full}
 use Rattle.bk_undo.specs.Spelled.{body_of}
-use Rattle.bk_world.specs.Changes.{plain_entry}
+use Rattle.bk_world.specs.Entry.{plain_entry}
 use Rattle.bk_world.specs.Entry as entry
 use Rattle.bk_world.specs.Entry.{Entry, nothing}
 use Rattle.bk_world.specs.FoldLaws.{model_of-more, rows_of-more, tables_of-more, time_of-more}

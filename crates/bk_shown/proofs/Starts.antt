@@ -10,7 +10,7 @@ use Rattle.bk_shown.specs.Rows.{value_among}
 use Rattle.bk_shown.specs.Shown.{LogKeeps, Shows, ShowsRows, pending_of}
 use Rattle.bk_shown.specs.declared.shown.Shown.{Shown}
 
-keeps-none : LogKeeps [] 1
+pub keeps-none : LogKeeps [] 1
 unfolding log.pending homes telling.tables telling.entries
 keeps-none = record {
   counts = refl;
@@ -38,6 +38,7 @@ unfolding telling.model telling.time telling.entries
 starts files s are tables rows written groups model time is_end = record {
   files_are = are;
   log = Rattle.std.proofs.Common.subst (LogKeeps []) (Rattle.std.proofs.Common.sym is_end) keeps-none;
+  placed = tt;
   kept = rows-none files s tables rows written groups;
   model = model;
   time = time;

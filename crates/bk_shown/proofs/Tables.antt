@@ -24,7 +24,7 @@ abbrev pub first_or : {X : Type 0} → (X → Bool) → Option X → X → Optio
 first_or p None y = cond (p y) (Some y) None
 first_or p (Some x) y = Some x
 
-find-more : {X : Type 0} (p : X → Bool) (xs : List X) (y : X) → find p (xs ++ y ∷ []) ≡ first_or p (find p xs) y
+pub find-more : {X : Type 0} (p : X → Bool) (xs : List X) (y : X) → find p (xs ++ y ∷ []) ≡ first_or p (find p xs) y
 find-more p [] y = refl
 find-more {X} p (x ∷ xs) y = by (p x) (find-more p xs y)
   where

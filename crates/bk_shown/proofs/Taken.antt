@@ -34,7 +34,7 @@ use Rattle.bk_shown.specs.Writes.{has_write, own_of, row_of}
 use Rattle.bk_shown.specs.declared.shown.Shown.{Shown}
 use Rattle.bk_shown.specs.declared.shown.Written.{Written}
 use Rattle.bk_shown.proofs.Agree.{lies-commit, lies-undone, lies-write}
-use Rattle.bk_shown.proofs.Keeps.{keeps-more}
+use Rattle.bk_shown.proofs.Keeps.{keeps-more, placed-more}
 use Rattle.bk_shown.proofs.Lists.{filter-mapped, filter-same, filter-there, one-numbered}
 use Rattle.bk_shown.proofs.Mirrors.{found-mirror, has-mirror, others-mirror, own-mirror, value-mirror}
 use Rattle.bk_shown.proofs.Readings as reading
@@ -50,7 +50,7 @@ filter-all {X} p (x ∷ xs) e = by (p x) e (λ rest. filter-all p xs rest)
     by true e rest = absurd (cc)
     by false e rest = ap (λ (ys : List X). x ∷ ys) (rest e)
 
-place-is : (rs : List Logged) (id : RowId) → place_of rs id ≡ lies_at (log.pending rs) (homes rs) id
+pub place-is : (rs : List Logged) (id : RowId) → place_of rs id ≡ lies_at (log.pending rs) (homes rs) id
 unfolding place_of
 place-is rs id = refl
 
@@ -272,6 +272,7 @@ taken files rs r given old mid shows next is takes =
     (record {
       files_are = shows.files_are;
       log = subst (LogKeeps (rs ++ r ∷ [])) (ap (λ (k : ℕ). k + 1) number) (keeps-more files rs r.lsn r.begin r.deed next.placed next.may keeps);
+      placed = placed-more files [] rs r shows.placed next.placed;
       kept = record { tables = kept.tables; rows = kept.rows; pending = kept.pending; places = kept.places; rooms = kept.rooms; groups = kept.groups };
       model = ap (model_behind (body_of r.deed)) (times.model ∙ shows.model) ∙ sym (model-with rs r.lsn r.begin r.deed);
       time = ap (time_behind (body_of r.deed)) (times.time ∙ shows.time) ∙ sym (time-with rs r.lsn r.begin r.deed);

@@ -1,16 +1,20 @@
 -- What each kind of record makes of what is kept.
 use Rattle.std.specs.Prelude.{◌≡◌, ◌<◌, ◌≤◌, ◌⊎◌, ℕ, ◌==◌, ◌&&◌, not, Bool, false, List, [], ◌∷◌, ◌++◌, filter, length, Option, Some, None, if◌then◌else◌, option_map}
-use Rattle.std.specs.List.{find}
-use Rattle.bk_groups.specs.Changes.{AddsTable}
-use Rattle.bk_groups.specs.Groups.{Space, IsCell, IsFreeCell, group_of, place_of as space_place}
+use Rattle.std.specs.List.{AllByRecursion, find}
+use Rattle.bk_groups.specs.Changes.{AddsTable, SetsPlace}
+use Rattle.bk_groups.specs.Groups.{Space, IsCell, IsFreeCell, group_of, new_space, place_of as space_place}
 use Rattle.bk_ids.specs.declared.record.Body.{Body}
 use Rattle.bk_ids.specs.declared.record.Body.TheVariants.{Database, Table, Write, Commit, Compensation, Checkpoint, Stamp, Model, Bulk}
 use Rattle.bk_ids.specs.declared.record.Place.{Place}
 use Rattle.bk_ids.specs.declared.record.RecoveryModel.{RecoveryModel}
 use Rattle.bk_ids.specs.declared.record.RecoveryModel.TheVariants.{Full}
+use Rattle.bk_world.specs.PlacedRows.{RowsRise, among, row_id}
 use Rattle.bk_world.specs.Records.{RowId, is_row}
+use Rattle.bk_world.specs.declared.database.FileSpec.{FileSpec}
 use Rattle.bk_world.specs.declared.database.TableSpec.{TableSpec}
-use Rattle.bk_shown.specs.Rows.{value_among}
+use Rattle.bk_world.specs.declared.row.PlacedRow.{PlacedRow}
+use Rattle.bk_shown.specs.Rows.{SetsRow, value_among}
+use Rattle.bk_shown.specs.Shown.{AreNumbered, group_among}
 use Rattle.bk_shown.specs.Values.{Spells}
 use Rattle.bk_shown.specs.Writes.{own_of, others_of, row_of, value_after, has_write, LetsGo}
 use Rattle.bk_shown.specs.declared.shown.Shown.{Shown}
@@ -110,3 +114,34 @@ time_behind (Checkpoint time) before = time
 time_behind (Stamp time set) before = time
 time_behind (Model time model) before = time
 time_behind _ before = before
+
+-- ---- a log in which nothing is pending, from its tables and rows
+
+-- tables and committed rows are these, and nothing is pending
+pub record HasRows (files : List FileSpec) (made : List TableSpec) (listed : List PlacedRow) (s : Shown) : Type 0 where
+  pub tables : s.tables.items ≡ made
+  pub rows : (id : RowId) → value_among s.rows id ≡ option_map (λ (row : PlacedRow). row.value) (among listed id)
+  pub written : s.written.items ≡ []
+  pub places : (id : RowId) → space_place s.groups id.0 id.1 ≡ option_map (λ (row : PlacedRow). row.place) (among listed id)
+  pub rooms : s.groups.rooms ≡ (new_space files).rooms
+  pub groups : AreNumbered 1 made → (number : ℕ) → group_of s.groups number ≡ group_among made number
+
+-- a row is new, and its cell is free
+pub record MayAdd (space : Space) (row : PlacedRow) : Type 0 where
+  pub none : space_place space row.table row.key ≡ None
+  pub cell : IsCell space.rooms row.place
+  pub free : IsFreeCell space row.place
+
+-- there is one committed row more
+pub record AddsRow (row : PlacedRow) (old new : Shown) : Type 0 where
+  pub none : space_place old.groups row.table row.key ≡ None
+  pub tables : new.tables.items ≡ old.tables.items
+  pub written : new.written.items ≡ old.written.items
+  pub rows : SetsRow old.rows new.rows (row_id row) (Some row.value)
+  pub groups : SetsPlace old.groups new.groups row.table row.key (Some row.place)
+
+-- rows that rise, each in a cell of the files, no two in one
+pub record MayHold (files : List FileSpec) (listed : List PlacedRow) : Type 0 where
+  pub rise : RowsRise listed
+  pub cells : AllByRecursion (λ (row : PlacedRow). IsCell ((new_space files).rooms) row.place) listed
+  pub alone : (a b : RowId) (at : Place) → option_map (λ (row : PlacedRow). row.place) (among listed a) ≡ Some at → option_map (λ (row : PlacedRow). row.place) (among listed b) ≡ Some at → a ≡ b

@@ -10,10 +10,10 @@ abbrev pub IsValue : Option (List ℕ) → Type 0
 IsValue None = Unit {0}
 IsValue (Some text) = (length text ≤ 112) × IsUtf8 text
 
--- a row with a value before a write and one behind it: it is there before or behind it
+-- a row with a value before a write and one behind it: it is there before or behind it, and its key has at most 63 bits
 pub record FitsRow (table key : ℕ) (before value : Option (List ℕ)) : Type 0 where
   pub table_fits : table < 2 ^ 32
-  pub key_fits : key < 2 ^ 64
+  pub key_fits : key ≤ 9223372036854775807
   pub before_fits : IsValue before
   pub value_fits : IsValue value
   pub there : (is_some before || is_some value) ≡ true

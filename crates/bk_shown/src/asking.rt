@@ -1,9 +1,10 @@
 //! What is shown, as it is asked for. Each answer is that of every log that is shown.
 
-ghost use Rattle.std.specs.Prelude.{◌≡◌, ◌==◌, ℕ, true, List, Some, IfOk, IfSome, MatchOption, is_some, map, option_map};
+ghost use Rattle.std.specs.Prelude.{◌≡◌, ◌==◌, ℕ, true, List, [], Some, IfOk, IfSome, MatchOption, is_some, map, option_map};
 ghost use Rattle.std.specs.List.{AllByRecursion};
 ghost use Rattle.bk_world.specs.Cut.{end_behind};
 ghost use Rattle.bk_world.specs.Pending as pending;
+ghost use Rattle.bk_world.specs.PlacedRows.{AreRowsOf, RowsRise};
 ghost use Rattle.bk_world.specs.Places.{last_of, place_of};
 ghost use Rattle.bk_world.specs.Records.{Logged, id_of, is_row};
 ghost use Rattle.bk_world.specs.Telling as telling;
@@ -11,12 +12,12 @@ ghost use Rattle.bk_world.specs.Telling.{row_at};
 ghost use Rattle.bk_world.specs.declared.database.FileSpec.{FileSpec};
 ghost use Rattle.bk_shown.specs.Rows.{value_among};
 ghost use Rattle.bk_ids.specs.declared.record.Place.{Place};
-ghost use Rattle.bk_shown.specs.Shown.{IsFreeFor, Shows, pending_of};
+ghost use Rattle.bk_shown.specs.Shown.{IsFit, IsFreeFor, Shows, pending_of};
 ghost use Rattle.bk_shown.specs.Writes.{own_of, value_after, writer_of};
 
 use crate::shown::{Shown, Written};
 use bk_ids::{Lsn, Place, RecoveryModel, Text};
-use bk_world::TableSpec;
+use bk_world::{PlacedRow, TableSpec};
 use std::alloc::{AllocError, Global};
 
 impl Shown {
@@ -107,6 +108,16 @@ impl Shown {
         ensures { IfOk result (λ listed. (files : List FileSpec) (rs : List Logged) → Shows files rs self.now → listed.items ≡ telling.rows rs table) }
     {
         let listed = self.rows.listed(alloc, table)?;
+        Ok(listed)
+    }
+
+    /// The committed rows of all tables with their places, by rising table and key.
+    pub fn placed_rows(&self, alloc: Global) -> Result<Vec<PlacedRow>, AllocError>
+        ensures rise { IfOk result (λ listed. RowsRise listed.items) }
+        ensures rows { IfOk result (λ listed. (files : List FileSpec) (rs : List Logged) → Shows files rs self.now → pending.pending rs ≡ [] → AreRowsOf rs listed.items) }
+        ensures fit { IfOk result (λ listed. (files : List FileSpec) (rs : List Logged) → Shows files rs self.now → AllByRecursion (IsFit (telling.tables rs)) listed.items) }
+    {
+        let listed = self.rows.with_places(alloc, &self.groups)?;
         Ok(listed)
     }
 

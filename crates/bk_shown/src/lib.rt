@@ -5,11 +5,14 @@
 mod asking;
 mod ending;
 mod error;
+mod laws;
+mod restoring;
 mod rows;
 mod shown;
 mod taking;
 mod writing;
 
 pub use error::TakeError;
+pub use laws::placed_logs;
 pub use rows::Rows;
 pub use shown::{Shown, Written};

@@ -2,7 +2,9 @@
 
 ghost use Rattle.std.specs.Prelude.{◌≡◌, []};
 
+use bk_groups::Groups;
 use bk_ids::Text;
+use bk_world::PlacedRow;
 use std::alloc::{AllocError, Global};
 use std::collections::BTreeMap;
 use std::marker::Model;
@@ -23,7 +25,8 @@ impl Model for Rows {
 
 impl Rows {
     ghost use Rattle.std.specs.Prelude.{IfOk, OnOk, None, Some, is_some, option_map};
-    ghost use Rattle.bk_shown.specs.Rows.{SetsRow, rows_in, value_among};
+    ghost use Rattle.bk_shown.specs.Rows.{SetsRow, placed_in, rows_in, value_among};
+    ghost use Rattle.bk_world.specs.PlacedRows as places;
     ghost use Rattle.bk_world.specs.RowLaws.{RowsRise};
 
     /// No rows. It takes no memory.
@@ -74,6 +77,26 @@ impl Rows {
             let (of, key) = *row;
             if of == table {
                 listed.push((key, value.copy(alloc)?))?;
+            }
+        }
+        Ok(listed)
+    }
+
+    /// The rows that have a place in these groups, with it, by rising table and key.
+    pub fn with_places(&self, alloc: Global, groups: &Groups) -> Result<Vec<PlacedRow>, AllocError>
+        ensures rows { IfOk result (λ listed. listed.items ≡ placed_in groups.now self.now) }
+        ensures rise { IfOk result (λ listed. places.RowsRise listed.items) }
+    {
+        let mut listed = Vec::new(alloc);
+        for (row, value) in self.values.iter() {
+            let (table, key) = *row;
+            if let Some(place) = groups.find(table, key) {
+                listed.push(PlacedRow {
+                    table,
+                    key,
+                    value: value.copy(alloc)?,
+                    place,
+                })?;
             }
         }
         Ok(listed)

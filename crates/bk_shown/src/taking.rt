@@ -44,7 +44,7 @@ fn name_of(alloc: Global, text: &str) -> Result<Name, TakeError>
 
 impl Shown {
     // A table was made.
-    fn take_table(&mut self, number: u32, name: &str, group: u8) -> Result<(), TakeError>
+    pub(crate) fn take_table(&mut self, number: u32, name: &str, group: u8) -> Result<(), TakeError>
         ensures ok { OnOk result (MakesTable (record { number = number; name = name.now; group = group }) self.old self.new) }
         ensures unfit { IsErrOf result Unfit → MayMake self.old.groups number name.now → ⊥ }
     {

@@ -2,4 +2,3 @@ pub mod StatementLaws
 pub mod ItemsLaw
 pub mod FrontLaws
 pub mod ReaderLaws
-pub mod MachineLaws

@@ -1,6 +1,6 @@
 -- Entries: what a history says happened, one for each log record that carries a time.
 -- SQL Server: BACKUP (Transact-SQL); "Use marked transactions to recover related databases".
-use Rattle.std.specs.Prelude.{ℕ, List, Option}
+use Rattle.std.specs.Prelude.{ℕ, List, Option, None}
 use Rattle.bk_ids.specs.declared.record.Mark.{Mark}
 use Rattle.bk_ids.specs.declared.record.RecoveryModel.{RecoveryModel}
 use Rattle.bk_world.specs.declared.database.TableSpec.{TableSpec}
@@ -26,3 +26,7 @@ pub record Entry : Type 0 where
   -- of a minimal bulk load: the numbers of the data files in which its extents lie
   pub bulk : Option (List ℕ)
   pub change : Change
+
+-- an entry without a mark
+abbrev pub plain_entry : ℕ → ℕ → Change → Entry
+plain_entry lsn time change = record { lsn = lsn; time = time; mark = None; bulk = None; change = change }

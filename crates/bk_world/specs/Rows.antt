@@ -1,15 +1,12 @@
--- What a path shows below a number: rows, tables, recovery model.
+-- What entries show: rows, tables, recovery model, the last time.
 -- SQL Server: "Transaction Log Architecture and Management Guide".
 use Rattle.std.specs.Prelude.{ℕ, List, [], ◌∷◌, ◌++◌, Option, Some, None, ◌==◌, if◌then◌else◌}
 use Rattle.std.specs.Ordering.{nat_cmp}
 use Rattle.std.specs.BTreeMap.{insert_entry, is_at}
 use Rattle.std.specs.Map.{remove_entry}
-use Rattle.bk_ids.specs.declared.path.Branch.{Branch}
 use Rattle.bk_ids.specs.declared.record.RecoveryModel.{RecoveryModel}
-use Rattle.bk_ids.specs.declared.record.RecoveryModel.TheVariants.{Full}
 use Rattle.bk_world.specs.declared.database.TableSpec.{TableSpec}
 use Rattle.bk_world.specs.Entry.{Entry, Change, RowChange, rows_set, table_made, model_set, nothing}
-use Rattle.bk_world.specs.History.{History, entries}
 
 -- the rows of a table by rising key
 abbrev pub Rows : Type 0
@@ -65,19 +62,3 @@ model_of model (entry ∷ entries) = model_of (model_after model entry.change) e
 abbrev pub time_of : ℕ → List Entry → ℕ
 time_of time [] = time
 time_of time (entry ∷ entries) = time_of entry.time entries
-
--- the rows of a table below n on a path
-unfoldable pub rows_below : History → List Branch → ℕ → ℕ → Rows
-rows_below history path n table = rows_of table [] (entries history path n)
-
--- the tables made below n on a path
-unfoldable pub tables_below : History → List Branch → ℕ → List TableSpec
-tables_below history path n = tables_of (entries history path n)
-
--- the recovery model below n on a path
-unfoldable pub model_below : History → List Branch → ℕ → RecoveryModel
-model_below history path n = model_of Full (entries history path n)
-
--- the last time below n on a path, 0 where there is none
-unfoldable pub time_below : History → List Branch → ℕ → ℕ
-time_below history path n = time_of 0 (entries history path n)

@@ -12,8 +12,7 @@ use Rattle.bk_ids.specs.declared.record.RecoveryModel.{RecoveryModel}
 use Rattle.bk_ids.specs.declared.record.RecoveryModel.TheVariants.{Full}
 use Rattle.bk_world.specs.declared.database.TableSpec.{TableSpec}
 use Rattle.bk_world.specs.Entry as entry
-use Rattle.bk_world.specs.Entry.{Entry, rows_set, nothing}
-use Rattle.bk_world.specs.Changes.{plain_entry}
+use Rattle.bk_world.specs.Entry.{Entry, rows_set, nothing, plain_entry}
 use Rattle.bk_world.specs.Rows.{Rows, rows_of, rows_changed, tables_of, model_of, time_of}
 use Rattle.bk_world.specs.Records.{Deed, Logged, database_made, table_made, written, committed, undone, checkpointed, stamped, model_set, loaded}
 use Rattle.bk_world.specs.Pending.{Pending, pending_after, pending, changes_of, of_transaction}

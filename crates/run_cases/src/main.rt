@@ -1,9 +1,8 @@
 //! Runs scripts over a device in memory: what is told, what the files hold, and what stands after each crash and fault.
-//! Also the changes that an instance's files spell, and the words of the command line.
+//! Also the words of the command line.
 #![tactic(auto)]
 
 mod bytes;
-mod changes;
 mod console;
 mod files;
 mod line;

@@ -1,7 +1,6 @@
 // The commands.
 
 use crate::bytes::number;
-use crate::changes::Changes;
 use crate::console::{Asked, Console, show_told, told_from};
 use crate::files::Files;
 use crate::line::{line_of, show_with_clap, show_words};
@@ -20,11 +19,10 @@ pub struct Runs {
     // The number of the next run's source call that fails.
     fault: Option<u64>,
     trial: Trial,
-    changes: Changes,
 }
 
 impl Runs {
-    /// A device without files, and no databases.
+    /// A device without files.
     pub fn new(alloc: Global, console: Console) -> Self {
         Runs {
             console,
@@ -32,7 +30,6 @@ impl Runs {
             files: Files::new(alloc),
             fault: None,
             trial: Trial::new(alloc),
-            changes: Changes::new(alloc),
         }
     }
 
@@ -101,13 +98,12 @@ impl Runs {
             "words" => show_words(self.alloc, words, out),
             "with-clap" => show_with_clap(self.alloc, words, out),
             "record" => self.files.show_record(out),
-            "databases" => self.changes.show_count(out),
             _ => out.push_str("no such command\n"),
         }
     }
 
     // `run-blanks N WORDS`: runs a script of so many blanks. `source-fails-at N`: the next run's source fails at this call. The other commands are those
-    // of scripts, files, crashes and changes.
+    // of scripts, files and crashes.
     fn command(
         &mut self,
         verb: &str,
@@ -123,8 +119,6 @@ impl Runs {
             "put" | "write" | "lose" | "file" | "holds" => self
                 .files
                 .on_file(verb, words, more, out),
-            "apply" | "respell" | "vary" => self.changes.on_change(verb, more, out),
-            "database" => self.changes.show(words, out),
             _ => {
                 self.on_script(verb, words, more, out)?;
                 Ok(())
@@ -144,7 +138,6 @@ impl Subject for Runs {
         self.files = Files::new(alloc);
         self.fault = None;
         self.trial = Trial::new(alloc);
-        self.changes = Changes::new(alloc);
         Ok(())
     }
 

@@ -27,11 +27,16 @@ fn add_item(out: &mut String, item: &ScriptItem) -> Result<(), AllocError> {
     }
 }
 
+/// A line for one item: its line in the script, and what it is.
+pub fn add_entry(out: &mut String, entry: &ScriptEntry) -> Result<(), AllocError> {
+    write!(out, "{} ", entry.line)?;
+    add_item(out, &entry.item)?;
+    out.push('\n')
+}
+
 fn add_entries(out: &mut String, entries: &[ScriptEntry]) -> Result<(), AllocError> {
     for entry in entries {
-        write!(out, "{} ", entry.line)?;
-        add_item(out, &entry.item)?;
-        out.push('\n')?;
+        add_entry(out, entry)?;
     }
     Ok(())
 }

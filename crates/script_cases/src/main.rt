@@ -1,14 +1,14 @@
-//! Runs cases of scripts: how bytes are cut into tokens, and which items and statements the tokens are.
+//! Runs cases of scripts: how bytes are cut into tokens, and which items the tokens are.
 #![tactic(auto)]
 
 mod databases;
 mod items;
 mod media;
 mod options;
+mod reading;
 mod rows;
 mod script;
 mod scripts;
-mod statements;
 mod tokens;
 mod words;
 

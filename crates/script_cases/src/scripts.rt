@@ -1,7 +1,7 @@
 // The commands: a word, and in the further lines a script.
 use crate::items::add_items;
+use crate::reading::add_read;
 use crate::script::read_script;
-use crate::statements::add_statements;
 use crate::tokens::{add_plain, add_said, add_tokens};
 use cases::Subject;
 use std::alloc::{AllocError, Global};
@@ -19,15 +19,15 @@ impl Scripts {
     }
 }
 
-// `tokens`: a line for each token. `said`: what the tokens say. `plain`: whether all between them is blank. `items` and
-// `statements`: a line for each. A number behind the word says for how many `a` a `~` in the script stands.
+// `tokens`: a line for each token. `said`: what the tokens say. `plain`: whether all between them is blank. `items`: a line
+// for each. `read`: the same, as a reader gives them. A number behind the word says for how many `a` a `~` in the script stands.
 fn answer_word(alloc: Global, word: &str, src: &[u8], out: &mut String) -> Result<(), AllocError> {
     match word {
         "tokens" => add_tokens(alloc, src, out),
         "said" => add_said(alloc, src, out),
         "plain" => add_plain(alloc, src, out),
         "items" => add_items(alloc, src, out),
-        "statements" => add_statements(alloc, src, out),
+        "read" => add_read(alloc, src, out),
         _ => out.push_str("no such command\n"),
     }
 }

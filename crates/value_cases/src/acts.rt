@@ -2,8 +2,9 @@
 ghost use Rattle.bk_acts.specs.Spelling.{KeepsAct};
 
 use crate::{records, sets};
-use bk_acts::{Records, StoredAct, Unread, acts_law, encode_act, read_act};
+use bk_acts::{StoredAct, Unread, acts_law, encode_act, read_act};
 use bk_ids::{Guid, Lsn, Name};
+use bk_record::Records;
 use bk_set::SetBody;
 use bk_world::Header;
 use std::alloc::{AllocError, Global};
@@ -25,10 +26,19 @@ pub fn spelled_again(alloc: Global, bytes: &[u8]) -> Result<Option<Vec<u8>>, All
     }
 }
 
-fn show_logged(name: &Name, records: &Records, out: &mut String) -> Result<(), AllocError> {
+fn show_logged(
+    alloc: Global,
+    name: &Name,
+    records: &Records,
+    out: &mut String,
+) -> Result<(), AllocError> {
     let name = name.as_str();
     writeln!(out, "logged {name}")?;
-    records::show(records.as_slice(), out)
+    if records.is_empty() {
+        return out.push_str("nothing\n");
+    }
+    let copy = records.copy(alloc)?;
+    records::show(copy.as_slice(), out)
 }
 
 fn show_based(name: &Name, header: &Header, out: &mut String) -> Result<(), AllocError> {
@@ -54,7 +64,7 @@ fn show_recovered(
     records::show(records.as_slice(), out)
 }
 
-fn show_act(act: &StoredAct, out: &mut String) -> Result<(), AllocError> {
+fn show_act(alloc: Global, act: &StoredAct, out: &mut String) -> Result<(), AllocError> {
     match act {
         StoredAct::Created {
             name,
@@ -72,7 +82,7 @@ fn show_act(act: &StoredAct, out: &mut String) -> Result<(), AllocError> {
             let name = name.as_str();
             writeln!(out, "dropped {name}")
         }
-        StoredAct::Logged { name, records } => show_logged(name, records, out),
+        StoredAct::Logged { name, records } => show_logged(alloc, name, records, out),
         StoredAct::Based { name, header } => show_based(name, header, out),
         StoredAct::Replaced { name, body } => show_replaced(name, body, out),
         StoredAct::Restored { name, base, redo } => {
@@ -91,7 +101,7 @@ fn show_act(act: &StoredAct, out: &mut String) -> Result<(), AllocError> {
 /// The act that all of these bytes spell.
 pub fn show(alloc: Global, bytes: &[u8], out: &mut String) -> Result<(), AllocError> {
     match read_act(alloc, bytes) {
-        Ok(act) => show_act(&act, out),
+        Ok(act) => show_act(alloc, &act, out),
         Err(Unread::NoAct) => Ok(()),
         Err(Unread::NoMemory) => Err(AllocError),
     }

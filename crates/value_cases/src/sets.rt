@@ -1,6 +1,7 @@
 // Backup sets.
 ghost use Rattle.bk_set.specs.Conditions.{KeepsBody};
 
+use crate::records;
 use bk_ids::Digest;
 use bk_set::{Found, SetBody, encode_set, read_set};
 use sha2::{Digest as Hasher, Sha256};
@@ -34,7 +35,7 @@ pub fn seal(bytes: &mut [u8]) {
     end.copy_from_slice(&Sha256::digest(&*front));
 }
 
-/// The database, the tables and the rows of a set.
+/// The database, the tables, the rows and the log of a set.
 pub fn show_body(body: &SetBody, out: &mut String) -> Result<(), AllocError> {
     let database = body.header.database.as_str();
     writeln!(out, "database {database}")?;
@@ -44,9 +45,10 @@ pub fn show_body(body: &SetBody, out: &mut String) -> Result<(), AllocError> {
     }
     for row in body.rows.as_slice() {
         let (table, key, value) = (row.table, row.key, row.value.as_str());
-        writeln!(out, "row {table} {key} {value:?}")?;
+        let (file, page, slot) = (row.place.file, row.place.page, row.place.slot);
+        writeln!(out, "row {table} {key} {value:?} at {file} {page} {slot}")?;
     }
-    Ok(())
+    records::show(body.log.as_slice(), out)
 }
 
 /// The two digests of a set that is damaged.

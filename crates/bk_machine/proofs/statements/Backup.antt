@@ -1,6 +1,6 @@
 -- BACKUP DATABASE seals a sound set.
 use Rattle.std.proofs.Common.{◌≡◌, ◌≢◌, ◌<◌, ◌≤◌, ◌⊎◌, inl, inr, ℕ, ◌+◌, true, List, [], ◌∷◌, ◌++◌, map, Option, None, Some, refl, sym, ◌∙◌, ap, subst, arith}
-use Rattle.std.specs.Prelude.{◌||◌, is_some, not, Ok}
+use Rattle.std.specs.Prelude.{◌&&◌, ◌||◌, is_some, not, Ok}
 use Rattle.std.specs.List.{AllByRecursion}
 use Rattle.bk_ids.specs.declared.guid.Guid.{Guid}
 use Rattle.bk_ids.specs.declared.path.Branch.{Branch}
@@ -11,23 +11,27 @@ use Rattle.bk_world.specs.declared.database.FileSpec.{FileSpec}
 use Rattle.bk_world.specs.declared.database.Status.TheVariants.{Online}
 use Rattle.bk_world.specs.declared.header.Header.{Header}
 use Rattle.bk_world.specs.declared.rule.Rule.TheVariants.{NoSuchDatabase, NotBuilt}
-use Rattle.bk_world.proofs.Saying.{line_of-appended}
+use Rattle.bk_world.specs.SaidLaws.{line_of-appended}
 use Rattle.bk_world.specs.Lines.{MayGoOn, RecordLine, RecordLines, line_on, log_below, said_on_last}
 use Rattle.bk_world.specs.Medium.{medium_at}
 use Rattle.bk_world.specs.Records.{Logged, Said, checkpointed, more, numbered, stamped}
 use Rattle.bk_world.specs.Says.{alone}
 use Rattle.bk_world.specs.Telling.{model, telling, time}
 use Rattle.bk_machine.specs.Acts.{based, done, drawn, gone_on, logged, medium_made, said_time, says, set_sealed}
-use Rattle.bk_machine.specs.Checks.{limit, online, or_refuse, refuse_if, used_up}
+use Rattle.bk_machine.specs.Built.{IsBuilt, IsBuiltLog, SayNoLoad}
+use Rattle.bk_machine.specs.Checks.{is_path, limit, online, or_refuse, refuse_if, used_up}
 use Rattle.bk_machine.specs.MayDo.{MayDoAll}
 use Rattle.bk_machine.specs.Sound.{AreIdle, AreNumbered, IsHeld, IsLog, IsPassed, IsReached, IsSound, IsSoundSet, files_of_set}
 use Rattle.bk_machine.specs.World.{World, Database, database_named, log_of}
-use Rattle.bk_machine.specs.statements.Backup.{check_backup, full_backup, full_header, is_whole_backup}
+use Rattle.bk_machine.specs.statements.Backup.{check_backup, full_backup, full_header, is_whole_backup, DoesBackup}
 use Rattle.bk_machine.proofs.Acting.{act-sound}
-use Rattle.bk_machine.proofs.Named.{named-own}
-use Rattle.bk_machine.proofs.statements.Checking.{Up, passed, was-found, was-online}
+use Rattle.bk_machine.proofs.Loads.{BuiltIn, act-built}
+use Rattle.bk_machine.specs.NamedLaws.{named-own, of-named}
+use Rattle.bk_machine.specs.CheckLaws.{Up, passed, was-found, was-online}
+use Rattle.bk_machine.specs.Outcome.{Outcome}
+use Rattle.bk_machine.proofs.statements.Facts.{Facts, facts-of, own-checkpoint, own-stamp}
 use Rattle.bk_machine.proofs.statements.Idling.{idle-done}
-use Rattle.bk_machine.proofs.statements.Ready.{IsReady, ready}
+use Rattle.bk_machine.specs.ReadyLaws.{IsReady, ready}
 use Rattle.bk_machine.proofs.statements.Said.{MayTell, done-is, idle-after, log-after, may-do, ready-after, sound-after}
 use Rattle.bk_machine.proofs.statements.Telling.{TellsOn, tells-checkpoint, tells-stamp}
 
@@ -41,7 +45,7 @@ record IsUp (w : World) (db : Database) : Type 0 where
 checked : (w : World) (line : ℕ) (name : List ℕ) (units : List UnitName) (path : List ℕ) (options : BackupOptions) (db : Database) → check_backup w line name units path options ≡ Ok db → IsUp w db
 unfolding check_backup
 checked w line name units path options db e =
-    let one = passed (refuse_if (not (is_whole_backup units options) || is_some (medium_at w.media path)) (NotBuilt line)) _ db e in
+    let one = passed (refuse_if (not (is_whole_backup units options && is_path path) || is_some (medium_at w.media path)) (NotBuilt line)) _ db e in
     let two = passed (or_refuse (database_named w.databases name) NoSuchDatabase) _ db one.then in
     let three = passed (online two.found) _ db two.then in
     let four = passed (limit (used_up three.found.end || used_up w.counter)) _ db three.then in
@@ -199,5 +203,52 @@ module _ (w : World) (db : Database) (path : List ℕ) (now : ℕ) (sound : IsSo
         ),
       )
 
+  -- no part says a load, and the log of the set has none
+
+  made-built : IsBuilt w → IsBuilt (done w (medium_made path))
+  made-built built = act-built w sound built (medium_made path) tt tt
+
+  started-built : IsBuilt w → IsBuilt started
+  started-built built =
+      subst IsBuilt (done-is made db start_said made-sound made-idle made-ready start-tells)
+      (act-built made made-sound (made-built built) (logged db.name start_said db.transactions) (may-do made db start_said made-sound made-idle made-ready start-tells) (tt, tt))
+
+  finished-built : IsBuilt w → IsBuilt finished
+  finished-built built =
+      subst IsBuilt (done-is started started_db finish_said started-sound started-idle started-ready finish-tells)
+      (act-built started started-sound (started-built built) (logged db.name finish_said db.transactions) (may-do started started_db finish_said started-sound started-idle started-ready finish-tells) (tt, tt))
+
+  set-plain : IsBuilt w → IsBuiltLog (files_of_set header) (log_below finished.history header.path header.last)
+  unfolding full_header log_of
+  set-plain built =
+      let end : finished_db.end ≡ db.end + 2 = omega arith in
+      let own : IsBuiltLog finished_db.files (log_of finished.history finished_db) = of-named (BuiltIn finished.history) finished.databases finished_db.name finished_db (finished-built built).databases finished-ready.named in
+      subst (λ files. IsBuiltLog files (log_below finished.history db.path (db.end + 2))) (sym (files-same header db.files)) (subst (λ n. IsBuiltLog db.files (log_below finished.history db.path n)) end own)
+
+  pub backs-no-load : IsBuilt w → SayNoLoad w (full_backup db path (full_header w db (drawn w w.counter) (said_time w db now)))
+  unfolding full_header
+  backs-no-load built =
+      let seal : SayNoLoad finished (set_sealed path header ∷ based db.name header ∷ []) = (set-plain built, (tt, tt)) in
+      let stamp : SayNoLoad started (logged db.name finish_said db.transactions ∷ set_sealed path header ∷ based db.name header ∷ []) = (
+        (tt, tt),
+        subst (λ v. SayNoLoad v (set_sealed path header ∷ based db.name header ∷ [])) (sym (done-is started started_db finish_said started-sound started-idle started-ready finish-tells)) seal,
+      ) in (
+        tt,
+        (
+          (tt, tt),
+          subst (λ v. SayNoLoad v (logged db.name finish_said db.transactions ∷ set_sealed path header ∷ based db.name header ∷ [])) (sym (done-is made db start_said made-sound made-idle made-ready start-tells)) stamp,
+        ),
+      )
+
 pub its-ready : (w : World) (line : ℕ) (name : List ℕ) (units : List UnitName) (path : List ℕ) (options : BackupOptions) (db : Database) → IsSound w → AreIdle w → check_backup w line name units path options ≡ Ok db → IsReady w db
 its-ready w line name units path options db sound idle e = let its : IsUp w db = checked w line name units path options db e in ready w db sound idle its.named its.up
+
+pub facts : (w : World) (db : Database) (path : List ℕ) (now : ℕ) → IsSound w → AreIdle w → IsReady w db → (outcome : Outcome) → DoesBackup w path now db outcome → Facts w outcome
+unfolding full_header
+facts w db path now sound idle r outcome is = facts-of w _ outcome (record {
+  may = backs-up w db path now sound idle r;
+  opens = (tt, (r.closed, (r.closed, (tt, (tt, tt)))));
+  own = (tt, (own-checkpoint w db.name (said_time w db now) db.transactions, (own-stamp w db.name (said_time w db now) (drawn w w.counter) db.transactions, (tt, (tt, tt)))));
+  ends = inl (tt, (tt, (tt, (tt, (tt, tt)))));
+  plain = λ built. backs-no-load w db path now sound idle r built;
+}) is

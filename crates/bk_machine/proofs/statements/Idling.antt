@@ -5,8 +5,9 @@ use Rattle.bk_ids.specs.declared.record.RecoveryModel.{RecoveryModel}
 use Rattle.bk_world.specs.ListLaws.{all_joined}
 use Rattle.bk_world.specs.Telling.{model}
 use Rattle.bk_world.specs.Records.{Deed, Logged, numbered, database_made, table_made, begun, written, committed, rolled_back, undone, checkpointed, stamped, model_set, loaded, recovered as recovery}
-use Rattle.bk_machine.proofs.Named.{all-placed, all-with, all-without}
+use Rattle.bk_machine.specs.NamedLaws.{all-placed, all-with, all-without}
 use Rattle.bk_machine.specs.Acts.{Act, turned, created, dropped, logged, medium_made, set_sealed, based, replaced, restored, recovered, done, done_all, pointed, pointed_by, says, gone_on, gone_online, goes_online, new_database, taken_over, where_found}
+use Rattle.bk_machine.specs.MayDo.{LeavesIdle}
 use Rattle.bk_machine.specs.Sound.{AreIdle, IsIdle}
 use Rattle.bk_machine.specs.World.{World, Database, log_of, log_to, database_named}
 
@@ -29,12 +30,7 @@ job-stays : (model : RecoveryModel) (db : Database) (rs : List Logged) → (poin
 job-stays model db [] = refl
 job-stays model db (r ∷ rs) = job-stays model (pointed_by model db r.lsn r.deed) rs ∙ same-job model db r.lsn r.deed
 
--- an act behind which no transaction is open
-abbrev pub OpensNothing : Act → Type 0
-OpensNothing (logged name said transactions) = transactions ≡ []
-OpensNothing _ = Unit {0}
-
-pub idle-done : (w : World) (act : Act) → AreIdle w → OpensNothing act → AreIdle (done w act)
+pub idle-done : (w : World) (act : Act) → AreIdle w → LeavesIdle act → AreIdle (done w act)
 unfolding done says goes_online new_database
 idle-done w (turned name) idle none = idle
 idle-done w (created c) idle none = all_joined IsIdle w.databases (new_database c ∷ []) idle (record { job = refl; transactions = refl }, tt)
@@ -56,6 +52,6 @@ idle-done w (recovered name r) idle none = by (database_named w.databases name)
     by None = idle
     by (Some db) = all-with IsIdle IsIdle w.databases db.name (gone_online (model (log_to w.history db r.at)) r) idle (λ d was. record { job = was.job; transactions = was.transactions }) (λ d was. was)
 
-pub idle-done-all : (w : World) (acts : List Act) → AreIdle w → AllByRecursion OpensNothing acts → AreIdle (done_all w acts)
+pub idle-done-all : (w : World) (acts : List Act) → AreIdle w → AllByRecursion LeavesIdle acts → AreIdle (done_all w acts)
 idle-done-all w [] idle none = idle
 idle-done-all w (act ∷ acts) idle none = idle-done-all (done w act) acts (idle-done w act idle none.0) none.1

@@ -12,7 +12,7 @@ use Rattle.bk_world.specs.declared.rule.Rule.TheVariants.{NoSuchDatabase, NoSuch
 use Rattle.bk_world.specs.Entry.{RowChange}
 use Rattle.bk_world.specs.ListLaws.{all_joined, all_mapped}
 use Rattle.bk_world.specs.Pending.{changes_of, of_transaction, pending}
-use Rattle.bk_world.specs.Places.{homes, place_behind, place_of, last_of, IsFreePlace}
+use Rattle.bk_world.specs.Places.{homes, place_behind, place_of, last_of, IsCellOf, IsFreePlace}
 use Rattle.bk_world.specs.ReadingLaws.{entries-more, homes-more, pending-more, pending-single}
 use Rattle.bk_world.specs.Records.{Logged, RowId, id_of, is_row, more, numbered}
 use Rattle.bk_world.specs.Rows.{rows_changed, rows_of}
@@ -21,68 +21,24 @@ use Rattle.bk_world.specs.SoundLogs.{MayWrite, undoes, most_pending}
 use Rattle.bk_world.specs.Telling.{entries, row_at, rows, seen, tables}
 use Rattle.bk_machine.specs.Acts.{logged, said_time}
 use Rattle.bk_machine.specs.Checks.{limit, online, or_refuse, refuse_if, table_named, used_up}
+use Rattle.bk_machine.specs.Built.{FreeCell, IsBuilt, IsBuiltLog}
 use Rattle.bk_machine.specs.MayDo.{MayDo}
+use Rattle.bk_machine.specs.NamedLaws.{of-named}
+use Rattle.bk_machine.specs.Outcome.{in_one}
+use Rattle.bk_world.specs.declared.reply.Reply.TheVariants.{Counted}
+use Rattle.bk_machine.specs.Room.{is_full}
 use Rattle.bk_machine.specs.Seen.{has_key, tables_in, visible, visible_by}
 use Rattle.bk_machine.specs.Sound.{AreIdle, AreNumbered, IsSound}
 use Rattle.bk_machine.specs.World.{World, Database, Open, current_database, log_of, transaction_of}
-use Rattle.bk_machine.specs.statements.Insert.{MayPlace, Target, check_insert, is_full_in, is_no_row, row_set}
+use Rattle.bk_machine.specs.statements.Insert.{MayPlace, Target, check_insert, is_full_for, is_full_in, is_no_row, row_set}
+use Rattle.bk_machine.proofs.Room.{room-where, well}
+use Rattle.bk_machine.proofs.statements.Facts.{Facts, own-single}
 use Rattle.bk_machine.proofs.statements.Begins.{BeginBelow, begin-below}
-use Rattle.bk_machine.proofs.statements.Checking.{Up, is-none, not-refused, passed, was-found, was-online}
-use Rattle.bk_machine.proofs.statements.Finding.{current-found}
-use Rattle.bk_machine.proofs.statements.Ready.{IsReady, may-log, ready}
+use Rattle.bk_machine.specs.CheckLaws.{Up, is-none, not-refused, passed, second-false, was-found, was-online}
+use Rattle.bk_machine.specs.FindingLaws.{current-found}
+use Rattle.bk_machine.specs.TargetLaws.{ByNumber, IsTarget, by-number, is-target}
+use Rattle.bk_machine.specs.ReadyLaws.{IsReady, may-log, ready}
 use Rattle.bk_machine.proofs.statements.Telling.{tables-begun, tables-single}
-
--- ---- what was checked
-
--- the table of the current database, which is online, has no row of this key that the session sees
-record IsTarget (w : World) (name : List ℕ) (key : ℕ) (to : Target) : Type 0 where
-  is : current_database w ≡ Some to.database
-  up : to.database.status ≡ Online
-  table : table_named (tables_in w to.database) name ≡ Some to.table
-  new : has_key (visible w to.database to.table) key ≡ false
-
-checked : (w : World) (line : ℕ) (table : List ℕ) (key : ℕ) (value : List ℕ) (to : Target) → check_insert w line table key value ≡ Ok to → IsTarget w table key to
-unfolding check_insert
-checked w line table key value to e =
-    let one = passed (refuse_if (is_no_row key value || is_full_in w (current_database w) table key) (NotBuilt line)) _ to e in
-    let two = passed (or_refuse (current_database w) NoSuchDatabase) _ to one.then in
-    let three = passed (online two.found) _ to two.then in
-    let four = passed (or_refuse (table_named (tables_in w three.found) table) NoSuchTable) _ to three.then in
-    let five = passed (refuse_if (has_key (visible w three.found four.found) key) (DuplicateKey key)) _ to four.then in
-    let six = passed (limit (used_up three.found.end)) _ to five.then in
-    let up : Up two.found three.found = was-online two.found three.found three.is in
-    let mine : Target = record { database = three.found; table = four.found } in
-    let last = six.then in
-    let same : mine ≡ to = cc in
-    subst (IsTarget w table key) same (record {
-      is = was-found (current_database w) NoSuchDatabase two.found two.is ∙ ap (λ (d : Database). Some d) up.is;
-      up = subst (λ (d : Database). d.status ≡ Online) up.is up.online;
-      table = was-found (table_named (tables_in w three.found) table) NoSuchTable four.found four.is;
-      new = not-refused (has_key (visible w three.found four.found) key) (DuplicateKey key) five.found five.is;
-    })
-
--- ---- tables by name and by number
-
-record ByNumber (n : ℕ) (made : List TableSpec) (t : TableSpec) : Type 0 where
-  from : n ≤ t.number
-  is : find (λ (m : TableSpec). m.number == t.number) made ≡ Some t
-
--- where tables are numbered in their order, one that is found by its name is found by its number
-by-number : (n : ℕ) (made : List TableSpec) (name : List ℕ) (t : TableSpec) → AreNumbered n made → table_named made name ≡ Some t → ByNumber n made t
-by-number n [] name t all e = absurd cc
-by-number n (m ∷ made) name t all e = by (same_name m.name name) e (by-number (n + 1) made name t all.1)
-  where
-    by : (b : Bool) → cond b (Some m) (table_named made name) ≡ Some t → (table_named made name ≡ Some t → ByNumber (n + 1) made t) → ByNumber n (m ∷ made) t
-    by true e rest =
-        let same : m ≡ t = cc in
-        let number : t.number ≡ n = ap (λ (x : TableSpec). x.number) (sym same) ∙ all.0 in
-        let own : (m.number == t.number) ≡ true = grind (arith, nat_tests, all.0, number) in
-        record { from = omega (arith, number); is = ap (λ b. cond b (Some m) (find (λ (x : TableSpec). x.number == t.number) made)) own ∙ ap (λ (x : TableSpec). Some x) same }
-    by false e rest =
-        let later : ByNumber (n + 1) made t = rest e in
-        let from : n + 1 ≤ t.number = later.from in
-        let other : (m.number == t.number) ≡ false = grind (arith, nat_tests, all.0, from) in
-        record { from = omega (arith, from); is = ap (λ b. cond b (Some m) (find (λ (x : TableSpec). x.number == t.number) made)) other ∙ later.is }
 
 -- ---- a transaction that begins
 
@@ -152,7 +108,7 @@ does-say w table key value now to at r its place =
 
 module _ (w : World) (line : ℕ) (table : List ℕ) (key : ℕ) (value : List ℕ) (to : Target) (sound : IsSound w) (idle : AreIdle w) (e : check_insert w line table key value ≡ Ok to) where
   its : IsTarget w table key to
-  its = checked w line table key value to e
+  its = is-target w line table key value to e
 
   pub its-ready : IsReady w to.database
   its-ready = ready w to.database sound idle (current-found w to.database its.is) its.up
@@ -160,3 +116,41 @@ module _ (w : World) (line : ℕ) (table : List ℕ) (key : ℕ) (value : List �
   pub does : (now : ℕ) (at : Place) → MayPlace w to (to.table.number, key) at
       → MayDo w (logged to.database.name (single_said to.database.end at None (row_set to key value) (said_time w to.database now)) to.database.transactions)
   does now at place = does-say w table key value now to at its-ready its place
+
+  -- it is found by its number, and its group isn't full
+  pub its-table : find (λ (m : TableSpec). m.number == to.table.number) (tables (log_of w.history to.database)) ≡ Some to.table
+  unfolding tables_in
+  its-table = (by-number 1 (tables (log_of w.history to.database)) table to.table its-ready.whole.log.tables its.table).is
+
+  pub its-room : is_full (log_of w.history to.database) to.database.files to.table.group ((to.table.number, key) ∷ []) ≡ false
+  its-room = sym (ap (λ o. is_full_in w o table key) its.is ∙ ap (λ o. is_full_for w to.database o key) its.table) ∙ its.room
+
+  pub facts : (now : ℕ) (at : Place) → MayPlace w to (to.table.number, key) at
+      → Facts w (in_one (logged to.database.name (single_said to.database.end at None (row_set to key value) (said_time w to.database now)) to.database.transactions) (Counted 1))
+  facts now at place = record {
+    may = (does now at place, tt);
+    opens = (its-ready.closed, tt);
+    own = (own-single w to.database at None (row_set to key value) (said_time w to.database now) to.database.transactions its-ready.named, tt);
+    ends = inl (tt, tt);
+    plain = λ built. ((tt, (tt, (tt, tt))), tt);
+  }
+
+  -- there is a place that it may get
+  pub place : IsBuilt w → (at : Place) × MayPlace w to (to.table.number, key) at
+  place built = by (place_of rs (to.table.number, key)) refl
+    where
+      rs : List Logged
+      rs = log_of w.history to.database
+
+      its-built : IsBuiltLog to.database.files rs
+      its-built = of-named (λ (db : Database). IsBuiltLog db.files (log_of w.history db)) w.databases to.database.name to.database built.databases its-ready.named
+
+      by : (o : Option Place) → place_of rs (to.table.number, key) ≡ o → (at : Place) × MayPlace w to (to.table.number, key) at
+      by None none =
+          let found : FreeCell rs to.database.files to.table.group = room-where to.database.files rs to.database.end its-ready.whole.log its-built to.table.group (to.table.number, key) none its-room in
+          (found.at, record { place = inr (none, found.free); cell = found.cell })
+      by (Some at) there =
+          let lies = well to.database.files rs to.database.end its-ready.whole.log its-built (to.table.number, key) at there in
+          let same : Some lies.table ≡ Some to.table = sym lies.there ∙ its-table in
+          let table_is : lies.table ≡ to.table = cc in
+          (at, record { place = inl there; cell = subst (λ (t : TableSpec). IsCellOf to.database.files t.group at) table_is lies.cell })

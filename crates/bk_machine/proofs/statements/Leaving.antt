@@ -9,7 +9,7 @@ use Rattle.bk_world.specs.Records.{Logged, Said, more, numbered}
 use Rattle.bk_world.specs.Rows.{tables_of}
 use Rattle.bk_world.specs.SoundLogs.{MayFollow}
 use Rattle.bk_world.specs.Telling.{entries_from, tables}
-use Rattle.bk_world.proofs.Sounds.{follow-front}
+use Rattle.bk_world.specs.SoundLaws.{follow-front}
 use Rattle.bk_machine.specs.Acts.{Act, turned, created, dropped, logged, medium_made, set_sealed, based, replaced, restored, recovered, done, done_all, says, where_found}
 use Rattle.bk_machine.specs.Crash.{Leaves, front_of, next_acts}
 use Rattle.bk_machine.specs.MayDo.{HoldsOf, MayDoAll, MayLog, MaySay}
@@ -21,54 +21,9 @@ use Rattle.bk_machine.proofs.Acting.{acts-sound}
 use Rattle.bk_machine.proofs.ActsLogs.{placed-front, tables-more}
 use Rattle.bk_machine.proofs.ActsSays.{says-whole}
 use Rattle.bk_machine.proofs.Crashed.{crash-sound}
-use Rattle.bk_machine.proofs.Named.{named-own}
+use Rattle.bk_machine.specs.NamedLaws.{named-own}
+use Rattle.bk_machine.proofs.statements.Fronts.{cut-whole}
 use Rattle.bk_machine.proofs.statements.Running.{Within, done-joined, may-front, may-rest, within-run}
-
--- ---- a front of what may be said
-
-numbers-front : (n : ℕ) (a b : List TableSpec) → AreNumbered n (a ++ b) → AreNumbered n a
-numbers-front n [] b are = tt
-numbers-front n (t ∷ a) b are = (are.0, numbers-front (n + 1) a b are.1)
-
-pub says-front : (w : World) (db : Database) (said : List Said) (n : ℕ) → MaySay w db said → MaySay w db (take n said)
-says-front w db said n may =
-    let rs : List Logged = log_of w.history db in
-    let front : List Logged = numbered db.end (take n said) in
-    let back : List Logged = numbered (db.end + length (take n said)) (drop n said) in
-    let whole : numbered db.end said ≡ front ++ back = ap (numbered db.end) (sym (take-append-drop n said)) ∙ numbered-append db.end (take n said) (drop n said) in
-    let made : tables (more rs db.end said) ≡ tables (rs ++ front) ++ tables_of (entries_from (pending (rs ++ front)) back) =
-    ap (λ ss. tables (rs ++ ss)) whole ∙ (ap tables (sym (append_assoc rs front back)) ∙ tables-more (rs ++ front) back) in record {
-      online = may.online;
-      may = follow-front rs front back (subst (MayFollow rs) whole may.may);
-      tables = numbers-front 1 (tables (rs ++ front)) _ (subst (AreNumbered 1) made may.tables);
-      places = placed-front db.files rs front back (subst (ArePlaced db.files rs) whole may.places);
-    }
-
--- ---- an act that is cut
-
--- a database says a front of what it may say
-cut-says : (w : World) (name : List ℕ) (said : List Said) (transactions : List Open) (n : ℕ) → IsWhole w → HoldsOf (database_named w.databases name) (λ db. MayLog w db said transactions)
-    → IsWhole (done w (logged name (take n said) transactions))
-unfolding done
-cut-says w name said transactions n whole may = by (database_named w.databases name) refl may
-  where
-    by : (o : Option Database) → database_named w.databases name ≡ o → HoldsOf o (λ db. MayLog w db said transactions) → IsWhole (where_found w o (λ db. says w db (take n said) transactions))
-    by None is may = whole
-    by (Some db) is may = says-whole w db (take n said) transactions whole (named-own w.databases name db is) (says-front w db said n may.says)
-
-pub cut-whole : (w : World) (acts : List Act) (n : ℕ) → IsWhole w → MayDoAll w acts → IsWhole (done_all w (front_of n acts))
-cut-whole w acts zero whole may = whole
-cut-whole w [] (suc n) whole may = whole
-cut-whole w (logged name said transactions ∷ acts) (suc n) whole may = cut-says w name said transactions (suc n) whole may.0
-cut-whole w (turned name ∷ acts) (suc n) whole may = whole
-cut-whole w (created c ∷ acts) (suc n) whole may = whole
-cut-whole w (dropped name ∷ acts) (suc n) whole may = whole
-cut-whole w (medium_made path ∷ acts) (suc n) whole may = whole
-cut-whole w (set_sealed path header ∷ acts) (suc n) whole may = whole
-cut-whole w (based name header ∷ acts) (suc n) whole may = whole
-cut-whole w (replaced name header ∷ acts) (suc n) whole may = whole
-cut-whole w (restored name base redo ∷ acts) (suc n) whole may = whole
-cut-whole w (recovered name r ∷ acts) (suc n) whole may = whole
 
 -- ---- a run that is cut
 

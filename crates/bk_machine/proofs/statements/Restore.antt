@@ -1,56 +1,44 @@
 -- RESTORE DATABASE takes over a set of a medium, and recovers it at its end.
-use Rattle.std.proofs.Common.{◌≡◌, ◌≤◌, ℕ, Bool, true, false, cond, List, [], ◌∷◌, Option, None, Some, refl, sym, subst, arith}
-use Rattle.std.specs.Prelude.{not, Ok}
-use Rattle.std.specs.List.{AllByRecursion}
-use Rattle.std.specs.Str.{bytes_eq}
+use Rattle.std.proofs.Common.{◌≡◌, ◌≤◌, inr, ℕ, zero, List, [], ◌∷◌, Option, None, Some, refl, sym, subst, arith}
+use Rattle.std.specs.Prelude.{◌&&◌, not, Ok}
 use Rattle.bk_items.specs.declared.item.RestoredUnits.{RestoredUnits}
 use Rattle.bk_items.specs.declared.options.RestoreOptions.{RestoreOptions}
 use Rattle.bk_world.specs.declared.database.State.TheVariants as state
 use Rattle.bk_world.specs.declared.header.Header.{Header}
 use Rattle.bk_world.specs.declared.rule.Rule.TheVariants.{NotBuilt}
 use Rattle.bk_world.specs.Lines.{log_below}
-use Rattle.bk_world.specs.Medium.{Reading, damaged, medium, medium_at, no_set, not_media, readable}
+use Rattle.bk_world.specs.Medium.{medium, medium_at, readable}
 use Rattle.bk_machine.specs.Acts.{Recovery, done, drawn, taken_over, units_in}
-use Rattle.bk_machine.specs.Checks.{refuse_if}
+use Rattle.bk_machine.specs.Checks.{is_name, is_path, refuse_if}
 use Rattle.bk_machine.specs.MayDo.{MayDoAll}
-use Rattle.bk_machine.specs.Sound.{IsSound, IsSoundReading, IsSoundSet}
-use Rattle.bk_machine.specs.World.{World, Database, log_to, with_new_database}
-use Rattle.bk_machine.specs.statements.Restore.{Recovers, base_of, check_restore, check_set, disk_path, first_set, is_whole_restore, whole_restore}
+use Rattle.bk_machine.specs.Sound.{IsSound, IsSoundSet, SetIn, files_of_set}
+use Rattle.bk_machine.specs.World.{World, Database, database_named, log_to, with_new_database}
+use Rattle.bk_machine.specs.statements.Restore.{DoesRestore, Recovers, base_of, check_restore, check_set, disk_path, first_set, is_whole_restore, name_known, restored_whole, whole_restore}
+use Rattle.bk_machine.specs.Built.{IsBuilt, IsBuiltLog, IsBuiltReading, IsBuiltSlot}
+use Rattle.bk_machine.specs.Outcome.{Outcome}
+use Rattle.bk_machine.proofs.Happened.{of-medium}
+use Rattle.bk_machine.proofs.Left.{of-contained}
+use Rattle.bk_machine.proofs.Recovering.{recovers, recovery}
+use Rattle.bk_machine.proofs.statements.Facts.{Facts, facts-of}
 use Rattle.bk_machine.proofs.Histories.{counts-positive}
-use Rattle.bk_machine.proofs.Named.{named-changed}
-use Rattle.bk_machine.proofs.statements.Checking.{passed}
-use Rattle.bk_machine.proofs.statements.Finding.{found-new}
-use Rattle.bk_machine.proofs.statements.Ready.{holds-of}
+use Rattle.bk_machine.specs.NamedLaws.{named-changed}
+use Rattle.bk_machine.proofs.Sets.{set-sound}
+use Rattle.bk_machine.specs.FirstLaws.{first-in}
+use Rattle.bk_machine.specs.CheckLaws.{passed}
+use Rattle.bk_machine.specs.FindingLaws.{found-new}
+use Rattle.bk_machine.specs.ReadyLaws.{holds-of}
 
 -- ---- the set
 
--- what holds of all media holds of one that is found
-of-medium : (P : Reading → Type 0) (media : List (List ℕ × Reading)) (path : List ℕ) (reading : Reading) → AllByRecursion (λ (m : List ℕ × Reading). P m.1) media → medium_at media path ≡ Some reading → P reading
-of-medium P [] path reading all e = absurd cc
-of-medium P (m ∷ media) path reading all e = by (bytes_eq m.0 path) e (of-medium P media path reading all.1)
-  where
-    by : (t : Bool) → cond t (Some m.1) (medium_at media path) ≡ Some reading → (medium_at media path ≡ Some reading → P reading) → P reading
-    by true e rest = let same : m.1 ≡ reading = cc in subst P same all.0
-    by false e rest = rest e
-
--- the first set of a sound medium is sound
-first-sound : (w : World) (o : Option Reading) (header : Header) → first_set o ≡ Ok header → ((reading : Reading) → o ≡ Some reading → IsSoundReading w reading) → IsSoundSet w header
-first-sound w None header e sound = absurd cc
-first-sound w (Some not_media) header e sound = absurd cc
-first-sound w (Some (medium [])) header e sound = absurd cc
-first-sound w (Some (medium (readable h ∷ slots))) header e sound = let same : h ≡ header = cc in subst (IsSoundSet w) same (sound (medium (readable h ∷ slots)) refl).0
-first-sound w (Some (medium (damaged stored found ∷ slots))) header e sound = absurd cc
-first-sound w (Some (medium (no_set ∷ slots))) header e sound = absurd cc
-
-set-sound : (w : World) (line : ℕ) (name : List ℕ) (units : RestoredUnits) (disk : Option (List ℕ)) (options : RestoreOptions) (header : Header) → IsSound w → check_restore w line name units disk options ≡ Ok header → IsSoundSet w header
+pub set-in : (w : World) (line : ℕ) (name : List ℕ) (units : RestoredUnits) (disk : Option (List ℕ)) (options : RestoreOptions) (header : Header) → check_restore w line name units disk options ≡ Ok header → SetIn w (disk_path disk) header
 unfolding check_restore
-set-sound w line name units disk options header sound e =
-    let one = passed (refuse_if (not (is_whole_restore units disk options)) (NotBuilt line)) _ header e in
+set-in w line name units disk options header e =
+    let one = passed (refuse_if (not (is_whole_restore units disk options && is_name name && is_path (disk_path disk))) (NotBuilt line)) _ header e in
     let two = passed (first_set (medium_at w.media (disk_path disk))) _ header one.then in
     let three = passed (check_set w name options.replace two.found) _ header two.then in
     let last = three.then in
     let same : two.found ≡ header = cc in
-    subst (IsSoundSet w) same (first-sound w (medium_at w.media (disk_path disk)) two.found two.is (λ reading is. of-medium (IsSoundReading w) w.media (disk_path disk) reading sound.whole.media is))
+    subst (SetIn w (disk_path disk)) same (first-in w (disk_path disk) two.found two.is)
 
 -- ---- the parts
 
@@ -82,6 +70,31 @@ restores w name header r set at branch recovers =
       ),
     )
 
-pub does : (w : World) (line : ℕ) (name known : List ℕ) (units : RestoredUnits) (disk : Option (List ℕ)) (options : RestoreOptions) (header : Header) (r : Recovery) → IsSound w → check_restore w line name units disk options ≡ Ok header
-    → r.at ≡ header.last → r.branch ≡ drawn w w.counter → Recovers (log_below w.history header.path header.last) r → MayDoAll w (whole_restore known header r)
-does w line name known units disk options header r sound e at branch recovers = restores w known header r (set-sound w line name units disk options header sound e) at branch recovers
+-- ---- what is proved of it
+
+-- in a world of logs without loads, a set on a medium has such a log
+set-built : (w : World) (path : List ℕ) (header : Header) → IsBuilt w → SetIn w path header → IsBuiltLog (files_of_set header) (log_below w.history header.path header.last)
+set-built w path header built there = of-contained (IsBuiltSlot w) there.0 (readable header) (of-medium (IsBuiltReading w) w.media path (medium there.0) built.media there.1) there.2
+
+module _ (w : World) (line : ℕ) (name : List ℕ) (units : RestoredUnits) (disk : Option (List ℕ)) (options : RestoreOptions) (header : Header) (sound : IsSound w) (e : check_restore w line name units disk options ≡ Ok header) where
+  there : SetIn w (disk_path disk) header
+  there = set-in w line name units disk options header e
+
+  pub facts : (outcome : Outcome) → DoesRestore w name header outcome → Facts w outcome
+  facts outcome (r, at, branch, recovers, is) = facts-of w _ outcome (record {
+    may = restores w (name_known (database_named w.databases name) name) header r (set-sound w (disk_path disk) header sound there) at branch recovers;
+    opens = (tt, (tt, (tt, tt)));
+    own = (tt, (tt, (tt, tt)));
+    ends = inr (inr (name_known (database_named w.databases name) name, header, _, header.last, r, refl));
+    plain = λ built. (set-built w (disk_path disk) header built there, (tt, (tt, tt)));
+  }) is
+
+  -- there is a recovery to which it may come
+  pub comes : IsBuilt w → (outcome : Outcome) × DoesRestore w name header outcome
+  comes built =
+      let set : IsSoundSet w header = set-sound w (disk_path disk) header sound there in
+      let log : IsBuiltLog (files_of_set header) (log_below w.history header.path header.last) = set-built w (disk_path disk) header built there in
+      let r : Recovery = recovery (files_of_set header) (log_below w.history header.path header.last) header.last (drawn w w.counter) set.log log in (
+        restored_whole (name_known (database_named w.databases name) name) header r,
+        (r, refl, refl, recovers (files_of_set header) (log_below w.history header.path header.last) header.last (drawn w w.counter) set.log log, refl),
+      )

@@ -11,7 +11,7 @@ use Rattle.bk_machine.specs.World.{World, Database, database_named, log_of}
 use Rattle.bk_machine.proofs.Acting.{act-sound}
 use Rattle.bk_machine.proofs.ActsSays.{says-found, says-log}
 use Rattle.bk_machine.proofs.statements.Idling.{idle-done}
-use Rattle.bk_machine.proofs.statements.Ready.{IsReady, may-log, ready}
+use Rattle.bk_machine.specs.ReadyLaws.{IsReady, may-log, ready}
 
 -- a database may say this, and nothing is pending behind it
 pub record MayTell (w : World) (db : Database) (said : List Said) : Type 0 where

@@ -8,7 +8,7 @@ use Rattle.bk_ids.specs.declared.record.RecoveryModel.TheVariants.{Full}
 use Rattle.bk_world.specs.declared.database.TableSpec.{TableSpec}
 use Rattle.bk_world.specs.Entry as entry
 use Rattle.bk_world.specs.Entry.{Entry, RowChange}
-use Rattle.bk_world.specs.Changes.{plain_entry}
+use Rattle.bk_world.specs.Entry.{plain_entry}
 use Rattle.bk_world.specs.FoldLaws.{model_of-more, tables_of-more, time_of-more}
 use Rattle.bk_world.specs.Pending.{pending}
 use Rattle.bk_world.specs.ReadingLaws.{entries-more, entries-single, pending-more}

@@ -4,7 +4,6 @@ use Rattle.std.specs.Prelude.{◌≡◌, ℕ, ◌+◌, Bool, true, false, not, �
 use Rattle.bk_ids.specs.declared.guid.Guid.{Guid}
 use Rattle.bk_items.specs.declared.item.UnitName.{UnitName}
 use Rattle.bk_items.specs.declared.options.BackupOptions.{BackupOptions}
-use Rattle.bk_items.specs.declared.options.IdleOptions.{IdleOptions}
 use Rattle.bk_world.specs.declared.database.Base.{Base}
 use Rattle.bk_world.specs.declared.header.Header.{Header}
 use Rattle.bk_world.specs.declared.header.SetKind.TheVariants as kind
@@ -15,21 +14,21 @@ use Rattle.bk_world.specs.Records.{checkpointed, stamped}
 use Rattle.bk_world.specs.Says.{alone}
 use Rattle.bk_world.specs.Telling.{model}
 use Rattle.bk_machine.specs.Acts.{Act, logged, medium_made, set_sealed, based, drawn, said_time}
-use Rattle.bk_machine.specs.Checks.{Checked, ◌>>=◌, refuse_if, or_refuse, online, limit, used_up}
+use Rattle.bk_machine.specs.Checks.{Checked, ◌>>=◌, refuse_if, or_refuse, online, limit, used_up, is_path}
 use Rattle.bk_machine.specs.Outcome.{Outcome}
 use Rattle.bk_machine.specs.World.{World, Database, database_named, log_of, least_begin}
 
 -- Which of them are built.
 
--- no option without effect is there
-abbrev pub is_idle : IdleOptions → Bool
-is_idle o = not (o.stats || o.rewind || o.no_rewind || o.unload || o.no_unload || o.description || o.media_name || o.media_description
-    || o.buffer_count || o.max_transfer_size || o.block_size || o.stop_on_error || o.no_compression)
+-- a switch that is off, or isn't there
+abbrev pub is_off : Option Bool → Bool
+is_off None = true
+is_off (Some on) = not on
 
--- no option is there
+-- no option is there, but for switches that are off, and options without effect
 abbrev pub has_no_option : BackupOptions → Bool
-has_no_option o = is_none o.init && is_none o.format && is_none o.skip && is_none o.checksum && is_none o.name && is_none o.expire && is_none o.retain
-    && not (o.copy_only || o.differential || o.no_recovery || o.no_truncate) && is_idle o.idle
+has_no_option o = is_off o.init && is_off o.format && is_off o.skip && is_off o.checksum && is_none o.name && is_none o.expire && is_none o.retain
+    && not (o.copy_only || o.differential || o.no_recovery || o.no_truncate)
 
 abbrev pub is_whole_backup : List UnitName → BackupOptions → Bool
 is_whole_backup [] options = has_no_option options
@@ -39,7 +38,7 @@ is_whole_backup (unit ∷ units) options = false
 
 unfoldable pub check_backup : World → ℕ → List ℕ → List UnitName → List ℕ → BackupOptions → Checked Database
 check_backup w line name units path options = do
-  _ ← refuse_if (not (is_whole_backup units options) || is_some (medium_at w.media path)) (NotBuilt line)
+  _ ← refuse_if (not (is_whole_backup units options && is_path path) || is_some (medium_at w.media path)) (NotBuilt line)
   named ← or_refuse (database_named w.databases name) NoSuchDatabase
   db ← online named
   _ ← limit (used_up db.end || used_up w.counter)

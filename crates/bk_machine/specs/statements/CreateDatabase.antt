@@ -1,12 +1,12 @@
 -- CREATE DATABASE, until files are named: one file in PRIMARY. SQL Server: CREATE DATABASE (Transact-SQL).
-use Rattle.std.specs.Prelude.{◌≡◌, ℕ, ◌+◌, min, Bool, true, false, not, ◌||◌, nat_le, List, [], ◌∷◌, length, Option, None, is_some}
+use Rattle.std.specs.Prelude.{◌≡◌, ℕ, ◌+◌, min, Bool, true, false, not, ◌||◌, ◌&&◌, nat_le, List, [], ◌∷◌, length, Option, None, is_some}
 use Rattle.bk_items.specs.declared.item.NewFile.{NewFile}
 use Rattle.bk_items.specs.declared.item.NewGroup.{NewGroup}
 use Rattle.bk_world.specs.declared.reply.Reply.TheVariants.{Done}
 use Rattle.bk_world.specs.declared.rule.Limit.TheVariants.{Databases}
 use Rattle.bk_world.specs.declared.rule.Rule.TheVariants.{DatabaseExists, LimitReached, NotBuilt}
 use Rattle.bk_machine.specs.Acts.{created, drawn, latest}
-use Rattle.bk_machine.specs.Checks.{Checked, ◌>>=◌, refuse_if, limit, used_up, is_system, most_databases, paths_of, free_paths}
+use Rattle.bk_machine.specs.Checks.{Checked, ◌>>=◌, refuse_if, limit, used_up, is_name, is_system, most_databases, paths_of, free_paths}
 use Rattle.bk_machine.specs.Outcome.{Outcome, in_one}
 use Rattle.bk_machine.specs.World.{World, database_named}
 
@@ -17,7 +17,7 @@ names_no_files _ _ _ = false
 
 unfoldable pub check_create_database : World → ℕ → List ℕ → List NewFile → List NewGroup → Option NewFile → Checked (Unit {0})
 check_create_database w line name primary groups log = do
-  _ ← refuse_if (not (names_no_files primary groups log)) (NotBuilt line)
+  _ ← refuse_if (not (names_no_files primary groups log && is_name name)) (NotBuilt line)
   _ ← refuse_if (is_system name || is_some (database_named w.databases name)) DatabaseExists
   _ ← refuse_if (nat_le most_databases (length w.databases)) (LimitReached Databases)
   _ ← free_paths (paths_of w.databases) (name ∷ [])

@@ -1,6 +1,6 @@
 -- RESTORE DATABASE, until media hold several sets: a whole restore from the first set of a medium, with recovery.
 -- SQL Server: RESTORE (Transact-SQL); "Complete Database Restores"; "Tail-Log Backups"; "Recovery Paths".
-use Rattle.std.specs.Prelude.{◌≡◌, ◌≤◌, ℕ, min, Bool, true, false, not, ◌&&◌, ◌||◌, List, [], ◌∷◌, length, map, nat_lt, nat_le, Option, Some, None, is_none, Ok, Err, if◌then◌else◌}
+use Rattle.std.specs.Prelude.{◌≡◌, ◌≤◌, ℕ, min, Bool, true, false, not, ◌&&◌, ◌||◌, ◌==◌, List, [], ◌∷◌, length, map, nat_lt, nat_le, Option, Some, None, is_none, Ok, Err, if◌then◌else◌}
 use Rattle.std.specs.List.{AllByRecursion, count_by}
 use Rattle.bk_ids.specs.declared.guid.Guid.{Guid}
 use Rattle.bk_items.specs.declared.item.RestoredUnits.{RestoredUnits}
@@ -24,10 +24,9 @@ use Rattle.bk_world.specs.Records.{Deed, Logged, Said, more, numbered, undone, r
 use Rattle.bk_world.specs.SoundLogs.{MayFollow}
 use Rattle.bk_world.specs.Telling.{model}
 use Rattle.bk_machine.specs.Acts.{Act, Recovery, replaced, restored, recovered, drawn, is_simple}
-use Rattle.bk_machine.specs.Checks.{Checked, ◌>>=◌, refuse_if, limit, used_up, most_databases, paths_of, others, free_paths, different_paths}
+use Rattle.bk_machine.specs.Checks.{Checked, ◌>>=◌, refuse_if, limit, used_up, is_name, is_path, most_databases, paths_of, others, free_paths, different_paths}
 use Rattle.bk_machine.specs.Outcome.{Outcome}
 use Rattle.bk_machine.specs.World.{World, Database, database_named, log_of}
-use Rattle.bk_machine.specs.statements.Backup.{is_idle}
 
 -- Which of them are built.
 
@@ -40,9 +39,14 @@ abbrev pub has_no_move : List FileMove → Bool
 has_no_move [] = true
 has_no_move (move ∷ moves) = false
 
--- at most RECOVERY and REPLACE are there
+-- the first set of a medium, where none is named
+abbrev pub is_first : Option ℕ → Bool
+is_first None = true
+is_first (Some n) = n == 1
+
+-- at most FILE = 1, RECOVERY and REPLACE are there, beside CHECKSUM and options without effect
 abbrev pub is_plain : RestoreOptions → Bool
-is_plain o = is_none o.file && is_recovery o.ending && is_none o.stop && not o.partial && has_no_move o.moves && is_none o.checksum && is_idle o.idle
+is_plain o = is_first o.file && is_recovery o.ending && is_none o.stop && not o.partial && has_no_move o.moves
 
 abbrev pub lists_none : RestoredUnits → Bool
 lists_none (Named []) = true
@@ -113,7 +117,7 @@ check_set w name replace header = do
 
 unfoldable pub check_restore : World → ℕ → List ℕ → RestoredUnits → Option (List ℕ) → RestoreOptions → Checked Header
 check_restore w line name units disk options = do
-  _ ← refuse_if (not (is_whole_restore units disk options)) (NotBuilt line)
+  _ ← refuse_if (not (is_whole_restore units disk options && is_name name && is_path (disk_path disk))) (NotBuilt line)
   header ← first_set (medium_at w.media (disk_path disk))
   _ ← check_set w name options.replace header
   Ok header

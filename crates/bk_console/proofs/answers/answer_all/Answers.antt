@@ -1,9 +1,10 @@
-use Rattle.std.proofs.Common.{◌≡◌, Err, ◌∙◌, List, Option, sym, ap, subst, arith}
+use Rattle.std.proofs.Common.{◌≡◌, Err, List, Option, ap, subst}
 use Rattle.std.proofs.lemmas.Result.{err_from_is_err_and}
 use Rattle.bk_device.specs.Compose.{keeps_then}
-use Rattle.bk_syntax.specs.Machine.{HasStatements, GivesStatement}
-use Rattle.bk_world.specs.declared.item.Statement.{Statement}
-use Rattle.bk_console.specs.declared.answers.AnswerError.TheVariants.{Console}
+use Rattle.bk_machine.specs.Acts.{done_all}
+use Rattle.bk_items.specs.declared.item.ScriptEntry.{ScriptEntry}
+use Rattle.bk_syntax.specs.Reader.{HasItems, GivesItem}
+use Rattle.bk_console.specs.declared.answers.AnswerError.TheVariants.{Console, Broken}
 use Rattle.bk_console.proofs.Asking.{OnErr-from, keeps-same}
 use Rattle.bk_console.proofs.Answering.{not-stopped}
 use Rattle.bk_console.proofs.Causes.{causes-none, causes-then}
@@ -14,6 +15,7 @@ pub loop-reader-init : goal.loop-reader-init
 loop-reader-init g c = record {
   reader = c.new-reader.ensures.reader c.args.script.now;
   answered = λ ss are. so_far-none _ _ _ _ ss _ _ _ _ (c.new-reader.ensures.items c.args.script.now) are;
+  stands = λ t w stands. (w, stands);
   ready = c.requires.ready;
   stored = c.requires.stored;
   others = λ t. keeps-same _ _;
@@ -25,32 +27,46 @@ loop-reader-preserved g c =
     let src = c.args.script.now in
     let now = c.in_ok-refused.ensures in
     let before = c.loop-reader.invariant in
-    let P : Option Statement → Type 0 = λ found. (ss : List Statement) → HasStatements src c.loop-reader.reader ss → GivesStatement src found ss c.next_statement.new.reader in
-    let gives = subst P c.in-Some.is c.in_ok-statement.ensures.statement in
+    let P : Option ScriptEntry → Type 0 = λ found. (ss : List ScriptEntry) → HasItems src c.loop-reader.reader ss → GivesItem src found ss c.next.new.self in
+    let gives = subst P c.in-Some.is c.in_ok-statement.ensures.item in
     record {
       reader = c.in_ok-statement.ensures.reader;
-      answered = λ ss are. so_far-more _ _ _ _ _ ss _ _ _ _ _ _ (before.answered ss are) c.next_statement.new.reader c.in-Some.statement gives _ _ _ _ now.answered (not-stopped _ _ c.else-refused.either);
+      answered = λ ss are. so_far-more c.crashes_leave_worlds.ensures.cut _ _ _ _ _ ss _ _ _ _ _ _ (before.answered ss are) c.next.new.self c.in-Some.statement gives _ _ _ _ now.answered (not-stopped _ _ c.else-refused.either);
+      stands = λ t w stands. let to = before.stands t w stands in (done_all to.0 now.answered.outcome.acts, now.answered.does t to.0 to.1);
       ready = now.ready;
       stored = now.stored;
       others = λ t. keeps_then (before.others t) (now.others t);
-      causes = causes-then before.causes now.causes;
+      causes = causes-then before.causes now.causes.disk_faults now.causes.tell_faults;
     }
 
 pub returns-then-stop-clause-answered : goal.returns-then-stop-clause-answered
 returns-then-stop-clause-answered g c ss are =
     let src = c.args.script.now in
-    let P : Option Statement → Type 0 = λ found. (ss : List Statement) → HasStatements src c.loop-reader.reader ss → GivesStatement src found ss c.next_statement.new.reader in
-    let gives = subst P c.in-Some.is c.in_ok-statement.ensures.statement in
-    so_far-stopped _ _ _ _ _ ss _ _ _ _ _ _ (c.loop-reader.invariant.answered ss are) c.next_statement.new.reader c.in-Some.statement gives _ _ _ _ c.in_ok-refused.ensures.answered c.if-refused.true c.if-stop.true
+    let P : Option ScriptEntry → Type 0 = λ found. (ss : List ScriptEntry) → HasItems src c.loop-reader.reader ss → GivesItem src found ss c.next.new.self in
+    let gives = subst P c.in-Some.is c.in_ok-statement.ensures.item in
+    so_far-stopped c.crashes_leave_worlds.ensures.cut _ _ _ _ _ ss _ _ _ _ _ _ (c.loop-reader.invariant.answered ss are) c.next.new.self c.in-Some.statement gives _ _ _ _ c.in_ok-refused.ensures.answered c.if-refused.true c.if-stop.true
 
 pub returns-in_err-refused-clause-cut_short : goal.returns-in_err-refused-clause-cut_short
 returns-in_err-refused-clause-cut_short g c ss are =
     let src = c.args.script.now in
-    let P : Option Statement → Type 0 = λ found. (ss : List Statement) → HasStatements src c.loop-reader.reader ss → GivesStatement src found ss c.next_statement.new.reader in
-    let gives = subst P c.in-Some.is c.in_ok-statement.ensures.statement in
+    let P : Option ScriptEntry → Type 0 = λ found. (ss : List ScriptEntry) → HasItems src c.loop-reader.reader ss → GivesItem src found ss c.next.new.self in
+    let gives = subst P c.in-Some.is c.in_ok-statement.ensures.item in
     let p = err_from_is_err_and c.from_residual-in_err-refused.result c.from_residual-in_err-refused.ensures.1 in
-    OnErr-from _ (so_far-cut _ _ _ _ _ ss _ _ _ _ _ _ (c.loop-reader.invariant.answered ss are) c.next_statement.new.reader c.in-Some.statement gives _ _ _ _
+    OnErr-from _ (so_far-cut c.crashes_leave_worlds.ensures.cut _ _ _ _ _ ss _ _ _ _ _ _ (c.loop-reader.invariant.answered ss are) c.next.new.self c.in-Some.statement gives _ _ _ _
     (λ h. let same : c.in_err-refused.field-0.0 ≡ Console = cc (p.1, p.2, h) in ap Err same) c.in_err-refused.ensures.cut_short)
+
+pub returns-in_err-refused-clause-broken : goal.returns-in_err-refused-clause-broken
+returns-in_err-refused-clause-broken g c t h w stands =
+    let p = err_from_is_err_and c.from_residual-in_err-refused.result c.from_residual-in_err-refused.ensures.1 in
+    let same : c.in_err-refused.field-0.0 ≡ Broken = cc (p.1, p.2, h) in
+    let to = c.loop-reader.invariant.stands t w stands in
+    c.in_err-refused.ensures.broken t (ap Err same) to.0 to.1
+
+pub returns-in_err-statement-clause-broken : goal.returns-in_err-statement-clause-broken
+returns-in_err-statement-clause-broken g c t h w stands =
+    let p = err_from_is_err_and c.from_residual.result c.from_residual.ensures.1 in
+    let never : ⊥ = cc (p.1, p.2, h) in
+    never
 
 pub returns-then-stop-clause-others : goal.returns-then-stop-clause-others
 returns-then-stop-clause-others g c t = keeps_then (c.loop-reader.invariant.others t) (c.in_ok-refused.ensures.others t)
@@ -58,13 +74,13 @@ returns-then-stop-clause-others g c t = keeps_then (c.loop-reader.invariant.othe
 pub returns-in_err-statement-clause-cut_short : goal.returns-in_err-statement-clause-cut_short
 returns-in_err-statement-clause-cut_short g c ss are =
     let p = err_from_is_err_and c.from_residual.result c.from_residual.ensures.1 in
-    OnErr-from _ (so_far-unread _ _ _ _ _ ss _ _ _ _ _ _ (c.loop-reader.invariant.answered ss are) _ (λ h. let never : ⊥ = cc (p.1, p.2, h) in never))
+    OnErr-from _ (so_far-unread c.crashes_leave_worlds.ensures.cut _ _ _ _ _ ss _ _ _ _ _ _ (c.loop-reader.invariant.answered ss are) _ (λ h. let never : ⊥ = cc (p.1, p.2, h) in never))
 
 pub returns-clause-answered : goal.returns-clause-answered
 returns-clause-answered g c ss are =
     let src = c.args.script.now in
-    let P : Option Statement → Type 0 = λ found. (ss : List Statement) → HasStatements src c.loop-reader.reader ss → GivesStatement src found ss c.next_statement.new.reader in
-    so_far-all _ _ _ _ _ ss _ _ _ _ _ _ (c.loop-reader.invariant.answered ss are) c.next_statement.new.reader (subst P c.in_default.is c.in_ok-statement.ensures.statement)
+    let P : Option ScriptEntry → Type 0 = λ found. (ss : List ScriptEntry) → HasItems src c.loop-reader.reader ss → GivesItem src found ss c.next.new.self in
+    so_far-all c.crashes_leave_worlds.ensures.cut _ _ _ _ _ ss _ _ _ _ _ _ (c.loop-reader.invariant.answered ss are) c.next.new.self (subst P c.in_default.is c.in_ok-statement.ensures.item)
 
 pub returns-in_err-refused-clause-others : goal.returns-in_err-refused-clause-others
 returns-in_err-refused-clause-others g c t = keeps_then (c.loop-reader.invariant.others t) (c.in_err-refused.ensures.others t)

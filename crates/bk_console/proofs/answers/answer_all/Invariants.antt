@@ -1,9 +1,10 @@
-use Rattle.std.proofs.Common.{◌≤◌, List}
+use Rattle.std.proofs.Common.{List}
 use Rattle.bk_device.specs.Effects.{KeepsFiles}
-use Rattle.bk_instance.specs.Stands.{IsReady, IsStored}
-use Rattle.bk_syntax.specs.Machine.{AreStatements}
+use Rattle.bk_instance.specs.Stands.{IsReady, IsStored, StandsFor}
+use Rattle.bk_items.specs.declared.item.ScriptEntry.{ScriptEntry}
+use Rattle.bk_machine.specs.World.{World}
+use Rattle.bk_syntax.specs.Items.{AreItems}
 use Rattle.bk_syntax.specs.Reader.{IsReader, work}
-use Rattle.bk_world.specs.declared.item.Statement.{Statement}
 use Rattle.bk_console.specs.Answers.{NotOurs}
 use Rattle.bk_console.proofs.OneByOne.{AnsweredSoFar}
 use Rattle.bk_console.specs.Causes.{HasCauses}
@@ -12,8 +13,9 @@ use Rattle.bk_console.proofs.answers.answer_all.Given as goal
 abbrev pub invariant-loop-reader : goal.invariant-loop-reader
 invariant-loop-reader g l = record {
   reader : IsReader l.script l.reader;
-  answered : (ss : List Statement) → AreStatements l.script ss → AnsweredSoFar l.stop l.fn.instance l.instance l.script l.reader ss g.C.Clock.tells (g.C.Clock.coming l.fn.clock) (g.C.Clock.coming l.clock)
+  answered : (ss : List ScriptEntry) → AreItems l.script ss → AnsweredSoFar l.stop l.fn.instance l.instance l.script l.reader ss g.C.Clock.tells (g.C.Clock.coming l.fn.clock) (g.C.Clock.coming l.clock)
       g.D.Device.tells (g.D.Device.disk l.fn.device) (g.D.Device.disk l.device);
+  stands : g.D.Device.tells → (w : World) → StandsFor l.fn.instance (g.D.Device.disk l.fn.device) w → (v : World) × StandsFor l.instance (g.D.Device.disk l.device) v;
   ready : IsReady l.instance;
   stored : g.D.Device.tells → IsStored (g.D.Device.disk l.device) l.instance;
   others : g.D.Device.tells → KeepsFiles NotOurs (g.D.Device.disk l.fn.device) (g.D.Device.disk l.device);

@@ -1,20 +1,23 @@
-use Rattle.bk_instance.proofs.Events.{removed-stands, standby-stands, changed-stands, added-stands, events-stand, events-happen}
+use Rattle.bk_instance.proofs.Events.{EventLaws, removed-stands, standby-stands, changed-stands, added-stands, events-stand, events-happen}
 use Rattle.bk_instance.proofs.laws.events_keep_what_stands.Goals as goal
 
-pub returns-clause-removed : goal.returns-clause-removed
-returns-clause-removed c = removed-stands
-
-pub returns-clause-standby : goal.returns-clause-standby
-returns-clause-standby c = standby-stands
-
-pub returns-clause-changed : goal.returns-clause-changed
-returns-clause-changed c = changed-stands
-
-pub returns-clause-added : goal.returns-clause-added
-returns-clause-added c = added-stands
-
-pub returns-clause-any : goal.returns-clause-any
-returns-clause-any c = events-stand
-
-pub returns-clause-of_world : goal.returns-clause-of_world
-returns-clause-of_world c = events-happen
+pub returns : goal.returns
+returns c =
+    let laws : EventLaws = record {
+      sound = c.events_keep_worlds_sound.ensures.one;
+      idle = c.logs_that_stay.ensures.idle;
+      removed = c.logs_that_stay.ensures.medium_removed;
+      standby = c.logs_that_stay.ensures.standby_removed;
+      changed = c.logs_that_stay.ensures.medium_changed;
+      added = c.logs_that_stay.ensures.medium_added;
+      event = c.sets_that_stay.ensures.event;
+      grown = c.sets_that_stay.ensures.grown;
+    } in
+    record {
+      removed = removed-stands laws;
+      standby = standby-stands laws;
+      changed = changed-stands laws;
+      added = added-stands laws;
+      any = events-stand laws;
+      of_world = events-happen;
+    }

@@ -1,9 +1,12 @@
 use Rattle.std.proofs.Common.{◌≡◌, ℕ, None, Some, List, refl, ap, sym, ◌∙◌}
+use Rattle.bk_device.specs.Compose.{effect_then}
 use Rattle.bk_device.specs.Disk.{IsDurable}
+use Rattle.bk_device.specs.Laws.{nothing_yet}
 use Rattle.bk_home.specs.declared.record.Record.{Record}
 use Rattle.bk_media.specs.Names.{medium_file}
 use Rattle.bk_instance.proofs.Loads.{let-go-none, let-go-clear, let-go-then, home-cleared, blobs-cleared, media-left-durable}
-use Rattle.bk_instance.proofs.Stores.{media-kept}
+use Rattle.bk_instance.proofs.Opened.{media-kept}
+use Rattle.bk_instance.proofs.Touching.{touches-medium, touches-none, touches-own}
 use Rattle.bk_instance.proofs.unfinished.let_go.Goals as goal
 
 next : Record → Record
@@ -55,3 +58,39 @@ returns-clause-crash g c t =
     let making : c.args.home.now.«record».making ≡ Some path = sym (ap (λ (r : Record). r.making) same) ∙ c.in-Some.is ∙ ap (λ (p : List ℕ). Some p) (sym c.as_str.ensures) in
     let-go-then path a b (g.D.Device.disk c.put.new.dev) c.args.home.now (next c.record-record.result.now) c.name_law.ensures.different (c.requires.stands t) c.clear.ensures.bytes making (c.clear.ensures.crash t)
     (c.in_ok-clear.ensures.cleared t) calm (ap (λ (r : Record). r.number) same) (ap (λ (r : Record). r.counter) same) refl (c.put.ensures.crash t)
+
+pub returns-in_default-clause-still : goal.returns-in_default-clause-still
+returns-in_default-clause-still g c t none = nothing_yet (g.D.Device.disk c.args.dev.now)
+
+pub returns-in_err-clear-clause-still : goal.returns-in_err-clear-clause-still
+returns-in_err-clear-clause-still g c t none =
+    let making : c.args.home.now.«record».making ≡ Some c.as_str.result.now = sym (ap (λ (r : Record). r.making) c.record-record.ensures.same) ∙ c.in-Some.is ∙ ap (λ (p : List ℕ). Some p) (sym c.as_str.ensures) in
+    absurd cc
+
+pub returns-in_err-put-clause-still : goal.returns-in_err-put-clause-still
+returns-in_err-put-clause-still g c t none =
+    let making : c.args.home.now.«record».making ≡ Some c.as_str.result.now = sym (ap (λ (r : Record). r.making) c.record-record.ensures.same) ∙ c.in-Some.is ∙ ap (λ (p : List ℕ). Some p) (sym c.as_str.ensures) in
+    absurd cc
+
+pub returns-clause-still : goal.returns-clause-still
+returns-clause-still g c t none =
+    let making : c.args.home.now.«record».making ≡ Some c.as_str.result.now = sym (ap (λ (r : Record). r.making) c.record-record.ensures.same) ∙ c.in-Some.is ∙ ap (λ (p : List ℕ). Some p) (sym c.as_str.ensures) in
+    absurd cc
+
+pub returns-in_default-clause-spares : goal.returns-in_default-clause-spares
+returns-in_default-clause-spares g c t = touches-none (g.D.Device.disk c.args.dev.now)
+
+pub returns-in_err-clear-clause-spares : goal.returns-in_err-clear-clause-spares
+returns-in_err-clear-clause-spares g c t =
+    let making : c.args.home.now.«record».making ≡ Some c.as_str.result.now = sym (ap (λ (r : Record). r.making) c.record-record.ensures.same) ∙ c.in-Some.is ∙ ap (λ (p : List ℕ). Some p) (sym c.as_str.ensures) in
+    touches-medium c.as_str.result.now (medium_file c.as_str.result.now) making refl (c.clear.ensures.crash t)
+
+pub returns-in_err-put-clause-spares : goal.returns-in_err-put-clause-spares
+returns-in_err-put-clause-spares g c t =
+    let making : c.args.home.now.«record».making ≡ Some c.as_str.result.now = sym (ap (λ (r : Record). r.making) c.record-record.ensures.same) ∙ c.in-Some.is ∙ ap (λ (p : List ℕ). Some p) (sym c.as_str.ensures) in
+    effect_then (touches-medium c.as_str.result.now (medium_file c.as_str.result.now) making refl (c.clear.ensures.crash t)) (touches-own (c.put.ensures.crash t))
+
+pub returns-clause-spares : goal.returns-clause-spares
+returns-clause-spares g c t =
+    let making : c.args.home.now.«record».making ≡ Some c.as_str.result.now = sym (ap (λ (r : Record). r.making) c.record-record.ensures.same) ∙ c.in-Some.is ∙ ap (λ (p : List ℕ). Some p) (sym c.as_str.ensures) in
+    effect_then (touches-medium c.as_str.result.now (medium_file c.as_str.result.now) making refl (c.clear.ensures.crash t)) (touches-own (c.put.ensures.crash t))

@@ -1,6 +1,6 @@
 use Rattle.bk_machine.proofs.Acting.{act-sound, acts-sound}
 use Rattle.bk_machine.proofs.ActsSays.{says-whole}
-use Rattle.bk_machine.proofs.Named.{named-own}
+use Rattle.bk_machine.specs.NamedLaws.{named-own}
 use Rattle.bk_machine.proofs.act_laws.acts_keep_worlds_sound.Goals as goal
 
 pub returns-clause-says : goal.returns-clause-says

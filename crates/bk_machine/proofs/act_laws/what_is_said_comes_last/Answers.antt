@@ -1,6 +1,6 @@
 use Rattle.std.proofs.Common.{sym, ◌∙◌}
 use Rattle.bk_machine.proofs.ActsSays.{says-found, says-log}
-use Rattle.bk_machine.proofs.Named.{name-of-named, named-alike, named-own}
+use Rattle.bk_machine.specs.NamedLaws.{name-of-named, named-alike, named-own}
 use Rattle.bk_machine.proofs.act_laws.what_is_said_comes_last.Goals as goal
 use Rattle.bk_machine.specs.Acts.{says}
 

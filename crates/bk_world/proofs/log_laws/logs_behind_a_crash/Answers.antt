@@ -1,5 +1,5 @@
 use Rattle.bk_world.proofs.log_laws.logs_behind_a_crash.Goals as goal
-use Rattle.bk_world.proofs.Crashing.{left-tells, left-pends, left-counts, left-sound}
+use Rattle.bk_world.specs.CrashLaws.{left-tells, left-pends, left-counts, left-sound}
 
 pub returns-clause-tells : goal.returns-clause-tells
 returns-clause-tells c = left-tells

@@ -1,5 +1,5 @@
 use Rattle.bk_world.proofs.log_laws.settling.Goals as goal
-use Rattle.bk_world.proofs.Settled.{nothing-pends, tells-same, settled-once}
+use Rattle.bk_world.specs.SettledLaws.{nothing-pends, tells-same, settled-once}
 
 pub returns-clause-nothing_pends : goal.returns-clause-nothing_pends
 returns-clause-nothing_pends c = nothing-pends

@@ -1,7 +1,7 @@
 use Rattle.std.proofs.Common.{[]}
 use Rattle.bk_world.proofs.log_laws.sound_logs.Goals as goal
-use Rattle.bk_world.proofs.Sounds.{follow-front, sound-rise}
-use Rattle.bk_world.proofs.Crashing.{sound-settled}
+use Rattle.bk_world.specs.SoundLaws.{follow-front, sound-rise}
+use Rattle.bk_world.specs.CrashLaws.{sound-settled}
 
 pub returns-clause-rises : goal.returns-clause-rises
 returns-clause-rises c = sound-rise

@@ -1,20 +1,36 @@
-use Rattle.bk_instance.proofs.BackupCuts.{backup, taken-answers, ok-through}
-use Rattle.bk_instance.proofs.Paths.{text-bytes}
-use Rattle.bk_instance.proofs.Restores.{cuts-nothing, cuts-through}
+use Rattle.bk_instance.proofs.Known.{knows-taken}
+use Rattle.bk_instance.proofs.Planned.{failed-early, on-error, calm-through, plan-executed, plan-failed, plan-broken}
+use Rattle.bk_instance.proofs.Resting.{stored-nothing}
 use Rattle.bk_instance.proofs.instance.Instance.backup.Goals as goal
-use Rattle.std.proofs.Common.{◌∙◌, sym}
 
-pub returns-in_err-is_taken-clause-crash : goal.returns-in_err-is_taken-clause-crash
-returns-in_err-is_taken-clause-crash g c tells = cuts-nothing c.args.self.now (g.D.Device.disk c.args.dev.now) (g.D.Device.disk c.is_taken.new.dev) (backup c.args.line c.args.name.now c.args.path.now) c.args.now c.requires.ready (c.requires.stored tells) (c.is_taken.ensures.effect tells)
+pub returns-in_err-is_there-clause-failed : goal.returns-in_err-is_there-clause-failed
+returns-in_err-is_there-clause-failed g c =
+    on-error c.from_residual.result (failed-early c.args.self.now (g.D.Device.disk c.args.dev.now) (g.D.Device.disk c.is_taken.new.dev) _ c.args.now c.requires.ready c.requires.stored c.is_taken.ensures.effect)
 
-pub returns-then-branch-clause-answers : goal.returns-then-branch-clause-answers
-returns-then-branch-clause-answers g c tells = taken-answers c.args.self.now (g.D.Device.disk c.args.dev.now) (g.D.Device.disk c.is_taken.new.dev) c.args.line c.args.name.now c.args.path.now c.args.now (text-bytes c.args.path.now c.utf8.path) (c.is_taken.ensures.effect tells) (sym (c.in_ok-is_taken.ensures.taken tells) ∙ c.if-branch.true)
+pub returns-in_err-plan-clause-failed : goal.returns-in_err-plan-clause-failed
+returns-in_err-plan-clause-failed g c =
+    on-error c.from_residual-in_err-plan.result (failed-early c.args.self.now (g.D.Device.disk c.args.dev.now) (g.D.Device.disk c.is_taken.new.dev) _ c.args.now c.requires.ready c.requires.stored c.is_taken.ensures.effect)
 
-pub returns-then-branch-clause-crash : goal.returns-then-branch-clause-crash
-returns-then-branch-clause-crash g c tells = cuts-nothing c.args.self.now (g.D.Device.disk c.args.dev.now) (g.D.Device.disk c.is_taken.new.dev) (backup c.args.line c.args.name.now c.args.path.now) c.args.now c.requires.ready (c.requires.stored tells) (c.is_taken.ensures.effect tells)
+pub follow-requires-clause-stored : goal.follow-requires-clause-stored
+follow-requires-clause-stored g c = λ tells. stored-nothing c.args.self.now (g.D.Device.disk c.args.dev.now) (g.D.Device.disk c.is_taken.new.dev) (c.is_taken.ensures.effect tells) (c.requires.stored tells)
 
-pub returns-clause-answers : goal.returns-clause-answers
-returns-clause-answers g c tells = ok-through c.args.self.now c.backup_new.new.self (g.D.Device.disk c.args.dev.now) (g.D.Device.disk c.is_taken.new.dev) (g.D.Device.disk c.backup_new.new.dev) (backup c.args.line c.args.name.now c.args.path.now) c.args.now c.backup_new.result (c.is_taken.ensures.effect tells) (c.backup_new.ensures.answers tells)
+pub returns-clause-media : goal.returns-clause-media
+returns-clause-media g c = λ tells. calm-through c.follow.result (g.D.Device.disk c.args.dev.now) (g.D.Device.disk c.is_taken.new.dev) (g.D.Device.disk c.follow.new.dev) (c.is_taken.ensures.effect tells) (c.follow.ensures.media tells)
 
-pub returns-clause-crash : goal.returns-clause-crash
-returns-clause-crash g c tells = cuts-through c.args.self.now (g.D.Device.disk c.args.dev.now) (g.D.Device.disk c.is_taken.new.dev) (g.D.Device.disk c.backup_new.new.dev) (backup c.args.line c.args.name.now c.args.path.now) c.args.now c.requires.ready (c.requires.stored tells) (c.is_taken.ensures.effect tells) (c.backup_new.ensures.crash tells)
+pub returns-clause-executed : goal.returns-clause-executed
+returns-clause-executed g c =
+    plan-executed c.args.self.now c.follow.new.self (g.D.Device.disk c.args.dev.now) (g.D.Device.disk c.is_taken.new.dev) (g.D.Device.disk c.follow.new.dev) _ c.args.now c.in_ok-plan.plan c.follow.result c.in_ok-plan.ensures.plans (λ t. g.met.D.Device.lawful t c.args.dev.now)
+    (knows-taken c.args.self.now (g.D.Device.disk c.args.dev.now) (g.D.Device.disk c.is_taken.new.dev) c.args.disk.now c.as_str.result.now c.in_ok-is_there.is_there c.requires.ready c.requires.stored c.is_taken.ensures.effect c.as_str.utf8 c.as_str.ensures c.in_ok-is_there.ensures.taken)
+    (record { replies = c.follow.ensures.replies; does = c.follow.ensures.does; crash = c.follow.ensures.crash; still = c.follow.ensures.still; spares = c.follow.ensures.spares; broken = c.follow.ensures.broken })
+
+pub returns-clause-failed : goal.returns-clause-failed
+returns-clause-failed g c =
+    plan-failed c.args.self.now c.follow.new.self (g.D.Device.disk c.args.dev.now) (g.D.Device.disk c.is_taken.new.dev) (g.D.Device.disk c.follow.new.dev) _ c.args.now c.in_ok-plan.plan c.follow.result c.in_ok-plan.ensures.plans
+    (knows-taken c.args.self.now (g.D.Device.disk c.args.dev.now) (g.D.Device.disk c.is_taken.new.dev) c.args.disk.now c.as_str.result.now c.in_ok-is_there.is_there c.requires.ready c.requires.stored c.is_taken.ensures.effect c.as_str.utf8 c.as_str.ensures c.in_ok-is_there.ensures.taken)
+    (record { replies = c.follow.ensures.replies; does = c.follow.ensures.does; crash = c.follow.ensures.crash; still = c.follow.ensures.still; spares = c.follow.ensures.spares; broken = c.follow.ensures.broken })
+
+pub returns-clause-broken : goal.returns-clause-broken
+returns-clause-broken g c =
+    plan-broken c.args.self.now c.follow.new.self (g.D.Device.disk c.args.dev.now) (g.D.Device.disk c.is_taken.new.dev) (g.D.Device.disk c.follow.new.dev) _ c.args.now c.in_ok-plan.plan c.follow.result c.in_ok-plan.ensures.plans
+    (knows-taken c.args.self.now (g.D.Device.disk c.args.dev.now) (g.D.Device.disk c.is_taken.new.dev) c.args.disk.now c.as_str.result.now c.in_ok-is_there.is_there c.requires.ready c.requires.stored c.is_taken.ensures.effect c.as_str.utf8 c.as_str.ensures c.in_ok-is_there.ensures.taken)
+    (record { replies = c.follow.ensures.replies; does = c.follow.ensures.does; crash = c.follow.ensures.crash; still = c.follow.ensures.still; spares = c.follow.ensures.spares; broken = c.follow.ensures.broken })

@@ -1,31 +1,69 @@
-use Rattle.std.proofs.Common.{◌∙◌, ◌+◌, None, refl, ap, subst}
+use Rattle.std.proofs.Common.{◌∙◌, refl, ap, arith}
 use Rattle.bk_device.specs.Compose.{effect_then}
 use Rattle.bk_kept.specs.declared.kept.Kept.{Kept}
-use Rattle.bk_instance.specs.Steps.{IsBased}
-use Rattle.bk_instance.proofs.BackupCuts.{backup-fine, backup-law, backup-answers, making-effect, finishing-effect}
-use Rattle.bk_instance.proofs.Paths.{text-bytes}
+use Rattle.bk_instance.proofs.Standing.{media-after, media-durable}
+use Rattle.bk_instance.proofs.StoredActs.{stored-none, stored-crash, stored-does}
+use Rattle.bk_instance.proofs.Touching.{touches-own}
 use Rattle.bk_instance.proofs.instance.Instance.store.Goals as goal
 
-pub returns-in_err-medium-clause-crash : goal.returns-in_err-medium-clause-crash
-returns-in_err-medium-clause-crash g c tells = (making-effect c.args.self.now (g.D.Device.disk c.args.dev.now) (g.D.Device.disk c.make_medium.new.dev) c.args.line c.args.name.now c.args.path.now c.args.now c.args.body.now (text-bytes c.args.path.now c.utf8.path) (λ other are. c.name_law.ensures.different c.args.path.now other (text-bytes c.args.path.now c.utf8.path) are) (c.requires.absent tells) (backup-law c.args.self.now (g.D.Device.disk c.args.dev.now) c.args.line c.args.name.now c.args.path.now c.args.now c.args.body.now c.requires.plans (λ w stands. backup-fine c.args.self.now (g.D.Device.disk c.args.dev.now) c.args.line c.args.name.now c.args.path.now (None) (text-bytes c.args.path.now c.utf8.path) (c.requires.absent tells) (λ w keeps. c.requires.unbroken w keeps) w stands)) (c.make_medium.ensures.crash tells))
+pub returns-in_err-reserve-clause-crash : goal.returns-in_err-reserve-clause-crash
+returns-in_err-reserve-clause-crash g c tells = stored-none c.args.self.now (g.D.Device.disk c.args.dev.now) (g.D.Device.disk c.reserve.new.dev) c.args.act.now (c.reserve.ensures.crash tells)
 
-pub returns-in_err-finish_backup-clause-crash : goal.returns-in_err-finish_backup-clause-crash
-returns-in_err-finish_backup-clause-crash g c tells = effect_then (making-effect c.args.self.now (g.D.Device.disk c.args.dev.now) (g.D.Device.disk c.make_medium.new.dev) c.args.line c.args.name.now c.args.path.now c.args.now c.args.body.now (text-bytes c.args.path.now c.utf8.path) (λ other are. c.name_law.ensures.different c.args.path.now other (text-bytes c.args.path.now c.utf8.path) are) (c.requires.absent tells) (backup-law c.args.self.now (g.D.Device.disk c.args.dev.now) c.args.line c.args.name.now c.args.path.now c.args.now c.args.body.now c.requires.plans (λ w stands. backup-fine c.args.self.now (g.D.Device.disk c.args.dev.now) c.args.line c.args.name.now c.args.path.now (None) (text-bytes c.args.path.now c.utf8.path) (c.requires.absent tells) (λ w keeps. c.requires.unbroken w keeps) w stands)) (c.make_medium.ensures.crash tells)) (finishing-effect c.args.self.now c.make_medium.new.self (g.D.Device.disk c.args.dev.now) (g.D.Device.disk c.make_medium.new.dev) (g.D.Device.disk c.finish_backup.new.dev) c.args.line c.args.name.now c.args.path.now c.args.now c.args.body.now c.in_ok-medium.ensures.ready c.in_ok-medium.ensures.kept c.in_ok-medium.ensures.reserved (λ other are. c.name_law.ensures.different c.args.path.now other (text-bytes c.args.path.now c.utf8.path) are) (backup-law c.args.self.now (g.D.Device.disk c.args.dev.now) c.args.line c.args.name.now c.args.path.now c.args.now c.args.body.now c.requires.plans (λ w stands. backup-fine c.args.self.now (g.D.Device.disk c.args.dev.now) c.args.line c.args.name.now c.args.path.now (None) (text-bytes c.args.path.now c.utf8.path) (c.requires.absent tells) (λ w keeps. c.requires.unbroken w keeps) w stands)) (λ other are apart. c.make_medium.ensures.others tells other are apart) (c.in_ok-medium.ensures.media tells) (c.finish_backup.ensures.crash tells))
+pub returns-in_err-bytes-clause-crash : goal.returns-in_err-bytes-clause-crash
+returns-in_err-bytes-clause-crash g c tells = stored-none c.args.self.now (g.D.Device.disk c.args.dev.now) (g.D.Device.disk c.reserve.new.dev) c.args.act.now (c.reserve.ensures.crash tells)
 
-pub returns-clause-stored : goal.returns-clause-stored
-returns-clause-stored g c tells = record { home = (c.in_ok-finish_backup.ensures.stored tells).home; rows = (c.in_ok-finish_backup.ensures.stored tells).rows }
+pub returns-in_err-apply-clause-crash : goal.returns-in_err-apply-clause-crash
+returns-in_err-apply-clause-crash g c tells = stored-none c.args.self.now (g.D.Device.disk c.args.dev.now) (g.D.Device.disk c.reserve.new.dev) c.args.act.now (c.reserve.ensures.crash tells)
 
-pub returns-clause-answers : goal.returns-clause-answers
-returns-clause-answers g c tells =
-    backup-answers c.args.self.now c.finish_backup.new.self _ (g.D.Device.disk c.args.dev.now) (g.D.Device.disk c.finish_backup.new.dev) c.args.line c.args.name.now c.args.path.now c.args.now c.args.body.now (λ other are. c.name_law.ensures.different c.args.path.now other (text-bytes c.args.path.now c.utf8.path) are) (backup-law c.args.self.now (g.D.Device.disk c.args.dev.now) c.args.line c.args.name.now c.args.path.now c.args.now c.args.body.now c.requires.plans (λ w stands. backup-fine c.args.self.now (g.D.Device.disk c.args.dev.now) c.args.line c.args.name.now c.args.path.now (None) (text-bytes c.args.path.now c.utf8.path) (c.requires.absent tells) (λ w keeps. c.requires.unbroken w keeps) w stands))
-    (subst (λ (k : Kept). IsBased c.args.body.now k.databases.items c.finish_backup.new.self.kept.databases.items) c.in_ok-medium.ensures.kept c.in_ok-finish_backup.ensures.done)
-    (λ other are apart. c.finish_backup.ensures.others tells other are apart ∙ c.make_medium.ensures.others tells other are apart) (c.in_ok-finish_backup.ensures.set tells)
-    refl (c.in_ok-finish_backup.ensures.same.number ∙ ap (λ (k : Kept). k.number) c.in_ok-medium.ensures.kept)
-    (ap (λ n. n + 1) (c.in_ok-finish_backup.ensures.same.counter ∙ ap (λ (k : Kept). k.counter) c.in_ok-medium.ensures.kept))
-    (c.in_ok-finish_backup.ensures.same.current ∙ ap (λ (k : Kept). k.current) c.in_ok-medium.ensures.kept)
-
-pub returns-clause-crash : goal.returns-clause-crash
-returns-clause-crash g c tells = effect_then (making-effect c.args.self.now (g.D.Device.disk c.args.dev.now) (g.D.Device.disk c.make_medium.new.dev) c.args.line c.args.name.now c.args.path.now c.args.now c.args.body.now (text-bytes c.args.path.now c.utf8.path) (λ other are. c.name_law.ensures.different c.args.path.now other (text-bytes c.args.path.now c.utf8.path) are) (c.requires.absent tells) (backup-law c.args.self.now (g.D.Device.disk c.args.dev.now) c.args.line c.args.name.now c.args.path.now c.args.now c.args.body.now c.requires.plans (λ w stands. backup-fine c.args.self.now (g.D.Device.disk c.args.dev.now) c.args.line c.args.name.now c.args.path.now (None) (text-bytes c.args.path.now c.utf8.path) (c.requires.absent tells) (λ w keeps. c.requires.unbroken w keeps) w stands)) (c.make_medium.ensures.crash tells)) (finishing-effect c.args.self.now c.make_medium.new.self (g.D.Device.disk c.args.dev.now) (g.D.Device.disk c.make_medium.new.dev) (g.D.Device.disk c.finish_backup.new.dev) c.args.line c.args.name.now c.args.path.now c.args.now c.args.body.now c.in_ok-medium.ensures.ready c.in_ok-medium.ensures.kept c.in_ok-medium.ensures.reserved (λ other are. c.name_law.ensures.different c.args.path.now other (text-bytes c.args.path.now c.utf8.path) are) (backup-law c.args.self.now (g.D.Device.disk c.args.dev.now) c.args.line c.args.name.now c.args.path.now c.args.now c.args.body.now c.requires.plans (λ w stands. backup-fine c.args.self.now (g.D.Device.disk c.args.dev.now) c.args.line c.args.name.now c.args.path.now (None) (text-bytes c.args.path.now c.utf8.path) (c.requires.absent tells) (λ w keeps. c.requires.unbroken w keeps) w stands)) (λ other are apart. c.make_medium.ensures.others tells other are apart) (c.in_ok-medium.ensures.media tells) (c.finish_backup.ensures.crash tells))
+pub returns-in_err-append-clause-crash : goal.returns-in_err-append-clause-crash
+returns-in_err-append-clause-crash g c tells =
+    effect_then (stored-none c.args.self.now (g.D.Device.disk c.args.dev.now) (g.D.Device.disk c.reserve.new.dev) c.args.act.now (c.reserve.ensures.crash tells))
+    (stored-crash (record { sound = c.acts_keep_worlds_sound.ensures.act; idle = c.acts_of_statements.ensures.idle; reflexive = c.logs_that_stay.ensures.reflexive; sets = c.sets_that_stay.ensures.act }) c.args.self.now c.reserve.new.self (record c.reserve.new.self { kept = c.apply.new.self }) (g.D.Device.disk c.args.dev.now) (g.D.Device.disk c.reserve.new.dev) (g.D.Device.disk c.append.new.dev) c.args.act.now c.deref.result.now c.in_ok-reserve.ensures.ready (record {
+      spelled = c.deref.ensures.value ∙ c.in_ok-bytes.ensures.bytes;
+      is_act = c.in_ok-bytes.ensures.fits;
+      keeps = c.in_ok-apply.ensures.ok;
+      number = c.in_ok-apply.ensures.number;
+      counter = c.in_ok-apply.ensures.counter;
+      reserved = omega (arith, c.in_ok-reserve.ensures.reserved, ap (λ (k : Kept). k.counter) c.reserve.ensures.kept, c.draws.ensures);
+    }) (λ w stands. c.in_ok-reserve.ensures.stands tells w stands) (c.in_ok-reserve.ensures.media tells) (c.append.ensures.crash tells))
 
 pub returns-clause-media : goal.returns-clause-media
-returns-clause-media g c tells durable = c.in_ok-finish_backup.ensures.media tells (c.in_ok-medium.ensures.media tells durable)
+returns-clause-media g c tells durable = media-durable (g.D.Device.disk c.reserve.new.dev) (g.D.Device.disk c.append.new.dev) (c.append.ensures.crash tells) (c.in_ok-reserve.ensures.media tells durable)
+
+pub returns-clause-does : goal.returns-clause-does
+returns-clause-does g c tells =
+    stored-does (record { sound = c.acts_keep_worlds_sound.ensures.act; idle = c.acts_of_statements.ensures.idle; reflexive = c.logs_that_stay.ensures.reflexive; sets = c.sets_that_stay.ensures.act }) c.args.self.now c.reserve.new.self (record c.reserve.new.self { kept = c.apply.new.self }) (record c.reserve.new.self { home = c.append.new.self; kept = c.apply.new.self }) (g.D.Device.disk c.args.dev.now) (g.D.Device.disk c.reserve.new.dev) (g.D.Device.disk c.append.new.dev) c.args.act.now c.deref.result.now (record {
+      spelled = c.deref.ensures.value ∙ c.in_ok-bytes.ensures.bytes;
+      is_act = c.in_ok-bytes.ensures.fits;
+      keeps = c.in_ok-apply.ensures.ok;
+      number = c.in_ok-apply.ensures.number;
+      counter = c.in_ok-apply.ensures.counter;
+      reserved = omega (arith, c.in_ok-reserve.ensures.reserved, ap (λ (k : Kept). k.counter) c.reserve.ensures.kept, c.draws.ensures);
+    }) refl (λ w stands. c.in_ok-reserve.ensures.stands tells w stands) (c.in_ok-append.ensures.blobs tells) (media-after (g.D.Device.disk c.reserve.new.dev) (g.D.Device.disk c.append.new.dev) (c.append.ensures.crash tells))
+
+pub returns-clause-crash : goal.returns-clause-crash
+returns-clause-crash g c tells =
+    effect_then (stored-none c.args.self.now (g.D.Device.disk c.args.dev.now) (g.D.Device.disk c.reserve.new.dev) c.args.act.now (c.reserve.ensures.crash tells))
+    (stored-crash (record { sound = c.acts_keep_worlds_sound.ensures.act; idle = c.acts_of_statements.ensures.idle; reflexive = c.logs_that_stay.ensures.reflexive; sets = c.sets_that_stay.ensures.act }) c.args.self.now c.reserve.new.self (record c.reserve.new.self { kept = c.apply.new.self }) (g.D.Device.disk c.args.dev.now) (g.D.Device.disk c.reserve.new.dev) (g.D.Device.disk c.append.new.dev) c.args.act.now c.deref.result.now c.in_ok-reserve.ensures.ready (record {
+      spelled = c.deref.ensures.value ∙ c.in_ok-bytes.ensures.bytes;
+      is_act = c.in_ok-bytes.ensures.fits;
+      keeps = c.in_ok-apply.ensures.ok;
+      number = c.in_ok-apply.ensures.number;
+      counter = c.in_ok-apply.ensures.counter;
+      reserved = omega (arith, c.in_ok-reserve.ensures.reserved, ap (λ (k : Kept). k.counter) c.reserve.ensures.kept, c.draws.ensures);
+    }) (λ w stands. c.in_ok-reserve.ensures.stands tells w stands) (c.in_ok-reserve.ensures.media tells) (c.append.ensures.crash tells))
+
+pub returns-in_err-reserve-clause-spares : goal.returns-in_err-reserve-clause-spares
+returns-in_err-reserve-clause-spares g c tells = touches-own (c.reserve.ensures.spares tells)
+
+pub returns-in_err-bytes-clause-spares : goal.returns-in_err-bytes-clause-spares
+returns-in_err-bytes-clause-spares g c tells = touches-own (c.reserve.ensures.spares tells)
+
+pub returns-in_err-apply-clause-spares : goal.returns-in_err-apply-clause-spares
+returns-in_err-apply-clause-spares g c tells = touches-own (c.reserve.ensures.spares tells)
+
+pub returns-in_err-append-clause-spares : goal.returns-in_err-append-clause-spares
+returns-in_err-append-clause-spares g c tells = effect_then (touches-own (c.reserve.ensures.spares tells)) (touches-own (c.append.ensures.crash tells))
+
+pub returns-clause-spares : goal.returns-clause-spares
+returns-clause-spares g c tells = effect_then (touches-own (c.reserve.ensures.spares tells)) (touches-own (c.append.ensures.crash tells))

@@ -1,14 +1,13 @@
-use Rattle.std.proofs.Common.{◌≡◌, ◌∙◌}
+use Rattle.std.proofs.Common.{◌≡◌}
 use Rattle.std.specs.Option.{option_map}
-use Rattle.bk_changes.specs.Applied.{database_named}
-use Rattle.bk_kept.proofs.Related.{first-named, finds-named}
+use Rattle.bk_kept.proofs.Named.{first, found-named, found-shows}
 use Rattle.bk_kept.proofs.kept.Kept.named.Goals as goal
 
-same : (c : goal.After-first_named) → option_map (λ d. d.now) c.first_named.result ≡ database_named c.args.self.now.databases.items c.args.name.now
-same c = rw (← c.deref.ensures.value) (c.first_named.ensures ∙ first-named c.args.name.now c.deref.result.now)
-
-pub returns-clause-same : goal.returns-clause-same
-returns-clause-same c = same c
+same : (c : goal.After-first_named) → option_map (λ d. d.now) c.first_named.result ≡ first c.args.name.now c.args.self.now.databases.items
+same c = rw (← c.deref.ensures.value) c.first_named.ensures
 
 pub returns-clause-found : goal.returns-clause-found
-returns-clause-found c = λ w keeps. finds-named w c.args.self.now c.args.name.now c.first_named.result keeps (same c)
+returns-clause-found c = λ w keeps. found-named w c.args.self.now c.args.name.now c.first_named.result (same c) keeps
+
+pub returns-clause-shows : goal.returns-clause-shows
+returns-clause-shows c = λ w keeps. found-shows w c.args.self.now c.args.name.now c.first_named.result (same c) keeps

@@ -1,0 +1,114 @@
+-- Which files are left alone by several calls.
+use Rattle.std.proofs.Common.{◌≡◌, inl, inr, ℕ, List, [], ◌∷◌, ◌++◌}
+use Rattle.bk_device.specs.Calls.{ChangesNothing, Elapses, TellsBytes, TellsFront}
+use Rattle.bk_device.specs.Compose.{keeps_by_effect, keeps_by_nothing, keeps_by_telling, keeps_then}
+use Rattle.bk_device.specs.Disk.{Files, Disk, MayLeave}
+use Rattle.bk_device.specs.Effects.{Effect, MayLeaveOthers}
+use Rattle.bk_home.specs.Home.{IsOwn}
+use Rattle.bk_instance.specs.declared.instance.Instance.{Instance}
+use Rattle.bk_instance.specs.Stands.{StandsFor}
+use Rattle.bk_instance.specs.Steps.{Failed, IsStill, MayCome}
+use Rattle.bk_instance.specs.Touched.{ActsWrite, IsTouched}
+use Rattle.bk_items.specs.declared.item.ScriptEntry.{ScriptEntry}
+use Rattle.bk_machine.specs.Outcome.{Outcome}
+use Rattle.bk_machine.specs.World.{World}
+use Rattle.bk_world.specs.Text.{reply_text}
+use Rattle.bk_console.specs.Answers.{Asked, CutShort, CutWithin}
+use Rattle.bk_console.specs.Spares.{AreStill, OutcomesWrite, Spares}
+use Rattle.bk_console.proofs.Asking.{elapses-none, elapses-then, elapses-weaken, keeps-same, silent-cut, silent-front}
+
+pub spares-none : {touched : List ℕ → Type 0} (a : Disk) → Spares touched a a
+spares-none a = record { files = keeps-same _ a; crashes = elapses-none _ a }
+
+pub spares-then : {touched : List ℕ → Type 0} {a b c : Disk} → Spares touched a b → Spares touched b c → Spares touched a c
+spares-then {touched} {a} {b} {c} first second = record {
+  files = keeps_then first.files second.files;
+  crashes = elapses-then (λ image heard. MayLeaveOthers touched a image) (λ image heard. MayLeaveOthers touched b image) (λ image heard. MayLeaveOthers touched a image) a b c
+      (λ image heard others. others) (λ image heard others name off. first.files.nothing_more name off (image name) (others name off)) first.crashes second.crashes;
+}
+
+-- more may be touched
+pub spares-wider : {touched wider : List ℕ → Type 0} {a b : Disk} → ((name : List ℕ) → touched name → wider name) → Spares touched a b → Spares wider a b
+spares-wider {touched} {wider} {a} {b} within one = record {
+  files = record {
+    same = λ name off. one.files.same name (λ at. off (within name at));
+    nothing_more = λ name off. one.files.nothing_more name (λ at. off (within name at));
+  };
+  crashes = elapses-weaken (λ image heard. MayLeaveOthers touched a image) (λ image heard. MayLeaveOthers wider a image) a b (λ image heard others name off. others name (λ at. off (within name at))) one.crashes;
+}
+
+-- by what was done
+
+pub spares-effect : {touched : List ℕ → Type 0} {P : Files → Type 0} {a b : Disk} → Effect touched P a b → Spares touched a b
+spares-effect {touched} {P} {a} {b} effect = record {
+  files = keeps_by_effect (λ name off at. off at) effect;
+  crashes = elapses-weaken (λ image heard. P image × MayLeaveOthers touched a image × (heard ≡ a.told)) (λ image heard. MayLeaveOthers touched a image) a b (λ image heard here. here.1) effect.time;
+}
+
+pub spares-nothing : {touched : List ℕ → Type 0} {a b : Disk} → ChangesNothing a b → Spares touched a b
+spares-nothing {touched} {a} {b} call = record {
+  files = keeps_by_nothing call;
+  crashes = elapses-weaken (λ image heard. MayLeave b image × (heard ≡ a.told)) (λ image heard. MayLeaveOthers touched a image) a b (λ image heard here name off. call.nothing_more name (image name) (here.0 name)) call.time;
+}
+
+pub spares-telling : {touched : List ℕ → Type 0} {bytes : List ℕ} {a b : Disk} → TellsBytes bytes a b → Spares touched a b
+spares-telling {touched} {bytes} {a} {b} call = record {
+  files = keeps_by_telling call;
+  crashes = elapses-weaken (λ image heard. MayLeave b image × TellsFront bytes a.told heard) (λ image heard. MayLeaveOthers touched a image) a b (λ image heard here name off. call.nothing_more name (image name) (here.0 name)) call.time;
+}
+
+-- Own files, and media that are written to.
+
+pub spares-own : {written : List ℕ → Type 0} {P : Files → Type 0} {a b : Disk} → Effect IsOwn P a b → Spares (IsTouched written) a b
+spares-own effect = spares-wider (λ name own. inl own) (spares-effect effect)
+
+-- more are
+pub spares-more : {written wider : List ℕ → Type 0} {a b : Disk} → ((path : List ℕ) → written path → wider path) → Spares (IsTouched written) a b → Spares (IsTouched wider) a b
+spares-more {written} {wider} within one = spares-wider within-touched one
+  where
+    within-touched : (name : List ℕ) → IsTouched written name → IsTouched wider name
+    within-touched name (inl own) = inl own
+    within-touched name (inr medium) = inr (medium.0, within medium.0 medium.1, medium.2)
+
+-- One statement more.
+
+pub writes-before : (os more : List Outcome) (path : List ℕ) → OutcomesWrite os path → OutcomesWrite (os ++ more) path
+writes-before [] more path writes = absurd writes
+writes-before (o ∷ os) more path (inl here) = inl here
+writes-before (o ∷ os) more path (inr there) = inr (writes-before os more path there)
+
+pub writes-last : (os : List Outcome) (o : Outcome) (path : List ℕ) → ActsWrite o.acts path → OutcomesWrite (os ++ o ∷ []) path
+writes-last [] o path writes = inl writes
+writes-last (first ∷ os) o path writes = inr (writes-last os o path writes)
+
+pub still-front : (os : List Outcome) (o : Outcome) → AreStill (os ++ o ∷ []) → AreStill os × IsStill o
+still-front [] o all = (tt, all.0)
+still-front (first ∷ os) o all = let rest = still-front os o all.1 in ((all.0, rest.0), rest.1)
+
+-- An answer that is cut short.
+
+-- an answer that comes to something, and was told in part
+pub cut-in_reply : (old : Instance) (s : ScriptEntry) (ct : Type 0) (before after : ℕ → ℕ) (dt : Type 0) (disk disk_after : Disk) (has_reply : Type 0) (now : ℕ)
+    → Asked ct before after (now ∷ []) → (outcome : Outcome) → (dt → MayCome old disk s now outcome) → (dt → Elapses disk disk_after (CutWithin old disk outcome))
+    → (dt → TellsFront (reply_text outcome.reply) disk.told disk_after.told) → (dt → (w : World) → StandsFor old disk w → Spares (IsTouched (ActsWrite outcome.acts)) disk disk_after) → CutShort old s ct before after dt disk disk_after has_reply
+cut-in_reply old s ct before after dt disk disk_after has_reply now asked outcome may crashes front spares =
+    record { now = now; asked = asked; front = inl (record { outcome = outcome; may = may; crashes = crashes; front = front; spares = spares }) }
+
+-- one that wasn't executed
+pub cut-before_reply : (old : Instance) (s : ScriptEntry) (ct : Type 0) (before after : ℕ → ℕ) (dt : Type 0) (disk disk_after : Disk) (has_reply : Type 0) (now : ℕ)
+    → Asked ct before after (now ∷ []) → (has_reply → ⊥) → Failed dt old disk s now disk_after → CutShort old s ct before after dt disk disk_after has_reply
+cut-before_reply old s ct before after dt disk disk_after has_reply now asked none (inl nowhere) = record {
+  now = now;
+  asked = asked;
+  front = inr (
+    none,
+    record {
+      crashes = λ t. elapses-weaken _ _ disk disk_after (λ image heard here. (here.0, here.2)) (nowhere t).crash.time;
+      silent = λ t. (nowhere t).crash.told;
+      spares = λ t. spares-nothing (nowhere t).device;
+    },
+  );
+}
+cut-before_reply old s ct before after dt disk disk_after has_reply now asked none (inr off) =
+    cut-in_reply old s ct before after dt disk disk_after has_reply now asked off.outcome off.may (λ t. silent-cut old off.outcome disk disk_after (off.crash t))
+    (λ t. silent-front (reply_text off.outcome.reply) disk disk_after (off.crash t).told) (λ t w stands. spares-effect (off.spares t w stands))

@@ -1,0 +1,253 @@
+-- A medium is made, while the record names it.
+use Rattle.std.proofs.Common.{◌≡◌, ◌≢◌, ◌≤◌, ◌⊎◌, inl, inr, ℕ, zero, suc, ◌+◌, Bool, true, false, List, [], Option, None, Some, refl, sym, ◌∙◌, ap, subst, arith}
+use Rattle.std.specs.Prelude.{if◌then◌else◌, ◌&&◌, option_map, slice_get}
+use Rattle.std.specs.Str.{bytes_eq}
+use Rattle.bk_bytes.specs.Field.{AreBytes}
+use Rattle.bk_device.specs.Compose.{effect_weaken, effect_widen, keeps_by_effect, durable_kept}
+use Rattle.bk_device.specs.Disk.{Files, Disk, IsDurable}
+use Rattle.bk_device.specs.Effects.{Effect, IsName, KeepsFiles}
+use Rattle.bk_device.specs.Names.{same_or_other}
+use Rattle.bk_gate.specs.Blobs.{sealed}
+use Rattle.bk_home.specs.declared.record.Record.{Record}
+use Rattle.bk_home.specs.Home.{HomeIs, IsHome, IsOwn, Kept as KeptHome, blobs_of}
+use Rattle.bk_home.specs.Laws.{home_left}
+use Rattle.bk_machine.specs.Acts.{Act, done, medium_made, set_sealed}
+use Rattle.bk_machine.specs.MayDo.{MayDo}
+use Rattle.bk_machine.specs.Same.{SameLogs}
+use Rattle.bk_machine.specs.Sound.{IsSound, AreIdle}
+use Rattle.bk_machine.specs.World.{World}
+use Rattle.bk_media.specs.Laws.{nothing_sealed, sets_read, sets_are, names_differ}
+use Rattle.bk_media.specs.Media.{HasSets, LeavesMade, found_at, read_medium}
+use Rattle.bk_media.specs.Names.{medium_file}
+use Rattle.bk_kept.specs.declared.kept.Kept.{Kept}
+use Rattle.bk_plans.specs.declared.parts.Part.{Part}
+use Rattle.bk_plans.specs.declared.parts.Part.TheVariants as part
+use Rattle.bk_kept.specs.Keeps.{Keeps}
+use Rattle.bk_plans.specs.Planning.{MakesMedium}
+use Rattle.bk_set.specs.declared.body.SetBody.{SetBody}
+use Rattle.bk_set.specs.declared.found.Found.TheVariants.{Holds}
+use Rattle.bk_set.specs.Found.{found}
+use Rattle.bk_world.specs.declared.header.Header.{Header}
+use Rattle.bk_world.specs.Medium.{Reading, medium, medium_at}
+use Rattle.bk_instance.specs.declared.instance.Instance.{Instance}
+use Rattle.bk_instance.specs.Media.{KeepsMedia, MediaAreDurable, IfDurable, is_begun, shown_medium}
+use Rattle.bk_instance.specs.Stands.{AreMade, Covers, IsReady, StandsFor, IsOurs}
+use Rattle.bk_instance.specs.Steps.{CutsPart, DoesPart, Stays}
+use Rattle.bk_instance.proofs.KeptMedia.{SameMedia, is-self, not-other, found-in, shown-sealed, medium-here, medium-other}
+use Rattle.bk_instance.proofs.Standing.{Fits, not-own, own-widens, made-same, covers-now, covers-old}
+
+-- what acts on media keep
+pub record MediaLaws : Type 0 where
+  pub sound : (w : World) (act : Act) → IsSound w → MayDo w act → IsSound (done w act)
+  pub idle : (old new : World) → SameLogs old new → AreIdle old → AreIdle new
+  pub transitive : (a b c : World) → SameLogs a b → SameLogs b c → SameLogs a c
+  pub made : (w : World) (path : List ℕ) → SameLogs w (done w (medium_made path))
+  pub sealed : (w : World) (path : List ℕ) (header : Header) → SameLogs w (done w (set_sealed path header))
+
+-- the same media but this one
+abbrev pub SameOthers : Files → List ℕ → Files → Type 0
+SameOthers files path image = (other : List ℕ) → AreBytes other → other ≢ path → image (medium_file other) ≡ files (medium_file other)
+
+-- the files of two media at different paths
+pub files-apart : (path other : List ℕ) → AreBytes path → AreBytes other → other ≢ path → medium_file other ≢ medium_file path
+files-apart path other bytes are apart same = apart (sym (names_differ path other bytes are (sym same)))
+
+-- A file in which nothing is sealed.
+
+pub unread-sealed : (file : Option (List ℕ)) → read_medium file ≡ None → sealed file ≡ []
+unfolding read_medium
+unread-sealed None none = nothing_sealed
+unread-sealed (Some file) none = absurd (cc)
+
+none-found : (file : Option (List ℕ)) (p : ℕ) (body : SetBody) → sealed file ≡ [] → found_at file p ≡ Some (Holds body) → ⊥
+none-found file p body none is =
+    let some : is_begun (sealed file) ≡ false = (found-in file p body is).some in
+    let begun : is_begun (sealed file) ≡ true = ap is_begun none in
+    absurd (cc)
+
+both-shown : (t b : Bool) (reading : Option Reading) → t ≡ true → b ≡ true → (if t && b then None else reading) ≡ None
+both-shown true true reading is begun = refl
+both-shown true false reading is begun = absurd (cc)
+both-shown false b reading is begun = absurd (cc)
+
+begun-shown : (path : List ℕ) (file : Option (List ℕ)) → sealed file ≡ [] → shown_medium (Some path) path file ≡ None
+begun-shown path file none = both-shown (bytes_eq path path) (is_begun (sealed file)) (read_medium file) (is-self path) (ap is_begun none)
+
+other-shown : (path other : List ℕ) (file : Option (List ℕ)) → other ≢ path → shown_medium (Some path) other file ≡ read_medium file
+other-shown path other file apart = ap (λ (t : Bool). if t && is_begun (sealed file) then None else read_medium file) (not-other path other apart)
+
+-- a medium that is only being made isn't one of the world
+begun-media : (w : World) (path : List ℕ) (before image : Files) → KeepsMedia w None before → medium_at w.media path ≡ None → sealed (image (medium_file path)) ≡ [] → SameOthers before path image → KeepsMedia w (Some path) image
+begun-media w path before image media absent none others = record {
+  read = λ other are. elim (same_or_other path other) [
+    | inl is ↦ subst (λ o. medium_at w.media o ≡ shown_medium (Some path) o (image (medium_file o))) (sym is) (absent ∙ sym (begun-shown path (image (medium_file path)) none))
+    | inr apart ↦ media.read other are ∙ ap read_medium (sym (others other are apart)) ∙ sym (other-shown path other (image (medium_file other)) apart)
+  ];
+  carried = λ other p body are is. elim (same_or_other path other) [
+    | inl same ↦ absurd (none-found (image (medium_file path)) p body none (subst (λ o. found_at (image (medium_file o)) p ≡ Some (Holds body)) same is))
+    | inr apart ↦ media.carried other p body are (ap (λ f. found_at f p) (sym (others other are apart)) ∙ is)
+  ];
+}
+
+-- A medium without sets.
+
+empty-found : (file : Option (List ℕ)) (p : ℕ) (body : SetBody) → HasSets [] file → found_at file p ≡ Some (Holds body) → ⊥
+unfolding found_at
+empty-found file zero body has is = absurd (cc)
+empty-found file (suc i) body has is =
+    let none : option_map found (slice_get [] i) ≡ Some (Holds body) = ap (λ (s : List (List ℕ)). option_map found (slice_get s i)) (sym (sets_are [] file has)) ∙ is in
+    absurd (cc)
+
+-- a record names this medium, or none
+abbrev pub NamesAtMost : List ℕ → Option (List ℕ) → Type 0
+NamesAtMost path making = (making ≡ None) ⊎ (making ≡ Some path)
+
+named-shown : (path other : List ℕ) (making : Option (List ℕ)) (file : Option (List ℕ)) → NamesAtMost path making → other ≢ path → shown_medium making other file ≡ read_medium file
+named-shown path other making file (inl none) apart = ap (λ m. shown_medium m other file) none
+named-shown path other making file (inr some) apart = ap (λ m. shown_medium m other file) some ∙ other-shown path other file apart
+
+made-media : (w : World) (path : List ℕ) (making : Option (List ℕ)) (before image : Files) → KeepsMedia w None before → NamesAtMost path making → HasSets [] (image (medium_file path)) → SameOthers before path image → KeepsMedia (done w (medium_made path)) making image
+unfolding done
+made-media w path making before image media named has others =
+    let some : is_begun (sealed (image (medium_file path))) ≡ false = ap is_begun has in
+    let reads : read_medium (image (medium_file path)) ≡ Some (medium []) = sets_read [] (image (medium_file path)) has in
+    record {
+      read = λ other are. elim (same_or_other path other) [
+        | inl is ↦ subst (λ o. medium_at (done w (medium_made path)).media o ≡ shown_medium making o (image (medium_file o))) (sym is)
+            (medium-here w.media path (medium []) ∙ sym reads ∙ sym (shown-sealed making path (image (medium_file path)) some))
+        | inr apart ↦ medium-other w.media path other (medium []) apart ∙ media.read other are ∙ ap read_medium (sym (others other are apart)) ∙ sym (named-shown path other making (image (medium_file other)) named apart)
+      ];
+      carried = λ other p body are is. elim (same_or_other path other) [
+        | inl same ↦ absurd (empty-found (image (medium_file path)) p body has (subst (λ o. found_at (image (medium_file o)) p ≡ Some (Holds body)) same is))
+        | inr apart ↦ media.carried other p body are (ap (λ f. found_at f p) (sym (others other are apart)) ∙ is)
+      ];
+    }
+
+-- The world behind it.
+
+made-keeps : (w : World) (path : List ℕ) (k : Kept) → Keeps w k → Keeps (done w (medium_made path)) (record k { counter = k.counter + 1 })
+unfolding done
+made-keeps w path k keeps = record { number = keeps.number; counter = ap (λ n. n + 1) keeps.counter; current = keeps.current; databases = keeps.databases; shown = keeps.shown }
+
+-- From an instance with this record a medium begins to be made under another record, which names it.
+pub record Begins (old i : Instance) (first disk : Disk) (path : List ℕ) (r : Record) : Type 0 where
+  pub ready : IsReady i
+  pub on : (w : World) → StandsFor old first w → StandsFor i disk w
+  pub bytes : AreBytes path
+  pub named : r.making ≡ Some path
+  pub number : r.number ≡ i.kept.number
+  pub counter : r.counter ≡ i.home.«record».counter
+  pub reserved : i.kept.counter + 1 ≤ i.home.«record».counter
+
+pub begins : (old i : Instance) (first disk : Disk) (path : List ℕ) (r : Record) → IsReady i → ((w : World) → StandsFor old first w → StandsFor i disk w) → AreBytes path → r.making ≡ Some path → r.number ≡ i.kept.number → r.counter ≡ i.home.«record».counter
+    → i.kept.counter + 1 ≤ i.home.«record».counter → Begins old i first disk path r
+begins old i first disk path r ready on bytes named number counter reserved = record { ready = ready; on = on; bytes = bytes; named = named; number = number; counter = counter; reserved = reserved }
+
+begins-fits : {old i : Instance} {first disk : Disk} {path : List ℕ} {r : Record} → Begins old i first disk path r → Fits i 0 r
+begins-fits b = record { number = sym b.number; no_less = omega (arith, b.counter, b.reserved); no_more = omega (arith, b.counter, b.ready.no_more) }
+
+file-none : {old i : Instance} {first disk : Disk} {path : List ℕ} {r : Record} (w : World) → Begins old i first disk path r → StandsFor old first w → medium_at w.media path ≡ None → sealed (disk.files (medium_file path)) ≡ []
+file-none {disk = disk} {path = path} w b stands absent = unread-sealed (disk.files (medium_file path)) (sym ((b.on w stands).media.read path b.bytes) ∙ absent)
+
+naming-covers : {old i : Instance} {first disk : Disk} {path : List ℕ} {r : Record} → Begins old i first disk path r → (number : ℕ) (w : World) (act : Act) (image : Files) → StandsFor old first w → MakesMedium w path act
+    → HomeIs image r (blobs_of disk.files) → SameOthers disk.files path image → sealed (image (medium_file path)) ≡ [] → Covers number image w
+naming-covers {i = i} {disk = disk} {path = path} {r = r} b number w act image stands makes home others none =
+    covers-old number i disk w image r (b.on w stands) (begins-fits b) home (subst (λ making. KeepsMedia w making image) (sym b.named) (begun-media w path disk.files image (b.on w stands).media makes.absent none others))
+
+world-covers : (laws : MediaLaws) (i : Instance) (disk : Disk) (path : List ℕ) (q : Record) (number : ℕ) (w : World) (image : Files) → StandsFor i disk w → q.number ≡ i.kept.number → i.kept.counter + 1 ≤ q.counter → q.counter ≤ i.kept.counter + 1024
+    → NamesAtMost path q.making → HomeIs image q (blobs_of disk.files) → SameOthers disk.files path image → HasSets [] (image (medium_file path)) → Covers number image (done w (medium_made path))
+unfolding done
+world-covers laws i disk path q number w image stands is_number no_less no_more named home others has =
+    let least : w.counter + 1 ≤ q.counter = omega (arith, stands.keeps.counter, no_less) in
+    let most : q.counter ≤ w.counter + 1 + 1024 = omega (arith, stands.keeps.counter, no_more) in
+    record {
+      sound = laws.sound w (medium_made path) stands.sound tt;
+      idle = laws.idle w (done w (medium_made path)) (laws.made w path) stands.idle;
+      «record» = q;
+      blobs = blobs_of disk.files;
+      holds = inr home;
+      instance = stands.keeps.number ∙ sym is_number;
+      no_less = least;
+      no_more = most;
+      made = made-same (done w (medium_made path)) laws.transitive stands.made (laws.made w path);
+      media = made-media w path q.making disk.files image stands.media named has others;
+    }
+
+made-covers : {old i : Instance} {first disk : Disk} {path : List ℕ} {r : Record} → MediaLaws → Begins old i first disk path r → (q : Record) → q.number ≡ r.number → q.counter ≡ r.counter → NamesAtMost path q.making
+    → (number : ℕ) (w : World) (act : Act) (image : Files) → StandsFor old first w → MakesMedium w path act → HomeIs image q (blobs_of disk.files) → SameOthers disk.files path image → HasSets [] (image (medium_file path)) → Covers number image (done w act)
+made-covers {i = i} {disk = disk} {path = path} laws b q is_number counter named number w act image stands makes home others has =
+    subst (λ a. Covers number image (done w a)) (sym makes.is)
+    (world-covers laws i disk path q number w image (b.on w stands) (is_number ∙ b.number) (omega (arith, counter, b.counter, b.reserved)) (omega (arith, counter, b.counter, b.ready.no_more)) named home others has)
+
+pub made-does : (laws : MediaLaws) (old i j : Instance) (first disk after : Disk) (path : List ℕ) → ((w : World) → StandsFor old first w → StandsFor i disk w) → j.kept ≡ record i.kept { counter = i.kept.counter + 1 } → blobs_of after.files ≡ blobs_of disk.files
+    → SameOthers disk.files path after.files → HasSets [] (after.files (medium_file path)) → DoesPart old first (part.MediumMade path) j after
+made-does laws old i j first disk after path on kept blobs others has w act stood makes =
+    let stands : StandsFor i disk w = on w stood in
+    let v : World = done w (medium_made path) in
+    subst (λ a. StandsFor j after (done w a)) (sym makes.is) (record {
+      sound = laws.sound w (medium_made path) stands.sound tt;
+      idle = laws.idle w v (laws.made w path) stands.idle;
+      keeps = subst (Keeps v) (sym kept) (made-keeps w path i.kept stands.keeps);
+      made = subst (λ b. AreMade b v) (sym blobs) (made-same v laws.transitive stands.made (laws.made w path));
+      media = made-media w path None disk.files after.files stands.media (inl refl) has others;
+    })
+
+-- What crashes leave on the way.
+
+-- nothing but GUIDs was done
+pub part-none : (old : Instance) (before after : Disk) (p : Part) → Effect IsOurs (IfDurable before (Stays old before)) before after → Effect IsOurs (IfDurable before (CutsPart old before p)) before after
+part-none old before after p effect = effect_weaken (λ image here durable number w act stands is. inl (here durable number w stands)) effect
+
+-- the record names it
+pub made-named : {old i : Instance} {first disk after : Disk} {path : List ℕ} {r : Record} → Begins old i first disk path r → (MediaAreDurable first → MediaAreDurable disk)
+    → Effect IsOwn (λ image. HomeIs image i.home.«record» (blobs_of disk.files) ⊎ HomeIs image r (blobs_of disk.files)) disk after → Effect IsOurs (IfDurable first (CutsPart old first (part.MediumMade path))) disk after
+made-named {i = i} {first = first} {disk = disk} {after = after} {path = path} b calm effect =
+    own-widens first disk after calm (λ image here same number w act stands is. elim here [
+      | inl home ↦ inl (covers-now number i disk w image b.ready (b.on w stands) home same)
+      | inr home ↦ inl (naming-covers b number w act image stands is home (λ other are apart. same other are) (ap sealed (same path b.bytes) ∙ file-none w b stands is.absent))
+    ]) effect
+
+-- its file is made
+pub made-file : {old i : Instance} {first disk before after : Disk} {path : List ℕ} {r : Record} (home : KeptHome) → MediaLaws → Begins old i first disk path r → IsHome before home → home.«record» ≡ r → blobs_of before.files ≡ blobs_of disk.files
+    → (MediaAreDurable first → MediaAreDurable before) → SameMedia disk.files before.files → Effect (IsName (medium_file path)) (λ image. LeavesMade (before.may (medium_file path)) (image (medium_file path))) before after
+    → Effect IsOurs (IfDurable first (CutsPart old first (part.MediumMade path))) before after
+made-file {disk = disk} {before = before} {path = path} {r = r} home laws b stored is_record blobs calm same effect =
+    effect_widen (λ name is. inr (path, b.bytes, is))
+    (λ image here rest durable number w act stands is.
+    let calmed : MediaAreDurable before = calm durable in
+    let own : HomeIs image home.«record» (blobs_of before.files) = home_left image stored (λ name mine. rest name (λ at. not-own path (subst IsOwn at mine)) (inl mine)) in
+    let mine : HomeIs image r (blobs_of disk.files) = subst (HomeIs image r) blobs (subst (λ (q : Record). HomeIs image q (blobs_of before.files)) is_record own) in
+    let beside : SameOthers disk.files path image = λ other are apart. calmed other are (image (medium_file other)) (rest (medium_file other) (files-apart path other b.bytes are apart) (inr (other, are, refl))) ∙ same other are in
+    elim here [
+      | inl was ↦ inl (naming-covers b number w act image stands is mine beside (ap sealed (calmed path b.bytes (image (medium_file path)) was ∙ same path b.bytes) ∙ file-none w b stands is.absent))
+      | inr next ↦ elim next [
+        | inl begun ↦ inl (naming-covers b number w act image stands is mine beside begun)
+        | inr made ↦ inr (made-covers laws b r refl refl (inr b.named) number w act image stands is mine beside made)
+      ]
+    ]) effect
+
+-- the record names none any more
+pub made-unnamed : {old i : Instance} {first disk before after : Disk} {path : List ℕ} {r : Record} (a q : Record) → MediaLaws → Begins old i first disk path r → a ≡ r → q.number ≡ r.number → q.counter ≡ r.counter → q.making ≡ None → blobs_of before.files ≡ blobs_of disk.files
+    → (MediaAreDurable first → MediaAreDurable before) → SameOthers disk.files path before.files → HasSets [] (before.files (medium_file path))
+    → Effect IsOwn (λ image. HomeIs image a (blobs_of before.files) ⊎ HomeIs image q (blobs_of before.files)) before after → Effect IsOurs (IfDurable first (CutsPart old first (part.MediumMade path))) before after
+made-unnamed {first = first} {disk = disk} {before = before} {after = after} {path = path} {r = r} a q laws b is_record is_number counter none blobs calm others has effect =
+    own-widens first before after calm (λ image here same number w act stands is.
+    let beside : SameOthers disk.files path image = λ other are apart. same other are ∙ others other are apart in
+    let made : HasSets [] (image (medium_file path)) = subst (HasSets []) (sym (same path b.bytes)) has in
+    elim here [
+      | inl home ↦ inr (made-covers laws b r refl refl (inr b.named) number w act image stands is (subst (HomeIs image r) blobs (subst (λ (x : Record). HomeIs image x (blobs_of before.files)) is_record home)) beside made)
+      | inr home ↦ inr (made-covers laws b q is_number counter (inl none) number w act image stands is (subst (HomeIs image q) blobs home) beside made)
+    ]) effect
+
+-- What is done to one medium.
+
+-- own files stay
+pub own-kept : {P : Files → Type 0} (before after : Disk) (path : List ℕ) → Effect (IsName (medium_file path)) P before after → KeepsFiles IsOwn before after
+own-kept before after path effect = keeps_by_effect (λ name own is. not-own path (subst IsOwn is own)) effect
+
+-- and nothing more is pending in media
+pub one-durable : {P : Files → Type 0} (before after : Disk) (path : List ℕ) → AreBytes path → Effect (IsName (medium_file path)) P before after → IsDurable after (medium_file path) → MediaAreDurable before → MediaAreDurable after
+one-durable before after path bytes effect mine durable other are = elim (same_or_other path other) [
+  | inl same ↦ subst (λ o. IsDurable after (medium_file o)) (sym same) mine
+  | inr apart ↦ durable_kept {names = IsName (medium_file other)} (medium_file other) refl (keeps_by_effect (λ name is at. files-apart path other bytes are apart (sym is ∙ at)) effect) (durable other are)
+]

@@ -1,0 +1,121 @@
+-- What files hold where a run begins, where a crash leaves them, or where other files change.
+use Rattle.std.proofs.Common.{◌≡◌, inl, inr, ℕ, List, [], ◌∷◌, Option, refl, sym, ◌∙◌, ap, arith}
+use Rattle.bk_bytes.specs.Field.{AreBytes}
+use Rattle.bk_device.specs.Calls.{ChangesNothing}
+use Rattle.bk_device.specs.Disk.{Files, Disk, IsDurable, IsSettled}
+use Rattle.bk_device.specs.Effects.{Effect, MayLeaveOwn}
+use Rattle.bk_home.specs.declared.record.Record.{Record}
+use Rattle.bk_home.specs.Home.{IsOwn, blobs_of, made_file, control_file, rows_file}
+use Rattle.bk_home.specs.Laws.{home_same, own_made, blobs_same}
+use Rattle.bk_machine.specs.Sound.{IsSound}
+use Rattle.bk_machine.specs.World.{World, ended, opened}
+use Rattle.bk_media.specs.Media.{found_at}
+use Rattle.bk_media.specs.Names.{medium_file}
+use Rattle.bk_instance.specs.Media.{KeepsMedia, MediaAreDurable, shown_medium}
+use Rattle.bk_instance.specs.Stands.{Holds, Stands, Covers, IsOurs}
+use Rattle.bk_instance.proofs.Replays.{made-same, same-opened}
+
+-- Names.
+
+first-of : List ℕ → ℕ
+first-of [] = 0
+first-of (c ∷ cs) = c
+
+-- no medium has one of the instance's own names
+pub not-own : (path : List ℕ) → IsOwn (medium_file path) → ⊥
+unfolding medium_file first-of
+not-own path own = elim own [
+  | inl made ↦ differ (first-of (medium_file path)) (first-of made_file) refl refl (ap first-of made)
+  | inr next ↦ elim next [
+    | inl control ↦ differ (first-of (medium_file path)) (first-of control_file) refl refl (ap first-of control)
+    | inr rows ↦ differ (first-of (medium_file path)) (first-of rows_file) refl refl (ap first-of rows)
+  ]
+]
+  where
+    differ : (n m : ℕ) → n ≡ 109 → m ≡ 115 → n ≡ m → ⊥
+    differ n m a b same = absurd (omega (arith, a, b, same))
+
+-- Media.
+
+-- the same files under the names of media
+abbrev pub SameMedia : Files → Files → Type 0
+SameMedia files image = (path : List ℕ) → AreBytes path → image (medium_file path) ≡ files (medium_file path)
+
+pub media-in : (w : World) (making : Option (List ℕ)) (files image : Files) → SameMedia files image → KeepsMedia w making files → KeepsMedia w making image
+media-in w making files image same media = record {
+  read = λ path bytes. media.read path bytes ∙ ap (shown_medium making path) (sym (same path bytes));
+  carried = λ path p body bytes is. media.carried path p body bytes (ap (λ f. found_at f p) (sym (same path bytes)) ∙ is);
+}
+
+-- they are the same where a run begins, and where it ends
+
+pub media-opened : (w : World) (making : Option (List ℕ)) (files : Files) → KeepsMedia w making files → KeepsMedia (opened w) making files
+unfolding opened
+media-opened w making files media = record { read = media.read; carried = media.carried }
+
+pub media-ended : (w : World) (making : Option (List ℕ)) (files : Files) → KeepsMedia w making files → KeepsMedia (ended w) making files
+unfolding ended
+media-ended w making files media = record { read = media.read; carried = media.carried }
+
+-- where nothing is changed, nothing more is pending in media
+pub media-on-nothing : {a b : Disk} → ChangesNothing a b → MediaAreDurable a → MediaAreDurable b
+media-on-nothing nothing durable path bytes content may =
+    durable path bytes content (nothing.nothing_more (medium_file path) content may) ∙ sym (nothing.files (medium_file path))
+
+-- what is done to own files leaves media as they are
+pub media-kept : {P : Files → Type 0} (before after : Disk) (path : List ℕ) → Effect IsOwn P before after → IsDurable before (medium_file path) → IsDurable after (medium_file path)
+media-kept before after path effect durable content may =
+    durable content (effect.others_left (medium_file path) (not-own path) content may) ∙ sym (effect.others (medium_file path) (not-own path))
+
+pub media-durable : {P : Files → Type 0} (before after : Disk) → Effect IsOwn P before after → MediaAreDurable before → MediaAreDurable after
+media-durable before after effect durable path bytes = media-kept before after path effect (durable path bytes)
+
+-- Own files.
+
+pub holds-same : (number : ℕ) (f g : Files) (r : Record) (blobs : List (List ℕ)) → ((name : List ℕ) → IsOwn name → g name ≡ f name) → Holds number f r blobs → Holds number g r blobs
+holds-same number f g r blobs same (inl new) = inl (same made_file own_made ∙ new.0, new.1, new.2)
+holds-same number f g r blobs same (inr made) = inr (home_same same made)
+
+pub blobs-on : {a b : Disk} → ChangesNothing a b → blobs_of b.files ≡ blobs_of a.files
+blobs-on {a = a} {b = b} nothing = blobs_same a.files b.files (nothing.files rows_file)
+
+-- Worlds.
+
+-- a run begins in a sound world
+abbrev pub BeginSound : Type 0
+BeginSound = (w : World) → IsSound w → IsSound (opened w)
+
+-- files that stand for a world stand for the one in which a run begins
+pub stands-covers : BeginSound → (number : ℕ) (files : Files) (w : World) → Stands number files w → Covers number files (opened w)
+unfolding opened
+stands-covers begins number files w stands = record {
+  sound = begins w stands.sound;
+  idle = stands.idle;
+  «record» = stands.«record»;
+  blobs = stands.blobs;
+  holds = stands.holds;
+  instance = stands.instance;
+  no_less = omega (arith, stands.counter);
+  no_more = omega (arith, stands.counter);
+  made = made-same stands.blobs w (opened w) (same-opened w) stands.made;
+  media = media-opened w stands.«record».making files stands.media;
+}
+
+pub covers-same : (number : ℕ) (f g : Files) (w : World) → ((name : List ℕ) → IsOurs name → g name ≡ f name) → Covers number f w → Covers number g w
+covers-same number f g w same covers = record {
+  sound = covers.sound;
+  idle = covers.idle;
+  «record» = covers.«record»;
+  blobs = covers.blobs;
+  holds = holds-same number f g covers.«record» covers.blobs (λ name own. same name (inl own)) covers.holds;
+  instance = covers.instance;
+  no_less = covers.no_less;
+  no_more = covers.no_more;
+  made = covers.made;
+  media = media-in w covers.«record».making f g (λ path bytes. same (medium_file path) (inr (path, bytes, refl))) covers.media;
+}
+
+-- where nothing is pending, a crash leaves the world
+pub settled-covers : BeginSound → (number : ℕ) (disk : Disk) (w : World) (image : Files) → IsSettled disk → MayLeaveOwn IsOurs disk image → Stands number disk.files w → Covers number image (opened w)
+settled-covers begins number disk w image settled left stands =
+    covers-same number disk.files image (opened w) (λ name ours. settled name (image name) (left name ours)) (stands-covers begins number disk.files w stands)

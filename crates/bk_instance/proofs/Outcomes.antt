@@ -1,0 +1,78 @@
+-- What the parts of a plan write to, and which plans store nothing.
+use Rattle.std.proofs.Common.{◌≡◌, inl, inr, ℕ, List, [], ◌∷◌, Option, refl, sym, subst}
+use Rattle.std.specs.List.{AllByRecursion}
+use Rattle.bk_acts.specs.declared.act.StoredAct.{StoredAct}
+use Rattle.bk_acts.specs.declared.act.StoredAct.TheVariants as kind
+use Rattle.bk_acts.specs.Meaning.{Means}
+use Rattle.bk_machine.specs.Acts.{Act, turned, created, dropped, logged, medium_made, set_sealed, based, replaced, restored, recovered, done}
+use Rattle.bk_machine.specs.Outcome.{Outcome}
+use Rattle.bk_machine.specs.World.{World}
+use Rattle.bk_plans.specs.declared.parts.Part.{Part}
+use Rattle.bk_plans.specs.declared.parts.Part.TheVariants.{Stored, MediumMade, SetSealed}
+use Rattle.bk_plans.specs.declared.parts.Plan.{Plan}
+use Rattle.bk_plans.specs.declared.parts.Plan.TheVariants.{Refused, Answered, Turned, Parts}
+use Rattle.bk_plans.specs.Planning.{AreActsOf, AreParts, IsPart}
+use Rattle.bk_instance.specs.Steps.{HasNoParts, IsStill, IsTurn}
+use Rattle.bk_instance.specs.Touched.{ActWrites, ActsWrite, PartWrites, PartsWrite, PlanWrites}
+
+-- Parts.
+
+part-writes : (w : World) (part : Part) (act : Act) → IsPart w part act → (path : List ℕ) → PartWrites part path → ActWrites act path
+part-writes w (Stored stored) act is path writes = absurd writes
+part-writes w (MediumMade at) act is path writes = subst (λ a. ActWrites a path) (sym is.is) writes
+part-writes w (SetSealed at body) act is path writes = subst (λ a. ActWrites a path) (sym is.is) writes
+
+parts-write : (w : World) (parts : List Part) (acts : List Act) → AreParts w parts acts → (path : List ℕ) → PartsWrite parts path → ActsWrite acts path
+parts-write w [] acts are path writes = absurd writes
+parts-write w (part ∷ parts) [] are path writes = absurd are
+parts-write w (part ∷ parts) (act ∷ acts) are path (inl writes) = inl (part-writes w part act are.0 path writes)
+parts-write w (part ∷ parts) (act ∷ acts) are path (inr writes) = inr (parts-write (done w act) parts acts are.1 path writes)
+
+-- no part writes to another medium than the acts of the plan
+pub plan-writes : (w : World) (plan : Plan) (acts : List Act) → AreActsOf w plan acts → (path : List ℕ) → PlanWrites plan path → ActsWrite acts path
+plan-writes w (Refused rule) acts are path writes = absurd writes
+plan-writes w (Answered answer) acts are path writes = absurd writes
+plan-writes w (Turned name) acts are path writes = absurd writes
+plan-writes w (Parts parts answer) acts are path writes = parts-write w parts.items acts are path writes
+
+-- What stores nothing.
+
+not-meant : (stored : StoredAct) (name : Option (List ℕ)) → Means stored (turned name) → ⊥
+not-meant (kind.Created other family branch time) name means = cc means
+not-meant (kind.Dropped other) name means = cc means
+not-meant (kind.Logged other records) name means = let is = means.act_is in absurd cc
+not-meant (kind.Based other header) name means = cc means
+not-meant (kind.Replaced other body) name means = cc means
+not-meant (kind.Restored other base redo) name means = cc means
+not-meant (kind.Recovered other at branch records) name means = let is = means.act_is in absurd cc
+
+not-turned : (w : World) (part : Part) (name : Option (List ℕ)) → IsPart w part (turned name) → ⊥
+not-turned w (Stored stored) name is = not-meant stored name is.means
+not-turned w (MediumMade at) name is = let made = is.is in absurd cc
+not-turned w (SetSealed at body) name is = let sealed = is.is in absurd cc
+
+turned-as : (act : Act) → IsTurn act → (name : Option (List ℕ)) × (act ≡ turned name)
+turned-as (turned name) is = (name, refl)
+turned-as (created c) is = absurd is
+turned-as (dropped name) is = absurd is
+turned-as (logged name said transactions) is = absurd is
+turned-as (medium_made path) is = absurd is
+turned-as (set_sealed path header) is = absurd is
+turned-as (based name header) is = absurd is
+turned-as (replaced name header) is = absurd is
+turned-as (restored name base redo) is = absurd is
+turned-as (recovered name r) is = absurd is
+
+none-stored : (w : World) (parts : List Part) (acts : List Act) → AreParts w parts acts → AllByRecursion IsTurn acts → parts ≡ []
+none-stored w [] acts are still = refl
+none-stored w (part ∷ parts) [] are still = absurd are
+none-stored w (part ∷ parts) (act ∷ acts) are still =
+    let turn = turned-as act still.0 in
+    absurd (not-turned w part turn.0 (subst (IsPart w part) turn.1 are.0))
+
+-- the plan of an outcome that stores nothing has no parts
+pub still-plan : (w : World) (plan : Plan) (outcome : Outcome) → AreActsOf w plan outcome.acts → IsStill outcome → HasNoParts plan
+still-plan w (Refused rule) outcome are still = tt
+still-plan w (Answered answer) outcome are still = tt
+still-plan w (Turned name) outcome are still = tt
+still-plan w (Parts parts answer) outcome are still = none-stored w parts.items outcome.acts are still

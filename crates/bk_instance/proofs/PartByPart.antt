@@ -1,0 +1,124 @@
+-- Parts that are done one after the other.
+use Rattle.std.proofs.Common.{◌≡◌, inl, inr, ℕ, zero, suc, List, [], ◌∷◌, take, Option, None, Some, refl, sym, subst}
+use Rattle.std.specs.Prelude.{slice_get}
+use Rattle.bk_device.specs.Compose.{effect_weaken}
+use Rattle.bk_device.specs.Disk.{Files, Disk}
+use Rattle.bk_device.specs.Effects.{Effect}
+use Rattle.bk_machine.specs.Acts.{Act, done, done_all, turned}
+use Rattle.bk_machine.specs.MayDo.{MayDo}
+use Rattle.bk_machine.specs.Same.{SameLogs}
+use Rattle.bk_machine.specs.Sound.{IsSound, AreIdle}
+use Rattle.bk_machine.specs.World.{World}
+use Rattle.bk_plans.specs.declared.parts.Part.{Part}
+use Rattle.bk_plans.specs.declared.parts.Plan.{Plan}
+use Rattle.bk_plans.specs.declared.parts.Plan.TheVariants as plan
+use Rattle.bk_kept.specs.Keeps.{Keeps}
+use Rattle.bk_plans.specs.Planning.{AreParts, IsPart}
+use Rattle.bk_instance.specs.declared.instance.Instance.{Instance}
+use Rattle.bk_instance.specs.Media.{MediaAreDurable, IfDurable, KeepsMedia}
+use Rattle.bk_instance.specs.Stands.{Covers, CutIn, IsReady, IsStored, IsOurs, StandsFor}
+use Rattle.bk_instance.specs.Steps.{AreNoParts, CutsPart, CutsParts, CutsPlan, DoesPart, DoesParts, DoesPlan, IsNoPart}
+use Rattle.bk_instance.proofs.KeptMedia.{media-on}
+use Rattle.bk_instance.proofs.Standing.{made-same, stays-none}
+
+-- One of several parts.
+
+-- the acts of parts, before one of them and behind it
+record SplitAt (w : World) (parts : List Part) (acts : List Act) (i : ℕ) (p : Part) : Type 0 where
+  act : Act
+  front : AreParts w (take i parts) (take i acts)
+  is : IsPart (done_all w (take i acts)) p act
+  behind : done_all w (take (suc i) acts) ≡ done (done_all w (take i acts)) act
+
+split-at : (w : World) (parts : List Part) (acts : List Act) (i : ℕ) (p : Part) → AreParts w parts acts → slice_get parts i ≡ Some p → SplitAt w parts acts i p
+split-at w [] acts i p are there = absurd (cc)
+split-at w (q ∷ parts) [] i p are there = absurd are
+split-at w (q ∷ parts) (act ∷ acts) zero p are there =
+    let same : q ≡ p = (cc) in
+    record { act = act; front = tt; is = subst (λ x. IsPart w x act) same are.0; behind = refl }
+split-at w (q ∷ parts) (act ∷ acts) (suc i) p are there =
+    let rest = split-at (done w act) parts acts i p are.1 there in
+    record { act = rest.act; front = (are.0, rest.front); is = rest.is; behind = rest.behind }
+
+-- the last of a front of parts
+record LastOf (w : World) (parts : List Part) (acts : List Act) (i : ℕ) (p : Part) : Type 0 where
+  act : Act
+  before : List Act
+  front : AreParts w (take i parts) before
+  is : IsPart (done_all w before) p act
+  behind : done_all w acts ≡ done (done_all w before) act
+
+last-of : (w : World) (parts : List Part) (acts : List Act) (i : ℕ) (p : Part) → AreParts w (take (suc i) parts) acts → slice_get parts i ≡ Some p → LastOf w parts acts i p
+last-of w [] acts i p are there = absurd (cc)
+last-of w (q ∷ parts) [] i p are there = absurd are
+last-of w (q ∷ parts) (act ∷ []) zero p are there =
+    let same : q ≡ p = (cc) in
+    record { act = act; before = []; front = tt; is = subst (λ x. IsPart w x act) same are.0; behind = refl }
+last-of w (q ∷ parts) (act ∷ next ∷ acts) zero p are there = absurd are.1
+last-of w (q ∷ parts) (act ∷ acts) (suc i) p are there =
+    let rest = last-of (done w act) parts acts i p are.1 there in
+    record { act = rest.act; before = act ∷ rest.before; front = (are.0, rest.front); is = rest.is; behind = rest.behind }
+
+-- So far.
+
+pub none-does : (old : Instance) (disk : Disk) → DoesParts old disk [] old disk
+none-does old disk w [] stands are = stands
+none-does old disk w (act ∷ acts) stands are = absurd are
+
+pub next-does : (old mid new : Instance) (first before after : Disk) (parts : List Part) (i : ℕ) (p : Part) → slice_get parts i ≡ Some p → DoesParts old first (take i parts) mid before → DoesPart mid before p new after → DoesParts old first (take (suc i) parts) new after
+next-does old mid new first before after parts i p there does part w acts stands are =
+    let last = last-of w parts acts i p are there in
+    subst (StandsFor new after) (sym last.behind) (part (done_all w last.before) last.act (does w last.before stands last.front) last.is)
+
+-- nothing was done yet
+cut-none : (number : ℕ) (w : World) (acts : List Act) (image : Files) → Covers number image w → CutIn number w acts image
+cut-none number w acts image covers = record { done = 0; covers = covers }
+
+pub parts-none : (old : Instance) (disk : Disk) (parts : List Part) → IsReady old → IsStored disk old → Effect IsOurs (IfDurable disk (CutsParts old disk parts)) disk disk
+parts-none old disk parts ready stored =
+    effect_weaken (λ image here durable number w acts stands are. cut-none number w acts image (here durable number w stands)) (stays-none old disk ready stored)
+
+-- one part is cut
+pub parts-cut : (old mid : Instance) (first before after : Disk) (parts : List Part) (i : ℕ) (p : Part) → slice_get parts i ≡ Some p → DoesParts old first (take i parts) mid before → (MediaAreDurable first → MediaAreDurable before)
+    → Effect IsOurs (IfDurable before (CutsPart mid before p)) before after → Effect IsOurs (IfDurable first (CutsParts old first parts)) before after
+parts-cut old mid first before after parts i p there does calm effect =
+    effect_weaken (λ image here durable number w acts stands are.
+    let split = split-at w parts acts i p are there in
+    elim (here (calm durable) number (done_all w (take i acts)) split.act (does w (take i acts) stands split.front) split.is) [
+      | inl before ↦ record { done = i; covers = before }
+      | inr behind ↦ record { done = suc i; covers = subst (Covers number image) (sym split.behind) behind }
+    ]) effect
+
+-- one part can't be done
+pub parts-stuck : (old mid : Instance) (first before : Disk) (parts : List Part) (i : ℕ) (p : Part) → slice_get parts i ≡ Some p → DoesParts old first (take i parts) mid before → IsNoPart mid before p → AreNoParts old first parts
+parts-stuck old mid first before parts i p there does stuck w acts stands are =
+    let split = split-at w parts acts i p are there in
+    stuck (done_all w (take i acts)) split.act (does w (take i acts) stands split.front) split.is
+
+-- Plans.
+
+pub plan-none : (old : Instance) (disk : Disk) (p : Plan) → IsReady old → IsStored disk old → Effect IsOurs (IfDurable disk (CutsPlan old disk p)) disk disk
+plan-none old disk p ready stored =
+    effect_weaken (λ image here durable number w acts stands are. cut-none number w acts image (here durable number w stands)) (stays-none old disk ready stored)
+
+-- what is kept of the current database
+pub record TurnLaws : Type 0 where
+  pub sound : (w : World) (act : Act) → IsSound w → MayDo w act → IsSound (done w act)
+  pub idle : (old new : World) → SameLogs old new → AreIdle old → AreIdle new
+  pub transitive : (a b c : World) → SameLogs a b → SameLogs b c → SameLogs a c
+  pub turned : (w : World) (name : Option (List ℕ)) → SameLogs w (done w (turned name))
+
+turned-media : (w : World) (name : Option (List ℕ)) (files : Files) → KeepsMedia w None files → KeepsMedia (done w (turned name)) None files
+unfolding done
+turned-media w name files media = media-on w (done w (turned name)) None files refl (λ path header there. refl) media
+
+pub turned-does : (laws : TurnLaws) (old new : Instance) (disk : Disk) (name : Option (List ℕ)) → ((w : World) → Keeps w old.kept → Keeps (done w (turned name)) new.kept) → DoesPlan old disk (plan.Turned name) new disk
+turned-does laws old new disk name keeps w acts stands are =
+    let v : World = done w (turned name) in
+    subst (λ a. StandsFor new disk (done_all w a)) (sym are) (record {
+      sound = laws.sound w (turned name) stands.sound tt;
+      idle = laws.idle w v (laws.turned w name) stands.idle;
+      keeps = keeps w stands.keeps;
+      made = made-same v laws.transitive stands.made (laws.turned w name);
+      media = turned-media w name disk.files stands.media;
+    })

@@ -1,0 +1,126 @@
+-- A stored act is done.
+use Rattle.std.proofs.Common.{◌≡◌, ◌≤◌, ◌⊎◌, inl, inr, ℕ, ◌+◌, List, [], ◌∷◌, ◌++◌, Option, None, Some, refl, sym, ◌∙◌, ap, subst, arith}
+use Rattle.bk_acts.specs.declared.act.StoredAct.{StoredAct}
+use Rattle.bk_acts.specs.declared.act.StoredAct.TheVariants.{Created, Dropped, Logged, Based, Replaced, Restored, Recovered}
+use Rattle.bk_acts.specs.Meaning.{Means}
+use Rattle.bk_acts.specs.Spelling.{act_bytes, IsAct}
+use Rattle.bk_device.specs.Disk.{Files, Disk}
+use Rattle.bk_device.specs.Effects.{Effect}
+use Rattle.bk_device.specs.Compose.{effect_weaken}
+use Rattle.bk_home.specs.Home.{HomeIs, IsOwn, blobs_of}
+use Rattle.bk_machine.specs.Acts.{Act, done, says, goes_online, where_found, turned, created, dropped, logged, medium_made, set_sealed, based, replaced, restored, recovered}
+use Rattle.bk_machine.specs.MayDo.{LeavesIdle, MayDo}
+use Rattle.bk_machine.specs.Same.{SameLogs}
+use Rattle.bk_machine.specs.Sound.{IsSound, AreIdle, SetIn}
+use Rattle.bk_machine.specs.World.{World, Database, database_named}
+use Rattle.bk_plans.specs.declared.parts.Part.TheVariants as part
+use Rattle.bk_kept.specs.Keeps.{Keeps}
+use Rattle.bk_kept.specs.Stored.{IsDone, IsTaken, drawn_by}
+use Rattle.bk_world.specs.declared.header.Header.{Header}
+use Rattle.bk_world.specs.Lines.{log_below}
+use Rattle.bk_instance.specs.declared.instance.Instance.{Instance}
+use Rattle.bk_instance.specs.Media.{KeepsMedia, MediaAreDurable, IfDurable}
+use Rattle.bk_instance.specs.Stands.{AreMade, one_more, Covers, IsReady, StandsFor, IsOurs}
+use Rattle.bk_instance.specs.Steps.{CutsPart, DoesPart, Stays}
+use Rattle.bk_instance.proofs.KeptMedia.{SameMedia, media-in, media-on}
+use Rattle.bk_instance.proofs.Standing.{own-widens, covers-now}
+
+-- what the machine's acts keep
+pub record ActLaws : Type 0 where
+  pub sound : (w : World) (act : Act) → IsSound w → MayDo w act → IsSound (done w act)
+  pub idle : (w : World) (act : Act) → IsSound w → AreIdle w → MayDo w act → LeavesIdle act → AreIdle (done w act)
+  pub reflexive : (w : World) → SameLogs w w
+  pub sets : (w : World) (path : List ℕ) (header : Header) → IsSound w → SetIn w path header → (act : Act) → MayDo w act → log_below (done w act).history header.path header.last ≡ log_below w.history header.path header.last
+
+-- What a stored act leaves.
+
+taken-idle : (w : World) (act : Act) → IsTaken w act → LeavesIdle act
+taken-idle w (turned name) taken = tt
+taken-idle w (created c) taken = tt
+taken-idle w (dropped name) taken = tt
+taken-idle w (logged name said transactions) taken = taken.1
+taken-idle w (medium_made path) taken = tt
+taken-idle w (set_sealed path header) taken = tt
+taken-idle w (based name header) taken = tt
+taken-idle w (replaced name header) taken = tt
+taken-idle w (restored name base redo) taken = tt
+taken-idle w (recovered name r) taken = tt
+
+where-media : (w : World) (found : Option Database) (next : Database → World) → ((db : Database) → (next db).media ≡ w.media) → (where_found w found next).media ≡ w.media
+where-media w None next same = refl
+where-media w (Some db) next same = same db
+
+-- a stored act touches no medium
+stored-media : (w : World) (stored : StoredAct) (act : Act) → Means stored act → (done w act).media ≡ w.media
+unfolding done says goes_online
+stored-media w (Created name family branch time) act is = ap (λ (a : Act). (done w a).media) is
+stored-media w (Dropped name) act is = ap (λ (a : Act). (done w a).media) is
+stored-media w (Logged name records) act is =
+    ap (λ (a : Act). (done w a).media) is.act_is ∙ where-media w (database_named w.databases name) (λ db. says w db is.said is.transactions) (λ db. refl)
+stored-media w (Based name header) act is = ap (λ (a : Act). (done w a).media) is
+stored-media w (Replaced name body) act is = ap (λ (a : Act). (done w a).media) is
+stored-media w (Restored name base redo) act is = ap (λ (a : Act). (done w a).media) is
+stored-media w (Recovered name at branch records) act is =
+    ap (λ (a : Act). (done w a).media) is.act_is ∙ where-media w (database_named w.databases name) (λ db. goes_online w db (record { at = at; branch = branch; said = is.said })) (λ db. refl)
+
+pub stored-keeps : (laws : ActLaws) (w : World) (stored : StoredAct) (act : Act) (files : Files) → IsSound w → IsDone w stored act → KeepsMedia w None files → KeepsMedia (done w act) None files
+stored-keeps laws w stored act files sound is media =
+    media-on w (done w act) None files (stored-media w stored act is.means) (λ path header there. laws.sets w path header sound there act is.may) media
+
+-- An act is taken in in memory by an instance that has reserved what it draws.
+pub record TakesIn (i j : Instance) (stored : StoredAct) (bytes : List ℕ) : Type 0 where
+  pub spelled : bytes ≡ act_bytes stored
+  pub is_act : IsAct stored
+  pub keeps : (w : World) (act : Act) → IsSound w → AreIdle w → Keeps w i.kept → IsDone w stored act → Keeps (done w act) j.kept
+  pub number : j.kept.number ≡ i.kept.number
+  pub counter : j.kept.counter ≡ i.kept.counter + drawn_by stored
+  pub reserved : i.kept.counter + drawn_by stored ≤ i.home.«record».counter
+
+stored-made : (laws : ActLaws) (i j : Instance) (disk : Disk) (w : World) (stored : StoredAct) (act : Act) (bytes : List ℕ) → TakesIn i j stored bytes → StandsFor i disk w → IsDone w stored act → AreMade (blobs_of disk.files ++ bytes ∷ []) (done w act)
+stored-made laws i j disk w stored act bytes takes stands is =
+    subst (λ b. AreMade (blobs_of disk.files ++ b ∷ []) (done w act)) (sym takes.spelled)
+    (one_more (blobs_of disk.files) w (done w act) stored act stands.made stands.sound stands.idle takes.is_act is (laws.reflexive (done w act)))
+
+pub stored-does : (laws : ActLaws) (old i j k : Instance) (first before after : Disk) (stored : StoredAct) (bytes : List ℕ) → TakesIn i j stored bytes → k.kept ≡ j.kept → ((w : World) → StandsFor old first w → StandsFor i before w)
+    → blobs_of after.files ≡ blobs_of before.files ++ bytes ∷ [] → SameMedia before.files after.files → DoesPart old first (part.Stored stored) k after
+stored-does laws old i j k first before after stored bytes takes kept on blobs same w act stood is =
+    let stands : StandsFor i before w = on w stood in
+    record {
+      sound = laws.sound w act stands.sound is.may;
+      idle = laws.idle w act stands.sound stands.idle is.may (taken-idle w act is.taken);
+      keeps = subst (Keeps (done w act)) (sym kept) (takes.keeps w act stands.sound stands.idle stands.keeps is);
+      made = subst (λ b. AreMade b (done w act)) (sym blobs) (stored-made laws i j before w stored act bytes takes stands is);
+      media = media-in (done w act) None before.files after.files same (stored-keeps laws w stored act before.files stands.sound is stands.media);
+    }
+
+stored-covers : (laws : ActLaws) (i j : Instance) (disk : Disk) (stored : StoredAct) (bytes : List ℕ) → IsReady i → TakesIn i j stored bytes → (number : ℕ) (w : World) (act : Act) (image : Files) → StandsFor i disk w → IsDone w stored act
+    → HomeIs image i.home.«record» (blobs_of disk.files ++ bytes ∷ []) → SameMedia disk.files image → Covers number image (done w act)
+stored-covers laws i j disk stored bytes ready takes number w act image stands is home same =
+    let keeps : Keeps (done w act) j.kept = takes.keeps w act stands.sound stands.idle stands.keeps is in
+    record {
+      sound = laws.sound w act stands.sound is.may;
+      idle = laws.idle w act stands.sound stands.idle is.may (taken-idle w act is.taken);
+      «record» = i.home.«record»;
+      blobs = blobs_of disk.files ++ bytes ∷ [];
+      holds = inr home;
+      instance = keeps.number ∙ takes.number ∙ ready.number;
+      no_less = omega (arith, keeps.counter, takes.counter, takes.reserved);
+      no_more = omega (arith, keeps.counter, takes.counter, ready.no_more);
+      made = stored-made laws i j disk w stored act bytes takes stands is;
+      media = subst (λ making. KeepsMedia (done w act) making image) (sym ready.none) (media-in (done w act) None disk.files image same (stored-keeps laws w stored act disk.files stands.sound is stands.media));
+    }
+
+-- nothing but GUIDs was done
+pub stored-none : (old : Instance) (before after : Disk) (stored : StoredAct) → Effect IsOurs (IfDurable before (Stays old before)) before after → Effect IsOurs (IfDurable before (CutsPart old before (part.Stored stored))) before after
+stored-none old before after stored effect = effect_weaken (λ image here durable number w act stands is. inl (here durable number w stands)) effect
+
+-- its blob is appended
+pub stored-crash : (laws : ActLaws) (old i j : Instance) (first before after : Disk) (stored : StoredAct) (bytes : List ℕ) → IsReady i → TakesIn i j stored bytes → ((w : World) → StandsFor old first w → StandsFor i before w)
+    → (MediaAreDurable first → MediaAreDurable before)
+    → Effect IsOwn (λ image. HomeIs image i.home.«record» (blobs_of before.files) ⊎ HomeIs image i.home.«record» (blobs_of before.files ++ bytes ∷ [])) before after
+    → Effect IsOurs (IfDurable first (CutsPart old first (part.Stored stored))) before after
+stored-crash laws old i j first before after stored bytes ready takes on calm effect =
+    own-widens first before after calm (λ image here same number w act stands is. elim here [
+      | inl home ↦ inl (covers-now number i before w image ready (on w stands) home same)
+      | inr home ↦ inr (stored-covers laws i j before stored bytes ready takes number w act image (on w stands) is home same)
+    ]) effect

@@ -1,6 +1,0 @@
-use Rattle.bk_instance.specs.Steps.{base_of}
-use Rattle.bk_instance.proofs.Stores.{change-none}
-use Rattle.bk_instance.proofs.instance.Instance.base.Goals as goal
-
-pub returns-in_err-database-clause-crash : goal.returns-in_err-database-clause-crash
-returns-in_err-database-clause-crash g c tells = change-none c.args.self.now (g.D.Device.disk c.args.dev.now) (base_of c.args.body.now) (c.requires.stored tells)

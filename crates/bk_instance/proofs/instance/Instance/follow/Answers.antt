@@ -1,0 +1,67 @@
+use Rattle.std.proofs.Common.{List, ◌∙◌, subst, sym}
+use Rattle.bk_device.specs.Effects.{Effect}
+use Rattle.bk_device.specs.Laws.{nothing_yet}
+use Rattle.bk_plans.specs.declared.parts.Part.{Part}
+use Rattle.bk_plans.specs.declared.parts.Plan.{Plan}
+use Rattle.bk_instance.specs.Media.{IfDurable}
+use Rattle.bk_instance.specs.Stands.{IsOurs}
+use Rattle.bk_instance.specs.Steps.{CutsParts, CutsPlan, DoesPlan}
+use Rattle.bk_instance.specs.Touched.{PartsWrite, PlanWrites, TouchesOnly}
+use Rattle.bk_instance.proofs.PartByPart.{plan-none, turned-does}
+use Rattle.bk_instance.proofs.Touching.{touches-none}
+use Rattle.bk_instance.proofs.instance.Instance.follow.Goals as goal
+
+pub returns-in-Refused-clause-crash : goal.returns-in-Refused-clause-crash
+returns-in-Refused-clause-crash g c tells = plan-none c.args.self.now (g.D.Device.disk c.args.dev.now) c.args.plan c.requires.ready (c.requires.stored tells)
+
+pub returns-in-Answered-clause-crash : goal.returns-in-Answered-clause-crash
+returns-in-Answered-clause-crash g c tells = plan-none c.args.self.now (g.D.Device.disk c.args.dev.now) c.args.plan c.requires.ready (c.requires.stored tells)
+
+pub returns-in-Turned-clause-crash : goal.returns-in-Turned-clause-crash
+returns-in-Turned-clause-crash g c tells = plan-none c.args.self.now (g.D.Device.disk c.args.dev.now) c.args.plan c.requires.ready (c.requires.stored tells)
+
+pub returns-in-Turned-clause-does : goal.returns-in-Turned-clause-does
+returns-in-Turned-clause-does g c tells =
+    subst (λ (p : Plan). DoesPlan c.args.self.now (g.D.Device.disk c.args.dev.now) p (record c.args.self.now { kept = c.turn.new.self }) (g.D.Device.disk c.args.dev.now)) (sym c.in-Turned.is)
+    (turned-does (record { sound = c.acts_keep_worlds_sound.ensures.act; idle = c.logs_that_stay.ensures.idle; transitive = c.logs_that_stay.ensures.transitive; turned = c.logs_that_stay.ensures.turned })
+    c.args.self.now (record c.args.self.now { kept = c.turn.new.self }) (g.D.Device.disk c.args.dev.now) c.in-Turned.name (λ w keeps. c.turn.ensures.turned w keeps))
+
+pub returns-in_ok-done-in-Parts-clause-crash : goal.returns-in_ok-done-in-Parts-clause-crash
+returns-in_ok-done-in-Parts-clause-crash g c tells =
+    subst (λ (p : Plan). Effect IsOurs (IfDurable (g.D.Device.disk c.args.dev.now) (CutsPlan c.args.self.now (g.D.Device.disk c.args.dev.now) p)) (g.D.Device.disk c.args.dev.now) (g.D.Device.disk c.carry_out-done.new.dev)) (sym c.in-Parts.is)
+    (subst (λ (ps : List Part). Effect IsOurs (IfDurable (g.D.Device.disk c.args.dev.now) (CutsParts c.args.self.now (g.D.Device.disk c.args.dev.now) ps)) (g.D.Device.disk c.args.dev.now) (g.D.Device.disk c.carry_out-done.new.dev)) c.deref.ensures.value
+    (c.carry_out-done.ensures.crash tells))
+
+pub returns-in-Refused-clause-still : goal.returns-in-Refused-clause-still
+returns-in-Refused-clause-still g c tells none = record { device = nothing_yet (g.D.Device.disk c.args.dev.now); reserves = λ exact. exact }
+
+pub returns-in-Answered-clause-still : goal.returns-in-Answered-clause-still
+returns-in-Answered-clause-still g c tells none = record { device = nothing_yet (g.D.Device.disk c.args.dev.now); reserves = λ exact. exact }
+
+pub returns-in-Turned-clause-still : goal.returns-in-Turned-clause-still
+returns-in-Turned-clause-still g c tells none = record { device = nothing_yet (g.D.Device.disk c.args.dev.now); reserves = λ exact. exact ∙ sym c.turn.ensures.counter }
+
+pub returns-in-Refused-clause-spares : goal.returns-in-Refused-clause-spares
+returns-in-Refused-clause-spares g c tells = touches-none (g.D.Device.disk c.args.dev.now)
+
+pub returns-in-Answered-clause-spares : goal.returns-in-Answered-clause-spares
+returns-in-Answered-clause-spares g c tells = touches-none (g.D.Device.disk c.args.dev.now)
+
+pub returns-in-Turned-clause-spares : goal.returns-in-Turned-clause-spares
+returns-in-Turned-clause-spares g c tells = touches-none (g.D.Device.disk c.args.dev.now)
+
+pub returns-in_err-done-in-Parts-clause-crash : goal.returns-in_err-done-in-Parts-clause-crash
+returns-in_err-done-in-Parts-clause-crash g c tells =
+    subst (λ (p : Plan). Effect IsOurs (IfDurable (g.D.Device.disk c.args.dev.now) (CutsPlan c.args.self.now (g.D.Device.disk c.args.dev.now) p)) (g.D.Device.disk c.args.dev.now) (g.D.Device.disk c.carry_out-done.new.dev)) (sym c.in-Parts.is)
+    (subst (λ (ps : List Part). Effect IsOurs (IfDurable (g.D.Device.disk c.args.dev.now) (CutsParts c.args.self.now (g.D.Device.disk c.args.dev.now) ps)) (g.D.Device.disk c.args.dev.now) (g.D.Device.disk c.carry_out-done.new.dev)) c.deref.ensures.value
+    (c.carry_out-done.ensures.crash tells))
+
+pub returns-in_ok-done-in-Parts-clause-spares : goal.returns-in_ok-done-in-Parts-clause-spares
+returns-in_ok-done-in-Parts-clause-spares g c tells =
+    subst (λ (p : Plan). TouchesOnly (PlanWrites p) (g.D.Device.disk c.args.dev.now) (g.D.Device.disk c.carry_out-done.new.dev)) (sym c.in-Parts.is)
+    (subst (λ (ps : List Part). TouchesOnly (PartsWrite ps) (g.D.Device.disk c.args.dev.now) (g.D.Device.disk c.carry_out-done.new.dev)) c.deref.ensures.value (c.carry_out-done.ensures.spares tells))
+
+pub returns-in_err-done-in-Parts-clause-spares : goal.returns-in_err-done-in-Parts-clause-spares
+returns-in_err-done-in-Parts-clause-spares g c tells =
+    subst (λ (p : Plan). TouchesOnly (PlanWrites p) (g.D.Device.disk c.args.dev.now) (g.D.Device.disk c.carry_out-done.new.dev)) (sym c.in-Parts.is)
+    (subst (λ (ps : List Part). TouchesOnly (PartsWrite ps) (g.D.Device.disk c.args.dev.now) (g.D.Device.disk c.carry_out-done.new.dev)) c.deref.ensures.value (c.carry_out-done.ensures.spares tells))

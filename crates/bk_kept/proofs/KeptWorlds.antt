@@ -1,0 +1,211 @@
+-- Databases in memory behind acts of a world that change one of them.
+use Rattle.std.proofs.Common.{◌≡◌, ◌<◌, ℕ, zero, suc, ◌+◌, true, false, List, [], ◌∷◌, ◌++◌, map, length, get_or, Option, Some, None, Result, Ok, Err, refl, sym, ◌∙◌, ap, subst, arith, length-append}
+use Rattle.std.specs.Prelude.{set, OnOk}
+use Rattle.std.specs.List.{AllByRecursion, position}
+use Rattle.std.specs.Str.{bytes_eq}
+use Rattle.std.proofs.lemmas.List.Quantifiers.{position-Some}
+use Rattle.std.proofs.lemmas.Slice.Eq.{bytes_eq-Decides}
+use Rattle.bk_ids.specs.Name.{lowered, same_name}
+use Rattle.bk_machine.specs.Acts.{Recovery, logged, recovered, done, gone_on, gone_online, goes_online, says, pointed, where_found}
+use Rattle.bk_machine.specs.MayDo.{HoldsOf}
+use Rattle.bk_machine.specs.World.{World, Database, database_named, log_of, log_to, with_database}
+use Rattle.bk_shown.specs.Shown.{Shows}
+use Rattle.bk_world.specs.declared.database.FileSpec.{FileSpec}
+use Rattle.bk_world.specs.Lines.{RecordLines, log_below}
+use Rattle.bk_world.specs.Records.{Counts, Logged, Said, more, numbered}
+use Rattle.bk_world.specs.Telling.{model}
+use Rattle.bk_kept.specs.declared.kept.Database.{Database as KeptDatabase}
+use Rattle.bk_kept.specs.Keeps.{KeepsDatabases, ShowsLog, database_of}
+use Rattle.bk_kept.specs.Saying.{CanSay, HasSaid, HasRecovered, SaysNamed, RecoversNamed}
+use Rattle.bk_kept.proofs.Fresh.{ReadsOn, shown-stay}
+use Rattle.bk_kept.proofs.Places.{names, with-at, all-set, position-none-here, position-none-rest}
+use Rattle.bk_kept.proofs.SaidSoFar.{pointed-only}
+
+-- what follows from what holds where there is a value
+pub on-ok : {A E P Q : Type 0} (r : Result A E) → OnOk r P → (P → Q) → OnOk r Q
+on-ok (Ok x) holds next = next holds
+on-ok (Err e) holds next = tt
+
+-- The database of a name.
+
+at-named : (name : List ℕ) (ds : List KeptDatabase) (i : ℕ) (x : KeptDatabase) → i < length ds → names name (get_or ds i x) ≡ true
+    → ((k : ℕ) → k < i → names name (get_or ds k x) ≡ false) → database_named (map database_of ds) name ≡ Some (database_of (get_or ds i x))
+at-named name [] i x lt here before = absurd (omega (arith, lt))
+at-named name (d ∷ ds) zero x lt here before = rw here refl
+at-named name (d ∷ ds) (suc i) x lt here before =
+    let other : same_name d.name name ≡ false = before 0 (omega arith) in
+    rw other (at-named name ds i x (omega (arith, lt)) here (λ k h. before (suc k) (omega (arith, h))))
+
+named-at : (name : List ℕ) (ds : List KeptDatabase) (i : ℕ) (x : KeptDatabase) → position (names name) ds ≡ Some i → x ≡ get_or ds i x → database_named (map database_of ds) name ≡ Some (database_of x)
+named-at name ds i x is at =
+    let found = position-Some (names name) ds i x is in
+    at-named name ds i x found.0 found.1 found.2 ∙ ap (λ d. Some (database_of d)) (sym at)
+
+named-none : (name : List ℕ) (ds : List KeptDatabase) → position (names name) ds ≡ None → database_named (map database_of ds) name ≡ None
+named-none name [] none = refl
+named-none name (d ∷ ds) none =
+    let other : same_name d.name name ≡ false = position-none-here (names name) d ds none in
+    rw other (named-none name ds (position-none-rest (names name) d ds other none))
+
+all-at : (P : KeptDatabase → Type 0) (ds : List KeptDatabase) (i : ℕ) (x : KeptDatabase) → i < length ds → AllByRecursion P ds → P (get_or ds i x)
+all-at P [] i x lt all = absurd (omega (arith, lt))
+all-at P (d ∷ ds) zero x lt all = all.0
+all-at P (d ∷ ds) (suc i) x lt all = all-at P ds i x (omega (arith, lt)) all.1
+
+-- it is the first of its own name
+own-position : (name : List ℕ) (ds : List KeptDatabase) (i : ℕ) (x : KeptDatabase) → position (names name) ds ≡ Some i → x ≡ get_or ds i x → position (names x.name) ds ≡ Some i
+own-position name ds i x is at =
+    let found = position-Some (names name) ds i x is in
+    let same : names name x ≡ true = ap (names name) at ∙ found.1 in
+    let low : lowered x.name ≡ lowered name = (bytes_eq-Decides (lowered x.name) (lowered name)).0 same in
+    ap (λ l. position (λ (d : KeptDatabase). bytes_eq (lowered d.name) l) ds) low ∙ is
+
+-- what is kept at the place of a name is the world's
+pub record IsThere (w : World) (name : List ℕ) (x : KeptDatabase) : Type 0 where
+  pub named : database_named w.databases name ≡ Some (database_of x)
+  pub shows : ShowsLog w.history x
+
+pub is-there : (w : World) (name : List ℕ) (ds : List KeptDatabase) (i : ℕ) (x : KeptDatabase) → position (names name) ds ≡ Some i → x ≡ get_or ds i x → KeepsDatabases w ds → IsThere w name x
+is-there w name ds i x is at keeps = record {
+  named = ap (λ dbs. database_named dbs name) keeps.same ∙ named-at name ds i x is at;
+  shows = subst (ShowsLog w.history) (sym at) (all-at (ShowsLog w.history) ds i x (position-Some (names name) ds i x is).0 keeps.shown);
+}
+
+pub held : (P : Database → Type 0) (found : Option Database) (db : Database) → found ≡ Some db → HoldsOf found P → P db
+held P found db is holds = subst (λ f. HoldsOf f P) is holds
+
+-- where no database has the name nothing holds of it
+pub holds-not : (w : World) (name : List ℕ) (ds : List KeptDatabase) (P : Database → Type 0) → position (names name) ds ≡ None → KeepsDatabases w ds → HoldsOf (database_named w.databases name) P → ⊥
+holds-not w name ds P none keeps holds = subst (λ f. HoldsOf f P) (ap (λ dbs. database_named dbs name) keeps.same ∙ named-none name ds none) holds
+
+-- one database is changed
+keeps-set : (w v : World) (name : List ℕ) (ds : List KeptDatabase) (i : ℕ) (x new : KeptDatabase) (change : Database → Database)
+    → position (names name) ds ≡ Some i → x ≡ get_or ds i x → v.databases ≡ with_database w.databases x.name change → ReadsOn w.history v.history
+    → database_of new ≡ change (database_of x) → ShowsLog v.history new → KeepsDatabases w ds → KeepsDatabases v (set ds i new)
+keeps-set w v name ds i x new change is at databases reads changed shows keeps = record {
+  same = databases ∙ ap (λ dbs. with_database dbs x.name change) keeps.same ∙ sym (with-at x.name change ds i x new (own-position name ds i x is at) at changed);
+  shown = all-set (ShowsLog v.history) ds i x new (position-Some (names name) ds i x is).0 (λ _. shows) (shown-stay w.history v.history ds reads keeps.shown);
+}
+
+-- Ends.
+
+counts-end : (n : ℕ) (rs : List Logged) (end : ℕ) → Counts n rs end → end ≡ n + length rs
+counts-end n [] end is = omega (arith, is)
+counts-end n (r ∷ rs) end counts = omega (arith, counts-end (n + 1) rs end counts.1)
+
+length-numbered : (n : ℕ) (said : List Said) → length (numbered n said) ≡ length said
+length-numbered n [] = refl
+length-numbered n (s ∷ said) = ap suc (length-numbered (n + 1) said)
+
+end-behind : (rs : List Logged) (said : List Said) (at end : ℕ) → Counts 1 rs at → Counts 1 (rs ++ numbered at said) end → end ≡ at + length said
+end-behind rs said at end before behind =
+    omega (arith, counts-end 1 rs at before, counts-end 1 (rs ++ numbered at said) end behind, length-append rs (numbered at said), length-numbered at said)
+
+-- A database says something.
+
+pub can-say : (w : World) (name bytes : List ℕ) (said : List Said) (x : KeptDatabase) → IsThere w name x → SaysNamed w name bytes said → CanSay x.files (log_of w.history (database_of x)) (numbered x.shown.«end» said) bytes x
+unfolding log_of
+can-say w name bytes said x there can = record {
+  shows = there.shows;
+  may = held _ (database_named w.databases name) (database_of x) there.named can.can;
+  spelled_is = held _ (database_named w.databases name) (database_of x) there.named can.spelled_is;
+}
+
+logged-is : (w : World) (name : List ℕ) (db : Database) (said : List Said) → database_named w.databases name ≡ Some db → done w (logged name said []) ≡ says w db said []
+unfolding done
+logged-is w name db said is = ap (λ found. where_found w found (λ d. says w d said [])) is
+
+says-databases : (w : World) (db : Database) (said : List Said) → (says w db said []).databases ≡ with_database w.databases db.name (gone_on (model (log_of w.history db)) said [])
+unfolding says
+says-databases w db said = refl
+
+gone-on-is : (files : List FileSpec) (rs : List Logged) (said : List Said) (x new : KeptDatabase) → Counts 1 rs x.shown.«end» → HasSaid files rs (numbered x.shown.«end» said) x new
+    → database_of new ≡ gone_on (model rs) said [] (database_of x)
+gone-on-is files rs said x new counts has =
+    let ends : new.shown.«end» ≡ x.shown.«end» + length said = end-behind rs said x.shown.«end» new.shown.«end» counts has.shows.log.counts in
+    has.points
+    ∙ ap (λ e. record (pointed (model rs) (database_of x) (numbered x.shown.«end» said)) { end = e }) ends
+    ∙ ap (λ ts. record (pointed (model rs) (database_of x) (numbered x.shown.«end» said)) { end = x.shown.«end» + length said; transactions = ts })
+    (ap (λ (db : Database). db.transactions) (pointed-only (model rs) (database_of x) (numbered x.shown.«end» said)))
+
+-- what is kept shows its log in a history
+shows-in : (history : RecordLines) (files : List FileSpec) (log : List Logged) (new : KeptDatabase) (db : Database) → Shows files log new.shown → database_of new ≡ db → db.files ≡ files → log_of history db ≡ log → ShowsLog history new
+unfolding log_of
+shows-in history files log new db shows is files-are log-is =
+    let own-files : new.files ≡ files = ap (λ (d : Database). d.files) is ∙ files-are in
+    let own-log : log_below history new.path new.shown.«end» ≡ log = ap (λ (d : Database). log_below history d.path d.end) is ∙ log-is in
+    subst (λ fs. Shows fs (log_below history new.path new.shown.«end») new.shown) (sym own-files) (subst (λ rs. Shows files rs new.shown) (sym own-log) shows)
+
+pub keeps-logged : (w : World) (name : List ℕ) (ds : List KeptDatabase) (i : ℕ) (x new : KeptDatabase) (said : List Said)
+    → position (names name) ds ≡ Some i → x ≡ get_or ds i x → KeepsDatabases w ds → ReadsOn w.history (done w (logged name said [])).history
+    → log_of (says w (database_of x) said []).history (gone_on (model (log_of w.history (database_of x))) said [] (database_of x)) ≡ more (log_of w.history (database_of x)) x.shown.«end» said
+    → HasSaid x.files (log_of w.history (database_of x)) (numbered x.shown.«end» said) x new
+    → KeepsDatabases (done w (logged name said [])) (set ds i new)
+unfolding log_of
+keeps-logged w name ds i x new said is at keeps reads log has =
+    let there = is-there w name ds i x is at keeps in
+    let same : done w (logged name said []) ≡ says w (database_of x) said [] = logged-is w name (database_of x) said there.named in
+    let changed : database_of new ≡ gone_on (model (log_of w.history (database_of x))) said [] (database_of x) =
+    gone-on-is x.files (log_of w.history (database_of x)) said x new there.shows.log.counts has in
+    let files-are : (gone_on (model (log_of w.history (database_of x))) said [] (database_of x)).files ≡ x.files =
+    ap (λ (db : Database). db.files) (pointed-only (model (log_of w.history (database_of x))) (database_of x) (numbered x.shown.«end» said)) in
+    let shows : ShowsLog (says w (database_of x) said []).history new =
+    shows-in (says w (database_of x) said []).history x.files (more (log_of w.history (database_of x)) x.shown.«end» said) new (gone_on (model (log_of w.history (database_of x))) said [] (database_of x)) has.shows changed files-are log in
+    let reads' : ReadsOn w.history (says w (database_of x) said []).history = subst (λ (v : World). ReadsOn w.history v.history) same reads in
+    subst (λ v. KeepsDatabases v (set ds i new)) (sym same)
+    (keeps-set w (says w (database_of x) said []) name ds i x new (gone_on (model (log_of w.history (database_of x))) said []) is at (says-databases w (database_of x) said) reads' changed shows keeps)
+
+-- A database is recovered.
+
+pub can-recover : (w : World) (name bytes : List ℕ) (r : Recovery) (x : KeptDatabase) → IsThere w name x → RecoversNamed w name bytes r → CanSay x.files (log_of w.history (database_of x)) (numbered r.at r.said) bytes x
+unfolding log_of
+can-recover w name bytes r x there can = record {
+  shows = there.shows;
+  may = (held _ (database_named w.databases name) (database_of x) there.named can.can).1;
+  spelled_is = can.spelled_is;
+}
+
+pub at-end : (w : World) (name bytes : List ℕ) (r : Recovery) (x : KeptDatabase) → IsThere w name x → RecoversNamed w name bytes r → r.at ≡ x.shown.«end»
+at-end w name bytes r x there can = (held _ (database_named w.databases name) (database_of x) there.named can.can).0
+
+recovered-is : (w : World) (name : List ℕ) (db : Database) (r : Recovery) → database_named w.databases name ≡ Some db → done w (recovered name r) ≡ goes_online w db r
+unfolding done
+recovered-is w name db r is = ap (λ found. where_found w found (λ d. goes_online w d r)) is
+
+online-databases : (w : World) (db : Database) (r : Recovery) → (goes_online w db r).databases ≡ with_database w.databases db.name (gone_online (model (log_to w.history db r.at)) r)
+unfolding goes_online
+online-databases w db r = refl
+
+whole-log : (history : RecordLines) (db : Database) (at : ℕ) → at ≡ db.end → log_to history db at ≡ log_of history db
+unfolding log_to log_of
+whole-log history db at is = ap (log_below history db.path) is
+
+gone-online-is : (files : List FileSpec) (rs : List Logged) (r : Recovery) (x new : KeptDatabase) → Counts 1 rs r.at → HasRecovered files rs (numbered r.at r.said) r.at r.branch x new
+    → database_of new ≡ gone_online (model rs) r (database_of x)
+gone-online-is files rs r x new counts has =
+    has.points
+    ∙ ap (λ e. record (gone_online (model rs) (record { at = r.at; branch = r.branch; said = [] }) (database_of x)) { end = e })
+    (end-behind rs r.said r.at new.shown.«end» counts has.shows.log.counts)
+
+pub keeps-recovered : (w : World) (name : List ℕ) (ds : List KeptDatabase) (i : ℕ) (x new : KeptDatabase) (r : Recovery)
+    → position (names name) ds ≡ Some i → x ≡ get_or ds i x → KeepsDatabases w ds → r.at ≡ x.shown.«end» → ReadsOn w.history (done w (recovered name r)).history
+    → log_of (goes_online w (database_of x) r).history (gone_online (model (log_to w.history (database_of x) r.at)) r (database_of x)) ≡ more (log_to w.history (database_of x) r.at) r.at r.said
+    → HasRecovered x.files (log_of w.history (database_of x)) (numbered r.at r.said) r.at r.branch x new
+    → KeepsDatabases (done w (recovered name r)) (set ds i new)
+unfolding log_of
+keeps-recovered w name ds i x new r is at keeps ends reads log has =
+    let there = is-there w name ds i x is at keeps in
+    let same : done w (recovered name r) ≡ goes_online w (database_of x) r = recovered-is w name (database_of x) r there.named in
+    let whole : log_to w.history (database_of x) r.at ≡ log_of w.history (database_of x) = whole-log w.history (database_of x) r.at ends in
+    let counts : Counts 1 (log_of w.history (database_of x)) r.at = subst (Counts 1 (log_of w.history (database_of x))) (sym ends) there.shows.log.counts in
+    let online : database_of new ≡ gone_online (model (log_of w.history (database_of x))) r (database_of x) =
+    gone-online-is x.files (log_of w.history (database_of x)) r x new counts has in
+    let changed : database_of new ≡ gone_online (model (log_to w.history (database_of x) r.at)) r (database_of x) =
+    online ∙ ap (λ rs. gone_online (model rs) r (database_of x)) (sym whole) in
+    let log' : log_of (goes_online w (database_of x) r).history (gone_online (model (log_to w.history (database_of x) r.at)) r (database_of x)) ≡ more (log_of w.history (database_of x)) r.at r.said =
+    log ∙ ap (λ rs. more rs r.at r.said) whole in
+    let shows : ShowsLog (goes_online w (database_of x) r).history new =
+    shows-in (goes_online w (database_of x) r).history x.files (more (log_of w.history (database_of x)) r.at r.said) new (gone_online (model (log_to w.history (database_of x) r.at)) r (database_of x)) has.shows changed refl log' in
+    let reads' : ReadsOn w.history (goes_online w (database_of x) r).history = subst (λ (v : World). ReadsOn w.history v.history) same reads in
+    subst (λ v. KeepsDatabases v (set ds i new)) (sym same)
+    (keeps-set w (goes_online w (database_of x) r) name ds i x new (gone_online (model (log_to w.history (database_of x) r.at)) r) is at (online-databases w (database_of x) r) reads' changed shows keeps)

@@ -1,0 +1,95 @@
+-- The first database of a name, as it is found: what is done to it in memory is done to it in the world.
+use Rattle.std.proofs.Common.{◌≡◌, ◌<◌, ◌+◌, ℕ, zero, suc, Bool, true, false, cond, List, [], ◌∷◌, map, length, get_or, Some, None, refl, sym, ◌∙◌, ap, ltb, arith}
+use Rattle.std.specs.Prelude.{set}
+use Rattle.std.specs.List.{AllByRecursion, position, position_or_len, remove}
+use Rattle.std.proofs.lemmas.Bool.{lt-ltb}
+use Rattle.std.proofs.lemmas.Bool.Decides.{nat_tests}
+use Rattle.std.proofs.lemmas.List.Quantifiers.{position-Some}
+use Rattle.bk_ids.specs.Name.{same_name}
+use Rattle.bk_machine.specs.World.{Database, with_database, without_database}
+use Rattle.bk_kept.specs.declared.kept.Database.{Database as KeptDatabase}
+use Rattle.bk_kept.specs.Keeps.{database_of}
+
+-- the test for a name
+abbrev pub names : List ℕ → KeptDatabase → Bool
+names name d = same_name d.name name
+
+-- A name that is there.
+
+without-here : (name : List ℕ) (ds : List KeptDatabase) (i : ℕ) (x : KeptDatabase) → i < length ds → names name (get_or ds i x) ≡ true
+    → ((k : ℕ) → k < i → names name (get_or ds k x) ≡ false) → map database_of (remove ds i) ≡ without_database (map database_of ds) name
+without-here name [] i x lt here before = absurd (omega (arith, lt))
+without-here name (d ∷ ds) zero x lt here before = rw here refl
+without-here name (d ∷ ds) (suc i) x lt here before =
+    let other : same_name d.name name ≡ false = before 0 (omega arith) in
+    let rest : map database_of (remove ds i) ≡ without_database (map database_of ds) name = without-here name ds i x (omega (arith, lt)) here (λ k h. before (suc k) (omega (arith, h))) in
+    rw (other, ← rest) refl
+
+pub without-at : (name : List ℕ) (ds : List KeptDatabase) (i : ℕ) (x : KeptDatabase) → position (names name) ds ≡ Some i → map database_of (remove ds i) ≡ without_database (map database_of ds) name
+without-at name ds i x is = let at = position-Some (names name) ds i x is in without-here name ds i x at.0 at.1 at.2
+
+with-here : (name : List ℕ) (change : Database → Database) (ds : List KeptDatabase) (i : ℕ) (x new : KeptDatabase) → i < length ds → names name (get_or ds i x) ≡ true
+    → ((k : ℕ) → k < i → names name (get_or ds k x) ≡ false) → database_of new ≡ change (database_of (get_or ds i x))
+    → map database_of (set ds i new) ≡ with_database (map database_of ds) name change
+with-here name change [] i x new lt here before is = absurd (omega (arith, lt))
+with-here name change (d ∷ ds) zero x new lt here before is = rw (here, ← is) refl
+with-here name change (d ∷ ds) (suc i) x new lt here before is =
+    let other : same_name d.name name ≡ false = before 0 (omega arith) in
+    let rest : map database_of (set ds i new) ≡ with_database (map database_of ds) name change = with-here name change ds i x new (omega (arith, lt)) here (λ k h. before (suc k) (omega (arith, h))) is in
+    rw (other, ← rest) refl
+
+pub with-at : (name : List ℕ) (change : Database → Database) (ds : List KeptDatabase) (i : ℕ) (x new : KeptDatabase) → position (names name) ds ≡ Some i → x ≡ get_or ds i x
+    → database_of new ≡ change (database_of x) → map database_of (set ds i new) ≡ with_database (map database_of ds) name change
+with-at name change ds i x new is at based =
+    let found = position-Some (names name) ds i x is in
+    with-here name change ds i x new found.0 found.1 found.2 (based ∙ ap (λ (d : KeptDatabase). change (database_of d)) at)
+
+-- A name that isn't there.
+
+pub position-none-rest : (p : KeptDatabase → Bool) (d : KeptDatabase) (ds : List KeptDatabase) → p d ≡ false → position p (d ∷ ds) ≡ None → position p ds ≡ None
+position-none-rest p d ds other none = later (ltb (position_or_len p ds) (length ds)) refl (rw other at none)
+  where
+    later : (t : Bool) → ltb (position_or_len p ds) (length ds) ≡ t → cond (ltb (1 + position_or_len p ds) (suc (length ds))) (Some (1 + position_or_len p ds)) None ≡ None
+        → cond t (Some (position_or_len p ds)) None ≡ None
+    later false e n = refl
+    later true e n =
+        let more : ltb (1 + position_or_len p ds) (suc (length ds)) ≡ true = grind (arith, nat_tests, e) in
+        let found : Some (1 + position_or_len p ds) ≡ None = sym (ap (λ t. cond t (Some (1 + position_or_len p ds)) None) more) ∙ n in
+        absurd (cc (found))
+
+pub position-none-here : (p : KeptDatabase → Bool) (d : KeptDatabase) (ds : List KeptDatabase) → position p (d ∷ ds) ≡ None → p d ≡ false
+position-none-here p d ds none = by (p d) refl
+  where
+    by : (t : Bool) → p d ≡ t → p d ≡ false
+    by false e = e
+    by true e =
+        let first : ltb 0 (suc (length ds)) ≡ true = lt-ltb _ _ (omega arith) in
+        let found : Some 0 ≡ None = sym (ap (λ t. cond t (Some 0) None) first) ∙ (rw e at none) in
+        absurd (cc (found))
+
+pub without-none : (name : List ℕ) (ds : List KeptDatabase) → position (names name) ds ≡ None → map database_of ds ≡ without_database (map database_of ds) name
+without-none name [] none = refl
+without-none name (d ∷ ds) none =
+    let other : same_name d.name name ≡ false = position-none-here (names name) d ds none in
+    let rest : map database_of ds ≡ without_database (map database_of ds) name = without-none name ds (position-none-rest (names name) d ds other none) in
+    rw (other, ← rest) refl
+
+pub with-none : (name : List ℕ) (change : Database → Database) (ds : List KeptDatabase) → position (names name) ds ≡ None → map database_of ds ≡ with_database (map database_of ds) name change
+with-none name change [] none = refl
+with-none name change (d ∷ ds) none =
+    let other : same_name d.name name ≡ false = position-none-here (names name) d ds none in
+    let rest : map database_of ds ≡ with_database (map database_of ds) name change = with-none name change ds (position-none-rest (names name) d ds other none) in
+    rw (other, ← rest) refl
+
+-- All of them.
+
+pub all-removed : (P : KeptDatabase → Type 0) (ds : List KeptDatabase) (i : ℕ) → AllByRecursion P ds → AllByRecursion P (remove ds i)
+all-removed P [] zero all = tt
+all-removed P [] (suc i) all = tt
+all-removed P (d ∷ ds) zero all = all.1
+all-removed P (d ∷ ds) (suc i) all = (all.0, all-removed P ds i all.1)
+
+pub all-set : (P : KeptDatabase → Type 0) (ds : List KeptDatabase) (i : ℕ) (x new : KeptDatabase) → i < length ds → (P (get_or ds i x) → P new) → AllByRecursion P ds → AllByRecursion P (set ds i new)
+all-set P [] i x new lt here all = tt
+all-set P (d ∷ ds) zero x new lt here all = (here all.0, all.1)
+all-set P (d ∷ ds) (suc i) x new lt here all = (all.0, all-set P ds i x new (omega (arith, lt)) here all.1)

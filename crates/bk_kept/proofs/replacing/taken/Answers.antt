@@ -1,0 +1,39 @@
+use Rattle.std.proofs.Common.{◌≡◌, List, map, ◌∙◌, sym, ap, subst, rules}
+use Rattle.bk_groups.specs.Groups.{AreFiles}
+use Rattle.bk_shown.specs.Shown.{IsOf, Shows}
+use Rattle.bk_world.specs.declared.database.FileSpec.{FileSpec}
+use Rattle.bk_world.specs.Lines.{log_below}
+use Rattle.bk_world.specs.Records.{Logged}
+use Rattle.bk_kept.specs.SetLaws.{spec_of}
+use Rattle.bk_kept.proofs.Replaced.{files-are, set-is}
+use Rattle.bk_kept.proofs.replacing.taken.Goals as goal
+use Rattle.bk_kept.proofs.replacing.taken.Goals.{After-drop-files-inside}
+
+pub shown_by-requires : goal.shown_by-requires
+shown_by-requires c =
+    let files : c.as_slice-2.result.now ≡ map spec_of c.args.body.now.header.files = search rules in
+    subst AreFiles (sym files) (files-are _ c.args.body.now.header.files c.requires.header.files)
+
+pub returns-in_err-shown-clause-unfit : goal.returns-in_err-shown-clause-unfit
+returns-in_err-shown-clause-unfit c = λ e w sound carries.
+    let files : c.as_slice-2.result.now ≡ map spec_of c.args.body.now.header.files = search rules in
+    let unfit : (rs : List Logged) → IsOf c.as_slice-2.result.now rs c.args.body.now.tables c.args.body.now.rows c.args.body.now.header.model c.args.body.now.header.finish c.args.body.now.header.last → ⊥ =
+    search (rules, c.in_err-shown.ensures.unfit) in
+    unfit (log_below w.history c.args.body.now.header.path c.args.body.now.header.last)
+    (subst (λ (fs : List FileSpec). IsOf fs (log_below w.history c.args.body.now.header.path c.args.body.now.header.last) c.args.body.now.tables c.args.body.now.rows c.args.body.now.header.model c.args.body.now.header.finish
+    c.args.body.now.header.last) (sym files)
+    (set-is w c.args.body.now c.requires sound carries))
+
+pub returns-clause-shows : goal.returns-clause-shows
+returns-clause-shows c = λ w sound carries.
+    let files : c.as_slice-2.result.now ≡ map spec_of c.args.body.now.header.files = search rules in
+    let own : c.as_slice-2.result.now ≡ c.files.inside.items.items = search rules in
+    let path : c.in_ok-copy-4.field-0 ≡ c.args.body.now.header.path = search rules in
+    let shown : Shows c.as_slice-2.result.now (log_below w.history c.args.body.now.header.path c.args.body.now.header.last) c.in_ok-shown.shown =
+    c.in_ok-shown.ensures.shows (log_below w.history c.args.body.now.header.path c.args.body.now.header.last)
+    (subst (λ (fs : List FileSpec). IsOf fs (log_below w.history c.args.body.now.header.path c.args.body.now.header.last) c.args.body.now.tables c.args.body.now.rows c.args.body.now.header.model c.args.body.now.header.finish
+    c.args.body.now.header.last) (sym files)
+    (set-is w c.args.body.now c.requires sound carries)) in
+    subst (λ (fs : List FileSpec). Shows fs (log_below w.history c.in_ok-copy-4.field-0 c.in_ok-shown.shown.end) c.in_ok-shown.shown) own
+    (subst (λ rs. Shows c.as_slice-2.result.now rs c.in_ok-shown.shown)
+    (sym (ap (λ p. log_below w.history p c.in_ok-shown.shown.end) path ∙ ap (λ n. log_below w.history c.args.body.now.header.path n) c.in_ok-shown.ensures.at)) shown)

@@ -1,0 +1,78 @@
+-- Which act of a world a stored act is, and what it needs to be taken in there.
+use Rattle.std.specs.Prelude.{◌≡◌, ℕ, ◌+◌, false, List, [], ◌++◌, length, map, None}
+use Rattle.bk_acts.specs.declared.act.StoredAct.{StoredAct}
+use Rattle.bk_acts.specs.declared.act.StoredAct.TheVariants.{Created, Logged as LoggedAct, Replaced, Recovered}
+use Rattle.bk_acts.specs.Meaning.{Means, Spell}
+use Rattle.bk_machine.specs.Acts.{Act, turned, created, dropped, logged, medium_made, set_sealed, based, replaced, restored, recovered}
+use Rattle.bk_machine.specs.Checks.{used_up}
+use Rattle.bk_machine.specs.MayDo.{HoldsOf, MayDo}
+use Rattle.bk_machine.specs.Sound.{files_of_set}
+use Rattle.bk_machine.specs.World.{World, Database, database_named, log_of}
+use Rattle.bk_record.specs.Log.{IsLog}
+use Rattle.bk_set.specs.declared.body.SetBody.{SetBody}
+use Rattle.bk_shown.specs.Shown.{AreNext, ArePlaced}
+use Rattle.bk_undo.specs.Spelled.{spelled}
+use Rattle.bk_world.specs.Lines.{RecordLines, log_below}
+use Rattle.bk_world.specs.PlacedRows.{AreRowsOf}
+use Rattle.bk_world.specs.Records.{Logged, Said, numbered}
+use Rattle.bk_world.specs.Telling.{tables}
+
+-- The end of a log from a number on is spelled by these bytes.
+pub record SpellsEnd (rs : List Logged) (first : ℕ) (bytes : List ℕ) : Type 0 where
+  pub before : List Logged
+  pub from : List Logged
+  pub splits : rs ≡ before ++ from
+  pub first_is : first ≡ length before + 1
+  pub spelled_is : IsLog bytes (map spelled from) None
+
+-- A set holds what its path shows below its end, where nothing is pending and each record is in its place: tables, rows with their places, and the
+-- log from its first number on.
+pub record Carries (lines : RecordLines) (body : SetBody) : Type 0 where
+  pub tables_are : tables (log_below lines body.header.path body.header.last) ≡ body.tables
+  pub rows_are : AreRowsOf (log_below lines body.header.path body.header.last) body.rows
+  pub log_is : SpellsEnd (log_below lines body.header.path body.header.last) body.header.first body.log
+  pub placed : ArePlaced (files_of_set body.header) [] (log_below lines body.header.path body.header.last)
+
+-- what is taken in of an act that says something: each record may come next, and nothing is open behind them; a recovery goes on from the end
+abbrev pub IsTaken : World → Act → Type 0
+IsTaken w (logged name said transactions) = HoldsOf (database_named w.databases name) (λ (db : Database). AreNext db.files (log_of w.history db) (numbered db.end said)) × (transactions ≡ [])
+IsTaken w (recovered name r) = HoldsOf (database_named w.databases name) (λ (db : Database). (r.at ≡ db.end) × AreNext db.files (log_of w.history db) (numbered r.at r.said))
+IsTaken w (turned name) = Unit {0}
+IsTaken w (created c) = Unit {0}
+IsTaken w (dropped name) = Unit {0}
+IsTaken w (medium_made path) = Unit {0}
+IsTaken w (set_sealed path header) = Unit {0}
+IsTaken w (based name header) = Unit {0}
+IsTaken w (replaced name header) = Unit {0}
+IsTaken w (restored name base redo) = Unit {0}
+
+-- the set that takes a database's place holds what its path shows
+abbrev pub IsCarried : World → StoredAct → Type 0
+IsCarried w (Replaced name body) = Carries w.history body
+IsCarried w _ = Unit {0}
+
+-- what a database says is numbered from its end on
+abbrev pub IsNumbered : World → StoredAct → Type 0
+IsNumbered w (LoggedAct name records) = HoldsOf (database_named w.databases name) (λ (db : Database). (said : List Said) × Spell records db.end said)
+IsNumbered w _ = Unit {0}
+
+-- GUIDs are drawn where some are left
+abbrev pub MayDraw : World → StoredAct → Type 0
+MayDraw w (Created name family branch time) = used_up w.counter ≡ false
+MayDraw w (Recovered name at branch records) = used_up w.counter ≡ false
+MayDraw w _ = Unit {0}
+
+-- A stored act is this act, which may be done to a world and is taken in there.
+pub record IsDone (w : World) (stored : StoredAct) (act : Act) : Type 0 where
+  pub means : Means stored act
+  pub may : MayDo w act
+  pub draws : MayDraw w stored
+  pub carried : IsCarried w stored
+  pub from_end : IsNumbered w stored
+  pub taken : IsTaken w act
+
+-- how many GUIDs a stored act draws
+abbrev pub drawn_by : StoredAct → ℕ
+drawn_by (Created name family branch time) = 2
+drawn_by (Recovered name at branch records) = 1
+drawn_by _ = 0

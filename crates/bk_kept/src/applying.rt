@@ -1,0 +1,301 @@
+//! What acts make of what is kept.
+
+ghost use Rattle.std.specs.Prelude.{◌≡◌, ◌+◌, ◌<◌, ◌≤◌, [], false, length, map, position, List, IfOk, IfSome, OnOk, IsErrOf};
+ghost use Rattle.std.specs.List.{AllByRecursion};
+ghost use Rattle.bk_acts.specs.Spelling.{IsAct};
+ghost use Rattle.bk_ids.specs.Name.{same_name};
+ghost use Rattle.bk_machine.specs.Acts.{Act, based_on, created, done, logged, recovered, restored, units_in};
+ghost use Rattle.bk_machine.specs.MayDo.{MayCreate};
+ghost use Rattle.bk_machine.specs.Sound.{AreIdle, IsSound};
+ghost use Rattle.bk_machine.specs.World.{World, with_database, without_database};
+ghost use Rattle.bk_world.specs.Lines.{RecordLines};
+ghost use Rattle.bk_world.specs.declared.database.State.TheVariants.{Restoring};
+ghost use Rattle.bk_world.specs.Records.{Said};
+ghost use Rattle.bk_kept.specs.Keeps.{KeepsDatabases, ShowsLog, database_of};
+ghost use Rattle.bk_kept.specs.Saying.{RecoversNamed, SaysNamed};
+ghost use Rattle.bk_kept.specs.Stored as stored;
+ghost use Rattle.bk_kept.specs.Stored.{IsDone, MayDraw};
+ghost use Rattle.bk_kept.specs.declared.error.ApplyError.TheVariants.{Unfit};
+
+use crate::error::ApplyError;
+use crate::kept::{Database, Kept};
+use crate::making::made;
+use crate::numbers::used_up;
+use crate::recovering::recover;
+use crate::replacing::replace;
+use crate::saying::say;
+use crate::telling::is_simple;
+use bk_acts::{StoredAct, said_law};
+use bk_ids::{Guid, Lsn, Name, Sequence, Text};
+use bk_machine::{a_recovery_is_said_last, acts_keep_what_is_read, what_is_said_comes_last};
+use bk_record::Records;
+use bk_world::{Base, Header, State, Unit};
+use std::alloc::{AllocError, Global};
+
+// The place of the first database of a name.
+pub(crate) fn place(databases: &[Database], name: &Name) -> Option<usize>
+    ensures place { result ≡ position (λ d. same_name d.name name.now) databases.now }
+    ensures within { IfSome result (λ at. at < length databases.now) }
+{
+    databases.iter().position(|d| d.name.same(name))
+}
+
+// Leaves the database of a name out, if it is there.
+fn drop_named(databases: &mut Vec<Database>, name: &Name)
+    ensures left { map database_of databases.new.items ≡ without_database (map database_of databases.old.items) name.now }
+    ensures shown { (history : RecordLines) → AllByRecursion (ShowsLog history) databases.old.items → AllByRecursion (ShowsLog history) databases.new.items }
+{
+    match place(databases, name) {
+        Some(at) => {
+            let _dropped = databases.remove(at);
+        }
+        None => {}
+    }
+}
+
+// A database is based on a set: where no log backup could come before, the log chain begins with it.
+fn base_on(database: &mut Database, header: &Header)
+    ensures based { database_of database.new ≡ based_on header.now (database_of database.old) }
+    ensures shown { (history : RecordLines) → ShowsLog history database.old → ShowsLog history database.new }
+{
+    let simple = is_simple(header.model);
+    if !database.chain && !simple {
+        database.archive = header.first;
+    }
+    database.began = database.began && (database.chain || simple);
+    database.chain = database.chain || !simple;
+    database.base = Some(Base {
+        set: header.set,
+        lsn: header.checkpoint,
+    });
+}
+
+// Bases the database of a name on a set, if it is there.
+fn base_named(databases: &mut Vec<Database>, name: &Name, header: &Header)
+    ensures based { map database_of databases.new.items ≡ with_database (map database_of databases.old.items) name.now (based_on header.now) }
+    ensures shown { (history : RecordLines) → AllByRecursion (ShowsLog history) databases.old.items → AllByRecursion (ShowsLog history) databases.new.items }
+{
+    match place(databases, name) {
+        Some(at) => {
+            let database = &mut databases[at];
+            base_on(database, header);
+        }
+        None => {}
+    }
+}
+
+// A database of this name is made at a time, with these two GUIDs, and comes behind the others.
+fn create_named(
+    alloc: Global,
+    databases: &mut Vec<Database>,
+    name: &Name,
+    family: Guid,
+    branch: Guid,
+    time: u64,
+) -> Result<(), ApplyError>
+    ensures ok { OnOk result ((w : World) → IsSound w → MayCreate w (record { name = name.now; family = family; branch = branch; time = time })
+        → KeepsDatabases w databases.old.items → KeepsDatabases (done w (created (record { name = name.now; family = family; branch = branch; time = time }))) databases.new.items) }
+    ensures fits { IsErrOf result Unfit → ⊥ }
+{
+    acts_keep_what_is_read();
+    let database = made(alloc, name, family, branch, time)?;
+    databases.push(database)?;
+    Ok(())
+}
+
+// The database of a name says these records at its end.
+fn log_named(
+    databases: &mut Vec<Database>,
+    name: &Name,
+    records: &Records,
+) -> Result<(), ApplyError>
+    ensures ok { OnOk result ((w : World) (said : List Said) → IsSound w → KeepsDatabases w databases.old.items → SaysNamed w name.now records.now said
+        → KeepsDatabases (done w (logged name.now said [])) databases.new.items) }
+    ensures unfit { IsErrOf result Unfit → (w : World) (said : List Said) → KeepsDatabases w databases.old.items → SaysNamed w name.now records.now said → ⊥ }
+{
+    acts_keep_what_is_read();
+    what_is_said_comes_last();
+    match place(databases, name) {
+        Some(at) => {
+            let database = &mut databases[at];
+            say(database, records)
+        }
+        None => Err(ApplyError::Unfit),
+    }
+}
+
+// Some units, all in one state.
+fn with_state(
+    alloc: Global,
+    units: &Sequence<Unit>,
+    state: State,
+) -> Result<Sequence<Unit>, AllocError>
+    ensures { IfOk result (λ new. new ≡ units_in state units.now) }
+{
+    let mut changed = Vec::new(alloc);
+    for unit in units.as_slice() {
+        changed.push(Unit { id: unit.id, state })?;
+    }
+    Ok(Sequence::new(changed))
+}
+
+// All units of a database are restored, as of `redo`.
+fn restore(
+    alloc: Global,
+    database: &mut Database,
+    base: Option<Base>,
+    redo: Lsn,
+) -> Result<(), AllocError>
+    ensures { OnOk result (database.new ≡ record database.old { units = units_in (Restoring base redo) database.old.units }) }
+{
+    let units = with_state(alloc, &database.units, State::Restoring { base, redo })?;
+    database.units = units;
+    Ok(())
+}
+
+// The files of the database of a name are restored, as of `redo`, if it is there.
+fn restore_named(
+    alloc: Global,
+    databases: &mut Vec<Database>,
+    name: &Name,
+    base: Option<Base>,
+    redo: Lsn,
+) -> Result<(), AllocError>
+    ensures { OnOk result ((w : World) → KeepsDatabases w databases.old.items → KeepsDatabases (done w (restored name.now base redo)) databases.new.items) }
+{
+    match place(databases, name) {
+        Some(at) => {
+            let database = &mut databases[at];
+            restore(alloc, database, base, redo)
+        }
+        None => Ok(()),
+    }
+}
+
+// The database of a name goes online at `at`, its end, on a new branch, and says these records there.
+fn recover_named(
+    alloc: Global,
+    databases: &mut Vec<Database>,
+    name: &Name,
+    at: Lsn,
+    branch: Guid,
+    records: &Records,
+) -> Result<(), ApplyError>
+    ensures ok { OnOk result ((w : World) (said : List Said) → IsSound w → KeepsDatabases w databases.old.items → RecoversNamed w name.now records.now (record { at = at; branch = branch; said = said })
+        → KeepsDatabases (done w (recovered name.now (record { at = at; branch = branch; said = said }))) databases.new.items) }
+    ensures unfit { IsErrOf result Unfit → (w : World) (said : List Said) → KeepsDatabases w databases.old.items → RecoversNamed w name.now records.now (record { at = at; branch = branch; said = said }) → ⊥ }
+{
+    acts_keep_what_is_read();
+    a_recovery_is_said_last();
+    match place(databases, name) {
+        Some(i) => {
+            let database = &mut databases[i];
+            recover(alloc, database, at, branch, records)
+        }
+        None => Err(ApplyError::Unfit),
+    }
+}
+
+/// What a stored act makes of the databases that are kept; it is one that has a spelling. `Unfit` comes only where it is no act that is taken in there; after
+/// an error nothing is promised of them.
+pub fn apply(
+    alloc: Global,
+    databases: &mut Vec<Database>,
+    act: &StoredAct,
+) -> Result<(), ApplyError>
+    requires { IsAct act.now }
+    ensures ok { OnOk result ((w : World) (a : Act) → IsSound w → AreIdle w → KeepsDatabases w databases.old.items → IsDone w act.now a → KeepsDatabases (done w a) databases.new.items) }
+    ensures unfit { IsErrOf result Unfit → (w : World) (a : Act) → IsSound w → AreIdle w → KeepsDatabases w databases.old.items → IsDone w act.now a → ⊥ }
+{
+    said_law();
+    match act {
+        StoredAct::Created {
+            name,
+            family,
+            branch,
+            time,
+        } => create_named(alloc, databases, name, *family, *branch, *time),
+        StoredAct::Dropped { name } => {
+            drop_named(databases, name);
+            Ok(())
+        }
+        StoredAct::Logged { name, records } => log_named(databases, name, records),
+        StoredAct::Based { name, header } => {
+            base_named(databases, name, header);
+            Ok(())
+        }
+        StoredAct::Replaced { name, body } => replace(alloc, databases, name, body),
+        StoredAct::Restored { name, base, redo } => {
+            restore_named(alloc, databases, name, *base, *redo)?;
+            Ok(())
+        }
+        StoredAct::Recovered {
+            name,
+            at,
+            branch,
+            records,
+        } => recover_named(alloc, databases, name, *at, *branch, records),
+    }
+}
+
+/// How many GUIDs a stored act draws: at most 2.
+pub fn draws(act: &StoredAct) -> u64
+    ensures drawn { result ≡ stored.drawn_by act.now }
+    ensures few { result ≤ 2 }
+{
+    match act {
+        StoredAct::Created { .. } => 2,
+        StoredAct::Recovered { .. } => 1,
+        _ => 0,
+    }
+}
+
+// The low number of the GUID that is drawn next behind a stored act.
+fn counter_behind(counter: u64, act: &StoredAct) -> Result<u64, ApplyError>
+    ensures ok { IfOk result (λ behind. behind ≡ counter + stored.drawn_by act.now) }
+    ensures unfit { IsErrOf result Unfit → (w : World) → w.counter ≡ counter → MayDraw w act.now → ⊥ }
+{
+    let drawn = draws(act);
+    if drawn == 0 {
+        return Ok(counter);
+    }
+    if used_up(counter) {
+        return Err(ApplyError::Unfit);
+    }
+    Ok(counter + drawn)
+}
+
+impl Kept {
+    ghost use Rattle.std.specs.Prelude.{◌≡◌, ◌+◌, OnOk, IsErrOf};
+    ghost use Rattle.bk_acts.specs.Spelling.{IsAct};
+    ghost use Rattle.bk_machine.specs.Acts.{Act, turned, done};
+    ghost use Rattle.bk_machine.specs.Sound.{AreIdle, IsSound};
+    ghost use Rattle.bk_machine.specs.World.{World};
+    ghost use Rattle.bk_kept.specs.Keeps.{Keeps};
+    ghost use Rattle.bk_kept.specs.Stored.{drawn_by, IsDone};
+    ghost use Rattle.bk_kept.specs.declared.error.ApplyError.TheVariants.{Unfit};
+
+    /// The current database is the one of this name, or there is none.
+    pub fn turn(&mut self, name: Option<Text>)
+        ensures turned { (w : World) → Keeps w self.old → Keeps (done w (turned name)) self.new }
+        ensures number { self.new.number ≡ self.old.number }
+        ensures counter { self.new.counter ≡ self.old.counter }
+    {
+        self.current = name;
+    }
+
+    /// What a stored act makes of what is kept; it is one that has a spelling. `Unfit` comes only where it is no act that is taken in there; after an error
+    /// nothing is promised of the databases.
+    pub fn apply(&mut self, alloc: Global, act: &StoredAct) -> Result<(), ApplyError>
+        requires { IsAct act.now }
+        ensures ok { OnOk result ((w : World) (a : Act) → IsSound w → AreIdle w → Keeps w self.old → IsDone w act.now a → Keeps (done w a) self.new) }
+        ensures unfit { IsErrOf result Unfit → (w : World) (a : Act) → IsSound w → AreIdle w → Keeps w self.old → IsDone w act.now a → ⊥ }
+        ensures number { OnOk result (self.new.number ≡ self.old.number) }
+        ensures counter { OnOk result (self.new.counter ≡ self.old.counter + drawn_by act.now) }
+    {
+        let counter = counter_behind(self.counter, act)?;
+        apply(alloc, &mut self.databases, act)?;
+        self.counter = counter;
+        Ok(())
+    }
+}

@@ -1,0 +1,168 @@
+//! A set takes the place of a database.
+
+ghost use Rattle.std.specs.Prelude.{◌≡◌, List, map, IfOk, OnOk, IsErrOf};
+ghost use Rattle.std.specs.List.{AllByRecursion};
+ghost use Rattle.bk_acts.specs.declared.act.StoredAct.TheVariants.{Replaced};
+ghost use Rattle.bk_groups.specs.Groups.{AreFiles};
+ghost use Rattle.bk_machine.specs.Acts.{Act, done, file_units, taken_over};
+ghost use Rattle.bk_machine.specs.Sound.{AreIdle, IsSound, IsSoundSet};
+ghost use Rattle.bk_machine.specs.World.{World, with_new_database};
+ghost use Rattle.bk_set.specs.Conditions.{IsBody};
+ghost use Rattle.bk_shown.specs.Shown.{IsOf, Shows};
+ghost use Rattle.bk_world.specs.Lines.{RecordLines};
+ghost use Rattle.bk_world.specs.Records.{Logged};
+ghost use Rattle.bk_world.specs.declared.database.State.TheVariants as state;
+ghost use Rattle.bk_kept.specs.Keeps.{KeepsDatabases, ShowsLog, database_of};
+ghost use Rattle.bk_kept.specs.Stored.{Carries, IsDone};
+ghost use Rattle.bk_kept.specs.declared.error.ApplyError.TheVariants.{Unfit};
+
+use crate::applying::place;
+use crate::error::ApplyError;
+use crate::kept::Database;
+use bk_ids::{Name, Sequence, UnitId};
+use bk_set::SetBody;
+use bk_shown::{Shown, TakeError};
+use bk_world::{FileSpec, HeaderFile, State, Status, Unit};
+use std::alloc::{AllocError, Global};
+
+/// A data file of its own.
+pub fn copy_file(alloc: Global, file: &FileSpec) -> Result<FileSpec, AllocError>
+    ensures { IfOk result (λ copy. copy ≡ file.now) }
+{
+    Ok(FileSpec {
+        number: file.number,
+        group: file.group,
+        extents: file.extents,
+        name: file.name.copy(alloc)?,
+        path: file.path.copy(alloc)?,
+    })
+}
+
+// The data files that a set's header names.
+fn files_of(alloc: Global, files: &[HeaderFile]) -> Result<Sequence<FileSpec>, AllocError>
+    ensures { IfOk result (λ specs. specs ≡ map (λ f. f.spec) files.now) }
+{
+    let mut specs = Vec::new(alloc);
+    for file in files {
+        specs.push(copy_file(alloc, &file.spec)?)?;
+    }
+    Ok(Sequence::new(specs))
+}
+
+/// Filegroups of their own.
+pub fn copy_groups(alloc: Global, groups: &[Name]) -> Result<Sequence<Name>, AllocError>
+    ensures { IfOk result (λ copy. copy ≡ groups.now) }
+{
+    let mut copy = Vec::new(alloc);
+    for group in groups {
+        copy.push(group.copy(alloc)?)?;
+    }
+    Ok(Sequence::new(copy))
+}
+
+// The units of restore of a set's files, all of them Bad.
+fn bad_units(alloc: Global, files: &[HeaderFile]) -> Result<Sequence<Unit>, AllocError>
+    ensures { IfOk result (λ units. units ≡ file_units state.Bad files.now) }
+{
+    let mut units = Vec::new(alloc);
+    for file in files {
+        units.push(Unit {
+            id: UnitId::File(file.spec.number),
+            state: State::Bad,
+        })?;
+    }
+    Ok(Sequence::new(units))
+}
+
+// What the log of a set shows, in these files.
+fn shown_by(alloc: Global, files: &[FileSpec], body: &SetBody) -> Result<Shown, ApplyError>
+    requires { AreFiles files.now }
+    ensures at { IfOk result (λ shown. shown.«end» ≡ body.now.header.last) }
+    ensures shows { IfOk result (λ shown. (rs : List Logged)
+        → IsOf files.now rs body.now.tables body.now.rows body.now.header.model body.now.header.finish body.now.header.last → Shows files.now rs shown) }
+    ensures unfit { IsErrOf result Unfit → (rs : List Logged)
+        → IsOf files.now rs body.now.tables body.now.rows body.now.header.model body.now.header.finish body.now.header.last → ⊥ }
+{
+    let header = &body.header;
+    let tables = body.tables.as_slice();
+    let rows = body.rows.as_slice();
+    match Shown::restored(
+        alloc,
+        files,
+        tables,
+        rows,
+        header.model,
+        header.finish,
+        header.last,
+    ) {
+        Ok(shown) => Ok(shown),
+        Err(TakeError::Unfit) => Err(ApplyError::Unfit),
+        Err(TakeError::NoMemory) => Err(ApplyError::NoMemory),
+    }
+}
+
+// The database of this name that a set makes, not restored yet.
+pub(crate) fn taken(alloc: Global, name: &Name, body: &SetBody) -> Result<Database, ApplyError>
+    requires { IsBody body.now }
+    ensures same { IfOk result (λ d. database_of d ≡ taken_over name.now body.now.header) }
+    ensures shows { IfOk result (λ d. (w : World) → IsSoundSet w body.now.header → Carries w.history body.now → ShowsLog w.history d) }
+    ensures unfit { IsErrOf result Unfit → (w : World) → IsSoundSet w body.now.header → Carries w.history body.now → ⊥ }
+{
+    let header = &body.header;
+    let files = files_of(alloc, header.files.as_slice())?;
+    let shown = shown_by(alloc, files.as_slice(), body)?;
+    let groups = copy_groups(alloc, header.groups.as_slice())?;
+    let units = bad_units(alloc, header.files.as_slice())?;
+    Ok(Database {
+        name: name.copy(alloc)?,
+        family: header.family,
+        groups,
+        files,
+        log_name: header.log_name.copy(alloc)?,
+        log_path: header.log_path.copy(alloc)?,
+        path: header.path.copy(alloc)?,
+        archive: header.last,
+        kept: header.last,
+        checkpoint: header.last,
+        chain: false,
+        began: false,
+        base: None,
+        status: Status::Down,
+        units,
+        shown,
+    })
+}
+
+// Puts a database of this name in the place of the first one of it, or else behind the others.
+fn put_named(
+    databases: &mut Vec<Database>,
+    name: &Name,
+    database: Database,
+) -> Result<(), ApplyError>
+    requires { database.name ≡ name.now }
+    ensures put { OnOk result (map database_of databases.new.items ≡ with_new_database (map database_of databases.old.items) (database_of database)) }
+    ensures shown { OnOk result ((history : RecordLines) → AllByRecursion (ShowsLog history) databases.old.items → ShowsLog history database → AllByRecursion (ShowsLog history) databases.new.items) }
+    ensures fits { IsErrOf result Unfit → ⊥ }
+{
+    match place(databases, name) {
+        Some(at) => databases[at] = database,
+        None => databases.push(database)?,
+    }
+    Ok(())
+}
+
+// A set takes the place of the first database of this name, or comes behind the others. After an error nothing is promised.
+pub(crate) fn replace(
+    alloc: Global,
+    databases: &mut Vec<Database>,
+    name: &Name,
+    body: &SetBody,
+) -> Result<(), ApplyError>
+    requires { IsBody body.now }
+    ensures ok { OnOk result ((w : World) (a : Act) → IsSound w → AreIdle w → KeepsDatabases w databases.old.items → IsDone w (Replaced name.now body.now) a → KeepsDatabases (done w a) databases.new.items) }
+    ensures unfit { IsErrOf result Unfit → (w : World) (a : Act) → IsSound w → IsDone w (Replaced name.now body.now) a → ⊥ }
+{
+    let database = taken(alloc, name, body)?;
+    put_named(databases, name, database)?;
+    Ok(())
+}

@@ -1,0 +1,88 @@
+-- What is proved of what a statement comes to.
+use Rattle.std.proofs.Common.{◌≡◌, ◌⊎◌, inl, ℕ, zero, suc, true, List, [], ◌∷◌, take, Option, None, Some, refl, sym, ◌∙◌, ap, subst, arith}
+use Rattle.std.specs.Prelude.{◌==◌}
+use Rattle.std.specs.List.{AllByRecursion}
+use Rattle.std.proofs.lemmas.Bool.Decides.{nat_tests}
+use Rattle.bk_ids.specs.declared.guid.Guid.{Guid}
+use Rattle.bk_ids.specs.declared.record.Place.{Place}
+use Rattle.bk_world.specs.Cut.{is_among}
+use Rattle.bk_world.specs.Entry.{RowChange}
+use Rattle.bk_world.specs.Records.{Said, checkpointed, stamped, table_made}
+use Rattle.bk_world.specs.Says.{alone, single_said}
+use Rattle.bk_world.specs.Telling.{telling}
+use Rattle.bk_world.specs.declared.database.Base.{Base}
+use Rattle.bk_world.specs.declared.database.TableSpec.{TableSpec}
+use Rattle.bk_world.specs.declared.header.Header.{Header}
+use Rattle.bk_world.specs.declared.rule.Rule.{Rule}
+use Rattle.bk_machine.specs.Acts.{Act, Recovery, logged, replaced, restored, recovered}
+use Rattle.bk_machine.specs.Built.{IsBuilt, SayNoLoad}
+use Rattle.bk_machine.specs.Crash.{own_begin}
+use Rattle.bk_machine.specs.MayDo.{LeavesIdle, MayDoAll}
+use Rattle.bk_machine.specs.Outcome.{Outcome, answered, refused}
+use Rattle.bk_machine.specs.World.{Database, Open, World, database_named}
+use Rattle.bk_world.specs.declared.reply.Reply.{Reply}
+use Rattle.bk_machine.proofs.Cutting.{IsOwn}
+use Rattle.bk_machine.proofs.Ends.{IsSteady}
+
+-- ---- where acts are cut
+
+pub all-take : {X : Type 0} (P : X → Type 0) (n : ℕ) (xs : List X) → AllByRecursion P xs → AllByRecursion P (take n xs)
+all-take P zero xs all = tt
+all-take P (suc n) [] all = tt
+all-take P (suc n) (x ∷ xs) all = (all.0, all-take P n xs all.1)
+
+abbrev pub NotLogged : Act → Type 0
+NotLogged (logged name said transactions) = ⊥
+NotLogged _ = Unit {0}
+
+-- one act that isn't cut
+abbrev pub IsOne : List Act → Type 0
+IsOne acts = (act : Act) × NotLogged act × (acts ≡ act ∷ [])
+
+abbrev pub IsRestore : List Act → Type 0
+IsRestore acts = (name : List ℕ) × (header : Header) × (base : Option Base) × (redo : ℕ) × (r : Recovery) × (acts ≡ replaced name header ∷ restored name base redo ∷ recovered name r ∷ [])
+
+abbrev pub EndWell : List Act → Type 0
+EndWell acts = AllByRecursion IsSteady acts ⊎ (IsOne acts ⊎ IsRestore acts)
+
+-- Its acts may be done, none leaves anything open, and none says a load. Where they are cut, each front that is quiet is of the statement's own
+-- transaction, and the ends of databases lie within those before and behind.
+pub record Facts (w : World) (outcome : Outcome) : Type 0 where
+  pub may : MayDoAll w outcome.acts
+  pub opens : AllByRecursion LeavesIdle outcome.acts
+  pub own : AllByRecursion (IsOwn w) outcome.acts
+  pub ends : EndWell outcome.acts
+  pub plain : IsBuilt w → SayNoLoad w outcome.acts
+
+-- an outcome that is known
+pub facts-of : (w : World) (known outcome : Outcome) → Facts w known → outcome ≡ known → Facts w outcome
+facts-of w known outcome facts is = subst (Facts w) (sym is) facts
+
+-- a statement that is refused, or only answers
+pub facts-refused : (w : World) (rule : Rule) → Facts w (refused rule)
+facts-refused w rule = record { may = tt; opens = tt; own = tt; ends = inl tt; plain = λ built. tt }
+
+pub facts-answered : (w : World) (reply : Reply) → Facts w (answered reply)
+facts-answered w reply = record { may = tt; opens = tt; own = tt; ends = inl tt; plain = λ built. tt }
+
+-- ---- what a database says
+
+-- one record that tells an entry isn't cut
+pub own-table : (w : World) (name : List ℕ) (time : ℕ) (spec : TableSpec) (transactions : List Open) → IsOwn w (logged name (alone (table_made time spec)) transactions)
+own-table w name time spec transactions n quiet = let wrong : telling (table_made time spec) ≡ None = quiet.0 in absurd (cc)
+
+pub own-checkpoint : (w : World) (name : List ℕ) (time : ℕ) (transactions : List Open) → IsOwn w (logged name (alone (checkpointed time)) transactions)
+own-checkpoint w name time transactions n quiet = let wrong : telling (checkpointed time) ≡ None = quiet.0 in absurd (cc)
+
+pub own-stamp : (w : World) (name : List ℕ) (time : ℕ) (set : Guid) (transactions : List Open) → IsOwn w (logged name (alone (stamped time set)) transactions)
+own-stamp w name time set transactions n quiet = let wrong : telling (stamped time set) ≡ None = quiet.0 in absurd (cc)
+
+-- a row is written by a transaction that begins at the end
+pub own-single : (w : World) (db : Database) (at : Place) (note : Option (List ℕ)) (c : RowChange) (time : ℕ) (transactions : List Open) → database_named w.databases db.name ≡ Some db
+    → IsOwn w (logged db.name (single_said db.end at note c time) transactions)
+own-single w db at note c time transactions named n quiet =
+    let its : is_among (own_begin (database_named w.databases db.name)) db.end ≡ true = ap (λ o. is_among (own_begin o) db.end) named ∙ itself db.end in
+    all-take (λ (s : Said). is_among (own_begin (database_named w.databases db.name)) s.begin ≡ true) (suc n) (single_said db.end at note c time) (its, (its, (its, tt)))
+  where
+    itself : (m : ℕ) → is_among (m ∷ []) m ≡ true
+    itself m = let same : (m == m) ≡ true = grind (arith, nat_tests) in rw same refl

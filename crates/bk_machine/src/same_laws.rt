@@ -1,0 +1,25 @@
+ghost use Rattle.std.specs.Prelude.{ℕ, List, Option};
+ghost use Rattle.bk_machine.specs.Acts.{done, medium_made, set_sealed, turned};
+ghost use Rattle.bk_machine.specs.Events.{MediumAdded, MediumChanged, MediumRemoved, StandbyRemoved};
+ghost use Rattle.bk_machine.specs.Same.{SameLogs};
+ghost use Rattle.bk_machine.specs.Sound.{AreIdle, IsSound};
+ghost use Rattle.bk_machine.specs.World.{World, ended, opened, restarted};
+ghost use Rattle.bk_world.specs.declared.header.Header.{Header};
+
+/// Databases and their logs stay the same behind acts on sessions and media, where a run begins and ends, behind a crash of
+/// nothing that was said, and through events on media and standby files. Where they are the same, nothing more is open.
+pub fn logs_that_stay()
+    ensures reflexive { (w : World) → SameLogs w w }
+    ensures transitive { (a b c : World) → SameLogs a b → SameLogs b c → SameLogs a c }
+    ensures idle { (old new : World) → SameLogs old new → AreIdle old → AreIdle new }
+    ensures turned { (w : World) (name : Option (List ℕ)) → SameLogs w (done w (turned name)) }
+    ensures medium_made { (w : World) (path : List ℕ) → SameLogs w (done w (medium_made path)) }
+    ensures set_sealed { (w : World) (path : List ℕ) (header : Header) → SameLogs w (done w (set_sealed path header)) }
+    ensures opened { (w : World) → SameLogs w (opened w) }
+    ensures ended { (w : World) → SameLogs w (ended w) }
+    ensures restarted { (counter : ℕ) (w : World) → SameLogs w (restarted counter w) }
+    ensures medium_removed { (old new : World) → IsSound old → MediumRemoved old new → SameLogs old new }
+    ensures standby_removed { (old new : World) → IsSound old → StandbyRemoved old new → SameLogs old new }
+    ensures medium_changed { (old new : World) → IsSound old → MediumChanged old new → SameLogs old new }
+    ensures medium_added { (old new : World) → IsSound old → MediumAdded old new → SameLogs old new }
+{}

@@ -1,0 +1,266 @@
+-- RESTORE DATABASE as it is planned.
+use Rattle.std.proofs.Common.{◌≡◌, ◌<◌, ◌≤◌, ℕ, zero, ◌+◌, Bool, true, false, cond, ◌||◌, List, [], ◌∷◌, length, Option, Some, None, Result, Ok, Err, refl, sym, ◌∙◌, ap, subst, arith}
+use Rattle.std.specs.List.{AllByRecursion}
+use Rattle.std.specs.Prelude.{min, nat_le}
+use Rattle.std.proofs.lemmas.Bool.{leb-false}
+use Rattle.std.proofs.lemmas.Slice.Eq.{bytes_eq-Decides}
+use Rattle.bk_ids.specs.declared.guid.Guid.{Guid}
+use Rattle.bk_ids.specs.Name.{lowered, same_name}
+use Rattle.bk_items.specs.declared.item.RestoredUnits.{RestoredUnits}
+use Rattle.bk_items.specs.declared.item.ScriptEntry.{ScriptEntry}
+use Rattle.bk_items.specs.declared.item.ScriptItem.TheVariants as script
+use Rattle.bk_items.specs.declared.options.RestoreOptions.{RestoreOptions}
+use Rattle.bk_machine.specs.Acts.{Recovery, done, drawn, recovered, replaced, restored, taken_over, units_in}
+use Rattle.bk_machine.specs.CheckLaws.{first-false, not-refused, second-false}
+use Rattle.bk_machine.specs.Checks.{Checked, ◌>>=◌, different_paths, free_paths, others, paths_of, refuse_if, used_up}
+use Rattle.bk_machine.specs.FindingLaws.{found-new}
+use Rattle.bk_machine.specs.FirstLaws.{first-in}
+use Rattle.bk_machine.specs.Machine.{May}
+use Rattle.bk_machine.specs.MayDo.{HoldsOf, MayDoAll}
+use Rattle.bk_machine.specs.NamedLaws.{named-changed}
+use Rattle.bk_machine.specs.ReadyLaws.{holds-of}
+use Rattle.bk_machine.specs.Sound.{AreIdle, IsSound, IsSoundSet, SetIn}
+use Rattle.bk_machine.specs.World.{World, Database, database_named, log_of, with_database, with_new_database}
+use Rattle.bk_machine.specs.statements.Restore.{DoesRestore, Recovers, base_of, check_family, check_number, check_restore, check_set, check_tail, disk_path, first_set, restored_whole, set_paths, whole_restore}
+use Rattle.bk_set.specs.Conditions.{IsBody}
+use Rattle.bk_set.specs.Laws.{body_keeps}
+use Rattle.bk_set.specs.declared.body.SetBody.{SetBody}
+use Rattle.bk_shown.specs.Shown.{AreNext}
+use Rattle.bk_world.specs.declared.database.FileSpec.{FileSpec}
+use Rattle.bk_world.specs.declared.database.State.TheVariants as state
+use Rattle.bk_world.specs.declared.header.Header.{Header}
+use Rattle.bk_world.specs.declared.reply.Reply.TheVariants as reply
+use Rattle.bk_world.specs.declared.rule.Rule.{Rule}
+use Rattle.bk_world.specs.declared.rule.Limit.TheVariants.{Lsn}
+use Rattle.bk_world.specs.declared.rule.Rule.TheVariants.{LimitReached, NotBuilt, PathFull}
+use Rattle.bk_world.specs.Lines.{log_below}
+use Rattle.bk_world.specs.Medium.{Reading, damaged, medium, medium_at, no_set, not_media, readable}
+use Rattle.bk_world.specs.Pending.{pending}
+use Rattle.bk_world.specs.ReadingLaws.{pending-more}
+use Rattle.bk_world.specs.Records.{Counts, Logged, numbered, recovered as recovery_deed}
+use Rattle.bk_world.specs.Says.{alone}
+use Rattle.bk_kept.specs.declared.kept.Kept.{Kept}
+use Rattle.bk_plans.specs.declared.parts.Part.{Part}
+use Rattle.bk_plans.specs.declared.parts.Plan.{Plan}
+use Rattle.bk_plans.specs.declared.parts.Plan.TheVariants.{Answered, Parts, Refused, Turned}
+use Rattle.bk_plans.specs.declared.refusal.Refusal.{Refusal}
+use Rattle.bk_plans.specs.declared.refusal.Refusal.TheVariants.{Broken, NoMemory}
+use Rattle.bk_plans.specs.Checking.{IsRefused}
+use Rattle.bk_kept.specs.Keeps.{Keeps}
+use Rattle.bk_plans.specs.Planned.{IsRefusedBy}
+use Rattle.bk_plans.specs.Planning.{AreParts, KeepsPart, Plans}
+use Rattle.bk_media_plans.specs.Restoring.{FindsFirst, RestoreAsked, RestoresWhole, is_built}
+use Rattle.bk_kept.specs.Stored.{IsTaken}
+use Rattle.bk_plans.specs.PlanLaws.{DoWhatTheyMay, comes-found, comes-refused, plans-refused, plans-refusal}
+
+-- The set.
+
+-- a set on a medium of a sound world is sound
+abbrev pub SetsSound : Type 0
+SetsSound = (w : World) (path : List ℕ) (header : Header) → IsSound w → SetIn w path header → IsSoundSet w header
+
+ends : (n : ℕ) (rs : List Logged) (last : ℕ) → Counts n rs last → last ≡ n + length rs
+ends n [] last counts = omega (arith, counts)
+ends n (r ∷ rs) last counts = omega (arith, ends (n + 1) rs last counts.1)
+
+-- Checks.
+
+-- where checks were passed the ones behind the first were
+later : (first rest : Checked (Unit {0})) (u : Unit {0}) → (first >>= λ v. rest) ≡ Ok u → rest ≡ Ok u
+later (Err rule) rest u e = absurd cc
+later (Ok found) rest u e = e
+
+-- a set that passed its checks leaves numbers
+set-left : (w : World) (name : List ℕ) (replace : Bool) (header : Header) (u : Unit {0}) → check_set w name replace header ≡ Ok u → (used_up header.last || used_up w.counter) ≡ false
+unfolding check_set
+set-left w name replace header u e =
+    let tail = later (check_family (database_named w.databases name) replace header) _ u e in
+    let number = later (check_tail w (database_named w.databases name) replace) _ u tail in
+    let free = later (check_number w.databases (database_named w.databases name)) _ u number in
+    let different = later (free_paths (paths_of (others w.databases name)) (set_paths header)) _ u free in
+    let path = later (different_paths [] (set_paths header)) _ u different in
+    let numbers = later (refuse_if (nat_le 64 (length header.path)) PathFull) _ u path in
+    not-refused (used_up header.last || used_up w.counter) (LimitReached Lsn) u numbers
+
+module _ (line : ℕ) (name : List ℕ) (units : RestoredUnits) (disk : Option (List ℕ)) (options : RestoreOptions) where
+  not-built : (w : World) → is_built name units disk options ≡ false → check_restore w line name units disk options ≡ Err (NotBuilt line)
+  unfolding check_restore
+  not-built w is = rw is refl
+
+  built-none : (w : World) (rule : Rule) → is_built name units disk options ≡ true → first_set (medium_at w.media (disk_path disk)) ≡ Err rule → check_restore w line name units disk options ≡ Err rule
+  unfolding check_restore
+  built-none w rule is first = rw (is, first) refl
+
+  built-checked : (w : World) (header : Header) → is_built name units disk options ≡ true → first_set (medium_at w.media (disk_path disk)) ≡ Ok header
+      → check_restore w line name units disk options ≡ (check_set w name options.replace header >>= λ u. Ok header)
+  unfolding check_restore
+  built-checked w header is first = rw (is, first) refl
+
+-- What a recovery says of a log in which nothing is pending.
+
+-- it says one record, which names its branch
+abbrev pub one_record : ℕ → Guid → Recovery
+one_record at branch = record { at = at; branch = branch; said = alone (recovery_deed branch) }
+
+recovers-settled : (rs : List Logged) (at : ℕ) (branch : Guid) → pending rs ≡ [] → Counts 1 rs at → Recovers rs (one_record at branch)
+recovers-settled rs at branch settled counts =
+    let positive : 1 ≤ at = omega (arith, ends 1 rs at counts) in
+    record {
+      may = (tt, tt);
+      each = ((refl, refl), tt);
+      one = refl;
+      settles = pending-more rs (numbered at (alone (recovery_deed branch))) ∙ settled;
+      few = few at positive;
+    }
+  where
+    few : (n : ℕ) → 1 ≤ n → 1 ≤ min n 4194304
+    few n some = omega (arith, some)
+
+-- it may come next
+next-one : (files : List FileSpec) (rs : List Logged) (at : ℕ) (branch : Guid) → Counts 1 rs at → used_up at ≡ false → AreNext files rs (numbered at (alone (recovery_deed branch)))
+next-one files rs at branch counts left =
+    let below : at < 4611686014132420608 = leb-false 4611686014132420608 at left in
+    let number : at ≡ length rs + 1 = omega (arith, ends 1 rs at counts) in
+    (record { number = number; low = omega (arith, below); may = tt; placed = tt }, tt)
+
+-- The database of the name behind the two acts before it is recovered.
+
+-- what is taken over, with its files restored
+taken : List ℕ → Header → Database
+taken name header = record (taken_over name header) { units = units_in (state.Restoring (base_of header) header.last) (taken_over name header).units }
+
+-- the world behind these two acts
+abbrev restored_world : World → List ℕ → Header → World
+restored_world w name header = done (done w (replaced name header)) (restored name (base_of header) header.last)
+
+taken-found : (w : World) (name : List ℕ) (header : Header) → database_named (restored_world w name header).databases name ≡ Some (taken name header)
+unfolding done taken
+taken-found w name header =
+    named-changed (with_new_database w.databases (taken_over name header)) name (taken_over name header)
+    (λ (db : Database). record db { units = units_in (state.Restoring (base_of header) header.last) db.units }) refl (found-new w.databases (taken_over name header))
+
+taken-log : (w : World) (name : List ℕ) (header : Header) → log_of (restored_world w name header).history (taken name header) ≡ log_below w.history header.path header.last
+unfolding done taken log_of
+taken-log w name header = refl
+
+taken-end : (name : List ℕ) (header : Header) → (taken name header).«end» ≡ header.last
+unfolding taken
+taken-end name header = refl
+
+counter-kept : (w : World) (name : List ℕ) (header : Header) → (restored_world w name header).counter ≡ w.counter
+unfolding done
+counter-kept w name header = refl
+
+is-taken : (w : World) (name : List ℕ) (header : Header) (branch : Guid) → Counts 1 (log_below w.history header.path header.last) header.last → used_up header.last ≡ false
+    → IsTaken (restored_world w name header) (recovered name (one_record header.last branch))
+is-taken w name header branch counts left =
+    holds-of (database_named (restored_world w name header).databases name) (taken name header)
+    (λ (db : Database). (header.last ≡ db.«end») × AreNext db.files (log_of (restored_world w name header).history db) (numbered header.last (alone (recovery_deed branch)))) (taken-found w name header) (
+      sym (taken-end name header),
+      subst (λ rs. AreNext (taken name header).files rs (numbered header.last (alone (recovery_deed branch)))) (sym (taken-log w name header))
+          (next-one (taken name header).files (log_below w.history header.path header.last) header.last branch counts left),
+    )
+
+-- The plan.
+
+module _ (k : Kept) (line now : ℕ) (name : List ℕ) (units : RestoredUnits) (disk : Option (List ℕ)) (options : RestoreOptions) where
+  -- the statement
+  abbrev asked : ScriptEntry
+  asked = record { item = script.RestoreDatabase name units disk options; line = line }
+
+  pub unbuilt-plan : is_built name units disk options ≡ false → Plans k (λ w. Unit {0}) asked now (Refused (NotBuilt line))
+  unfolding May
+  unbuilt-plan is = plans-refused k (λ w. Unit {0}) asked now (NotBuilt line)
+      (λ w sound idle keeps known. comes-refused (check_restore w line name units disk options) (DoesRestore w name) (NotBuilt line) (not-built line name units disk options w is))
+
+  none-then : (rule : Rule) → is_built name units disk options ≡ true → Plans k (FindsFirst disk (Err rule)) asked now (Refused rule)
+  unfolding May
+  none-then rule is = plans-refused k (FindsFirst disk (Err rule)) asked now rule
+      (λ w sound idle keeps known. comes-refused (check_restore w line name units disk options) (DoesRestore w name) rule (built-none line name units disk options w rule is known.is))
+
+  pub none-plan : (first : Result SetBody Rule) (rule : Rule) → first ≡ Err rule → is_built name units disk options ≡ true → Plans k (FindsFirst disk first) asked now (Refused rule)
+  none-plan first rule e is = subst (λ (f : Result SetBody Rule). Plans k (FindsFirst disk f) asked now (Refused rule)) (sym e) (none-then rule is)
+
+  refused-then : (refusal : Refusal) (w : World) (header : Header) → IsRefused refusal (check_set w name options.replace header) → IsRefused refusal (check_set w name options.replace header >>= λ u. Ok header)
+  refused-then (Broken rule) w header is = ap (λ (c : Checked (Unit {0})). c >>= λ u. Ok header) is
+  refused-then NoMemory w header is = tt
+
+  refused-for : (body : SetBody) (refusal : Refusal) (plan : Plan) → is_built name units disk options ≡ true → IsRefusedBy refusal plan
+      → ((w : World) → Keeps w k → IsRefused refusal (check_set w name options.replace body.header)) → Plans k (FindsFirst disk (Ok body)) asked now plan
+  unfolding May
+  refused-for body refusal plan is by refuses =
+      plans-refusal k (FindsFirst disk (Ok body)) asked now (λ w. check_restore w line name units disk options) refusal plan by
+      (λ w sound idle keeps known. subst (IsRefused refusal) (sym (built-checked line name units disk options w body.header is known.is)) (refused-then refusal w body.header (refuses w keeps)))
+      (λ w rule e. comes-refused (check_restore w line name units disk options) (DoesRestore w name) rule e)
+
+  pub refused-plan : (first : Result SetBody Rule) (body : SetBody) (refusal : Refusal) (plan : Plan) → first ≡ Ok body → is_built name units disk options ≡ true → IsRefusedBy refusal plan
+      → ((w : World) → Keeps w k → IsRefused refusal (check_set w name options.replace body.header)) → Plans k (FindsFirst disk first) asked now plan
+  refused-plan first body refusal plan e is by refuses = subst (λ (f : Result SetBody Rule). Plans k (FindsFirst disk f) asked now plan) (sym e) (refused-for body refusal plan is by refuses)
+
+  module _ (body : SetBody) (u : Unit {0}) (parts : List Part) (built : is_built name units disk options ≡ true) (sets : SetsSound) (law : DoWhatTheyMay)
+      (passes : (w : World) → Keeps w k → check_set w name options.replace body.header ≡ Ok u) (of : RestoreAsked k name body parts) where
+    -- what the recovery says
+    abbrev its : Recovery
+    its = one_record body.header.last (record { high = k.number; low = k.counter })
+
+    log-counts : (w : World) → IsSound w → FindsFirst disk (Ok body) w → Counts 1 (log_below w.history body.header.path body.header.last) body.header.last
+    log-counts w sound known = (sets w (disk_path disk) body.header sound (first-in w (disk_path disk) body.header known.is)).log.counts
+
+    its-branch : (w : World) → Keeps w k → its.branch ≡ drawn w w.counter
+    its-branch w keeps = λ x. record { high = sym keeps.number x; low = sym keeps.counter x }
+
+    may-restore : (w : World) → IsSound w → Keeps w k → FindsFirst disk (Ok body) w → May w asked now (restored_whole of.name body.header its)
+    unfolding May
+    may-restore w sound keeps known =
+        let checked : check_restore w line name units disk options ≡ Ok body.header =
+        built-checked line name units disk options w body.header built known.is ∙ ap (λ (c : Checked (Unit {0})). c >>= λ v. Ok body.header) (passes w keeps) in
+        comes-found (check_restore w line name units disk options) (DoesRestore w name) body.header (restored_whole of.name body.header its) checked (
+          its,
+          refl,
+          its-branch w keeps,
+          recovers-settled (log_below w.history body.header.path body.header.last) body.header.last its.branch known.carries.rows_are.settled (log-counts w sound known),
+          ap (λ n. restored_whole n body.header its) (of.known w keeps),
+        )
+
+    done-parts : (w : World) → IsSound w → AreIdle w → Keeps w k → FindsFirst disk (Ok body) w → AreParts w parts (whole_restore of.name body.header its)
+    done-parts w sound idle keeps known =
+        let may : MayDoAll w (whole_restore of.name body.header its) = law w asked now (restored_whole of.name body.header its) sound idle (may-restore w sound keeps known) in
+        let left : (used_up body.header.last || used_up w.counter) ≡ false = set-left w name options.replace body.header u (passes w keeps) in
+        subst (λ (ps : List Part). AreParts w ps (whole_restore of.name body.header its)) (sym of.of_it.are) (
+          record { means = refl; may = may.0; draws = tt; carried = known.carries; from_end = tt; taken = tt },
+          (
+            record { means = refl; may = may.1.0; draws = tt; carried = tt; from_end = tt; taken = tt },
+            (
+              record {
+                means = record { said = alone (recovery_deed its.branch); act_is = refl; spell = of.of_it.spell };
+                may = may.1.1.0;
+                draws = subst (λ (n : ℕ). used_up n ≡ false) (sym (counter-kept w of.name body.header)) (second-false (used_up body.header.last) (used_up w.counter) left);
+                carried = tt;
+                from_end = tt;
+                taken = is-taken w of.name body.header its.branch (log-counts w sound known) (first-false (used_up body.header.last) (used_up w.counter) left);
+              },
+              tt,
+            ),
+          ),
+        )
+
+  whole-for : (body : SetBody) (u : Unit {0}) (plan : Plan) → is_built name units disk options ≡ true → SetsSound → DoWhatTheyMay
+      → ((w : World) → Keeps w k → check_set w name options.replace body.header ≡ Ok u) → RestoresWhole k name body plan → Plans k (FindsFirst disk (Ok body)) asked now plan
+  whole-for body u (Parts parts answer) built sets law passes is = record {
+    outcome = restored_whole is.0.name body.header (one_record body.header.last (record { high = k.number; low = k.counter }));
+    replies = sym is.1;
+    may = λ w sound idle keeps known. may-restore body u parts.items built sets law passes is.0 w sound keeps known;
+    acts = λ w sound idle keeps known. done-parts body u parts.items built sets law passes is.0 w sound idle keeps known;
+  }
+  whole-for body u (Refused rule) built sets law passes is = absurd is
+  whole-for body u (Answered said) built sets law passes is = absurd is
+  whole-for body u (Turned to) built sets law passes is = absurd is
+
+  pub whole-plan : (first : Result SetBody Rule) (body : SetBody) (u : Unit {0}) (plan : Plan) → first ≡ Ok body → is_built name units disk options ≡ true → SetsSound → DoWhatTheyMay
+      → ((w : World) → Keeps w k → check_set w name options.replace body.header ≡ Ok u) → RestoresWhole k name body plan → Plans k (FindsFirst disk first) asked now plan
+  whole-plan first body u plan e built sets law passes is = subst (λ (f : Result SetBody Rule). Plans k (FindsFirst disk f) asked now plan) (sym e) (whole-for body u plan built sets law passes is)
+
+-- What its parts keep.
+
+pub parts-keep : (k : Kept) (name : List ℕ) (body : SetBody) (parts : List Part) → IsBody body → RestoreAsked k name body parts → AllByRecursion KeepsPart parts
+parts-keep k name body parts is of = subst (AllByRecursion KeepsPart) (sym of.of_it.are) (body_keeps body is, (tt, (tt, tt)))

@@ -1,0 +1,10 @@
+use Rattle.std.proofs.Common.{ℕ, ◌+◌, ap}
+use Rattle.bk_world.specs.declared.reply.Reply.TheVariants.{SetMade}
+use Rattle.bk_media_plans.proofs.BackupParts.{parts-keep}
+use Rattle.bk_media_plans.proofs.planning_backup.backup.Goals as goal
+
+pub returns-clause-parts : goal.returns-clause-parts
+returns-clause-parts c = (c.in_ok-parts.ensures, ap (λ (n : ℕ). SetMade 1 n n (n + 2)) c.end-end.ensures.same)
+
+pub returns-clause-keeps : goal.returns-clause-keeps
+returns-clause-keeps c = parts-keep c.args.database.now c.args.disk.now _ c.args.time _ c.requires.path c.in_ok-parts.ensures

@@ -1,0 +1,22 @@
+use Rattle.bk_media_plans.proofs.Backed.{Laws, backup-made, backup-refused}
+use Rattle.bk_plans.specs.PlanLaws.{if-plan}
+use Rattle.bk_media_plans.proofs.planning_backup.plan_backup.Goals as goal
+
+pub returns-in-Ok-clause-plans : goal.returns-in-Ok-clause-plans
+returns-in-Ok-clause-plans c =
+    let laws : Laws = record {
+      may = c.statements_do_what_they_may.ensures.may;
+      act = c.acts_keep_worlds_sound.ensures.act;
+      found = c.what_is_said_comes_last.ensures.found;
+      log = c.what_is_said_comes_last.ensures.log;
+    } in
+    if-plan _ _ c.backup.result
+    (λ plan is. backup-made c.args.kept.now c.args.line c.args.now c.args.database.now c.args.units.now c.args.disk.now c.args.options.now c.args.is_there laws c.in-Ok.database.now c.said_time.result plan is
+    c.in-Ok.ensures.check c.in-Ok.ensures.shows (λ w shows. c.said_time.ensures w shows))
+    c.backup.ensures.parts
+
+pub returns-in-Err-clause-plans : goal.returns-in-Err-clause-plans
+returns-in-Err-clause-plans c =
+    if-plan _ _ c.refused.result
+    (λ plan is. backup-refused c.args.kept.now c.args.line c.args.now c.args.database.now c.args.units.now c.args.disk.now c.args.options.now c.args.is_there c.in-Err.refusal plan is c.in-Err.ensures.check)
+    c.refused.ensures.rule

@@ -1,0 +1,33 @@
+use Rattle.std.proofs.Common.{ℕ, ◌+◌, ◌++◌, map, None, sym, ◌∙◌, subst}
+use Rattle.bk_record.specs.Log.{IsLog}
+use Rattle.bk_set.specs.Conditions.{KeepParts}
+use Rattle.bk_undo.specs.Spelled.{spelled}
+use Rattle.bk_world.specs.PlacedRows.{AreRowsOf}
+use Rattle.bk_world.specs.Records.{checkpointed, numbered, stamped}
+use Rattle.bk_world.specs.Says.{alone}
+use Rattle.bk_media_plans.proofs.SetLogs.{carries-made, made-some}
+use Rattle.bk_media_plans.proofs.SetParts.{parts-kept, some-made}
+use Rattle.bk_media_plans.proofs.set.set_of.Goals as goal
+
+pub returns-clause-carries : goal.returns-clause-carries
+returns-clause-carries c =
+    let log : IsLog c.in_ok-log.log (map spelled (numbered c.args.database.now.shown.end (alone (checkpointed c.args.time)) ++ numbered (c.args.database.now.shown.end + 1) (alone (stamped c.args.time c.args.set)))) None =
+    subst (λ (n : ℕ). IsLog c.in_ok-log.log (map spelled (numbered n (alone (checkpointed c.args.time)) ++ numbered (n + 1) (alone (stamped c.args.time c.args.set)))) None) c.end-end.ensures.same c.in_ok-log.ensures in
+    made-some c.make.result _ _ _ _
+    (λ w lines shows settled is.
+    carries-made w lines c.args.database.now c.args.set c.args.time (record { header = c.in_ok-header.header; tables = c.in_ok-tables.tables; rows = c.new.result; log = c.in_ok-log.log }) shows
+    (c.in_ok-header.ensures w shows)
+    (λ files rs sh. sym (c.tables.ensures files rs sh) ∙ sym c.in_ok-tables.ensures)
+    (λ files rs sh none. subst (AreRowsOf rs) (sym c.new.ensures) (c.in_ok-rows.ensures.rows files rs sh none))
+    log
+    (λ files rs sh. sym c.end-end.ensures.same ∙ c.end-end.ensures.shown files rs sh)
+    c.placed_logs.ensures.more settled is)
+    c.make.ensures.made
+
+pub returns-clause-some : goal.returns-clause-some
+returns-clause-some c = λ w shows less fits.
+    some-made c.make.result (record { header = c.in_ok-header.header; tables = c.in_ok-tables.tables; rows = c.new.result; log = c.in_ok-log.log }) _ _
+    (subst (KeepParts c.in_ok-header.header c.in_ok-tables.tables) (sym c.new.ensures)
+    (parts-kept w c.args.database.now c.args.set c.args.time c.in_ok-header.header c.in_ok-tables.tables c.in_ok-rows.rows.items shows fits (c.in_ok-header.ensures w shows)
+    (λ files rs sh. sym (c.tables.ensures files rs sh) ∙ sym c.in_ok-tables.ensures) c.in_ok-rows.ensures.rise c.in_ok-rows.ensures.rows c.in_ok-rows.ensures.fit))
+    c.make.ensures.made

@@ -1,0 +1,4 @@
+pub mod SetPaths
+pub mod Sets
+pub mod Backups
+pub mod Restoring

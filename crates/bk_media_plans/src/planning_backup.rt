@@ -1,0 +1,217 @@
+//! The plan of a full backup.
+
+ghost use Rattle.std.specs.Prelude.{◌≡◌, ◌<◌, ◌+◌, ◌∷◌, ◌++◌, [], ◌^◌, true, false, is_some, IfOk, OnOk};
+ghost use Rattle.bk_acts.specs.Meaning.{Spell, under};
+ghost use Rattle.bk_header.specs.Conditions.{KeepsConditions};
+ghost use Rattle.bk_items.specs.declared.item.ScriptItem.TheVariants as script;
+ghost use Rattle.bk_machine.specs.Checks as checks;
+ghost use Rattle.bk_media_plans.specs.Backups.{BasesOne, IsBackup, IsBackupPlan, IsFullHeader, IsSet, Marks, SealsOne};
+ghost use Rattle.bk_plans.specs.declared.parts.Part.TheVariants.{MediumMade};
+ghost use Rattle.bk_plans.specs.Planning.{KeepsPlan, Plans};
+ghost use Rattle.bk_record.specs.Spelling.{KeepsLimits};
+ghost use Rattle.bk_set.specs.Conditions.{KeepsBody};
+ghost use Rattle.bk_world.specs.Medium.{medium_at};
+ghost use Rattle.bk_world.specs.Records.{Said};
+
+use crate::backing_up::check_backup;
+use crate::set::{header_of, set_of};
+use bk_acts::{StoredAct, said_law};
+use bk_header::keeps;
+use bk_ids::{Body, Guid, Lsn, Name, Sequence, Text};
+use bk_items::{BackupOptions, UnitName};
+use bk_kept::{Database, Kept};
+use bk_machine::{acts_keep_worlds_sound, statements_do_what_they_may, what_is_said_comes_last};
+use bk_plans::{Part, Plan, refused, said_time, say};
+use bk_record::Records;
+use bk_set::SetBody;
+use bk_world::{Header, Reply};
+use std::alloc::{AllocError, Global};
+
+// One record of no transaction, spelled.
+fn one_record(alloc: Global, lsn: Lsn, body: Body) -> Result<Records, AllocError>
+    requires { KeepsLimits body }
+    ensures { IfOk result (λ records. (s : Said) → under lsn s ≡ record { lsn = lsn; begin = 0; body = body } → Spell records lsn (s ∷ [])) }
+{
+    said_law();
+    let mut records = Records::none(alloc);
+    say(alloc, &mut records, lsn, 0, body)?;
+    Ok(records)
+}
+
+// One part more: a database says one record of no transaction.
+fn push_mark(
+    alloc: Global,
+    parts: &mut Vec<Part>,
+    name: &Name,
+    lsn: Lsn,
+    body: Body,
+) -> Result<(), AllocError>
+    requires { KeepsLimits body }
+    ensures { OnOk result ((s : Said) → under lsn s ≡ record { lsn = lsn; begin = 0; body = body } → Marks name.now lsn s parts.old.items parts.new.items) }
+{
+    let records = one_record(alloc, lsn, body)?;
+    let name = name.copy(alloc)?;
+    parts.push(Part::Stored(StoredAct::Logged { name, records }))?;
+    Ok(())
+}
+
+// One part more: the medium is made.
+fn push_medium(alloc: Global, parts: &mut Vec<Part>, disk: &Text) -> Result<(), AllocError>
+    ensures { OnOk result (parts.new.items ≡ parts.old.items ++ MediumMade disk.now ∷ []) }
+{
+    let path = disk.copy(alloc)?;
+    parts.push(Part::MediumMade { path })?;
+    Ok(())
+}
+
+// The set that a backup makes. Where there is none, or its header keeps no header's conditions, it fails as if memory were wanting.
+fn body_of(alloc: Global, database: &Database, set: Guid, time: u64) -> Result<SetBody, AllocError>
+    ensures set { IfOk result (IsSet database.now set time) }
+    ensures keeps { IfOk result KeepsBody }
+{
+    match set_of(alloc, database, set, time)? {
+        Some(body) if keeps(&body.header) => Ok(body),
+        _ => Err(AllocError),
+    }
+}
+
+// The header of that set, of its own.
+fn kept_header(
+    alloc: Global,
+    database: &Database,
+    set: Guid,
+    time: u64,
+) -> Result<Header, AllocError>
+    requires { database.now.shown.«end» + 2 < 2 ^ 64 }
+    ensures header { IfOk result (IsFullHeader database.now set time) }
+    ensures keeps { IfOk result KeepsConditions }
+{
+    let header = header_of(alloc, database, set, time)?;
+    if keeps(&header) {
+        Ok(header)
+    } else {
+        Err(AllocError)
+    }
+}
+
+// One part more: the set is sealed on the medium.
+fn push_set(
+    alloc: Global,
+    parts: &mut Vec<Part>,
+    database: &Database,
+    disk: &Text,
+    set: Guid,
+    time: u64,
+) -> Result<(), AllocError>
+    ensures { OnOk result (SealsOne database.now disk.now set time parts.old.items parts.new.items) }
+{
+    let path = disk.copy(alloc)?;
+    let body = body_of(alloc, database, set, time)?;
+    parts.push(Part::SetSealed { path, body })?;
+    Ok(())
+}
+
+// One part more: the database is based on the set.
+fn push_base(
+    alloc: Global,
+    parts: &mut Vec<Part>,
+    database: &Database,
+    set: Guid,
+    time: u64,
+) -> Result<(), AllocError>
+    requires { database.now.shown.«end» + 2 < 2 ^ 64 }
+    ensures { OnOk result (BasesOne database.now set time parts.old.items parts.new.items) }
+{
+    let name = database.name.copy(alloc)?;
+    let header = kept_header(alloc, database, set, time)?;
+    parts.push(Part::Stored(StoredAct::Based { name, header }))?;
+    Ok(())
+}
+
+// The parts of a backup of a database by which a set of this GUID is made at a time.
+fn backup_parts(
+    alloc: Global,
+    database: &Database,
+    disk: &Text,
+    set: Guid,
+    time: u64,
+) -> Result<Vec<Part>, AllocError>
+    requires left { checks.used_up database.now.shown.«end» ≡ false }
+    ensures { IfOk result (λ parts. IsBackup database.now disk.now set time parts.items) }
+{
+    let end = database.shown.end();
+    let mut parts = Vec::new(alloc);
+    push_medium(alloc, &mut parts, disk)?;
+    push_mark(
+        alloc,
+        &mut parts,
+        &database.name,
+        end,
+        Body::Checkpoint { time },
+    )?;
+    push_mark(
+        alloc,
+        &mut parts,
+        &database.name,
+        end + 1,
+        Body::Stamp { time, set },
+    )?;
+    push_set(alloc, &mut parts, database, disk, set, time)?;
+    push_base(alloc, &mut parts, database, set, time)?;
+    Ok(parts)
+}
+
+// The plan of a backup of a database at a time.
+fn backup(
+    kept: &Kept,
+    alloc: Global,
+    database: &Database,
+    disk: &Text,
+    time: u64,
+) -> Result<Plan, AllocError>
+    requires path { checks.is_path disk.now ≡ true }
+    requires left { checks.used_up database.now.shown.«end» ≡ false }
+    ensures parts { IfOk result (IsBackupPlan database.now disk.now (record { high = kept.now.number; low = kept.now.counter }) time) }
+    ensures keeps { IfOk result KeepsPlan }
+{
+    let set = Guid {
+        high: kept.number,
+        low: kept.counter,
+    };
+    let end = database.shown.end();
+    let parts = backup_parts(alloc, database, disk, set, time)?;
+    let reply = Reply::SetMade {
+        position: 1,
+        first: end,
+        checkpoint: end,
+        last: end + 2,
+    };
+    Ok(Plan::Parts { parts, reply })
+}
+
+/// What `BACKUP DATABASE` on this line comes to at `now`, in milliseconds since 1970-01-01 00:00:00 UTC, where a file is there at
+/// the path of its medium or not. Where the database fits no set it fails as if memory were wanting; that statements make
+/// no such database isn't proved here.
+pub fn plan_backup(
+    kept: &Kept,
+    alloc: Global,
+    line: u32,
+    database: &Text,
+    units: &Sequence<UnitName>,
+    disk: &Text,
+    options: &BackupOptions,
+    is_there: bool,
+    now: u64,
+) -> Result<Plan, AllocError>
+    ensures plans { IfOk result (Plans kept.now (λ w. is_some (medium_at w.media disk.now) ≡ is_there)
+        (record { item = script.BackupDatabase database.now units.now disk.now options.now; line = line }) now) }
+    ensures keeps { IfOk result KeepsPlan }
+{
+    statements_do_what_they_may();
+    acts_keep_worlds_sound();
+    what_is_said_comes_last();
+    match check_backup(kept, line, database, units, disk, is_there, options) {
+        Ok(database) => backup(kept, alloc, database, disk, said_time(database, now)),
+        Err(refusal) => refused(refusal),
+    }
+}

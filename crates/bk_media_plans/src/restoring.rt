@@ -1,0 +1,157 @@
+//! The checks of a whole restore, by the header of its set.
+
+ghost use Rattle.std.specs.Prelude.{◌≡◌, [], map, IfSome};
+ghost use Rattle.std.specs.List.{find};
+ghost use Rattle.std.specs.Option.{option_map};
+ghost use Rattle.bk_machine.specs.Checks as checks;
+ghost use Rattle.bk_machine.specs.Checks.{has_path, paths_of, others};
+ghost use Rattle.bk_machine.specs.World.{World};
+ghost use Rattle.bk_machine.specs.statements.Restore as restore;
+ghost use Rattle.bk_kept.specs.Keeps.{Keeps, ShowsLog, database_of};
+ghost use Rattle.bk_plans.specs.Checking.{IsCheck};
+ghost use Rattle.bk_media_plans.specs.SetPaths as paths;
+ghost use Rattle.bk_media_plans.specs.SetPaths.{file_check};
+
+use bk_ids::Text;
+use bk_kept::{Database, Kept, used_up};
+use bk_plans::{MOST_DATABASES, Refusal, in_use, is_in_use_by_others, limit, refuse_if};
+use bk_world::{Header, HeaderFile, Limit, Rule, Status};
+use std::alloc::Global;
+
+// How many branches a path has before no more are added.
+const MOST_BRANCHES: usize = 64;
+
+// A set of another family, unless the database may be replaced.
+fn check_family(named: Option<&Database>, replace: bool, header: &Header) -> Result<(), Refusal>
+    ensures { IsCheck (λ u. u) result (restore.check_family (option_map (λ d. database_of d.now) named.entry) replace header.now) }
+{
+    match named {
+        Some(d) if !replace && d.family != header.family => Err(Refusal::Broken(
+            Rule::OtherFamily {
+                database: d.family,
+                set: header.family,
+            },
+        )),
+        _ => Ok(()),
+    }
+}
+
+// Whether the end of a database's log isn't backed up, and would be lost with the database.
+fn has_tail(database: &Database) -> bool
+    ensures { (w : World) → ShowsLog w.history database.now → result ≡ restore.has_tail w (database_of database.now) }
+{
+    matches!(database.status, Status::Online)
+        && !database.is_simple()
+        && database.chain
+        && database.archive < database.shown.end()
+}
+
+// The end of the log isn't backed up, unless the database may be replaced.
+fn check_tail(named: Option<&Database>, replace: bool) -> Result<(), Refusal>
+    ensures { (w : World) → IfSome named.entry (λ d. ShowsLog w.history d.now)
+        → IsCheck (λ u. u) result (restore.check_tail w (option_map (λ d. database_of d.now) named.entry) replace) }
+{
+    match named {
+        Some(d) if has_tail(d) && !replace => Err(Refusal::Broken(Rule::TailNotBackedUp {
+            archive: d.archive,
+            end: d.shown.end(),
+        })),
+        _ => Ok(()),
+    }
+}
+
+// One database more than there may be, where the one that is restored isn't there.
+fn check_number(databases: &[Database], named: Option<&Database>) -> Result<(), Refusal>
+    ensures { IsCheck (λ u. u) result (restore.check_number (map database_of databases.now) (option_map (λ d. database_of d.now) named.entry)) }
+{
+    match named {
+        None if databases.len() >= MOST_DATABASES => Err(Refusal::Broken(Rule::LimitReached {
+            which: Limit::Databases,
+        })),
+        _ => Ok(()),
+    }
+}
+
+// Whether one of some files has a path.
+fn stands(files: &[HeaderFile], path: &str) -> bool
+    ensures { result ≡ paths.stands files.now path.now }
+{
+    files.iter().any(|file| file.spec.path.as_str() == path)
+}
+
+// The first file of a set whose path a database of another name uses.
+fn first_used<'a>(
+    databases: &[Database],
+    name: &str,
+    files: &'a [HeaderFile],
+) -> Option<&'a HeaderFile>
+    ensures { option_map (λ f. f.now) result ≡ find (λ f. has_path (paths_of (others (map database_of databases.now) name.now)) f.spec.path) files.now }
+{
+    files.iter().find(|file| is_in_use_by_others(databases, name, file.spec.path.as_str()))
+}
+
+// The first file of a set whose path one before it has.
+fn first_repeated(files: &[HeaderFile]) -> Option<&HeaderFile>
+    ensures { option_map (λ f. f.now) result ≡ paths.first_repeated [] files.now }
+{
+    for (i, file) in files.iter().enumerate() {
+        if stands(&files[..i], file.spec.path.as_str()) {
+            return Some(file);
+        }
+    }
+    None
+}
+
+// Refused at a file, if one was found.
+fn refuse_file(alloc: Global, found: Option<&HeaderFile>) -> Result<(), Refusal>
+    ensures { IsCheck (λ u. u) result (file_check (option_map (λ f. f.now) found.entry)) }
+{
+    match found {
+        Some(file) => Err(in_use(alloc, &file.spec.path)),
+        None => Ok(()),
+    }
+}
+
+// The paths of a set's files, which no database of another name may have.
+fn free_paths(
+    alloc: Global,
+    databases: &[Database],
+    name: &str,
+    files: &[HeaderFile],
+) -> Result<(), Refusal>
+    ensures { IsCheck (λ u. u) result (checks.free_paths (paths_of (others (map database_of databases.now) name.now)) (map (λ f. f.spec.path) files.now)) }
+{
+    refuse_file(alloc, first_used(databases, name, files))
+}
+
+// The paths of a set's files, no two of which may be the same.
+fn different_paths(alloc: Global, files: &[HeaderFile]) -> Result<(), Refusal>
+    ensures { IsCheck (λ u. u) result (checks.different_paths [] (map (λ f. f.spec.path) files.now)) }
+{
+    refuse_file(alloc, first_repeated(files))
+}
+
+// Whether the set with this header may take the place of the database of this name, or come behind the others.
+#[tactic(auto, unfolding(bk_machine::specs::statements::Restore::check_set))]
+pub(crate) fn check_set(
+    kept: &Kept,
+    alloc: Global,
+    name: &Text,
+    replace: bool,
+    header: &Header,
+) -> Result<(), Refusal>
+    ensures { (w : World) → Keeps w kept.now → IsCheck (λ u. u) result (restore.check_set w name.now replace header.now) }
+{
+    let files = header.files.as_slice();
+    let named = kept.named(name.as_str());
+    check_family(named, replace, header)?;
+    check_tail(named, replace)?;
+    check_number(&kept.databases, named)?;
+    free_paths(alloc, &kept.databases, name.as_str(), files)?;
+    different_paths(alloc, files)?;
+    refuse_if(
+        header.path.as_slice().len() >= MOST_BRANCHES,
+        Rule::PathFull,
+    )?;
+    limit(used_up(header.last) || used_up(kept.counter))
+}

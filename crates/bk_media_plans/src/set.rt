@@ -1,0 +1,166 @@
+//! The set that a full backup of an idle database makes.
+
+ghost use Rattle.std.specs.Prelude.{◌≡◌, ◌<◌, ◌+◌, ◌^◌, ◌∷◌, ◌++◌, [], true, false, List, length, map, IfOk, OnOk, IfSome, IsSome, None};
+ghost use Rattle.bk_ids.specs.declared.record.Rec.{Rec as RecSpec};
+ghost use Rattle.bk_machine.specs.Checks as checks;
+ghost use Rattle.bk_machine.specs.World.{World, log_of};
+ghost use Rattle.bk_machine.specs.statements.Backup as backup;
+ghost use Rattle.bk_record.specs.Log.{IsLog};
+ghost use Rattle.bk_record.specs.Spelling.{IsRecord, KeepsLimits, spelling};
+ghost use Rattle.bk_set.specs.Conditions.{KeepParts};
+ghost use Rattle.bk_undo.specs.Spelled.{spelled};
+ghost use Rattle.bk_world.specs.Lines.{RecordLines, log_below};
+ghost use Rattle.bk_world.specs.Pending.{pending};
+ghost use Rattle.bk_world.specs.Records.{checkpointed, numbered, stamped};
+ghost use Rattle.bk_world.specs.Says.{alone};
+ghost use Rattle.bk_kept.specs.Keeps.{ShowsLog, database_of};
+ghost use Rattle.bk_media_plans.specs.Sets.{FitsSet, with_set};
+ghost use Rattle.bk_kept.specs.Stored.{Carries};
+
+use bk_ids::{Body, Guid, Lsn, Rec, Sequence, Text};
+use bk_kept::{Database, copy_file, copy_groups, used_up};
+use bk_record::Records;
+use bk_set::{SetBody, make};
+use bk_shown::placed_logs;
+use bk_world::{Base, FileSpec, Header, HeaderFile, SetKind, TableSpec};
+use std::alloc::{AllocError, Global};
+
+// The data files of a database as a full set's header names them.
+fn header_files(alloc: Global, files: &[FileSpec]) -> Result<Sequence<HeaderFile>, AllocError>
+    ensures { IfOk result (λ named. named ≡ map (λ file. record { spec = file; in_set = true }) files.now) }
+{
+    let mut named = Vec::new(alloc);
+    for file in files {
+        let spec = copy_file(alloc, file)?;
+        named.push(HeaderFile { spec, in_set: true })?;
+    }
+    Ok(Sequence::new(named))
+}
+
+// A table of its own.
+fn copy_table(alloc: Global, table: &TableSpec) -> Result<TableSpec, AllocError>
+    ensures { IfOk result (λ copy. copy ≡ table.now) }
+{
+    Ok(TableSpec {
+        number: table.number,
+        name: table.name.copy(alloc)?,
+        group: table.group,
+    })
+}
+
+// Tables of their own.
+fn copy_tables(alloc: Global, tables: &[TableSpec]) -> Result<Sequence<TableSpec>, AllocError>
+    ensures { IfOk result (λ copy. copy ≡ tables.now) }
+{
+    let mut copy = Vec::new(alloc);
+    for table in tables {
+        copy.push(copy_table(alloc, table)?)?;
+    }
+    Ok(Sequence::new(copy))
+}
+
+// The number of a base's checkpoint, 0 where there is none.
+fn base_lsn(base: Option<Base>) -> Lsn
+    ensures { result ≡ backup.base_lsn base }
+{
+    match base {
+        Some(base) => base.lsn,
+        None => 0,
+    }
+}
+
+// The header of a full backup of a database whose checkpoint is its end, and whose stamp comes next.
+pub(crate) fn header_of(
+    alloc: Global,
+    database: &Database,
+    set: Guid,
+    time: u64,
+) -> Result<Header, AllocError>
+    requires { database.now.shown.«end» + 2 < 2 ^ 64 }
+    ensures { IfOk result (λ header. (w : World) → ShowsLog w.history database.now → header ≡ backup.full_header w (database_of database.now) set time) }
+{
+    let end = database.shown.end();
+    Ok(Header {
+        version: 1,
+        kind: SetKind::Full,
+        model: database.shown.model(),
+        copy_only: false,
+        bulk: false,
+        begins_chain: false,
+        checksums: false,
+        set,
+        family: database.family,
+        first: end,
+        checkpoint: end,
+        last: end + 2,
+        database_backup: base_lsn(database.base),
+        base: None,
+        start: time,
+        finish: time,
+        expiry: None,
+        database: database.name.copy(alloc)?,
+        name: Text::new(String::new(alloc)),
+        path: database.path.copy(alloc)?,
+        groups: copy_groups(alloc, database.groups.as_slice())?,
+        files: header_files(alloc, database.files.as_slice())?,
+        log_name: database.log_name.copy(alloc)?,
+        log_path: database.log_path.copy(alloc)?,
+    })
+}
+
+// A record of no transaction comes behind others.
+fn push_alone(alloc: Global, log: &mut Records, lsn: Lsn, body: Body) -> Result<(), AllocError>
+    requires { KeepsLimits body }
+    ensures ok { OnOk result (log.new ≡ log.old ++ spelling (record { lsn = lsn; begin = 0; body = body })) }
+    ensures fits { OnOk result (IsRecord (record { lsn = lsn; begin = 0; body = body })) }
+{
+    let said = Rec {
+        lsn,
+        begin: 0,
+        body,
+    };
+    let pushed = log.push(alloc, &said);
+    drop(said);
+    pushed
+}
+
+// The checkpoint at a set's start and the stamp at its finish, as they are spelled.
+fn set_log(alloc: Global, end: Lsn, set: Guid, time: u64) -> Result<Records, AllocError>
+    requires { «end» + 2 < 2 ^ 64 }
+    ensures { IfOk result (λ log. IsLog log (map spelled (numbered «end» (alone (checkpointed time)) ++ numbered («end» + 1) (alone (stamped time set)))) None) }
+{
+    let mut log = Records::none(alloc);
+    push_alone(alloc, &mut log, end, Body::Checkpoint { time })?;
+    push_alone(alloc, &mut log, end + 1, Body::Stamp { time, set })?;
+    Ok(log)
+}
+
+// The body of the set that a full backup of a database makes at a time, in milliseconds since 1970-01-01 00:00:00 UTC, where
+// nothing is pending: its log is the checkpoint at the database's end and the stamp behind it. None where numbers are used
+// up, or where tables and rows don't keep the conditions of a set.
+pub(crate) fn set_of(
+    alloc: Global,
+    database: &Database,
+    set: Guid,
+    time: u64,
+) -> Result<Option<SetBody>, AllocError>
+    ensures header { IfOk result (λ made. IfSome made (λ body. (w : World) → ShowsLog w.history database.now → body.header ≡ backup.full_header w (database_of database.now) set time)) }
+    ensures parts { IfOk result (λ made. IfSome made (λ body. KeepParts body.header body.tables body.rows)) }
+    ensures carries { IfOk result (λ made. IfSome made (λ body. (w : World) (lines : RecordLines)
+        → ShowsLog w.history database.now → pending (log_of w.history (database_of database.now)) ≡ []
+        → log_below lines database.now.path (database.now.shown.«end» + 2) ≡ with_set (log_of w.history (database_of database.now)) database.now.shown.«end» set time
+        → Carries lines body)) }
+    ensures some { IfOk result (λ made. (w : World) → ShowsLog w.history database.now → checks.used_up database.now.shown.«end» ≡ false
+        → FitsSet (length database.now.groups) (log_of w.history (database_of database.now)) → IsSome made) }
+{
+    placed_logs();
+    let end = database.shown.end();
+    if used_up(end) {
+        return Ok(None);
+    }
+    let tables = copy_tables(alloc, database.shown.tables())?;
+    let rows = database.shown.placed_rows(alloc)?;
+    let log = set_log(alloc, end, set, time)?;
+    let header = header_of(alloc, database, set, time)?;
+    Ok(make(header, tables, Sequence::new(rows), log))
+}

@@ -1,6 +1,0 @@
-use Rattle.std.proofs.Common.{◌≡◌, [], take, drop}
-use Rattle.bk_plans.specs.Paths.{first_repeated}
-use Rattle.bk_plans.proofs.restoring.first_repeated.Given as goal
-
-abbrev pub invariant-loop-i : goal.invariant-loop-i
-invariant-loop-i l = first_repeated (take l.i l.files) (drop l.i l.files) ≡ first_repeated [] l.files

@@ -1,0 +1,34 @@
+-- What plans of one part are.
+use Rattle.std.specs.Prelude.{◌≡◌, ℕ, List, [], ◌∷◌}
+use Rattle.bk_acts.specs.declared.act.StoredAct.{StoredAct}
+use Rattle.bk_acts.specs.declared.act.StoredAct.TheVariants.{Logged}
+use Rattle.bk_acts.specs.Meaning.{Spell}
+use Rattle.bk_machine.specs.Acts.{said_time}
+use Rattle.bk_machine.specs.World.{World}
+use Rattle.bk_world.specs.Records.{Said}
+use Rattle.bk_world.specs.declared.reply.Reply.{Reply}
+use Rattle.bk_kept.specs.declared.kept.Database.{Database as KeptDatabase}
+use Rattle.bk_plans.specs.declared.parts.Part.TheVariants.{Stored}
+use Rattle.bk_plans.specs.declared.parts.Plan.{Plan}
+use Rattle.bk_plans.specs.declared.parts.Plan.TheVariants.{Refused, Parts}
+use Rattle.bk_plans.specs.declared.refusal.Refusal.{Refusal}
+use Rattle.bk_plans.specs.declared.refusal.Refusal.TheVariants.{Broken, NoMemory}
+use Rattle.bk_kept.specs.Keeps.{ShowsLog, database_of}
+
+-- a plan refuses by the rule of a refusal
+abbrev pub IsRefusedBy : Refusal → Plan → Type 0
+IsRefusedBy (Broken rule) plan = plan ≡ Refused rule
+IsRefusedBy NoMemory plan = ⊥
+
+-- a plan stores one act, and replies
+abbrev pub IsOne : StoredAct → Reply → Plan → Type 0
+IsOne stored reply (Parts parts answer) = (parts.items ≡ Stored stored ∷ []) × (answer ≡ reply)
+IsOne stored reply _ = ⊥
+
+-- By a plan a database says at its end what is said at a time, which is the machine's where its log is what it shows, and then it replies.
+pub record SaysThen (d : KeptDatabase) (now : ℕ) (said : ℕ → List Said) (reply : Reply) (plan : Plan) : Type 0 where
+  pub records : List ℕ
+  pub time : ℕ
+  pub one : IsOne (Logged d.name records) reply plan
+  pub spell : Spell records d.shown.«end» (said time)
+  pub time_is : (w : World) → ShowsLog w.history d → time ≡ said_time w (database_of d) now

@@ -1,0 +1,95 @@
+-- Plans of statements, as outcomes of the machine.
+use Rattle.std.specs.Prelude.{◌≡◌, ℕ, true, false, List, [], ◌∷◌, None, Some}
+use Rattle.std.specs.List.{AllByRecursion}
+use Rattle.bk_acts.specs.Spelling.{KeepsAct}
+use Rattle.bk_items.specs.declared.item.ScriptEntry.{ScriptEntry}
+use Rattle.bk_items.specs.declared.item.ScriptItem.{ScriptItem}
+use Rattle.bk_items.specs.declared.item.ScriptItem.TheVariants.{BackupDatabase, RestoreDatabase}
+use Rattle.bk_machine.specs.Acts.{Act, turned, medium_made, set_sealed, done}
+use Rattle.bk_machine.specs.Checks.{used_up, is_path}
+use Rattle.bk_machine.specs.Machine.{May}
+use Rattle.bk_machine.specs.MayDo.{MayDo}
+use Rattle.bk_machine.specs.Outcome.{Outcome}
+use Rattle.bk_machine.specs.Sound.{IsSound, AreIdle}
+use Rattle.bk_machine.specs.World.{World}
+use Rattle.bk_set.specs.declared.body.SetBody.{SetBody}
+use Rattle.bk_set.specs.Conditions.{KeepsBody}
+use Rattle.bk_world.specs.Medium.{Slot, medium, medium_at}
+use Rattle.bk_world.specs.declared.reply.Reply.{Reply}
+use Rattle.bk_world.specs.declared.reply.Reply.TheVariants as reply
+use Rattle.bk_kept.specs.declared.kept.Kept.{Kept}
+use Rattle.bk_plans.specs.declared.parts.Part.{Part}
+use Rattle.bk_plans.specs.declared.parts.Part.TheVariants.{Stored, MediumMade, SetSealed}
+use Rattle.bk_plans.specs.declared.parts.Plan.{Plan}
+use Rattle.bk_plans.specs.declared.parts.Plan.TheVariants.{Refused, Answered, Turned, Parts}
+use Rattle.bk_kept.specs.Keeps.{Keeps}
+use Rattle.bk_kept.specs.Stored.{IsDone, Carries}
+
+-- Parts.
+
+-- a medium is made where none is
+pub record MakesMedium (w : World) (path : List ℕ) (act : Act) : Type 0 where
+  pub is : act ≡ medium_made path
+  pub absent : medium_at w.media path ≡ None
+  pub draws : used_up w.counter ≡ false
+
+-- a set that holds what its path shows is sealed on a medium that is there
+pub record SealsSet (w : World) (path : List ℕ) (body : SetBody) (act : Act) : Type 0 where
+  pub is : act ≡ set_sealed path body.header
+  pub may : MayDo w act
+  pub slots : List Slot
+  pub there : medium_at w.media path ≡ Some (medium slots)
+  pub carries : Carries w.history body
+
+-- a part is this act, which may be done to a world
+abbrev pub IsPart : World → Part → Act → Type 0
+IsPart w (Stored stored) act = IsDone w stored act
+IsPart w (MediumMade path) act = MakesMedium w path act
+IsPart w (SetSealed path body) act = SealsSet w path body act
+
+-- parts are these acts, each of which may be done behind those before it
+abbrev pub AreParts : World → List Part → List Act → Type 0
+AreParts w [] [] = Unit {0}
+AreParts w (part ∷ parts) (act ∷ acts) = IsPart w part act × AreParts (done w act) parts acts
+AreParts w _ _ = ⊥
+
+-- what a part keeps beside its types
+abbrev pub KeepsPart : Part → Type 0
+KeepsPart (Stored stored) = KeepsAct stored
+KeepsPart (MediumMade path) = is_path path ≡ true
+KeepsPart (SetSealed path body) = (is_path path ≡ true) × KeepsBody body
+
+-- Plans.
+
+-- what a plan replies
+abbrev pub reply_of : Plan → Reply
+reply_of (Refused rule) = reply.Refused rule
+reply_of (Answered answer) = answer
+reply_of (Turned name) = reply.Done
+reply_of (Parts parts answer) = answer
+
+-- the acts of a plan, each of which may be done to a world behind those before it
+abbrev pub AreActsOf : World → Plan → List Act → Type 0
+AreActsOf w (Refused rule) acts = acts ≡ []
+AreActsOf w (Answered answer) acts = acts ≡ []
+AreActsOf w (Turned name) acts = acts ≡ turned name ∷ []
+AreActsOf w (Parts parts answer) acts = AreParts w parts.items acts
+
+-- what a plan keeps beside its types
+abbrev pub KeepsPlan : Plan → Type 0
+KeepsPlan (Parts parts answer) = AllByRecursion KeepsPart parts.items
+KeepsPlan _ = Unit {0}
+
+-- A plan of a statement at a moment: one outcome, to which the statement may come in each world that is kept and of which this is known, and
+-- whose acts are then those of the plan.
+pub record Plans (k : Kept) (Known : World → Type 0) (s : ScriptEntry) (now : ℕ) (plan : Plan) : Type 0 where
+  pub outcome : Outcome
+  pub replies : outcome.reply ≡ reply_of plan
+  pub may : (w : World) → IsSound w → AreIdle w → Keeps w k → Known w → May w s now outcome
+  pub acts : (w : World) → IsSound w → AreIdle w → Keeps w k → Known w → AreActsOf w plan outcome.acts
+
+-- an item that reads no medium
+abbrev pub ReadsNoMedium : ScriptItem → Type 0
+ReadsNoMedium (BackupDatabase name units disk options) = ⊥
+ReadsNoMedium (RestoreDatabase name units disk options) = ⊥
+ReadsNoMedium _ = Unit {0}

@@ -1,0 +1,30 @@
+//! What a statement comes to.
+
+use bk_acts::StoredAct;
+use bk_ids::Text;
+use bk_set::SetBody;
+use bk_world::{Reply, Rule};
+
+/// A part of a statement: an act of the machine, and with it what of it is stored.
+#[derive(Drop)]
+pub enum Part {
+    /// An act that the instance's file stores.
+    Stored(StoredAct),
+    /// A medium is made at a path of 1 to 100 bytes where none is, without sets.
+    MediumMade { path: Text },
+    /// A set is sealed behind those on the medium at a path.
+    SetSealed { path: Text, body: SetBody },
+}
+
+/// What a statement comes to.
+#[derive(Drop)]
+pub enum Plan {
+    /// It is refused by this rule, the first that it breaks, and does nothing.
+    Refused { rule: Rule },
+    /// It does nothing, and answers.
+    Answered { reply: Reply },
+    /// The current database becomes the one of this name, or there is none; the reply is that it is done.
+    Turned { name: Option<Text> },
+    /// Its parts are done one after the other, and then it replies.
+    Parts { parts: Vec<Part>, reply: Reply },
+}

@@ -1,0 +1,55 @@
+//! What statements come to.
+
+ghost use Rattle.std.specs.Prelude.{◌≡◌, IfOk};
+ghost use Rattle.bk_plans.specs.Planning.{KeepsPlan, Plans, ReadsNoMedium};
+
+use crate::create_database::plan_create_database;
+use crate::create_table::plan_create_table;
+use crate::drop_database::plan_drop_database;
+use crate::insert::plan_insert;
+use crate::parts::Plan;
+use crate::select::plan_select;
+use crate::use_database::plan_use;
+use bk_items::{ScriptEntry, ScriptItem};
+use bk_kept::Kept;
+use bk_world::Rule;
+use std::alloc::{AllocError, Global};
+
+/// What a statement comes to at `now`, in milliseconds since 1970-01-01 00:00:00 UTC, that reads no medium.
+pub fn plan(
+    kept: &Kept,
+    alloc: Global,
+    statement: &ScriptEntry,
+    now: u64,
+) -> Result<Plan, AllocError>
+    ensures plans { IfOk result (λ plan. ReadsNoMedium statement.now.item → Plans kept.now (λ w. Unit {0}) statement.now now plan) }
+    ensures keeps { IfOk result KeepsPlan }
+{
+    let line = statement.line;
+    match &statement.item {
+        ScriptItem::CreateDatabase {
+            database,
+            primary,
+            groups,
+            log,
+        } => plan_create_database(kept, alloc, line, database, primary, groups, log, now),
+        ScriptItem::DropDatabase { database } => plan_drop_database(kept, alloc, database),
+        ScriptItem::Use { database } => plan_use(kept, alloc, database),
+        ScriptItem::CreateTable { table, group } => {
+            plan_create_table(kept, alloc, line, table, group, now)
+        }
+        ScriptItem::Insert { table, key, value } => {
+            plan_insert(kept, alloc, line, table, *key, value, now)
+        }
+        ScriptItem::Select { table, key } => plan_select(kept, alloc, line, table, *key),
+        ScriptItem::Syntax { line } => Ok(Plan::Refused {
+            rule: Rule::Syntax { line: *line },
+        }),
+        ScriptItem::TooLong => Ok(Plan::Refused {
+            rule: Rule::TooLong,
+        }),
+        _ => Ok(Plan::Refused {
+            rule: Rule::NotBuilt { line },
+        }),
+    }
+}
