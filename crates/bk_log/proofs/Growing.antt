@@ -1,5 +1,5 @@
 -- What beginning a new segment did to the device, and then sealing a blob in it.
-use Rattle.std.proofs.Common.{◌≡◌, ◌⊎◌, ◌≤◌, ◌<◌, ◌^◌, ℕ, Bool, ◌+◌, ◌-◌, List, [], ◌++◌, drop, Some, refl, inl, inr, sym, ap, subst, ◌∙◌, arith}
+use Rattle.std.proofs.Common.{◌≡◌, ◌⊎◌, ◌≤◌, ◌<◌, ◌^◌, ℕ, Bool, ◌+◌, ◌-◌, List, [], ◌∷◌, ◌++◌, length, drop, Some, refl, inl, inr, sym, ap, subst, ◌∙◌, arith, length-append}
 use Rattle.std.proofs.lemmas.List.{append-nil}
 use Rattle.bk_control.specs.Control.{IsControl, control_kept, Kept as KeptControl}
 use Rattle.bk_control.specs.Slots.{control_of}
@@ -12,18 +12,20 @@ use Rattle.bk_gate.specs.Gate.{IsGate, Kept as KeptGate}
 use Rattle.bk_gate.specs.Laws.{gate_kept}
 use Rattle.bk_ids.specs.declared.record.Rec.{Rec}
 use Rattle.bk_log.specs.declared.head.Head.{Head}
+use Rattle.bk_log.specs.declared.segments.Segment.{Segment}
 use Rattle.bk_log.specs.Control.{read_control, IsSound}
 use Rattle.bk_log.specs.Records.{records_of, IsRun}
-use Rattle.bk_log.specs.Log.{control_file, segment_file, IsOwn, blobs_at, blobs_from, blobs_of, shown, value_of, with_more, Logged, LogIs, Kept, IsLog}
+use Rattle.bk_log.specs.Log.{control_file, segment_file, IsOwn, blobs_at, blobs_from, blobs_of, shown, value_of, with_more, AreSegments, IsAdded, Logged, LogIs, Kept, IsLog}
 use Rattle.bk_log.specs.FileLaws.{control_not_segment, one_segment, blobs_same, all_blobs, log_is, shown_same}
 use Rattle.bk_log.specs.Laws.{control_there, control_is, still, segment_left}
+use Rattle.bk_log.specs.SegmentLaws.{segments_same, segments_added}
 
 -- the head with one segment more
 abbrev pub next : Head → Head
 next head = record { kept = head.kept; gone = head.gone; front = head.front; back = head.back + 1; first = head.first }
 
 pub next_sound : {head : Head} {note : List ℕ} → IsSound head note → head.back + 1 ≤ head.gone + 65535 → head.back + 1 < 2 ^ 62 → IsSound (next head) note
-next_sound is few small = record { gone = is.gone; front = omega (arith, is.front); back = small; few = few; kept = is.kept; short = is.short }
+next_sound is few small = record { gone = is.gone; front = omega (arith, is.front); back = small; few = omega (arith, few); kept = is.kept; short = is.short }
 
 -- its blobs are those of the old one and then those of the new segment
 pub blobs_next : (files : Files) (db : ℕ) (head : Head) → head.front ≤ head.back → blobs_of files db (next head) ≡ blobs_of files db head ++ blobs_at files db (head.back + 1)
@@ -34,6 +36,23 @@ blobs_next files db head order =
 
 pub blobs_unchanged : (files : Files) (db : ℕ) (head : Head) → head.front ≤ head.back → blobs_at files db (head.back + 1) ≡ [] → blobs_of files db (next head) ≡ blobs_of files db head
 blobs_unchanged files db head order none = blobs_next files db head order ∙ ap (λ (bs : List (List ℕ)). blobs_of files db head ++ bs) none ∙ append-nil (blobs_of files db head)
+
+-- the same segments, and whether it is failed is no matter of the disk
+pub log_again : {disk : Disk} {log : Kept} (segments : List Segment) (failed : Bool) → segments ≡ log.segments → IsLog disk log → IsLog disk (record log { segments = segments; failed = failed })
+log_again {disk = disk} {log = log} segments failed same is = record {
+  control_name = is.control_name;
+  gate_name = is.gate_name;
+  controls = is.controls;
+  gates = is.gates;
+  reads = is.reads;
+  sound = is.sound;
+  segments = subst (AreSegments (blobs_at disk.files log.db) log.db log.head.front log.head.first) (sym same) is.segments;
+  count = omega (arith, is.count, ap length same);
+  durable = is.durable;
+  run = is.run;
+  inside = is.inside;
+  small = is.small;
+}
 
 -- ---- the segment is made
 
@@ -61,6 +80,8 @@ begun_log log a b is effect =
       gates = gate_kept (keeps_by_effect (λ n at same. other log.head.back (omega arith) (sym is.gate_name ∙ (sym at ∙ same))) effect) is.gates;
       reads = is.reads;
       sound = is.sound;
+      segments = segments_same (blobs_at a.files log.db) (blobs_at b.files log.db) log.db log.head.front log.head.first log.segments is.segments (λ n low high. ap sealed (effect.others (segment_file log.db n) (other n (omega (arith, high, is.count)))));
+      count = is.count;
       durable = λ n low high. durable_kept {names = IsName (segment_file log.db n)} (segment_file log.db n) refl (keeps_by_effect (λ m at same. other n high (sym at ∙ same)) effect) (is.durable n low high);
       run = subst (λ (bs : List (List ℕ)). IsRun log.head.first bs log.stored) (sym blobs) is.run;
       inside = is.inside;
@@ -117,14 +138,19 @@ grown_value log a b c is none first second =
     ap (λ (bs : List (List ℕ)). record { kept = log.head.kept; records = drop (log.head.kept - log.head.first) (records_of bs); note = log.note }) (grown_blobs log a b c is none first second)
 
 -- and the log stands with it
-pub grown_log : {P Q : Files → Type 0} (log : Kept) (bytes : List ℕ) (a b c : Disk) (control : KeptControl) (gate : KeptGate) (end : ℕ) (waiting : List Rec) (failed : Bool) → IsLog a log → IsSound (next log.head) log.note → read_control bytes ≡ Some (next log.head, log.note)
+pub grown_log : {P Q : Files → Type 0} (log : Kept) (bytes : List ℕ) (a b c : Disk) (control : KeptControl) (gate : KeptGate) (segments : List Segment) (end : ℕ) (waiting : List Rec) (failed : Bool) → IsLog a log → IsAdded log.segments segments log.db (log.head.back + 1) log.stored → IsSound (next log.head) log.note → read_control bytes ≡ Some (next log.head, log.note)
     → control.name ≡ log.control.name → control.content ≡ bytes → IsControl c control → gate.name ≡ segment_file log.db (log.head.back + 1) → IsGate b gate
     → IsDurable b (segment_file log.db (log.head.back + 1)) → sealed (b.files (segment_file log.db (log.head.back + 1))) ≡ []
     → Effect (IsName (segment_file log.db (log.head.back + 1))) P a b → Effect (IsName log.control.name) Q b c
-    → IsLog c (record { db = log.db; control = control; gate = gate; head = next log.head; note = log.note; stored = log.stored; end = end; waiting = waiting; failed = failed })
-grown_log log bytes a b c control gate end waiting failed is sound reads control_name content controls gate_name gates durable none first second =
+    → IsLog c (record { db = log.db; control = control; gate = gate; head = next log.head; segments = segments; note = log.note; stored = log.stored; end = end; waiting = waiting; failed = failed })
+grown_log log bytes a b c control gate segments end waiting failed is added sound reads control_name content controls gate_name gates durable none first second =
     let mid = begun_log log a b is first in
     let apart : (n : ℕ) → segment_file log.db n ≡ log.control.name → ⊥ = λ n same. control_not_segment log.db n (sym (same ∙ is.control_name)) in
+    let all : blobs_of c.files log.db log.head ≡ blobs_of a.files log.db log.head =
+    blobs_same a.files c.files log.db log.head is.sound.front (λ n low high. ap sealed (second.others (segment_file log.db n) (apart n) ∙ first.others (segment_file log.db n) (beside log n is high))) in
+    let count : length log.segments ≡ log.head.back - log.head.front + 1 = omega (arith, is.count, is.sound.front) in
+    let last_begins : IsRun log.head.first (blobs_from (blobs_at c.files log.db) log.head.front (length log.segments)) log.stored =
+    subst (λ (bs : List (List ℕ)). IsRun log.head.first bs log.stored) (sym (ap (blobs_from (blobs_at c.files log.db) log.head.front) count ∙ all_blobs c.files log.db log.head is.sound.front ∙ all)) is.run in
     let moved : (n : ℕ) → IsDurable b (segment_file log.db n) → IsDurable c (segment_file log.db n) = λ n settled. durable_kept {names = IsName (segment_file log.db n)} (segment_file log.db n) refl (keeps_by_effect (λ m at same. apart n (sym at ∙ same)) second) settled in
     record {
       control_name = control_name ∙ is.control_name;
@@ -133,6 +159,10 @@ grown_log log bytes a b c control gate end waiting failed is sound reads control
       gates = gate_kept (keeps_by_effect (λ n at same. apart (log.head.back + 1) (sym gate_name ∙ (sym at ∙ same))) second) gates;
       reads = ap read_control content ∙ reads;
       sound = sound;
+      segments = segments_added (blobs_at c.files log.db) log.db log.head.front log.head.first (log.head.back + 1) log.stored log.segments segments
+          (segments_same (blobs_at b.files log.db) (blobs_at c.files log.db) log.db log.head.front log.head.first log.segments mid.segments (λ n low high. ap sealed (second.others (segment_file log.db n) (apart n))))
+          (sym is.count) last_begins added;
+      count = omega (arith, is.count, ap length added.1, length-append log.segments (added.0 ∷ []));
       durable = λ n low high. elim (equal_or_not n (log.head.back + 1)) [
         | inl last ↦ moved n (subst (λ (m : ℕ). IsDurable b (segment_file log.db m)) (sym last) durable)
         | inr before ↦ moved n (mid.durable n low (omega (arith, high, before)))

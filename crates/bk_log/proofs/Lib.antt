@@ -1,7 +1,9 @@
+pub mod Cuts
 pub mod Errors
 pub mod Growing
 pub mod Heads
 pub mod Makes
 pub mod Parts
 pub mod Removals
+pub mod Resets
 pub mod Steps

@@ -1,5 +1,5 @@
 -- What making the files of a log did to the device, and opening its last segment.
-use Rattle.std.proofs.Common.{◌≡◌, ◌⊎◌, ◌≤◌, ◌<◌, ◌^◌, ℕ, Bool, ◌-◌, List, [], map, drop, Some, None, refl, inl, inr, sym, ap, subst, ◌∙◌, arith}
+use Rattle.std.proofs.Common.{◌≡◌, ◌⊎◌, ◌≤◌, ◌<◌, ◌^◌, ℕ, Bool, ◌+◌, ◌-◌, List, [], map, length, drop, Some, None, refl, inl, inr, sym, ap, subst, ◌∙◌, arith}
 use Rattle.std.proofs.lemmas.List.{drop_all}
 use Rattle.bk_control.specs.Control.{IsControl, control_value, control_durable, control_kept, Kept as KeptControl}
 use Rattle.bk_control.specs.Slots.{control_of}
@@ -14,11 +14,13 @@ use Rattle.bk_gate.specs.Gate.{IsGate, Kept as KeptGate}
 use Rattle.bk_gate.specs.Laws.{gate_sealed}
 use Rattle.bk_ids.specs.declared.record.Rec.{Rec}
 use Rattle.bk_log.specs.declared.head.Head.{Head}
+use Rattle.bk_log.specs.declared.segments.Segment.{Segment}
 use Rattle.bk_log.specs.Control.{read_control, IsSound}
 use Rattle.bk_log.specs.Records.{records_of, IsRun}
 use Rattle.bk_log.specs.RunLaws.{run_none}
+use Rattle.bk_log.specs.SegmentLaws.{segments_same, segments_none, segments_added}
 use Rattle.bk_log.specs.FileLaws.{control_not_segment, log_is, log_same, blobs_same, shown_same}
-use Rattle.bk_log.specs.Log.{control_file, segment_file, IsOwn, blobs_of, blobs_at, shown, fresh, Logged, LogIs, IsLog, AreDurable}
+use Rattle.bk_log.specs.Log.{control_file, segment_file, IsOwn, blobs_of, blobs_at, shown, fresh, AreSegments, IsAdded, Logged, LogIs, IsLog, AreDurable}
 
 -- an absent file has no blob
 pub none_sealed : sealed None ≡ []
@@ -127,10 +129,10 @@ made_crash db at bytes a b small reads effect =
     effect_weaken (λ image here. elim here [ inl none ↦ inl none | inr made ↦ inr (made_is image db at bytes small reads made.0 made.1) ]) effect
 
 -- and it stands
-pub made_log : (db at : ℕ) (bytes note : List ℕ) (a : Disk) (control : KeptControl) (gate : KeptGate) (end : ℕ) (waiting : List Rec) (failed : Bool) → at < 2 ^ 64 → note ≡ [] → read_control bytes ≡ Some (first_head at, []) → control.name ≡ control_file db → control.content ≡ bytes → gate.name ≡ segment_file db 1
+pub made_log : (db at : ℕ) (bytes note : List ℕ) (a : Disk) (control : KeptControl) (gate : KeptGate) (segments : List Segment) (end : ℕ) (waiting : List Rec) (failed : Bool) → at < 2 ^ 64 → IsAdded [] segments db 1 at → note ≡ [] → read_control bytes ≡ Some (first_head at, []) → control.name ≡ control_file db → control.content ≡ bytes → gate.name ≡ segment_file db 1
     → IsControl a control → IsGate a gate → IsDurable a (segment_file db 1) → sealed (a.files (segment_file db 1)) ≡ []
-    → IsLog a (record { db = db; control = control; gate = gate; head = first_head at; note = note; stored = at; end = end; waiting = waiting; failed = failed })
-made_log db at bytes note a control gate end waiting failed small empty reads control_name content gate_name controls gates durable none =
+    → IsLog a (record { db = db; control = control; gate = gate; head = first_head at; segments = segments; note = note; stored = at; end = end; waiting = waiting; failed = failed })
+made_log db at bytes note a control gate segments end waiting failed small added empty reads control_name content gate_name controls gates durable none =
     let Sound : List ℕ → Type 0 = λ n. IsSound (first_head at) n in
     record {
       control_name = control_name;
@@ -139,6 +141,8 @@ made_log db at bytes note a control gate end waiting failed small empty reads co
       gates = gates;
       reads = ap read_control content ∙ reads ∙ ap (λ (n : List ℕ). Some (first_head at, n)) (sym empty);
       sound = subst Sound (sym empty) (record { gone = omega arith; front = omega arith; back = omega arith; few = omega arith; kept = omega arith; short = omega arith });
+      segments = segments_added (blobs_at a.files db) db 1 at 1 at [] segments (segments_none (blobs_at a.files db) db 1 at) refl (run_none at) added;
+      count = omega (arith, ap length added.1);
       durable = λ n low high. let one : n ≡ 1 = omega (arith, low, high) in subst (λ (m : ℕ). IsDurable a (segment_file db m)) (sym one) durable;
       run = subst (λ (bs : List (List ℕ)). IsRun at bs at) (sym none) (run_none at);
       inside = omega arith;
@@ -211,12 +215,12 @@ pub load_value : {P : Files → Type 0} (db : ℕ) (head : Head) (note : List �
 load_value db head note a b c order call same effect = shown_same a.files c.files db head note (blobs_same a.files c.files db head order (λ m low high. load_blobs db head.back m a b c call same effect))
 
 -- and the log stands
-pub load_log : {P : Files → Type 0} (db : ℕ) (head : Head) (note : List ℕ) (stored : ℕ) (a b c : Disk) (control : KeptControl) (gate : KeptGate) (end : ℕ) (waiting : List Rec) (failed : Bool) → AreDurable db a → ChangesNothing a b → control.name ≡ control_file db → gate.name ≡ segment_file db head.back
+pub load_log : {P : Files → Type 0} (db : ℕ) (head : Head) (note : List ℕ) (stored : ℕ) (a b c : Disk) (control : KeptControl) (gate : KeptGate) (segments : List Segment) (end : ℕ) (waiting : List Rec) (failed : Bool) → AreSegments (blobs_at a.files db) db head.front head.first segments → head.front + length segments ≡ head.back + 1 → AreDurable db a → ChangesNothing a b → control.name ≡ control_file db → gate.name ≡ segment_file db head.back
     → (IsDurable a (control_file db) → IsControl b control) → (IsDurable b (segment_file db head.back) → IsGate c gate) → (IsDurable b (segment_file db head.back) → IsDurable c (segment_file db head.back))
     → read_control control.content ≡ Some (head, note) → IsSound head note → IsRun head.first (blobs_of a.files db head) stored → head.kept ≤ stored → stored < 2 ^ 64
     → sealed (c.files (segment_file db head.back)) ≡ sealed (b.files (segment_file db head.back)) → Effect (IsName (segment_file db head.back)) P b c
-    → IsLog c (record { db = db; control = control; gate = gate; head = head; note = note; stored = stored; end = end; waiting = waiting; failed = failed })
-load_log db head note stored a b c control gate end waiting failed durable call control_name gate_name controls gates last reads sound run inside small same effect =
+    → IsLog c (record { db = db; control = control; gate = gate; head = head; segments = segments; note = note; stored = stored; end = end; waiting = waiting; failed = failed })
+load_log db head note stored a b c control gate segments end waiting failed are count durable call control_name gate_name controls gates last reads sound run inside small same effect =
     let still : (m : ℕ) → IsDurable b (segment_file db m) = λ m. settled db m durable call in
     let blobs : blobs_of c.files db head ≡ blobs_of a.files db head = blobs_same a.files c.files db head sound.front (λ m low high. load_blobs db head.back m a b c call same effect) in
     let Durable : List ℕ → Type 0 = λ n. IsDurable c n in
@@ -227,6 +231,8 @@ load_log db head note stored a b c control gate end waiting failed durable call 
       gates = gates (still head.back);
       reads = reads;
       sound = sound;
+      segments = segments_same (blobs_at a.files db) (blobs_at c.files db) db head.front head.first segments are (λ m low high. load_blobs db head.back m a b c call same effect);
+      count = count;
       durable = λ m low high. elim (same_or_other (segment_file db head.back) (segment_file db m)) [
         | inl one ↦ subst Durable (sym one) (last (still head.back))
         | inr other ↦ durable_kept {names = IsName (segment_file db m)} (segment_file db m) refl (keeps_by_effect (λ n at one. other (sym at ∙ one)) effect) (still m)

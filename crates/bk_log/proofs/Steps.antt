@@ -14,9 +14,10 @@ use Rattle.bk_ids.specs.declared.record.Rec.{Rec}
 use Rattle.bk_log.specs.declared.head.Head.{Head}
 use Rattle.bk_log.specs.Control.{read_control, IsSound}
 use Rattle.bk_log.specs.Records.{records_in, IsRun, IsPart}
-use Rattle.bk_log.specs.Log.{control_file, segment_file, IsOwn, blobs_at, blobs_of, shown, value_of, with_more, Logged, LogIs, Kept, IsLog}
+use Rattle.bk_log.specs.Log.{control_file, segment_file, IsOwn, blobs_at, blobs_of, shown, value_of, with_more, AreSegments, Logged, LogIs, Kept, IsLog}
 use Rattle.bk_log.specs.FileLaws.{control_not_segment, one_segment, blobs_same, blobs_more, log_is, shown_more}
 use Rattle.bk_log.specs.RunLaws.{run_more}
+use Rattle.bk_log.specs.SegmentLaws.{segments_same}
 use Rattle.bk_log.specs.Laws.{control_there, control_is, still, segment_left, log_left}
 
 -- ---- putting the control record
@@ -42,7 +43,7 @@ put_blobs log head a b is order effect =
 -- and the log stands with the record
 pub put_log : {P : Files → Type 0} (log : Kept) (head : Head) (note bytes : List ℕ) (a b : Disk) (control : KeptControl) (end : ℕ) (waiting : List Rec) (failed : Bool) → IsLog a log → head.front ≡ log.head.front → head.back ≡ log.head.back → head.first ≡ log.head.first → head.kept ≤ log.stored → IsSound head note
     → control.name ≡ log.control.name → control.content ≡ bytes → read_control bytes ≡ Some (head, note) → IsControl b control → Effect (IsName log.control.name) P a b
-    → IsLog b (record { db = log.db; control = control; gate = log.gate; head = head; note = note; stored = log.stored; end = end; waiting = waiting; failed = failed })
+    → IsLog b (record { db = log.db; control = control; gate = log.gate; head = head; segments = log.segments; note = note; stored = log.stored; end = end; waiting = waiting; failed = failed })
 put_log log head note bytes a b control end waiting failed is front back first inside sound name content reads controls effect =
     let apart : (n : ℕ) → segment_file log.db n ≡ log.control.name → ⊥ = λ n same. control_not_segment log.db n (sym (same ∙ is.control_name)) in
     let Run : ℕ → ℕ → ℕ → Type 0 = λ f r k. IsRun k (blobs_of b.files log.db (record { kept = head.kept; gone = head.gone; front = f; back = r; first = k })) log.stored in
@@ -54,11 +55,17 @@ put_log log head note bytes a b control end waiting failed is front back first i
       gates = gate_kept (keeps_by_effect (λ n at same. apart log.head.back (sym is.gate_name ∙ (sym at ∙ same))) effect) is.gates;
       reads = ap read_control content ∙ reads;
       sound = sound;
+      segments = segments_as log head is front first (segments_same (blobs_at a.files log.db) (blobs_at b.files log.db) log.db log.head.front log.head.first log.segments is.segments (λ n low high. ap sealed (effect.others (segment_file log.db n) (apart n))));
+      count = omega (arith, is.count, front, back);
       durable = λ n low high. durable_kept {names = IsName (segment_file log.db n)} (segment_file log.db n) refl (keeps_by_effect (λ m at same. apart n (sym at ∙ same)) effect) (is.durable n (omega (arith, low, front)) (omega (arith, high, back)));
       run = subst (λ (k : ℕ). Run head.front head.back k) (sym first) (subst (λ (r : ℕ). Run head.front r log.head.first) (sym back) (subst (λ (f : ℕ). Run f log.head.back log.head.first) (sym front) there));
       inside = inside;
       small = is.small;
     }
+  where
+    segments_as : {blobs : ℕ → List (List ℕ)} {disk : Disk} (log : Kept) (head : Head) → IsLog disk log → head.front ≡ log.head.front → head.first ≡ log.head.first → AreSegments blobs log.db log.head.front log.head.first log.segments → AreSegments blobs log.db head.front head.first log.segments
+    segments_as {blobs = blobs} log head is front first are =
+        subst (λ (f : ℕ). AreSegments blobs log.db f head.first log.segments) (sym front) (subst (λ (k : ℕ). AreSegments blobs log.db log.head.front k log.segments) (sym first) are)
 
 -- another note is sound, and a later kept point
 
@@ -124,10 +131,13 @@ add_value log name blob a b is named grown effect =
 -- and the log stands with it
 pub add_log : {P : Files → Type 0} (log : Kept) (name blob : List ℕ) (end : ℕ) (a b : Disk) (gate : KeptGate) (later : ℕ) (waiting : List Rec) (failed : Bool) → IsLog a log → IsPart log.stored blob end → end < 2 ^ 64 → name ≡ log.gate.name → gate.name ≡ name
     → sealed (b.files name) ≡ sealed (a.files name) ++ blob ∷ [] → IsGate b gate → IsDurable b name → Effect (IsName name) P a b
-    → IsLog b (record { db = log.db; control = log.control; gate = gate; head = log.head; note = log.note; stored = end; end = later; waiting = waiting; failed = failed })
+    → IsLog b (record { db = log.db; control = log.control; gate = gate; head = log.head; segments = log.segments; note = log.note; stored = end; end = later; waiting = waiting; failed = failed })
 add_log log name blob end a b gate later waiting failed is part small named new_name grown gates durable effect =
     let at_last : name ≡ segment_file log.db log.head.back = named ∙ is.gate_name in
     let Durable : List ℕ → Type 0 = λ n. IsDurable b n in
+    let before : (n : ℕ) → n < log.head.back → segment_file log.db n ≡ name → ⊥ = λ n less same.
+    let one : n ≡ log.head.back = one_segment log.db n log.head.back (omega (arith, less, is.sound.back)) (omega (arith, is.sound.back)) (same ∙ at_last) in
+    absurd (omega (arith, less, one)) in
     let each : (n : ℕ) → log.head.front ≤ n → n ≤ log.head.back → IsDurable b (segment_file log.db n) = λ n low high. elim (same_or_other name (segment_file log.db n)) [
       | inl same ↦ subst Durable (sym same) durable
       | inr other ↦ durable_kept {names = IsName (segment_file log.db n)} (segment_file log.db n) refl (keeps_by_effect (λ m at same. other (sym at ∙ same)) effect) (is.durable n low high)
@@ -139,6 +149,8 @@ add_log log name blob end a b gate later waiting failed is part small named new_
       gates = gates;
       reads = is.reads;
       sound = is.sound;
+      segments = segments_same (blobs_at a.files log.db) (blobs_at b.files log.db) log.db log.head.front log.head.first log.segments is.segments (λ n low high. ap sealed (effect.others (segment_file log.db n) (before n (omega (arith, high, is.count)))));
+      count = is.count;
       durable = each;
       run = subst (λ (bs : List (List ℕ)). IsRun log.head.first bs end) (sym (add_blobs log name blob a b is named grown effect)) (run_more log.head.first log.stored end (blobs_of a.files log.db log.head) blob is.run part);
       inside = omega (arith, is.inside, part.ends);

@@ -24,6 +24,6 @@ pub record IsSound (head : Head) (note : List ℕ) : Type 0 where
   pub gone : head.gone ≤ head.front
   pub front : head.front ≤ head.back
   pub back : head.back < 2 ^ 62
-  pub few : head.back ≤ head.gone + 65535
+  pub few : head.back ≤ head.gone + 65536
   pub kept : head.first ≤ head.kept
   pub short : length note ≤ 32768

@@ -13,6 +13,7 @@ use Rattle.bk_log.specs.Control.{read_control, IsSound}
 use Rattle.bk_log.specs.Records.{IsRun}
 use Rattle.bk_log.specs.Log.{control_file, segment_file, IsOwn, blobs_at, blobs_of, shown, value_of, Logged, LogIs, Kept, IsLog}
 use Rattle.bk_log.specs.FileLaws.{blobs_same, log_is, shown_same}
+use Rattle.bk_log.specs.SegmentLaws.{segments_same}
 
 -- ---- the files of a log that stands
 
@@ -65,6 +66,8 @@ log_waits waiting end is = record {
   gates = is.gates;
   reads = is.reads;
   sound = is.sound;
+  segments = is.segments;
+  count = is.count;
   durable = is.durable;
   run = is.run;
   inside = is.inside;
@@ -80,6 +83,8 @@ log_marked failed is = record {
   gates = is.gates;
   reads = is.reads;
   sound = is.sound;
+  segments = is.segments;
+  count = is.count;
   durable = is.durable;
   run = is.run;
   inside = is.inside;
@@ -106,6 +111,8 @@ log_kept {a = a} {b = b} {log = log} keeps is =
       gates = gate_kept (record { same = λ name at. keeps.same name (gate_at name at); nothing_more = λ name at. keeps.nothing_more name (gate_at name at) }) is.gates;
       reads = is.reads;
       sound = is.sound;
+      segments = segments_same (blobs_at a.files log.db) (blobs_at b.files log.db) log.db log.head.front log.head.first log.segments is.segments (λ n low high. ap sealed (keeps.same (segment_file log.db n) (inr (n, refl))));
+      count = is.count;
       durable = λ n low high. durable_kept (segment_file log.db n) (inr (n, refl)) keeps (is.durable n low high);
       run = subst (λ (bs : List (List ℕ)). IsRun log.head.first bs log.stored) (sym (blobs_kept log.db log.head keeps is.sound.front)) is.run;
       inside = is.inside;

@@ -4,4 +4,5 @@ pub mod Log
 pub mod BatchLaws
 pub mod RunLaws
 pub mod FileLaws
+pub mod SegmentLaws
 pub mod Laws

@@ -1,5 +1,5 @@
 -- The log of one database over its files.
-use Rattle.std.specs.Prelude.{◌≡◌, ◌⊎◌, ◌≤◌, ◌<◌, ◌+◌, ◌-◌, ◌^◌, ℕ, zero, suc, Bool, List, [], ◌++◌, drop, Some, None, codes}
+use Rattle.std.specs.Prelude.{◌≡◌, ◌⊎◌, ◌≤◌, ◌<◌, ◌+◌, ◌-◌, ◌^◌, ℕ, zero, suc, Bool, List, [], ◌∷◌, ◌++◌, length, drop, slice_get, Some, None, codes, string_bytes}
 use Rattle.std.specs.Fmt.{decimal}
 use Rattle.bk_bytes.specs.Codec.{◌>>=◌}
 use Rattle.bk_control.specs.Control.{IsControl, Kept as KeptControl}
@@ -9,6 +9,7 @@ use Rattle.bk_gate.specs.Blobs.{sealed}
 use Rattle.bk_gate.specs.Gate.{IsGate, Kept as KeptGate}
 use Rattle.bk_ids.specs.declared.record.Rec.{Rec}
 use Rattle.bk_log.specs.declared.head.Head.{Head}
+use Rattle.bk_log.specs.declared.segments.Segment.{Segment}
 use Rattle.bk_log.specs.Control.{read_control, IsSound}
 use Rattle.bk_log.specs.Records.{records_of, IsRun}
 
@@ -37,6 +38,27 @@ blobs_from blobs front (suc more) = blobs_from blobs front more ++ blobs (front 
 abbrev pub blobs_of : Files → ℕ → Head → List (List ℕ)
 blobs_of files db head = blobs_from (blobs_at files db) head.front (head.back - head.front) ++ blobs_at files db head.back
 
+-- these segments follow each other from a number on, and each begins where the records of those before it end
+pub record AreSegments (blobs : ℕ → List (List ℕ)) (db front first : ℕ) (segments : List Segment) : Type 0 where
+  pub names : (i : ℕ) (s : Segment) → slice_get segments i ≡ Some s → string_bytes s.name ≡ segment_file db (front + i)
+  pub runs : (i : ℕ) (s : Segment) → slice_get segments i ≡ Some s → IsRun first (blobs_from blobs front i) s.first
+
+-- one more segment, of this number and with this first record, was added to them
+abbrev pub IsAdded : List Segment → List Segment → ℕ → ℕ → ℕ → Type 0
+IsAdded old new db n first = (s : Segment) × (new ≡ old ++ s ∷ []) × (string_bytes s.name ≡ segment_file db n) × (s.first ≡ first)
+
+-- the segment of this index begins with this record
+abbrev pub BeginsAt : List Segment → ℕ → ℕ → Type 0
+BeginsAt segments i first = (s : Segment) × (slice_get segments i ≡ Some s) × (s.first ≡ first)
+
+-- no segment but the first lies below a number or begins at it
+abbrev pub IsFirstAt : List Segment → ℕ → Type 0
+IsFirstAt segments to = (i : ℕ) (s : Segment) → 1 ≤ i → slice_get segments i ≡ Some s → to < s.first
+
+-- the name is that of one of these segments
+abbrev pub IsNamed : List Segment → List ℕ → Type 0
+IsNamed segments name = (i : ℕ) × (s : Segment) × (slice_get segments i ≡ Some s) × (name ≡ string_bytes s.name)
+
 -- what a log is: its kept point, its records from there on, and the note
 pub record Logged : Type 0 where
   pub kept : ℕ
@@ -59,9 +81,13 @@ with_more log more = record log { records = log.records ++ more }
 abbrev pub cut_at : ℕ → Logged → Logged
 cut_at to log = record log { kept = to; records = drop (to - log.kept) log.records }
 
--- a log without records
+-- a log without records, with this kept point and note
+abbrev pub emptied : ℕ → List ℕ → Logged
+emptied at note = record { kept = at; records = []; note = note }
+
+-- the same without a note
 abbrev pub fresh : ℕ → Logged
-fresh at = record { kept = at; records = []; note = [] }
+fresh at = emptied at []
 
 -- the files are this log
 pub record LogIs (files : Files) (db : ℕ) (log : Logged) : Type 0 where
@@ -86,6 +112,8 @@ pub record Kept : Type 0 where
   -- the last segment
   pub gate : KeptGate
   pub head : Head
+  -- the segments that count
+  pub segments : List Segment
   pub note : List ℕ
   -- the number behind that of the last sealed record
   pub stored : ℕ
@@ -107,6 +135,8 @@ pub record IsLog (disk : Disk) (log : Kept) : Type 0 where
   pub gates : IsGate disk log.gate
   pub reads : read_control log.control.content ≡ Some (log.head, log.note)
   pub sound : IsSound log.head log.note
+  pub segments : AreSegments (blobs_at disk.files log.db) log.db log.head.front log.head.first log.segments
+  pub count : log.head.front + length log.segments ≡ log.head.back + 1
   pub durable : (n : ℕ) → log.head.front ≤ n → n ≤ log.head.back → IsDurable disk (segment_file log.db n)
   pub run : IsRun log.head.first (blobs_of disk.files log.db log.head) log.stored
   pub inside : log.head.kept ≤ log.stored
@@ -127,6 +157,10 @@ pub record IsSame (old new : Kept) : Type 0 where
 abbrev pub IsBetween : ℕ → ℕ → ℕ → List ℕ → Type 0
 IsBetween db from to name = (n : ℕ) × (from ≤ n) × (n < to) × (name ≡ segment_file db n)
 
+-- the name is that of a segment which doesn't count, below the first one that does or right behind the last
+abbrev pub IsBeside : ℕ → Head → List ℕ → Type 0
+IsBeside db head name = (n : ℕ) × (n ≤ head.back + 1) × ((n < head.front) ⊎ (head.back < n)) × (name ≡ segment_file db n)
+
 -- the control file holds this head with a note, and they are sound
 abbrev pub Holds : Files → ℕ → Head → Type 0
 Holds files db head = (note : List ℕ) × ((control_of (files (control_file db)) >>= read_control) ≡ Some (head, note)) × IsSound head note
@@ -138,3 +172,7 @@ IsUnheld files db = (head : Head) → Holds files db head → ⊥
 -- no segment that a control record names is there
 abbrev pub AreGone : Files → Files → ℕ → Type 0
 AreGone old new db = (head : Head) → Holds old db head → (n : ℕ) → head.gone ≤ n → n ≤ head.back → new (segment_file db n) ≡ None
+
+-- of the segments that the control record named, and the one that may have been begun behind them, those alone are there that count now
+abbrev pub IsTidy : Files → Files → ℕ → Head → Type 0
+IsTidy old new db now = (head : Head) → Holds old db head → (n : ℕ) → head.gone ≤ n → n ≤ head.back + 1 → (n < now.front) ⊎ (now.back < n) → new (segment_file db n) ≡ None

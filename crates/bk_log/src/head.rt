@@ -49,7 +49,7 @@ pub fn is_sound(head: Head, note: &[u8]) -> bool
     head.gone <= head.front
         && head.front <= head.back
         && head.back < 1 << 62
-        && head.back - head.gone <= 65_535
+        && head.back - head.gone <= 65_536
         && head.first <= head.kept
         && note.len() <= 32_768
 }

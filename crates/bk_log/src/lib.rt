@@ -10,6 +10,7 @@ mod names;
 mod opening;
 mod reading;
 mod removing;
+mod segments;
 mod walk;
 
 pub use error::LogError;

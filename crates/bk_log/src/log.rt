@@ -1,13 +1,14 @@
 // The log of one database over its files.
-ghost use Rattle.std.specs.Prelude.{◌≡◌, ◌≤◌, ◌<◌, ◌⊎◌, ◌^◌, ◌+◌, ◌-◌, ◌++◌, ◌||◌, ◌∷◌, [], None, Some, length, drop, take, vec_len, vec_capacity, false, true, IfOk, OnOk, OnErr, IsErrOf, IsErr};
+ghost use Rattle.std.specs.Prelude.{◌≡◌, ◌≤◌, ◌<◌, ◌⊎◌, ◌^◌, ◌+◌, ◌-◌, ◌++◌, ◌||◌, ◌∷◌, [], ℕ, None, Some, length, drop, take, vec_len, vec_capacity, false, true, IfOk, OnOk, OnErr, IsErrOf, IsErr};
 ghost use Rattle.std.specs.List.{flat_map};
 ghost use Rattle.bk_control.specs.Slots.{control_of};
 ghost use Rattle.bk_device.specs.Calls.{ChangesNothing};
 ghost use Rattle.bk_device.specs.Counts.{HasCause};
-ghost use Rattle.bk_device.specs.Disk.{IsDurable};
+ghost use Rattle.bk_device.specs.Disk.{Files, IsDurable};
 ghost use Rattle.bk_device.specs.Effects.{Effect};
 ghost use Rattle.bk_log.specs.Control.{IsSound};
-ghost use Rattle.bk_log.specs.Log.{control_file, AreGone, IsOwn, Kept, LogIs, IsLog, IsForeign, IsSame, AreDurable, Logged, cut_at, fresh, value_of, with_more};
+ghost use Rattle.bk_gate.specs.Gate.{IsGate};
+ghost use Rattle.bk_log.specs.Log.{control_file, segment_file, blobs_at, AreGone, BeginsAt, Holds, IsAdded, IsFirstAt, IsOwn, IsTidy, Kept, LogIs, IsLog, IsForeign, IsSame, AreDurable, Logged, cut_at, emptied, fresh, value_of, with_more};
 ghost use Rattle.bk_log.specs.Records.{IsPart, records_in};
 ghost use Rattle.bk_record.specs.Spelling.{KeepsLimits, spelling};
 
@@ -17,7 +18,10 @@ use crate::making::{begin_segment, make_files};
 use crate::names::control_name;
 use crate::opening::{find, open_last};
 use crate::reading::{gather, place_of};
-use crate::removing::{find_head, remove_segments};
+use crate::removing::{find_head, remove_named, remove_segments, tidy};
+use crate::segments::{
+    Segment, add_segment, count_below, drop_segments, first_of, new_segment, push_segment,
+};
 use bk_control::Control;
 use bk_device::{Device, Failed, remove_durably};
 use bk_gate::Gate;
@@ -37,6 +41,8 @@ pub struct Log {
     // the last segment
     gate: Gate,
     head: Head,
+    // those that count
+    segments: Vec<Segment>,
     // with room for 32,768 bytes
     note: Vec<u8>,
     // where a control record is spelled before it is put, with room for its 32,808 bytes
@@ -56,6 +62,7 @@ impl Model for Log {
       control = l.control;
       gate = l.gate;
       head = l.head;
+      segments = l.segments.items;
       note = l.note.items;
       stored = l.stored;
       end = l.end;
@@ -63,12 +70,12 @@ impl Model for Log {
       failed = l.failed || l.control.failed || l.gate.failed;
     } };
 
-    ghost invariant = { λ l. (l.gate.failed ≡ false → l.gate.begun ≡ None) × (32768 ≤ vec_capacity l.note) × (vec_len l.note ≤ 32768) × (32808 ≤ vec_capacity l.spelled) × IsPart l.stored l.waiting.items l.end × (l.end < 2 ^ 64) × IsSound l.head l.note.items };
+    ghost invariant = { λ l. (l.gate.failed ≡ false → l.gate.begun ≡ None) × (32768 ≤ vec_capacity l.note) × (vec_len l.note ≤ 32768) × (32808 ≤ vec_capacity l.spelled) × IsPart l.stored l.waiting.items l.end × (l.end < 2 ^ 64) × IsSound l.head l.note.items × (l.head.front + vec_len l.segments ≡ l.head.back + 1) };
 }
 
 impl Log {
-    /// Opens the log of a database. Where the making of its last segment was cut short that is done anew, and nothing else
-    /// is changed.
+    /// Opens the log of a database. Where the making of its last segment was cut short that is done anew. Segments that no
+    /// longer count, and one that was begun behind the last, are removed. Nothing else is changed.
     ///
     /// `Foreign` is answered exactly where the files are no log: where the control file holds no control record, or the
     /// segments that it names hold anything but records whose numbers follow each other. Then nothing is changed.
@@ -77,6 +84,27 @@ impl Log {
         ensures failed { IfOk result (λ l. l.failed ≡ false) }
         ensures none { IfOk result (λ l. l.waiting ≡ []) }
         ensures loaded { D.tells → IfOk result (λ l. LogIs (D.disk dev.old).files db (value_of (D.disk dev.old).files l)) }
+        ensures value { D.tells → AreDurable db (D.disk dev.old) → IfOk result (λ l. value_of (D.disk dev.new).files l ≡ value_of (D.disk dev.old).files l) }
+        ensures stands { D.tells → AreDurable db (D.disk dev.old) → IfOk result (λ l. IsLog (D.disk dev.new) l) }
+        ensures tidy { D.tells → AreDurable db (D.disk dev.old) → IfOk result (λ l. IsTidy (D.disk dev.old).files (D.disk dev.new).files db l.head) }
+        ensures foreign { D.tells → IsErrOf result LogError.Foreign → IsForeign (D.disk dev.old).files db }
+        ensures crash { D.tells → AreDurable db (D.disk dev.old) → Effect (IsOwn db) (λ image. (log : Logged) → LogIs (D.disk dev.old).files db log → LogIs image db log) (D.disk dev.old) (D.disk dev.new) }
+        ensures cause { HasCause D.disk_faults D.tell_faults dev.old dev.new (IsErrOf result LogError.Fault) }
+    {
+        let log = Log::open(alloc, dev, db)?;
+        tidy(alloc, dev, db, log.head)?;
+        Ok(log)
+    }
+
+    // Opens the log. Where the making of its last segment was cut short that is done anew.
+    fn open<D: Device>(alloc: Global, dev: &mut D, db: u32) -> Result<Log, LogError>
+        ensures db { IfOk result (λ l. l.db ≡ db) }
+        ensures failed { IfOk result (λ l. l.failed ≡ false) }
+        ensures none { IfOk result (λ l. l.waiting ≡ []) }
+        ensures loaded { D.tells → IfOk result (λ l. LogIs (D.disk dev.old).files db (value_of (D.disk dev.old).files l)) }
+        ensures holds { D.tells → IfOk result (λ l. Holds (D.disk dev.old).files db l.head) }
+        ensures order { IfOk result (λ l. l.head.front ≤ l.head.back) }
+        ensures small { IfOk result (λ l. l.head.back < 2 ^ 62) }
         ensures value { D.tells → AreDurable db (D.disk dev.old) → IfOk result (λ l. value_of (D.disk dev.new).files l ≡ value_of (D.disk dev.old).files l) }
         ensures stands { D.tells → AreDurable db (D.disk dev.old) → IfOk result (λ l. IsLog (D.disk dev.new) l) }
         ensures foreign { D.tells → IsErrOf result LogError.Foreign → IsForeign (D.disk dev.old).files db }
@@ -91,6 +119,7 @@ impl Log {
             control: found.control,
             gate,
             head: found.head,
+            segments: found.segments,
             note: found.note,
             spelled,
             stored: found.stored,
@@ -123,6 +152,8 @@ impl Log {
             first: at,
         };
         let note = Vec::with_capacity(alloc, 32_768)?;
+        let mut segments = Vec::new(alloc);
+        add_segment(alloc, db, 1, at, &mut segments)?;
         let mut spelled = Vec::with_capacity(alloc, 32_808)?;
         spell(&mut spelled, head, &[]);
         let (control, gate) = make_files(alloc, dev, db, &spelled)?;
@@ -131,6 +162,7 @@ impl Log {
             control,
             gate,
             head,
+            segments,
             note,
             spelled,
             stored: at,
@@ -292,6 +324,8 @@ impl Log {
             back: self.head.back + 1,
             ..self.head
         };
+        self.segments.reserve(1)?;
+        let segment = new_segment(alloc, self.db, head.back, self.stored)?;
         let gate = match begin_segment(alloc, dev, self.db, head.back) {
             Ok(gate) => gate,
             Err(error) => {
@@ -301,6 +335,7 @@ impl Log {
         };
         spell(&mut self.spelled, head, &self.note);
         self.control.put(dev, &self.spelled)?;
+        push_segment(&mut self.segments, segment);
         self.gate = gate;
         self.head = head;
         Ok(())
@@ -372,8 +407,9 @@ impl Log {
         Ok(())
     }
 
-    /// Moves the kept point, so that the records below `to` no longer count. It is at least the old one and at most the
-    /// number behind that of the last durable record. A crash leaves the log as it was, or without those records.
+    /// Moves the kept point, so that the records below `to` no longer count, and removes the segments that lie wholly below
+    /// it. It is at least the old one and at most the number behind that of the last durable record. A crash leaves the log
+    /// as it was, or without those records.
     pub fn truncate<D: Device>(&mut self, dev: &mut D, to: Lsn) -> Result<(), Failed>
         requires fit { self.old.failed ≡ false }
         requires from { self.old.head.kept ≤ to }
@@ -382,6 +418,32 @@ impl Log {
         ensures stands { D.tells → OnOk result (IsLog (D.disk dev.new) self.new) }
         ensures value { D.tells → OnOk result (value_of (D.disk dev.new).files self.new ≡ cut_at to (value_of (D.disk dev.old).files self.old)) }
         ensures same { OnOk result ((self.new.db ≡ self.old.db) × (self.new.stored ≡ self.old.stored) × (self.new.end ≡ self.old.end) × (self.new.waiting ≡ self.old.waiting)) }
+        ensures fit { OnOk result (self.new.failed ≡ false) }
+        ensures failed { OnErr result (self.new.failed ≡ true) }
+        ensures least { OnOk result (IsFirstAt self.new.segments to) }
+        ensures gone { D.tells → OnOk result ((n : ℕ) → self.old.head.front ≤ n → n < self.new.head.front → (D.disk dev.new).files (segment_file self.old.db n) ≡ None) }
+        ensures crash { D.tells → Effect (IsOwn self.old.db) (λ image. LogIs image self.old.db (value_of (D.disk dev.old).files self.old) ⊎ LogIs image self.old.db (cut_at to (value_of (D.disk dev.old).files self.old))) (D.disk dev.old) (D.disk dev.new) }
+        ensures cause { HasCause D.disk_faults D.tell_faults dev.old dev.new (IsErr result) }
+    {
+        let count = count_below(&self.segments, to);
+        if count == 0 {
+            self.move_kept(dev, to)?;
+            return Ok(());
+        }
+        self.cut(dev, to, count)?;
+        Ok(())
+    }
+
+    // Moves the kept point within the first segment.
+    fn move_kept<D: Device>(&mut self, dev: &mut D, to: Lsn) -> Result<(), Failed>
+        requires fit { self.old.failed ≡ false }
+        requires from { self.old.head.kept ≤ to }
+        requires inside { to ≤ self.old.stored }
+        requires stands { D.tells → IsLog (D.disk dev.old) self.old }
+        ensures stands { D.tells → OnOk result (IsLog (D.disk dev.new) self.new) }
+        ensures value { D.tells → OnOk result (value_of (D.disk dev.new).files self.new ≡ cut_at to (value_of (D.disk dev.old).files self.old)) }
+        ensures same { OnOk result (IsSame self.old self.new) }
+        ensures segments { OnOk result ((self.new.segments ≡ self.old.segments) × (self.new.head.front ≡ self.old.head.front)) }
         ensures fit { OnOk result (self.new.failed ≡ false) }
         ensures failed { OnErr result (self.new.failed ≡ true) }
         ensures crash { D.tells → Effect (IsOwn self.old.db) (λ image. LogIs image self.old.db (value_of (D.disk dev.old).files self.old) ⊎ LogIs image self.old.db (cut_at to (value_of (D.disk dev.old).files self.old))) (D.disk dev.old) (D.disk dev.new) }
@@ -394,6 +456,156 @@ impl Log {
         spell(&mut self.spelled, head, &self.note);
         self.control.put(dev, &self.spelled)?;
         self.head = head;
+        Ok(())
+    }
+
+    // Moves the kept point into a later segment, and then removes the segments before that one, so many of them.
+    fn cut<D: Device>(&mut self, dev: &mut D, to: Lsn, count: usize) -> Result<(), Failed>
+        requires fit { self.old.failed ≡ false }
+        requires from { self.old.head.kept ≤ to }
+        requires inside { to ≤ self.old.stored }
+        requires there { count < length self.old.segments }
+        requires first { (n : ℕ) → BeginsAt self.old.segments count n → n ≤ to }
+        requires stands { D.tells → IsLog (D.disk dev.old) self.old }
+        ensures stands { D.tells → OnOk result (IsLog (D.disk dev.new) self.new) }
+        ensures value { D.tells → OnOk result (value_of (D.disk dev.new).files self.new ≡ cut_at to (value_of (D.disk dev.old).files self.old)) }
+        ensures same { OnOk result (IsSame self.old self.new) }
+        ensures segments { OnOk result (self.new.segments ≡ drop count self.old.segments) }
+        ensures front { OnOk result (self.new.head.front ≡ self.old.head.front + count) }
+        ensures fit { OnOk result (self.new.failed ≡ false) }
+        ensures failed { OnErr result (self.new.failed ≡ true) }
+        ensures gone { D.tells → OnOk result ((n : ℕ) → self.old.head.front ≤ n → n < self.old.head.front + count → (D.disk dev.new).files (segment_file self.old.db n) ≡ None) }
+        ensures crash { D.tells → Effect (IsOwn self.old.db) (λ image. LogIs image self.old.db (value_of (D.disk dev.old).files self.old) ⊎ LogIs image self.old.db (cut_at to (value_of (D.disk dev.old).files self.old))) (D.disk dev.old) (D.disk dev.new) }
+        ensures cause { HasCause D.disk_faults D.tell_faults dev.old dev.new (IsErr result) }
+    {
+        let head = Head {
+            kept: to,
+            front: self.head.front + count as u64,
+            first: first_of(&self.segments, count),
+            ..self.head
+        };
+        self.failed = true;
+        spell(&mut self.spelled, head, &self.note);
+        self.control.put(dev, &self.spelled)?;
+        remove_named(dev, &self.segments[..count])?;
+        let head = Head {
+            gone: head.front,
+            ..head
+        };
+        spell(&mut self.spelled, head, &self.note);
+        self.control.put(dev, &self.spelled)?;
+        drop_segments(&mut self.segments, count);
+        self.head = head;
+        self.failed = false;
+        Ok(())
+    }
+
+    /// Empties the log: no record, kept point and end at `at`, and these bytes, at most 32,768, as the note. Records that
+    /// waited are dropped. A crash leaves the log as it was, or this one.
+    ///
+    /// `NoMemory` leaves the log as it was; a segment may have been begun. It is answered too where 2^62 segments were begun.
+    /// `Foreign` isn't answered.
+    pub fn reset<D: Device>(
+        &mut self,
+        alloc: Global,
+        dev: &mut D,
+        at: Lsn,
+        note: &[u8],
+    ) -> Result<(), LogError>
+        requires fit { self.old.failed ≡ false }
+        requires short { length note.now ≤ 32768 }
+        requires stands { D.tells → IsLog (D.disk dev.old) self.old }
+        ensures stands { D.tells → OnOk result (IsLog (D.disk dev.new) self.new) }
+        ensures value { D.tells → OnOk result (value_of (D.disk dev.new).files self.new ≡ emptied at note.now) }
+        ensures end { OnOk result ((self.new.db ≡ self.old.db) × (self.new.stored ≡ at) × (self.new.end ≡ at) × (self.new.waiting ≡ [])) }
+        ensures fit { OnOk result (self.new.failed ≡ false) }
+        ensures failed { IsErrOf result LogError.Fault → self.new.failed ≡ true }
+        ensures no_memory { IsErrOf result LogError.NoMemory → self.new ≡ self.old }
+        ensures stays { D.tells → IsErrOf result LogError.NoMemory → IsLog (D.disk dev.new) self.new }
+        ensures foreign { IsErrOf result LogError.Foreign → ⊥ }
+        ensures crash { D.tells → Effect (IsOwn self.old.db) (λ image. LogIs image self.old.db (value_of (D.disk dev.old).files self.old) ⊎ LogIs image self.old.db (emptied at note.now)) (D.disk dev.old) (D.disk dev.new) }
+        ensures cause { HasCause D.disk_faults D.tell_faults dev.old dev.new (IsErrOf result LogError.Fault) }
+    {
+        if !self.has_number() {
+            return Err(LogError::NoMemory);
+        }
+        let mut segments = Vec::new(alloc);
+        add_segment(alloc, self.db, self.head.back + 1, at, &mut segments)?;
+        let gate = match begin_segment(alloc, dev, self.db, self.head.back + 1) {
+            Ok(gate) => gate,
+            Err(error) => {
+                self.failed = matches!(error, LogError::Fault);
+                return Err(error);
+            }
+        };
+        self.empty(dev, gate, segments, at, note)?;
+        Ok(())
+    }
+
+    // Whether another segment may be begun, in place of all others.
+    fn has_number(&self) -> bool
+        ensures few { result ≡ true → self.now.head.back + 1 ≤ self.now.head.gone + 65536 }
+        ensures small { result ≡ true → self.now.head.back + 1 < 2 ^ 62 }
+    {
+        self.head.back - self.head.gone <= 65_535 && self.head.back + 1 < 1 << 62
+    }
+
+    // Makes a segment without a blob the only one, and removes the others.
+    fn empty<D: Device>(
+        &mut self,
+        dev: &mut D,
+        gate: Gate,
+        segments: Vec<Segment>,
+        at: Lsn,
+        note: &[u8],
+    ) -> Result<(), Failed>
+        requires fit { self.old.failed ≡ false }
+        requires short { length note.now ≤ 32768 }
+        requires few { self.old.head.back + 1 ≤ self.old.head.gone + 65536 }
+        requires small { self.old.head.back + 1 < 2 ^ 62 }
+        requires gate_name { gate.name ≡ segment_file self.old.db (self.old.head.back + 1) }
+        requires gate_none { gate.begun ≡ None }
+        requires gate_fit { gate.failed ≡ false }
+        requires gate_stands { D.tells → IsGate (D.disk dev.old) gate }
+        requires added { IsAdded [] segments.items self.old.db (self.old.head.back + 1) at }
+        requires count { vec_len segments ≡ 1 }
+        requires durable { D.tells → IsDurable (D.disk dev.old) (segment_file self.old.db (self.old.head.back + 1)) }
+        requires sealed { D.tells → blobs_at (D.disk dev.old).files self.old.db (self.old.head.back + 1) ≡ [] }
+        requires stands { D.tells → IsLog (D.disk dev.old) self.old }
+        ensures stands { D.tells → OnOk result (IsLog (D.disk dev.new) self.new) }
+        ensures value { D.tells → OnOk result (value_of (D.disk dev.new).files self.new ≡ emptied at note.now) }
+        ensures end { OnOk result ((self.new.db ≡ self.old.db) × (self.new.stored ≡ at) × (self.new.end ≡ at) × (self.new.waiting ≡ [])) }
+        ensures fit { OnOk result (self.new.failed ≡ false) }
+        ensures failed { OnErr result (self.new.failed ≡ true) }
+        ensures crash { D.tells → Effect (IsOwn self.old.db) (λ image. LogIs image self.old.db (value_of (D.disk dev.old).files self.old) ⊎ LogIs image self.old.db (emptied at note.now)) (D.disk dev.old) (D.disk dev.new) }
+        ensures cause { HasCause D.disk_faults D.tell_faults dev.old dev.new (IsErr result) }
+    {
+        let head = Head {
+            kept: at,
+            gone: self.head.gone,
+            front: self.head.back + 1,
+            back: self.head.back + 1,
+            first: at,
+        };
+        self.failed = true;
+        spell(&mut self.spelled, head, note);
+        self.control.put(dev, &self.spelled)?;
+        remove_named(dev, &self.segments)?;
+        let head = Head {
+            gone: head.front,
+            ..head
+        };
+        spell(&mut self.spelled, head, note);
+        self.control.put(dev, &self.spelled)?;
+        self.note.clear();
+        add(&mut self.note, note);
+        self.waiting.clear();
+        self.gate = gate;
+        self.segments = segments;
+        self.head = head;
+        self.stored = at;
+        self.end = at;
+        self.failed = false;
         Ok(())
     }
 }

@@ -1,5 +1,5 @@
 // Opening the files of a log.
-ghost use Rattle.std.specs.Prelude.{◌≡◌, ◌≤◌, ◌<◌, ◌⊎◌, ◌^◌, [], List, ℕ, None, Some, length, vec_len, vec_capacity, false, true, IfOk, OnOk, IsErrOf};
+ghost use Rattle.std.specs.Prelude.{◌≡◌, ◌≤◌, ◌<◌, ◌⊎◌, ◌^◌, ◌+◌, [], List, ℕ, None, Some, length, vec_len, vec_capacity, false, true, IfOk, OnOk, IsErrOf};
 ghost use Rattle.bk_control.specs.Control.{IsControl};
 ghost use Rattle.bk_control.specs.Slots.{control_of};
 ghost use Rattle.bk_device.specs.Calls.{ChangesNothing};
@@ -9,13 +9,14 @@ ghost use Rattle.bk_device.specs.Effects.{Effect, IsName};
 ghost use Rattle.bk_gate.specs.Blobs.{sealed};
 ghost use Rattle.bk_gate.specs.Gate.{IsGate};
 ghost use Rattle.bk_log.specs.Control.{IsSound, read_control};
-ghost use Rattle.bk_log.specs.Log.{control_file, segment_file, blobs_of, IsForeign};
+ghost use Rattle.bk_log.specs.Log.{control_file, segment_file, blobs_at, blobs_of, AreSegments, IsForeign};
 ghost use Rattle.bk_log.specs.Records.{IsRun};
 
 use crate::error::LogError;
 use crate::head::{Head, add, is_sound, read_head};
 use crate::making::make_gate;
 use crate::names::{control_name, segment_name};
+use crate::segments::Segment;
 use crate::walk::{open_gate, walk_all};
 use bk_control::{Control, ControlError};
 use bk_device::Device;
@@ -66,6 +67,7 @@ pub fn recorded(alloc: Global, control: &Control) -> Result<(Head, Vec<u8>), Log
 pub struct Found {
     pub control: Control,
     pub head: Head,
+    pub segments: Vec<Segment>,
     pub note: Vec<u8>,
     // the number behind that of the last record
     pub stored: u64,
@@ -81,6 +83,8 @@ pub fn find<D: Device>(alloc: Global, dev: &mut D, db: u32) -> Result<Found, Log
     ensures sound { IfOk result (λ f. IsSound f.head f.note.items) }
     ensures room { IfOk result (λ f. (32768 ≤ vec_capacity f.note) × (vec_len f.note ≤ 32768)) }
     ensures run { D.tells → IfOk result (λ f. IsRun f.head.first (blobs_of (D.disk dev.old).files db f.head) f.stored) }
+    ensures segments { D.tells → IfOk result (λ f. AreSegments (blobs_at (D.disk dev.old).files db) db f.head.front f.head.first f.segments.items) }
+    ensures count { IfOk result (λ f. f.head.front + vec_len f.segments ≡ f.head.back + 1) }
     ensures inside { IfOk result (λ f. f.head.kept ≤ f.stored) }
     ensures small { IfOk result (λ f. f.stored < 2 ^ 64) }
     ensures foreign { D.tells → IsErrOf result LogError.Foreign → IsForeign (D.disk dev.old).files db }
@@ -89,15 +93,16 @@ pub fn find<D: Device>(alloc: Global, dev: &mut D, db: u32) -> Result<Found, Log
 {
     let control = load_control(alloc, dev, db)?;
     let (head, note) = recorded(alloc, &control)?;
-    let stored = walk_all(alloc, dev, db, head)?;
-    if stored < head.kept {
+    let walked = walk_all(alloc, dev, db, head)?;
+    if walked.end < head.kept {
         return Err(LogError::Foreign);
     }
     Ok(Found {
         control,
         head,
+        segments: walked.segments,
         note,
-        stored,
+        stored: walked.end,
     })
 }
 

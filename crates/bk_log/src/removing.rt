@@ -1,16 +1,17 @@
 // Removing the files of a log.
-ghost use Rattle.std.specs.Prelude.{◌≡◌, ◌≤◌, ◌<◌, ◌⊎◌, ◌^◌, ℕ, List, None, Some, IfOk, OnOk, IfSome, IsErrOf, IsNone};
+ghost use Rattle.std.specs.Prelude.{◌≡◌, ◌≤◌, ◌<◌, ◌⊎◌, ◌+◌, ◌^◌, ℕ, List, None, Some, length, slice_get, string_bytes, IfOk, OnOk, IfSome, IsErr, IsErrOf, IsNone};
 ghost use Rattle.bk_device.specs.Calls.{ChangesNothing};
 ghost use Rattle.bk_device.specs.Counts.{HasCause};
 ghost use Rattle.bk_device.specs.Effects.{Effect, IsName};
 ghost use Rattle.bk_log.specs.Control.{IsSound};
-ghost use Rattle.bk_log.specs.Log.{segment_file, Holds, IsBetween, IsUnheld};
+ghost use Rattle.bk_log.specs.Log.{segment_file, Holds, IsBeside, IsBetween, IsNamed, IsUnheld};
 
 use crate::error::LogError;
 use crate::head::Head;
 use crate::names::segment_name;
 use crate::opening::{load_control, recorded};
-use bk_device::{Device, remove_durably};
+use crate::segments::Segment;
+use bk_device::{Device, Failed, remove_durably};
 use std::alloc::Global;
 
 // Removes the segment of this number, if it is there.
@@ -21,6 +22,9 @@ fn remove_segment<D: Device>(alloc: Global, dev: &mut D, db: u32, n: u64) -> Res
     ensures cause { HasCause D.disk_faults D.tell_faults dev.old dev.new (IsErrOf result LogError.Fault) }
 {
     let name = segment_name(alloc, db, n)?;
+    if dev.len(&name)?.is_none() {
+        return Ok(());
+    }
     remove_durably(dev, &name)?;
     Ok(())
 }
@@ -40,6 +44,43 @@ pub fn remove_segments<D: Device>(
 {
     for n in from..to {
         remove_segment(alloc, dev, db, n)?;
+    }
+    Ok(())
+}
+
+// Removes the segments that don't count: those that are left below the first one, and one that was begun behind the last.
+pub fn tidy<D: Device>(alloc: Global, dev: &mut D, db: u32, head: Head) -> Result<(), LogError>
+    requires order { head.front ≤ head.back }
+    requires small { head.back < 2 ^ 62 }
+    ensures gone { D.tells → OnOk result ((n : ℕ) → head.gone ≤ n → n ≤ head.back + 1 → (n < head.front) ⊎ (head.back < n) → (D.disk dev.new).files (segment_file db n) ≡ None) }
+    ensures crash { D.tells → Effect (IsBeside db head) (λ _. Unit {0}) (D.disk dev.old) (D.disk dev.new) }
+    ensures foreign { IsErrOf result LogError.Foreign → ⊥ }
+    ensures cause { HasCause D.disk_faults D.tell_faults dev.old dev.new (IsErrOf result LogError.Fault) }
+{
+    remove_segments(alloc, dev, db, head.gone, head.front)?;
+    remove_segment(alloc, dev, db, head.back + 1)?;
+    Ok(())
+}
+
+// Removes a segment.
+fn remove_one<D: Device>(dev: &mut D, segments: &[Segment], i: usize) -> Result<(), Failed>
+    requires { i < length segments.now }
+    ensures gone { D.tells → (s : Segment) → slice_get segments.now i ≡ Some s → OnOk result ((D.disk dev.new).files (string_bytes s.name) ≡ None) }
+    ensures crash { D.tells → (s : Segment) → slice_get segments.now i ≡ Some s → Effect (IsName (string_bytes s.name)) (λ _. Unit {0}) (D.disk dev.old) (D.disk dev.new) }
+    ensures cause { HasCause D.disk_faults D.tell_faults dev.old dev.new (IsErr result) }
+{
+    remove_durably(dev, &segments[i].name)?;
+    Ok(())
+}
+
+// Removes segments.
+pub fn remove_named<D: Device>(dev: &mut D, segments: &[Segment]) -> Result<(), Failed>
+    ensures gone { D.tells → OnOk result ((i : ℕ) (s : Segment) → slice_get segments.now i ≡ Some s → (D.disk dev.new).files (string_bytes s.name) ≡ None) }
+    ensures crash { D.tells → Effect (IsNamed segments.now) (λ _. Unit {0}) (D.disk dev.old) (D.disk dev.new) }
+    ensures cause { HasCause D.disk_faults D.tell_faults dev.old dev.new (IsErr result) }
+{
+    for i in 0..segments.len() {
+        remove_one(dev, segments, i)?;
     }
     Ok(())
 }

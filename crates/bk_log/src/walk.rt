@@ -1,16 +1,17 @@
 // Walking over the records of segments, to find where they end.
-ghost use Rattle.std.specs.Prelude.{◌≡◌, ◌≤◌, ◌<◌, ◌+◌, ◌-◌, ◌^◌, [], ℕ, None, Some, length, slice_get, IfOk, IfSome, OnOk, IsErrOf, IsNone, false};
+ghost use Rattle.std.specs.Prelude.{◌≡◌, ◌≤◌, ◌<◌, ◌+◌, ◌-◌, ◌^◌, [], ℕ, None, Some, length, vec_len, slice_get, IfOk, IfSome, OnOk, IsErrOf, IsNone, false};
 ghost use Rattle.bk_device.specs.Calls.{contents, ChangesNothing};
 ghost use Rattle.bk_device.specs.Counts.{HasCause};
 ghost use Rattle.bk_device.specs.Disk.{IsDurable};
 ghost use Rattle.bk_gate.specs.Blobs.{sealed, spans_of, IsGateFile};
 ghost use Rattle.bk_gate.specs.Gate.{IsGate};
-ghost use Rattle.bk_log.specs.Log.{blobs_at, blobs_from, segment_file};
+ghost use Rattle.bk_log.specs.Log.{blobs_at, blobs_from, segment_file, AreSegments};
 ghost use Rattle.bk_log.specs.Records.{IsPart, IsRun, PartAt, StuckAt};
 
 use crate::error::LogError;
 use crate::head::Head;
 use crate::names::segment_name;
+use crate::segments::{Segment, add_segment};
 use bk_device::Device;
 use bk_gate::{Gate, GateError};
 use bk_record::cursor;
@@ -145,19 +146,35 @@ fn walk_segment<D: Device>(
     }
 }
 
-// The number behind that of the last record of the segments that count. Changes nothing.
-pub fn walk_all<D: Device>(alloc: Global, dev: &mut D, db: u32, head: Head) -> Result<u64, LogError>
+// What a walk over all segments found: each of them, and the number behind that of the last record.
+#[derive(Drop)]
+pub struct Walked {
+    pub segments: Vec<Segment>,
+    pub end: u64,
+}
+
+// Walks over the segments that count. Changes nothing.
+pub fn walk_all<D: Device>(
+    alloc: Global,
+    dev: &mut D,
+    db: u32,
+    head: Head,
+) -> Result<Walked, LogError>
     requires order { head.front ≤ head.back }
     requires small { head.back < 2 ^ 62 }
-    ensures run { D.tells → IfOk result (λ to. IsRun head.first (blobs_from (blobs_at (D.disk dev.old).files db) head.front (head.back - head.front + 1)) to) }
+    ensures run { D.tells → IfOk result (λ w. IsRun head.first (blobs_from (blobs_at (D.disk dev.old).files db) head.front (head.back - head.front + 1)) w.end) }
+    ensures segments { D.tells → IfOk result (λ w. AreSegments (blobs_at (D.disk dev.old).files db) db head.front head.first w.segments.items) }
+    ensures count { IfOk result (λ w. head.front + vec_len w.segments ≡ head.back + 1) }
     ensures foreign { D.tells → IsErrOf result LogError.Foreign → (to : ℕ) → IsRun head.first (blobs_from (blobs_at (D.disk dev.old).files db) head.front (head.back - head.front + 1)) to → to < 2 ^ 64 → ⊥ }
     ensures effect { D.tells → ChangesNothing (D.disk dev.old) (D.disk dev.new) }
     ensures cause { HasCause D.disk_faults D.tell_faults dev.old dev.new (IsErrOf result LogError.Fault) }
 {
     let mut at = head.first;
+    let mut segments = Vec::new(alloc);
     let count = head.back - head.front + 1;
     for i in 0..count {
+        add_segment(alloc, db, head.front + i, at, &mut segments)?;
         at = walk_segment(alloc, dev, db, head.front + i, at)?;
     }
-    Ok(at)
+    Ok(Walked { segments, end: at })
 }

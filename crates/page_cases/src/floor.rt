@@ -5,6 +5,7 @@ use crate::framing::answer_frames;
 use crate::grouping::answer_groups;
 use crate::mapping::answer_maps;
 use crate::paging::{answer_page, count_stored, show_digests};
+use crate::pooling::answer_pool;
 use crate::records::{append_bytes, append_records};
 use crate::redoing::redo_frames;
 use crate::showing::answer_shown;
@@ -13,16 +14,18 @@ use crate::words::{number, word};
 use bk_frames::Frames;
 use bk_groups::Groups;
 use bk_maps::Maps;
+use bk_pool::Pool;
 use bk_shown::Shown;
 use cases::Subject;
 use std::alloc::{AllocError, Global};
 use std::thread::Threads;
 
-/// Some frames, change maps, filegroups, a log, and what is shown of one.
+/// Some frames, a pool, change maps, filegroups, a log, and what is shown of one.
 #[derive(Drop)]
 pub(crate) struct Floor {
     alloc: Global,
     frames: Frames,
+    pool: Pool,
     maps: Maps,
     groups: Groups,
     log: Vec<u8>,
@@ -35,6 +38,7 @@ impl Floor {
         Ok(Floor {
             alloc,
             frames: Frames::new(alloc, 0)?,
+            pool: Pool::new(alloc, 0)?,
             maps: Maps::new(alloc, &[])?,
             groups: Groups::new(alloc, &[])?,
             log: Vec::new(alloc),
@@ -56,6 +60,7 @@ pub(crate) fn answer_command<R: Threads + Sync>(
         "page" => answer_page(&mut floor.frames, head, out),
         "digests" => show_digests(rt, floor.alloc, &floor.frames, out),
         "stored" => count_stored(rt, floor.alloc, &floor.frames, out),
+        "pool" => answer_pool(floor.alloc, &mut floor.pool, head, out),
         "maps" => answer_maps(floor.alloc, &mut floor.maps, head, out),
         "groups" => answer_groups(floor.alloc, &mut floor.groups, head, out),
         "log" => append_records(floor.alloc, &mut floor.log, lines),

@@ -1,4 +1,4 @@
-//! Cases of the floor of pages: frames, pages, change maps, filegroups, redo, undo, and what a log shows.
+//! Cases of the floor of pages: frames, pages, a pool, change maps, filegroups, redo, undo, and what a log shows.
 //!
 //! What the commands of a case mean stands at the head of each file of cases in `data/`.
 #![tactic(auto)]
@@ -10,6 +10,7 @@ mod grouping;
 mod lending;
 mod mapping;
 mod paging;
+mod pooling;
 mod records;
 mod redoing;
 mod showing;

@@ -11,7 +11,7 @@ invariant_of-self-2 c =
     let inv = c.self.invariant in
     let ends : c.self.inside.end ≡ c.args.self.now.end = ap (λ (k : Kept). k.end) c.self.view_is in
     let more = part_more c.self.inside.stored c.self.inside.end c.self.inside.waiting.items c.args.r.now inv.4 c.in_ok-encode.ensures.fits (c.requires.number ∙ sym ends) in
-    (inv.0, inv.1, inv.2, inv.3, subst (λ (bs : List ℕ). IsPart c.self.inside.stored bs (c.self.inside.end + 1)) (sym c.in_ok-encode.ensures.ok) more, omega (arith, c.requires.small, ends), inv.6)
+    (inv.0, inv.1, inv.2, inv.3, subst (λ (bs : List ℕ). IsPart c.self.inside.stored bs (c.self.inside.end + 1)) (sym c.in_ok-encode.ensures.ok) more, omega (arith, c.requires.small, ends), inv.6, inv.7)
 
 pub returns-clause-more : goal.returns-clause-more
 returns-clause-more c =

@@ -1,18 +1,25 @@
-use Rattle.std.proofs.Common.{◌≡◌, ◌≤◌, ◌<◌, ◌^◌, ◌+◌, List, ℕ, Some, sym, ap, subst, ◌∙◌, arith}
+use Rattle.std.proofs.Common.{◌≡◌, ◌≤◌, ◌<◌, ◌^◌, ◌+◌, List, [], ◌∷◌, ◌++◌, ℕ, Some, sym, ap, subst, ◌∙◌, arith}
 use Rattle.bk_device.specs.Effects.{Effect}
 use Rattle.bk_log.specs.contracts.log.Log.{the_view}
 use Rattle.bk_log.specs.Control.{read_control}
-use Rattle.bk_log.specs.Laws.{log_marked}
-use Rattle.bk_log.specs.Log.{Kept, IsOwn, IsLog, LogIs, shown, value_of}
-use Rattle.bk_log.proofs.Growing.{next, next_sound, begun_crash, begun_log, grown_crash, grown_log, grown_value}
+use Rattle.bk_log.specs.declared.segments.Segment.{Segment}
+use Rattle.bk_log.specs.Log.{Kept, IsAdded, IsOwn, IsLog, LogIs, shown, value_of}
+use Rattle.bk_log.proofs.Growing.{next, next_sound, log_again, begun_crash, begun_log, grown_crash, grown_log, grown_value}
+use Rattle.bk_log.proofs.Steps.{stay_crash}
 use Rattle.bk_log.proofs.log.Log.grow.Goals as goal
+
+pub returns-in_err-reserve-clause-crash : goal.returns-in_err-reserve-clause-crash
+returns-in_err-reserve-clause-crash g c t = stay_crash c.args.self.now (g.D.Device.disk c.args.dev.now) (c.requires.stands t)
+
+pub returns-in_err-segment-clause-crash : goal.returns-in_err-segment-clause-crash
+returns-in_err-segment-clause-crash g c t = stay_crash c.args.self.now (g.D.Device.disk c.args.dev.now) (c.requires.stands t)
 
 pub returns-in-Err-clause-stays : goal.returns-in-Err-clause-stays
 returns-in-Err-clause-stays g c t no_memory =
     let a = g.D.Device.disk c.args.dev.now in
     let b = g.D.Device.disk c.begin_segment.new.dev in
     let is = subst (IsLog a) (sym c.self.view_is) (c.requires.stands t) in
-    log_marked _ (begun_log (the_view c.self.inside) a b is (c.begin_segment.ensures.crash t))
+    log_again _ _ c.reserve.ensures.items (begun_log (the_view c.self.inside) a b is (c.begin_segment.ensures.crash t))
 
 pub returns-in-Err-clause-crash : goal.returns-in-Err-clause-crash
 returns-in-Err-clause-crash g c t =
@@ -39,7 +46,7 @@ invariant_of-self-2 g c =
     let inv = c.self.invariant in
     let few : c.self.inside.head.back + 1 ≤ c.self.inside.head.gone + 65535 = subst (λ (k : Kept). k.head.back + 1 ≤ k.head.gone + 65535) (sym c.self.view_is) c.requires.few in
     let small : c.self.inside.head.back + 1 < 2 ^ 62 = subst (λ (k : Kept). k.head.back + 1 < 2 ^ 62) (sym c.self.view_is) c.requires.small in
-    ((λ fit. c.in-Ok.ensures.none), inv.1, inv.2, omega (arith, inv.3, c.spell.ensures.room), inv.4, inv.5, next_sound inv.6 few small)
+    ((λ fit. c.in-Ok.ensures.none), inv.1, inv.2, omega (arith, inv.3, c.spell.ensures.room), inv.4, inv.5, next_sound inv.6 few small, omega (arith, inv.7, c.push_segment.ensures.len, c.reserve.ensures.len))
 
 pub returns-clause-stands : goal.returns-clause-stands
 returns-clause-stands g c t =
@@ -50,7 +57,9 @@ returns-clause-stands g c t =
     let small : c.self.inside.head.back + 1 < 2 ^ 62 = subst (λ (k : Kept). k.head.back + 1 < 2 ^ 62) (sym c.self.view_is) c.requires.small in
     let d = g.D.Device.disk c.put.new.dev in
     let reads : read_control c.deref-2.result.now ≡ Some (next c.self.inside.head, c.self.inside.note.items) = ap read_control c.deref-2.ensures.value ∙ c.spell.ensures.reads ∙ ap (λ (note : List ℕ). Some (next c.self.inside.head, note)) c.deref.ensures.value in
-    grown_log (the_view c.self.inside) c.deref-2.result.now a b d c.put.new.self c.in-Ok.gate c.self.inside.end _ _ is (next_sound is.sound few small) reads c.put.ensures.name c.in_ok-put.ensures.content (c.in_ok-put.ensures.stands t)
+    let added : IsAdded c.self.inside.segments.items c.push_segment.new.segments.items c.self.inside.db (c.self.inside.head.back + 1) c.self.inside.stored =
+    (c.in_ok-segment.segment, c.push_segment.ensures.items ∙ ap (λ (xs : List Segment). xs ++ c.in_ok-segment.segment ∷ []) c.reserve.ensures.items, c.in_ok-segment.ensures.name, c.in_ok-segment.ensures.first) in
+    grown_log (the_view c.self.inside) c.deref-2.result.now a b d c.put.new.self c.in-Ok.gate c.push_segment.new.segments.items c.self.inside.end _ _ is added (next_sound is.sound few small) reads c.put.ensures.name c.in_ok-put.ensures.content (c.in_ok-put.ensures.stands t)
     c.in-Ok.ensures.name (c.in-Ok.ensures.stands t) (c.in-Ok.ensures.durable t) (c.in-Ok.ensures.sealed t) (c.begin_segment.ensures.crash t) (c.put.ensures.crash t)
 
 pub returns-clause-value : goal.returns-clause-value

@@ -1,54 +1,32 @@
-use Rattle.std.proofs.Common.{List, ℕ, sym, ap, subst, ◌∙◌, arith}
+use Rattle.std.proofs.Common.{◌≡◌, ◌≤◌, ◌<◌, ◌⊎◌, ◌+◌, ℕ, None, subst, ◌∙◌}
 use Rattle.std.proofs.lemmas.Result.{err_from_is_err_and}
+use Rattle.bk_device.specs.Effects.{Effect}
 use Rattle.bk_log.specs.declared.error.LogError.TheVariants.{Foreign}
-use Rattle.bk_log.specs.BatchLaws.{part_none, records_none}
-use Rattle.bk_log.specs.Records.{IsPart, records_in}
+use Rattle.bk_log.specs.Log.{Kept, IsBeside, segment_file}
 use Rattle.bk_log.proofs.Errors.{same_error}
-use Rattle.bk_log.proofs.Makes.{settled, load_nothing, load_last, load_value, load_log}
+use Rattle.bk_log.proofs.Cuts.{load_then, load_stands, load_tidy}
 use Rattle.bk_log.proofs.log.Log.load.Goals as goal
 
-pub returns-in_err-found-clause-foreign : goal.returns-in_err-found-clause-foreign
-returns-in_err-found-clause-foreign g c t =
+pub returns-in_err-log-clause-foreign : goal.returns-in_err-log-clause-foreign
+returns-in_err-log-clause-foreign g c t =
     let p = err_from_is_err_and c.from_residual.result c.from_residual.ensures.1 in
-    rw (p.1, p.2) (λ is. c.in_err-found.ensures.foreign t (same_error c.in_err-found.field-0.0 Foreign is))
+    rw (p.1, p.2) (λ is. c.in_err-log.ensures.foreign t (same_error c.in_err-log.field-0.0 Foreign is))
 
-pub returns-in_err-found-clause-crash : goal.returns-in_err-found-clause-crash
-returns-in_err-found-clause-crash g c t durable = load_nothing c.args.db (g.D.Device.disk c.args.dev.now) (g.D.Device.disk c.find.new.dev) durable (c.find.ensures.effect t)
-
-pub returns-in_err-spelled-clause-crash : goal.returns-in_err-spelled-clause-crash
-returns-in_err-spelled-clause-crash g c t durable = load_nothing c.args.db (g.D.Device.disk c.args.dev.now) (g.D.Device.disk c.find.new.dev) durable (c.find.ensures.effect t)
-
-pub returns-in_err-gate-clause-crash : goal.returns-in_err-gate-clause-crash
-returns-in_err-gate-clause-crash g c t durable =
-    load_last c.args.db c.in_ok-found.found.head.back (g.D.Device.disk c.args.dev.now) (g.D.Device.disk c.find.new.dev) (g.D.Device.disk c.open_last.new.dev) durable (c.find.ensures.effect t) (c.open_last.ensures.crash t (settled c.args.db c.in_ok-found.found.head.back durable (c.find.ensures.effect t)))
-
-pub invariant_of-result : goal.invariant_of-result
-invariant_of-result g c = (
-  (λ fit. c.in_ok-gate.ensures.none),
-  c.in_ok-found.ensures.room.0,
-  c.in_ok-found.ensures.room.1,
-  omega (arith, c.in_ok-spelled.ensures.capacity),
-  subst (λ (bs : List ℕ). IsPart c.in_ok-found.found.stored bs c.in_ok-found.found.stored) (sym c.new.ensures.items) (part_none c.in_ok-found.found.stored),
-  c.in_ok-found.ensures.small,
-  c.in_ok-found.ensures.sound,
-)
-
-pub returns-clause-none : goal.returns-clause-none
-returns-clause-none g c = ap records_in c.new.ensures.items ∙ records_none
+pub returns-in_err-tidy-clause-crash : goal.returns-in_err-tidy-clause-crash
+returns-in_err-tidy-clause-crash g c t durable =
+    load_then c.args.db c.in_ok-log.log (g.D.Device.disk c.args.dev.now) (g.D.Device.disk c.open.new.dev) (g.D.Device.disk c.tidy.new.dev) c.in_ok-log.ensures.db (c.in_ok-log.ensures.stands t durable) (c.in_ok-log.ensures.loaded t) (c.in_ok-log.ensures.value t durable) (c.open.ensures.crash t durable) (subst (λ (k : Kept). Effect (IsBeside c.args.db k.head) (λ _. Unit {0}) (g.D.Device.disk c.open.new.dev) (g.D.Device.disk c.tidy.new.dev)) c.log.view_is (c.tidy.ensures.crash t))
 
 pub returns-clause-value : goal.returns-clause-value
 returns-clause-value g c t durable =
-    let call = c.find.ensures.effect t in
-    load_value c.args.db c.in_ok-found.found.head c.in_ok-found.found.note.items (g.D.Device.disk c.args.dev.now) (g.D.Device.disk c.find.new.dev) (g.D.Device.disk c.open_last.new.dev) c.in_ok-found.ensures.sound.front call (c.in_ok-gate.ensures.sealed t)
-    (c.open_last.ensures.crash t (settled c.args.db c.in_ok-found.found.head.back durable call))
+    (load_stands c.args.db c.in_ok-log.log (g.D.Device.disk c.open.new.dev) (g.D.Device.disk c.tidy.new.dev) c.in_ok-log.ensures.db (c.in_ok-log.ensures.stands t durable) (subst (λ (k : Kept). Effect (IsBeside c.args.db k.head) (λ _. Unit {0}) (g.D.Device.disk c.open.new.dev) (g.D.Device.disk c.tidy.new.dev)) c.log.view_is (c.tidy.ensures.crash t))).1 ∙ c.in_ok-log.ensures.value t durable
 
 pub returns-clause-stands : goal.returns-clause-stands
 returns-clause-stands g c t durable =
-    let call = c.find.ensures.effect t in
-    load_log c.args.db c.in_ok-found.found.head c.in_ok-found.found.note.items c.in_ok-found.found.stored (g.D.Device.disk c.args.dev.now) (g.D.Device.disk c.find.new.dev) (g.D.Device.disk c.open_last.new.dev) c.in_ok-found.found.control c.in_ok-gate.gate c.in_ok-found.found.stored _ _
-    durable call c.in_ok-found.ensures.name c.in_ok-gate.ensures.name (c.in_ok-found.ensures.stands t) (c.in_ok-gate.ensures.stands t) (c.in_ok-gate.ensures.durable t) c.in_ok-found.ensures.reads c.in_ok-found.ensures.sound (c.in_ok-found.ensures.run t) c.in_ok-found.ensures.inside c.in_ok-found.ensures.small
-    (c.in_ok-gate.ensures.sealed t) (c.open_last.ensures.crash t (settled c.args.db c.in_ok-found.found.head.back durable call))
+    (load_stands c.args.db c.in_ok-log.log (g.D.Device.disk c.open.new.dev) (g.D.Device.disk c.tidy.new.dev) c.in_ok-log.ensures.db (c.in_ok-log.ensures.stands t durable) (subst (λ (k : Kept). Effect (IsBeside c.args.db k.head) (λ _. Unit {0}) (g.D.Device.disk c.open.new.dev) (g.D.Device.disk c.tidy.new.dev)) c.log.view_is (c.tidy.ensures.crash t))).0
+
+pub returns-clause-tidy : goal.returns-clause-tidy
+returns-clause-tidy g c t durable = load_tidy c.args.db c.in_ok-log.log.head (g.D.Device.disk c.args.dev.now).files (g.D.Device.disk c.tidy.new.dev).files (c.in_ok-log.ensures.holds t) (subst (λ (k : Kept). (n : ℕ) → k.head.gone ≤ n → n ≤ k.head.back + 1 → (n < k.head.front) ⊎ (k.head.back < n) → (g.D.Device.disk c.tidy.new.dev).files (segment_file c.args.db n) ≡ None) c.log.view_is (c.in_ok-tidy.ensures.gone t))
 
 pub returns-clause-crash : goal.returns-clause-crash
 returns-clause-crash g c t durable =
-    load_last c.args.db c.in_ok-found.found.head.back (g.D.Device.disk c.args.dev.now) (g.D.Device.disk c.find.new.dev) (g.D.Device.disk c.open_last.new.dev) durable (c.find.ensures.effect t) (c.open_last.ensures.crash t (settled c.args.db c.in_ok-found.found.head.back durable (c.find.ensures.effect t)))
+    load_then c.args.db c.in_ok-log.log (g.D.Device.disk c.args.dev.now) (g.D.Device.disk c.open.new.dev) (g.D.Device.disk c.tidy.new.dev) c.in_ok-log.ensures.db (c.in_ok-log.ensures.stands t durable) (c.in_ok-log.ensures.loaded t) (c.in_ok-log.ensures.value t durable) (c.open.ensures.crash t durable) (subst (λ (k : Kept). Effect (IsBeside c.args.db k.head) (λ _. Unit {0}) (g.D.Device.disk c.open.new.dev) (g.D.Device.disk c.tidy.new.dev)) c.log.view_is (c.tidy.ensures.crash t))

@@ -1,6 +1,8 @@
 use Rattle.std.proofs.Common.{◌<◌, ◌^◌, List, ℕ, sym, ap, subst, ◌∙◌, arith}
 use Rattle.bk_log.specs.BatchLaws.{part_none, records_none}
+use Rattle.bk_log.specs.declared.segments.Segment.{Segment}
 use Rattle.bk_log.specs.Control.{read_control}
+use Rattle.bk_log.specs.Log.{IsAdded}
 use Rattle.bk_log.specs.Records.{IsPart, records_in}
 use Rattle.bk_log.proofs.Makes.{made_sound, made_crash, made_log}
 use Rattle.bk_log.proofs.log.Log.make.Goals as goal
@@ -19,6 +21,7 @@ invariant_of-result g c = (
   subst (λ (bs : List ℕ). IsPart c.args.at bs c.args.at) (sym c.new.ensures.items) (part_none c.args.at),
   omega arith,
   made_sound c.args.at c.in_ok-note.note.items c.in_ok-note.ensures.items,
+  omega (arith, c.in_ok-add_segment.ensures.len, c.new-segments.ensures.len),
 )
 
 pub returns-clause-none : goal.returns-clause-none
@@ -28,7 +31,8 @@ pub returns-clause-stands : goal.returns-clause-stands
 returns-clause-stands g c t =
     let small : c.args.at < 2 ^ 64 = omega arith in
     let stands = c.in_ok-control.ensures.stands t in
-    made_log c.args.db c.args.at c.deref.result.now c.in_ok-note.note.items (g.D.Device.disk c.make_files.new.dev) c.in_ok-control.control c.in_ok-control.gate c.args.at _ _ small c.in_ok-note.ensures.items
+    let added = subst (λ (xs : List Segment). IsAdded xs c.add_segment.new.segments.items c.args.db 1 c.args.at) c.new-segments.ensures.items c.in_ok-add_segment.ensures.added in
+    made_log c.args.db c.args.at c.deref.result.now c.in_ok-note.note.items (g.D.Device.disk c.make_files.new.dev) c.in_ok-control.control c.in_ok-control.gate c.add_segment.new.segments.items c.args.at _ _ small added c.in_ok-note.ensures.items
     (ap read_control c.deref.ensures.value ∙ c.spell.ensures.reads) c.in_ok-control.ensures.names.0 c.in_ok-control.ensures.content c.in_ok-control.ensures.names.1 stands.0 stands.1 (c.in_ok-control.ensures.durable t) (c.in_ok-control.ensures.sealed t)
 
 pub returns-clause-crash : goal.returns-clause-crash

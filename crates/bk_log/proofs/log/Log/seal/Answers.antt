@@ -23,7 +23,7 @@ returns-in_err-append_reserved-clause-crash g c t =
 pub invariant_of-self-2 : goal.invariant_of-self-2
 invariant_of-self-2 g c =
     let inv = c.self.invariant in
-    ((λ fit. c.in_ok-append_reserved.ensures.none), inv.1, inv.2, inv.3, subst (λ (bs : List ℕ). IsPart c.self.inside.end bs c.self.inside.end) (sym c.clear.ensures.items) (part_none c.self.inside.end), inv.5, inv.6)
+    ((λ fit. c.in_ok-append_reserved.ensures.none), inv.1, inv.2, inv.3, subst (λ (bs : List ℕ). IsPart c.self.inside.end bs c.self.inside.end) (sym c.clear.ensures.items) (part_none c.self.inside.end), inv.5, inv.6, inv.7)
 
 pub returns-clause-stands : goal.returns-clause-stands
 returns-clause-stands g c t =

@@ -1,63 +1,22 @@
-use Rattle.std.proofs.Common.{◌≡◌, ◌≤◌, ◌⊎◌, List, ℕ, Some, refl, inl, inr, sym, ap, subst, ◌∙◌}
-use Rattle.bk_device.specs.Compose.{effect_weaken}
-use Rattle.bk_device.specs.Effects.{Effect}
-use Rattle.bk_log.specs.contracts.log.Log.{the_view}
-use Rattle.bk_log.specs.declared.head.Head.{Head}
-use Rattle.bk_log.specs.Control.{read_control}
-use Rattle.bk_log.specs.FileLaws.{shown_cut, shown_same}
-use Rattle.bk_log.specs.Log.{Kept, IsOwn, IsLog, LogIs, Logged, shown, value_of, cut_at}
-use Rattle.bk_log.proofs.Steps.{put_crash, put_log, put_blobs, cut_sound}
+use Rattle.std.proofs.Common.{◌≡◌, ◌<◌, ◌+◌, List, ℕ, drop, sym, ap, subst, ◌∙◌, arith}
+use Rattle.bk_log.specs.declared.segments.Segment.{Segment}
+use Rattle.bk_log.specs.Log.{Kept, BeginsAt}
+use Rattle.bk_log.proofs.Cuts.{least_kept, least_cut}
 use Rattle.bk_log.proofs.log.Log.truncate.Goals as goal
 
-pub returns-in_err-put-clause-crash : goal.returns-in_err-put-clause-crash
-returns-in_err-put-clause-crash g c t =
-    let a = g.D.Device.disk c.args.dev.now in
-    let b = g.D.Device.disk c.put.new.dev in
-    let is = subst (IsLog a) (sym c.self.view_is) (c.requires.stands t) in
-    let head : Head = record { kept = c.args.to; gone = c.self.inside.head.gone; front = c.self.inside.head.front; back = c.self.inside.head.back; first = c.self.inside.head.first } in
-    let from : c.self.inside.head.kept ≤ c.args.to = subst (λ (k : Kept). k.head.kept ≤ c.args.to) (sym c.self.view_is) c.requires.from in
-    let inside : c.args.to ≤ c.self.inside.stored = subst (λ (k : Kept). c.args.to ≤ k.stored) (sym c.self.view_is) c.requires.inside in
-    let reads : read_control c.deref-2.result.now ≡ Some (head, c.self.inside.note.items) = ap read_control c.deref-2.ensures.value ∙ c.spell.ensures.reads ∙ ap (λ (note : List ℕ). Some (head, note)) c.deref.ensures.value in
-    let W : Kept → Type 0 = λ k. Effect (IsOwn k.db) (λ image. LogIs image k.db (value_of a.files k) ⊎ LogIs image k.db (cut_at c.args.to (value_of a.files k))) a b in
-    let crash = put_crash (the_view c.self.inside) head c.self.inside.note.items c.deref-2.result.now a b is refl refl refl inside (cut_sound is.sound from) reads (c.put.ensures.crash t) in
-    let same = shown_cut a.files c.self.inside.db c.args.to c.self.inside.head c.self.inside.note.items is.sound.kept from in
-    subst W c.self.view_is (effect_weaken (λ image here. elim here [ inl old ↦ inl old | inr new ↦ inr (subst (λ (l : Logged). LogIs image c.self.inside.db l) same new) ]) crash)
+pub cut-requires-clause-first : goal.cut-requires-clause-first
+cut-requires-clause-first g c n begins =
+    c.count_below-count.ensures.first n c.if-count-eq0.false (subst (λ (xs : List Segment). BeginsAt xs c.count_below-count.result n) (sym (c.deref.ensures.value ∙ ap (λ (k : Kept). k.segments) c.self.view_is)) begins)
 
-pub returns-clause-stands : goal.returns-clause-stands
-returns-clause-stands g c t =
-    let a = g.D.Device.disk c.args.dev.now in
-    let b = g.D.Device.disk c.put.new.dev in
-    let is = subst (IsLog a) (sym c.self.view_is) (c.requires.stands t) in
-    let head : Head = record { kept = c.args.to; gone = c.self.inside.head.gone; front = c.self.inside.head.front; back = c.self.inside.head.back; first = c.self.inside.head.first } in
-    let from : c.self.inside.head.kept ≤ c.args.to = subst (λ (k : Kept). k.head.kept ≤ c.args.to) (sym c.self.view_is) c.requires.from in
-    let inside : c.args.to ≤ c.self.inside.stored = subst (λ (k : Kept). c.args.to ≤ k.stored) (sym c.self.view_is) c.requires.inside in
-    let reads : read_control c.deref-2.result.now ≡ Some (head, c.self.inside.note.items) = ap read_control c.deref-2.ensures.value ∙ c.spell.ensures.reads ∙ ap (λ (note : List ℕ). Some (head, note)) c.deref.ensures.value in
-    put_log (the_view c.self.inside) head c.self.inside.note.items c.deref-2.result.now a b c.put.new.self c.self.inside.end _ _ is refl refl refl inside (cut_sound is.sound from)
-    c.put.ensures.name c.in_ok-put.ensures.content reads (c.in_ok-put.ensures.stands t) (c.put.ensures.crash t)
+pub returns-then-count-eq0-clause-least : goal.returns-then-count-eq0-clause-least
+returns-then-count-eq0-clause-least g c =
+    least_kept c.deref.result.now c.move_kept.new.self.segments c.args.to c.count_below-count.result c.count_below-count.ensures.rest c.if-count-eq0.true
+    (c.in_ok-move_kept.ensures.segments.0 ∙ sym (c.deref.ensures.value ∙ ap (λ (k : Kept). k.segments) c.self.view_is))
 
-pub returns-clause-value : goal.returns-clause-value
-returns-clause-value g c t =
-    let a = g.D.Device.disk c.args.dev.now in
-    let b = g.D.Device.disk c.put.new.dev in
-    let is = subst (IsLog a) (sym c.self.view_is) (c.requires.stands t) in
-    let head : Head = record { kept = c.args.to; gone = c.self.inside.head.gone; front = c.self.inside.head.front; back = c.self.inside.head.back; first = c.self.inside.head.first } in
-    let from : c.self.inside.head.kept ≤ c.args.to = subst (λ (k : Kept). k.head.kept ≤ c.args.to) (sym c.self.view_is) c.requires.from in
-    let inside : c.args.to ≤ c.self.inside.stored = subst (λ (k : Kept). c.args.to ≤ k.stored) (sym c.self.view_is) c.requires.inside in
-    let reads : read_control c.deref-2.result.now ≡ Some (head, c.self.inside.note.items) = ap read_control c.deref-2.ensures.value ∙ c.spell.ensures.reads ∙ ap (λ (note : List ℕ). Some (head, note)) c.deref.ensures.value in
-    let W : Kept → Type 0 = λ k. shown b.files c.self.inside.db head c.self.inside.note.items ≡ cut_at c.args.to (value_of a.files k) in
-    subst W c.self.view_is (shown_same a.files b.files c.self.inside.db head c.self.inside.note.items (put_blobs (the_view c.self.inside) head a b is is.sound.front (c.put.ensures.crash t))
-    ∙ shown_cut a.files c.self.inside.db c.args.to c.self.inside.head c.self.inside.note.items is.sound.kept from)
+pub returns-then-count-eq0-clause-gone : goal.returns-then-count-eq0-clause-gone
+returns-then-count-eq0-clause-gone g c t n low high = absurd (omega (arith, c.in_ok-move_kept.ensures.segments.1, low, high))
 
-pub returns-clause-crash : goal.returns-clause-crash
-returns-clause-crash g c t =
-    let a = g.D.Device.disk c.args.dev.now in
-    let b = g.D.Device.disk c.put.new.dev in
-    let is = subst (IsLog a) (sym c.self.view_is) (c.requires.stands t) in
-    let head : Head = record { kept = c.args.to; gone = c.self.inside.head.gone; front = c.self.inside.head.front; back = c.self.inside.head.back; first = c.self.inside.head.first } in
-    let from : c.self.inside.head.kept ≤ c.args.to = subst (λ (k : Kept). k.head.kept ≤ c.args.to) (sym c.self.view_is) c.requires.from in
-    let inside : c.args.to ≤ c.self.inside.stored = subst (λ (k : Kept). c.args.to ≤ k.stored) (sym c.self.view_is) c.requires.inside in
-    let reads : read_control c.deref-2.result.now ≡ Some (head, c.self.inside.note.items) = ap read_control c.deref-2.ensures.value ∙ c.spell.ensures.reads ∙ ap (λ (note : List ℕ). Some (head, note)) c.deref.ensures.value in
-    let W : Kept → Type 0 = λ k. Effect (IsOwn k.db) (λ image. LogIs image k.db (value_of a.files k) ⊎ LogIs image k.db (cut_at c.args.to (value_of a.files k))) a b in
-    let crash = put_crash (the_view c.self.inside) head c.self.inside.note.items c.deref-2.result.now a b is refl refl refl inside (cut_sound is.sound from) reads (c.put.ensures.crash t) in
-    let same = shown_cut a.files c.self.inside.db c.args.to c.self.inside.head c.self.inside.note.items is.sound.kept from in
-    subst W c.self.view_is (effect_weaken (λ image here. elim here [ inl old ↦ inl old | inr new ↦ inr (subst (λ (l : Logged). LogIs image c.self.inside.db l) same new) ]) crash)
+pub returns-clause-least : goal.returns-clause-least
+returns-clause-least g c =
+    least_cut c.deref.result.now c.cut.new.self.segments c.args.to c.count_below-count.result c.count_below-count.ensures.rest
+    (c.in_ok-cut.ensures.segments ∙ ap (drop c.count_below-count.result) (sym (c.deref.ensures.value ∙ ap (λ (k : Kept). k.segments) c.self.view_is)))
