@@ -1,11 +1,12 @@
 //! Cases over the floor of files: the device in memory with its source and clock, control files, gate files, an instance's own files,
-//! and the files of a database.
+//! a database's log and its data files.
 #![tactic(auto)]
 
 mod control;
 mod device;
 mod gate;
 mod home;
+mod log;
 mod session;
 mod side;
 mod trial;

@@ -3,7 +3,7 @@ ghost use Rattle.bk_device.specs.Disk.{IsSettled};
 ghost use Rattle.bk_device.specs.Replay.{disk_of};
 
 use crate::words::word;
-use crate::{control, gate, home, side};
+use crate::{control, gate, home, log, side};
 use bk_device::MemDevice;
 use std::alloc::{AllocError, Global};
 
@@ -11,13 +11,14 @@ use std::alloc::{AllocError, Global};
 #[derive(Clone, Copy)]
 pub(crate) struct Session<'a> {
     pub(crate) alloc: Global,
-    // `control`, `gate`, `home` or `side`
+    // `control`, `gate`, `home`, `log` or `side`
     pub(crate) layer: &'a str,
     // `make`, or anything else to load
     pub(crate) how: &'a str,
     // the file's name, or the number of the instance or the database
     pub(crate) name: &'a str,
-    // the content of a control that is made; the paths of data files; or the file that is meant, where it has another name
+    // the content of a control that is made; the kept point of a log that is made; the paths of data files; or the file that is
+    // meant, where it has another name
     pub(crate) content: &'a str,
     // the file that is meant, behind a content
     pub(crate) meant: &'a str,
@@ -57,6 +58,7 @@ impl<'a> Session<'a> {
         match self.layer {
             "control" => control::run(self, device),
             "gate" => gate::run(self, device),
+            "log" => log::run(self, device),
             "side" => side::run(self, device),
             _ => home::run(self, device),
         }
@@ -69,6 +71,7 @@ impl<'a> Session<'a> {
         match self.layer {
             "control" => control::find(self, device),
             "gate" => gate::find(self, device),
+            "log" => log::find(self, device),
             "side" => side::find(self, device),
             _ => home::find(self, device),
         }

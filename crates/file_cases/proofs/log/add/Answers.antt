@@ -1,0 +1,11 @@
+use Rattle.std.proofs.Common.{◌≡◌, ap, sym, subst, ◌∙◌}
+use Rattle.bk_device.specs.Replay.{disk_of}
+use Rattle.bk_log.specs.Laws.{log_waits}
+use Rattle.bk_log.specs.Log.{Kept, IsLog}
+use Rattle.file_cases.proofs.log.add.Goals as goal
+
+pub records-preserved : goal.records-preserved
+records-preserved c = record {
+  fit = ap (λ (k : Kept). k.failed) c.in_ok-append.ensures.more ∙ c.records.invariant.fit;
+  stands = subst (IsLog (disk_of c.args.device.now)) (sym c.in_ok-append.ensures.more) (log_waits _ _ c.records.invariant.stands);
+}

@@ -1,0 +1,186 @@
+// Sessions with the log of a database.
+ghost use Rattle.std.specs.Prelude.{◌≡◌, ◌≤◌, false, IfOk, OnOk};
+ghost use Rattle.bk_device.specs.Disk.{IsSettled};
+ghost use Rattle.bk_device.specs.Replay.{disk_of};
+ghost use Rattle.bk_log.specs.Log.{IsLog};
+
+use crate::session::Session;
+use crate::words::{bytes, number, shown};
+use bk_device::MemDevice;
+use bk_ids::{Body, Rec};
+use bk_log::{Log, LogError};
+use std::alloc::{AllocError, Global};
+
+fn open(session: &Session, device: &mut MemDevice) -> Result<Log, LogError>
+    requires { IsSettled (disk_of device.old) }
+    ensures fit { IfOk result (λ l. l.failed ≡ false) }
+    ensures stands { IfOk result (λ l. IsLog (disk_of device.new) l) }
+{
+    let db = session.name.parse().unwrap_or(0);
+    if session.how == "make" {
+        let log = Log::make(session.alloc, device, db, number(session.content))?;
+        Ok(log)
+    } else {
+        let log = Log::load(session.alloc, device, db)?;
+        Ok(log)
+    }
+}
+
+// Adds so many records of checkpoints.
+fn add(alloc: Global, device: &MemDevice, log: &mut Log, count: u64) -> Result<(), AllocError>
+    requires fit { log.old.failed ≡ false }
+    requires stands { IsLog (disk_of device.now) log.old }
+    ensures fit { log.new.failed ≡ false }
+    ensures stands { IsLog (disk_of device.now) log.new }
+{
+    'records: for _ in 0..count {
+        let lsn = log.end();
+        if lsn == u64::MAX {
+            return Ok(());
+        }
+        let record = Rec {
+            lsn,
+            begin: 0,
+            body: Body::Checkpoint { time: lsn },
+        };
+        log.append(alloc, &record)?;
+    }
+    Ok(())
+}
+
+// Makes the bytes of the first word, at most 32,768, the note.
+fn set_note(
+    alloc: Global,
+    device: &mut MemDevice,
+    log: &mut Log,
+    word: &str,
+) -> Result<(), LogError>
+    requires fit { log.old.failed ≡ false }
+    requires stands { IsLog (disk_of device.old) log.old }
+    ensures fit { OnOk result (log.new.failed ≡ false) }
+    ensures stands { OnOk result (IsLog (disk_of device.new) log.new) }
+{
+    let note = bytes(alloc, word)?;
+    if note.len() > 32_768 {
+        return Ok(());
+    }
+    log.set_note(device, &note)?;
+    Ok(())
+}
+
+// Cuts the log at a number, where that is allowed.
+fn truncate(device: &mut MemDevice, log: &mut Log, to: u64) -> Result<(), LogError>
+    requires fit { log.old.failed ≡ false }
+    requires stands { IsLog (disk_of device.old) log.old }
+    ensures fit { OnOk result (log.new.failed ≡ false) }
+    ensures stands { OnOk result (IsLog (disk_of device.new) log.new) }
+{
+    if log.kept() <= to && to <= log.stored() {
+        log.truncate(device, to)?;
+    }
+    Ok(())
+}
+
+// Empties the log, with a number and the bytes of a note, at most 32,768.
+fn reset(alloc: Global, device: &mut MemDevice, log: &mut Log, words: &str) -> Result<(), LogError>
+    requires fit { log.old.failed ≡ false }
+    requires stands { IsLog (disk_of device.old) log.old }
+    ensures fit { OnOk result (log.new.failed ≡ false) }
+    ensures stands { OnOk result (IsLog (disk_of device.new) log.new) }
+{
+    let (at, word) = words.split_once(' ').unwrap_or((words, ""));
+    let note = bytes(alloc, word)?;
+    if note.len() > 32_768 {
+        return Ok(());
+    }
+    log.reset(alloc, device, number(at), &note)?;
+    Ok(())
+}
+
+// The call that a line says: `add COUNT`, `flush`, `note BYTES`, `reset LSN BYTES`, `truncate LSN`.
+fn call(alloc: Global, device: &mut MemDevice, log: &mut Log, line: &str) -> Result<(), LogError>
+    requires fit { log.old.failed ≡ false }
+    requires stands { IsLog (disk_of device.old) log.old }
+    ensures fit { OnOk result (log.new.failed ≡ false) }
+    ensures stands { OnOk result (IsLog (disk_of device.new) log.new) }
+{
+    let (name, rest) = line.split_once(' ').unwrap_or((line, ""));
+    match name {
+        "add" => {
+            add(alloc, device, log, number(rest))?;
+            Ok(())
+        }
+        "flush" => log.flush(alloc, device),
+        "note" => set_note(alloc, device, log, rest),
+        "reset" => reset(alloc, device, log, rest),
+        _ => truncate(device, log, number(rest)),
+    }
+}
+
+fn play(session: &Session, device: &mut MemDevice) -> Result<Log, LogError>
+    requires { IsSettled (disk_of device.old) }
+    ensures fit { IfOk result (λ l. l.failed ≡ false) }
+{
+    let mut log = open(session, device)?;
+    for line in session.calls.lines() {
+        call(session.alloc, device, &mut log, line)?;
+    }
+    Ok(log)
+}
+
+// The kept point, the number of the next record, and the note.
+fn told(alloc: Global, log: &Log) -> Result<String, AllocError> {
+    let (kept, end) = (log.kept(), log.end());
+    let note = shown(alloc, log.note())?;
+    format!(in alloc; "{kept} {end} {note}")
+}
+
+// Removes the log.
+fn remove(session: &Session, device: &mut MemDevice) -> Result<String, AllocError> {
+    let db = session.name.parse().unwrap_or(0);
+    match Log::remove(session.alloc, device, db) {
+        Ok(()) => String::from_str(session.alloc, "removed"),
+        Err(error) => format!(in session.alloc; "{error}"),
+    }
+}
+
+pub(crate) fn run(session: &Session, device: &mut MemDevice) -> Result<String, AllocError>
+    requires { IsSettled (disk_of device.old) }
+{
+    if session.how == "remove" {
+        return remove(session, device);
+    }
+    match play(session, device) {
+        Ok(log) => told(session.alloc, &log),
+        Err(error) => format!(in session.alloc; "{error}"),
+    }
+}
+
+// What the log tells, and the bytes of its records from the kept point on.
+fn all(alloc: Global, device: &mut MemDevice, log: &Log) -> Result<String, LogError>
+    requires fit { log.now.failed ≡ false }
+    requires stands { IsLog (disk_of device.old) log.now }
+{
+    let mut all = told(alloc, log)?;
+    let bytes = log.bytes(alloc, device, log.kept(), log.stored())?;
+    let bytes = shown(alloc, &bytes)?;
+    write!(all, " {bytes}")?;
+    Ok(all)
+}
+
+fn found(session: &Session, device: &mut MemDevice) -> Result<String, LogError>
+    requires { IsSettled (disk_of device.old) }
+{
+    let db = session.name.parse().unwrap_or(0);
+    let log = Log::load(session.alloc, device, db)?;
+    all(session.alloc, device, &log)
+}
+
+pub(crate) fn find(session: &Session, device: &mut MemDevice) -> Result<String, AllocError>
+    requires { IsSettled (disk_of device.old) }
+{
+    match found(session, device) {
+        Ok(all) => Ok(all),
+        Err(error) => format!(in session.alloc; "{error}"),
+    }
+}
