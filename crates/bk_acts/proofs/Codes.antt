@@ -32,6 +32,8 @@ use Rattle.bk_acts.specs.declared.unread.Unread.{Unread}
 use Rattle.bk_acts.specs.Decoding.{Reads}
 use Rattle.bk_acts.specs.Reading.{base_behind, base_at, base_form, created_fields, based_fields, restored_fields, recovered_fields, whole_of, with_records, created_in, dropped_in, logged_in, based_in, body_held, replaced_in, restored_in, recovered_in, fields_in, act_of}
 use Rattle.bk_record.specs.Records.{AreRecords, are_records, records_in}
+use Rattle.bk_acts.specs.Storage.{spec_form, storage_form}
+use Rattle.bk_acts.proofs.StorageCodes.{storage-keeps, storage_form-IsCodec}
 use Rattle.bk_acts.specs.Spelling.{kind_of, base_bytes, fields_bytes, act_bytes, IsAct, KeepsAct}
 use Rattle.bk_record.specs.RecordsLaws.{are_records-true, are_records-from}
 
@@ -80,7 +82,7 @@ name-form : IsCodec (List ℕ) (string 1 64)
 name-form = string-IsCodec 1 64 (lit< tt)
 
 created-form : IsCodec _ created_fields
-created-form = followed-IsCodec _ _ name-form (λ _. followed-IsCodec _ _ guid_form-IsCodec (λ _. followed-IsCodec _ _ guid_form-IsCodec (λ _. number-IsCodec 8)))
+created-form = followed-IsCodec _ _ name-form (λ _. followed-IsCodec _ _ guid_form-IsCodec (λ _. followed-IsCodec _ _ guid_form-IsCodec (λ _. followed-IsCodec _ _ (number-IsCodec 8) (λ _. storage_form-IsCodec))))
 
 based-form : IsCodec _ based_fields
 based-form = followed-IsCodec _ _ name-form (λ _. header_form-IsCodec)
@@ -176,7 +178,7 @@ replaced-takes bytes act fits e =
     subst (AreFields 5 bytes) is (record { is_act = (name.1, set.0); kind_is = refl; spelled = name.0 ∙ ap (λ (s : List ℕ). text_bytes b.0.0 ++ s) set.1 })
 
 fields-take : (kind : ℕ) (bytes : List ℕ) (act : StoredAct) → AreBytes bytes → fields_in kind bytes ≡ Some act → AreFields kind bytes act
-unfolding fields_in created_in dropped_in logged_in restored_in recovered_in guid_form
+unfolding fields_in created_in dropped_in logged_in restored_in recovered_in guid_form storage_form spec_form
 fields-take zero bytes act fits e = absurd cc
 fields-take (suc zero) bytes act fits e =
     let w = whole-takes created_fields created-form _ bytes act fits e in subst (AreFields 1 bytes) w.3 (record { is_act = w.1; kind_is = refl; spelled = w.2 })
@@ -253,8 +255,8 @@ replaced-again name body is =
     rw (read, held) refl
 
 fields-again : (act : StoredAct) → IsAct act → fields_in (kind_of act) (fields_bytes act) ≡ Some act
-unfolding fields_in created_in dropped_in logged_in restored_in recovered_in guid_form
-fields-again (Created name family branch time) is = whole-again created_fields created-form _ (name, (family, (branch, time))) is
+unfolding fields_in created_in dropped_in logged_in restored_in recovered_in guid_form storage_form spec_form
+fields-again (Created c) is = whole-again created_fields created-form _ (c.name, (c.family, (c.branch, (c.time, c.storage)))) is
 fields-again (Dropped name) is = whole-again (string 1 64) name-form Dropped name is
 fields-again (Logged name records) is = records-again (string 1 64) name-form Logged name records is.0 is.1
 fields-again (Based name header) is = based-again name header is
@@ -263,7 +265,7 @@ fields-again (Restored name base redo) is = whole-again restored_fields restored
 fields-again (Recovered name at branch records) is = records-again recovered_fields recovered-form _ (name, (at, branch)) records is.0 is.1
 
 small-kind : (act : StoredAct) → kind_of act < 256
-small-kind (Created name family branch time) = lit< tt
+small-kind (Created creation) = lit< tt
 small-kind (Dropped name) = lit< tt
 small-kind (Logged name records) = lit< tt
 small-kind (Based name header) = lit< tt
@@ -277,7 +279,7 @@ act-again act is = kind-again (kind_of act) (fields_bytes act) (small-kind act) 
 
 -- what has a spelling can be written
 pub act-keeps : (act : StoredAct) → IsAct act → KeepsAct act
-act-keeps (Created name family branch time) is = tt
+act-keeps (Created c) is = storage-keeps c.storage is.1.1.1.1
 act-keeps (Dropped name) is = tt
 act-keeps (Logged name records) is = tt
 act-keeps (Based name header) is = header_keeps header is.1

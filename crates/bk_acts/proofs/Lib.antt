@@ -1,3 +1,4 @@
+pub mod StorageCodes
 pub mod Codes
 pub mod Meant
 pub mod Said

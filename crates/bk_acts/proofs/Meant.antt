@@ -103,7 +103,7 @@ one-said n m said others all alls same = sym (said-again n said all) ∙ ap (map
 -- ---- what a stored act means
 
 pub one-meaning : (stored : StoredAct) (a b : Act) → Means stored a → Means stored b → NamesItsRows a → NamesItsRows b → AreOneButOpen a b
-one-meaning (Created name family branch time) a b is other named names transactions = ap (with_open transactions) (is ∙ sym other)
+one-meaning (Created creation) a b is other named names transactions = ap (with_open transactions) (is ∙ sym other)
 one-meaning (Dropped name) a b is other named names transactions = ap (with_open transactions) (is ∙ sym other)
 one-meaning (Logged name records) a b is other named names transactions =
     let same = one-said is.n other.n is.said other.said (subst NamesItsRows is.act_is named) (subst NamesItsRows other.act_is names) (one_log records _ _ None None is.spell other.spell).0 in

@@ -2,3 +2,4 @@ pub mod Decoding
 pub mod Meaning
 pub mod Reading
 pub mod Spelling
+pub mod Storage

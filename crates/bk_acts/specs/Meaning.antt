@@ -37,7 +37,7 @@ pub record GoesOnline (name : List ℕ) (at : ℕ) (branch : Guid) (records : Li
 
 -- the act of the machine that a stored act is; which transactions are open behind it is free
 abbrev pub Means : StoredAct → Act → Type 0
-Means (Created name family branch time) act = act ≡ created (record { name = name; family = family; branch = branch; time = time })
+Means (Created creation) act = act ≡ created creation
 Means (Dropped name) act = act ≡ dropped name
 Means (Logged name records) act = Says name records act
 Means (Based name header) act = act ≡ based name header

@@ -10,11 +10,13 @@ use Rattle.bk_set.specs.declared.found.Found.{Found as WasFound}
 use Rattle.bk_set.specs.declared.found.Found.TheVariants.{Holds, Damaged, NoSet}
 use Rattle.bk_set.specs.Found.{found}
 use Rattle.bk_world.specs.declared.database.Base.{Base}
+use Rattle.bk_world.specs.declared.database.Storage.{Storage}
 use Rattle.bk_world.specs.declared.header.Header.{Header}
 use Rattle.bk_acts.specs.declared.act.StoredAct.{StoredAct}
 use Rattle.bk_acts.specs.declared.act.StoredAct.TheVariants.{Created, Dropped, Logged, Based, Replaced, Restored, Recovered}
 use Rattle.bk_record.specs.Records.{records_in}
 use Rattle.bk_acts.specs.Spelling.{base_bytes}
+use Rattle.bk_acts.specs.Storage.{storage_form}
 
 -- a base by the byte before it
 abbrev pub base_behind : ℕ → List ℕ → Option (Option Base × List ℕ)
@@ -34,8 +36,8 @@ abbrev pub base_form : Codec (Option Base)
 base_form = record { spelling = base_bytes; Fits = IsBase; reading = base_at }
 
 -- the fields of each kind, in their order; records and sets come behind them
-abbrev pub created_fields : Codec (List ℕ × (Guid × (Guid × ℕ)))
-created_fields = followed (string 1 64) (λ _. followed guid_form (λ _. followed guid_form (λ _. number 8)))
+abbrev pub created_fields : Codec (List ℕ × (Guid × (Guid × (ℕ × Storage))))
+created_fields = followed (string 1 64) (λ _. followed guid_form (λ _. followed guid_form (λ _. followed (number 8) (λ _. storage_form))))
 
 abbrev pub based_fields : Codec (List ℕ × Header)
 based_fields = followed (string 1 64) (λ _. header_form)
@@ -60,7 +62,7 @@ with_records c make bytes = do
   Some (make x.0 records)
 
 unfoldable pub created_in : List ℕ → Option StoredAct
-created_in = whole_of created_fields (λ x. Created x.0 x.1.0 x.1.1.0 x.1.1.1)
+created_in = whole_of created_fields (λ x. Created (record { name = x.0; family = x.1.0; branch = x.1.1.0; time = x.1.1.1.0; storage = x.1.1.1.1 }))
 
 unfoldable pub dropped_in : List ℕ → Option StoredAct
 dropped_in = whole_of (string 1 64) Dropped

@@ -11,10 +11,11 @@ use Rattle.bk_world.specs.declared.database.Base.{Base}
 use Rattle.bk_acts.specs.declared.act.StoredAct.{StoredAct}
 use Rattle.bk_acts.specs.declared.act.StoredAct.TheVariants.{Created, Dropped, Logged, Based, Replaced, Restored, Recovered}
 use Rattle.bk_record.specs.Records.{AreRecords}
+use Rattle.bk_acts.specs.Storage.{IsStorage, KeepsStorage, storage_bytes}
 
 -- the number of a kind of act
 abbrev pub kind_of : StoredAct → ℕ
-kind_of (Created name family branch time) = 1
+kind_of (Created creation) = 1
 kind_of (Dropped name) = 2
 kind_of (Logged name records) = 3
 kind_of (Based name header) = 4
@@ -29,7 +30,7 @@ base_bytes (Some base) = bytes_of 1 1 ++ (guid_bytes base.set ++ bytes_of 8 base
 
 -- the fields of a kind, in their order; log records and a set go to the end
 abbrev pub fields_bytes : StoredAct → List ℕ
-fields_bytes (Created name family branch time) = text_bytes name ++ (guid_bytes family ++ (guid_bytes branch ++ bytes_of 8 time))
+fields_bytes (Created c) = text_bytes c.name ++ (guid_bytes c.family ++ (guid_bytes c.branch ++ (bytes_of 8 c.time ++ storage_bytes c.storage)))
 fields_bytes (Dropped name) = text_bytes name
 fields_bytes (Logged name records) = text_bytes name ++ records
 fields_bytes (Based name header) = text_bytes name ++ spelling header
@@ -41,9 +42,9 @@ fields_bytes (Recovered name at branch records) = (text_bytes name ++ (bytes_of 
 unfoldable pub act_bytes : StoredAct → List ℕ
 act_bytes act = bytes_of 1 (kind_of act) ++ fields_bytes act
 
--- which acts have a spelling: names have 1 to 64 bytes, headers and sets are such, and records are whole
+-- which acts have a spelling: names have 1 to 64 bytes, files, headers and sets are such, and records are whole
 abbrev pub IsAct : StoredAct → Type 0
-IsAct (Created name family branch time) = IsString 1 64 name × (IsGuid family × (IsGuid branch × (time < 2 ^ 64)))
+IsAct (Created c) = IsString 1 64 c.name × (IsGuid c.family × (IsGuid c.branch × ((c.time < 2 ^ 64) × IsStorage c.storage)))
 IsAct (Dropped name) = IsString 1 64 name
 IsAct (Logged name records) = IsString 1 64 name × AreRecords records
 IsAct (Based name header) = IsString 1 64 name × IsHeader header
@@ -51,9 +52,9 @@ IsAct (Replaced name body) = IsString 1 64 name × IsBody body
 IsAct (Restored name base redo) = IsString 1 64 name × (IsBase base × (redo < 2 ^ 64))
 IsAct (Recovered name at branch records) = (IsString 1 64 name × ((at < 2 ^ 64) × IsGuid branch)) × AreRecords records
 
--- what an act keeps beside its types: a header's conditions, and a set's
+-- what an act keeps beside its types: the conditions of files, of a header, and of a set
 abbrev pub KeepsAct : StoredAct → Type 0
-KeepsAct (Created name family branch time) = Unit {0}
+KeepsAct (Created c) = KeepsStorage c.storage
 KeepsAct (Dropped name) = Unit {0}
 KeepsAct (Logged name records) = Unit {0}
 KeepsAct (Based name header) = KeepsConditions header

@@ -1,7 +1,7 @@
 use bk_ids::{Guid, Lsn, Name};
 use bk_record::Records;
 use bk_set::SetBody;
-use bk_world::{Base, Header};
+use bk_world::{Base, Creation, Header};
 
 /// An act of the machine that outlasts a run, as a blob holds it. Times are milliseconds since 1970-01-01 00:00:00 UTC. A
 /// database is the first whose name is the same in any case of ASCII letters.
@@ -9,10 +9,7 @@ use bk_world::{Base, Header};
 pub enum StoredAct {
     /// A database was made, with its first log record.
     Created {
-        name: Name,
-        family: Guid,
-        branch: Guid,
-        time: u64,
+        creation: Creation,
     },
     /// A database was dropped.
     Dropped {

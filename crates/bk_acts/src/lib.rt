@@ -6,6 +6,8 @@
 mod act;
 mod laws;
 mod reading;
+mod storage_reading;
+mod storage_writing;
 mod unread;
 mod writing;
 

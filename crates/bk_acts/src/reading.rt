@@ -10,24 +10,15 @@ ghost use Rattle.bk_record.specs.Records.{records_in};
 ghost use Rattle.bk_acts.specs.Spelling.{act_bytes, IsAct};
 
 use crate::act::StoredAct;
+use crate::storage_reading::{read_name, read_storage};
 use crate::unread::Unread;
 use bk_bytes::{split_u8, split_u64};
 use bk_fields::split_guid;
 use bk_header::decode;
-use bk_ids::Name;
 use bk_record::Records;
 use bk_set::{Found, SetBody, read_set};
-use bk_world::{Base, Header};
+use bk_world::{Base, Creation, Header};
 use std::alloc::Global;
-
-fn read_name(alloc: Global, bytes: &[u8]) -> Result<(Name, &[u8]), Unread>
-    ensures { Reads (λ x. (x.0, x.1.now)) result ((string 1 64).reading bytes.now) }
-{
-    match bk_fields::read_name(alloc, bytes)? {
-        Some(read) => Ok(read),
-        None => Err(Unread::NoAct),
-    }
-}
 
 // Log records to the end.
 fn read_records(alloc: Global, bytes: &[u8]) -> Result<Records, Unread>
@@ -96,15 +87,18 @@ fn read_created(alloc: Global, bytes: &[u8]) -> Result<StoredAct, Unread>
     let Some((time, rest)) = split_u64(rest) else {
         return Err(Unread::NoAct);
     };
+    let (storage, rest) = read_storage(alloc, rest)?;
     if !rest.is_empty() {
         return Err(Unread::NoAct);
     }
-    Ok(StoredAct::Created {
+    let creation = Creation {
         name,
         family,
         branch,
         time,
-    })
+        storage,
+    };
+    Ok(StoredAct::Created { creation })
 }
 
 #[tactic(auto, unfolding(crate::specs::Reading::dropped_in))]

@@ -23,3 +23,11 @@ impl From<AllocError> for Unread {
         Unread::NoMemory
     }
 }
+
+impl<T: Drop> From<AllocFailed<T>> for Unread {
+    ghost from_gives = { λ _ e. e ≡ unread.NoMemory };
+
+    fn from(_: AllocFailed<T>) -> Self {
+        Unread::NoMemory
+    }
+}

@@ -10,15 +10,17 @@ ghost use Rattle.bk_set.specs.Conditions.{IsBody, KeepsBody};
 ghost use Rattle.bk_set.specs.Spelling.{set_bytes};
 ghost use Rattle.bk_record.specs.Records.{AreRecords};
 ghost use Rattle.bk_acts.specs.Spelling.{kind_of, base_bytes, fields_bytes, act_bytes, IsAct, KeepsAct};
+ghost use Rattle.bk_acts.specs.Storage.{storage_bytes, IsStorage, KeepsStorage};
 
 use crate::act::StoredAct;
-use bk_bytes::{append_text, append_u8, append_u64};
+use crate::storage_writing::{append_name, append_storage};
+use bk_bytes::{append_u8, append_u64};
 use bk_fields::append_guid;
 use bk_header::encode;
 use bk_ids::{Guid, Lsn, Name};
 use bk_record::Records;
 use bk_set::{SetBody, encode_set};
-use bk_world::{Base, Header};
+use bk_world::{Base, Creation, Header};
 use std::alloc::{AllocError, Global};
 
 // The number of its kind.
@@ -34,15 +36,6 @@ fn kind(act: &StoredAct) -> u8
         StoredAct::Restored { .. } => 6,
         StoredAct::Recovered { .. } => 7,
     }
-}
-
-fn append_name(out: &mut Vec<u8>, name: &Name) -> Result<(), AllocError>
-    ensures ok { OnOk result (out.new.items ≡ out.old.items ++ text_bytes name.now) }
-    ensures fits { OnOk result (IsString 1 64 name.now) }
-{
-    let text = name.as_str();
-    append_text(out, text.as_bytes())?;
-    Ok(())
 }
 
 fn append_records(out: &mut Vec<u8>, records: &Records) -> Result<(), AllocError>
@@ -68,20 +61,26 @@ fn append_base(out: &mut Vec<u8>, base: Option<Base>) -> Result<(), AllocError>
     Ok(())
 }
 
-fn append_created(
-    out: &mut Vec<u8>,
-    name: &Name,
-    family: Guid,
-    branch: Guid,
-    time: u64,
-) -> Result<(), AllocError>
-    ensures ok { OnOk result (out.new.items ≡ out.old.items ++ (text_bytes name.now ++ (guid_bytes family ++ (guid_bytes branch ++ bytes_of 8 time)))) }
-    ensures fits { OnOk result (IsString 1 64 name.now × (IsGuid family × (IsGuid branch × (time < 2 ^ 64)))) }
+fn append_id(out: &mut Vec<u8>, id: Guid) -> Result<(), AllocError>
+    ensures ok { OnOk result (out.new.items ≡ out.old.items ++ guid_bytes id) }
+    ensures fits { OnOk result (IsGuid id) }
 {
-    append_name(out, name)?;
-    append_guid(out, family)?;
-    append_guid(out, branch)?;
-    append_u64(out, time)?;
+    append_guid(out, id)?;
+    Ok(())
+}
+
+fn append_created(out: &mut Vec<u8>, creation: &Creation) -> Result<(), AllocError>
+    requires { KeepsStorage creation.now.storage }
+    ensures ok { OnOk result (out.new.items ≡ out.old.items ++ (text_bytes creation.now.name ++ (guid_bytes creation.now.family ++ (guid_bytes creation.now.branch
+        ++ (bytes_of 8 creation.now.time ++ storage_bytes creation.now.storage))))) }
+    ensures fits { OnOk result (IsString 1 64 creation.now.name × (IsGuid creation.now.family × (IsGuid creation.now.branch
+        × ((creation.now.time < 2 ^ 64) × IsStorage creation.now.storage)))) }
+{
+    append_name(out, &creation.name)?;
+    append_id(out, creation.family)?;
+    append_id(out, creation.branch)?;
+    append_u64(out, creation.time)?;
+    append_storage(out, &creation.storage)?;
     Ok(())
 }
 
@@ -160,12 +159,7 @@ fn append_fields(alloc: Global, out: &mut Vec<u8>, act: &StoredAct) -> Result<()
     ensures fits { OnOk result (IsAct act.now) }
 {
     match act {
-        StoredAct::Created {
-            name,
-            family,
-            branch,
-            time,
-        } => append_created(out, name, *family, *branch, *time),
+        StoredAct::Created { creation } => append_created(out, creation),
         StoredAct::Dropped { name } => append_name(out, name),
         StoredAct::Logged { name, records } => append_logged(out, name, records),
         StoredAct::Based { name, header } => append_based(alloc, out, name, header),

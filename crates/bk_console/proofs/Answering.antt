@@ -12,11 +12,12 @@ use Rattle.bk_device.specs.Disk.{Files, Disk}
 use Rattle.bk_instance.specs.declared.instance.Instance.{Instance}
 use Rattle.bk_instance.specs.Stands.{Covers, StandsFor}
 use Rattle.bk_instance.specs.Steps.{MayCome}
-use Rattle.bk_instance.specs.Touched.{ActsWrite, IsTouched}
+use Rattle.bk_instance.specs.Touched.{IsTouched}
 use Rattle.bk_items.specs.declared.item.ScriptEntry.{ScriptEntry}
 use Rattle.bk_machine.specs.Outcome.{Outcome}
 use Rattle.bk_machine.specs.Run.{IsRun, behind_all, replies_of}
 use Rattle.bk_machine.specs.World.{World}
+use Rattle.bk_machine.specs.Writes.{ActsWrite}
 use Rattle.bk_world.specs.declared.reply.Reply.{Reply}
 use Rattle.bk_world.specs.declared.reply.Reply.TheVariants.{Done, Counted, Selected, SetMade, Recovered, Refused}
 use Rattle.bk_world.specs.Text.{reply_text, replies_text}

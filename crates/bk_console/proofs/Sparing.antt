@@ -7,11 +7,12 @@ use Rattle.bk_device.specs.Effects.{Effect, MayLeaveOthers}
 use Rattle.bk_home.specs.Home.{IsOwn}
 use Rattle.bk_instance.specs.declared.instance.Instance.{Instance}
 use Rattle.bk_instance.specs.Stands.{StandsFor}
-use Rattle.bk_instance.specs.Steps.{Failed, IsStill, MayCome}
-use Rattle.bk_instance.specs.Touched.{ActsWrite, IsTouched}
+use Rattle.bk_instance.specs.Steps.{Failed, MayCome}
+use Rattle.bk_instance.specs.Touched.{IsTouched}
 use Rattle.bk_items.specs.declared.item.ScriptEntry.{ScriptEntry}
 use Rattle.bk_machine.specs.Outcome.{Outcome}
 use Rattle.bk_machine.specs.World.{World}
+use Rattle.bk_machine.specs.Writes.{ActsWrite, IsStill}
 use Rattle.bk_world.specs.Text.{reply_text}
 use Rattle.bk_console.specs.Answers.{Asked, CutShort, CutWithin}
 use Rattle.bk_console.specs.Spares.{AreStill, OutcomesWrite, Spares}

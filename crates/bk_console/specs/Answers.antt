@@ -8,14 +8,15 @@ use Rattle.bk_instance.specs.declared.error.ExecuteError.{ExecuteError}
 use Rattle.bk_instance.specs.declared.error.ExecuteError.TheVariants as execute
 use Rattle.bk_instance.specs.Media.{MediaAreDurable, IfDurable}
 use Rattle.bk_instance.specs.Stands.{Stands, Covers, StandsFor, IsOurs}
-use Rattle.bk_instance.specs.Steps.{MayCome, DoesAll, Cuts, IsStill, Stays}
-use Rattle.bk_instance.specs.Touched.{ActsWrite, IsTouched}
+use Rattle.bk_instance.specs.Steps.{MayCome, DoesAll, Cuts, Stays}
+use Rattle.bk_instance.specs.Touched.{IsTouched}
 use Rattle.bk_items.specs.declared.item.ScriptEntry.{ScriptEntry}
 use Rattle.bk_machine.specs.Crash.{Leaves}
 use Rattle.bk_machine.specs.Machine.{behind}
 use Rattle.bk_machine.specs.Outcome.{Outcome}
 use Rattle.bk_machine.specs.Run.{IsRun, behind_all, replies_of}
 use Rattle.bk_machine.specs.World.{World}
+use Rattle.bk_machine.specs.Writes.{ActsWrite, IsStill}
 use Rattle.bk_world.specs.declared.reply.Reply.{Reply}
 use Rattle.bk_world.specs.declared.reply.Reply.TheVariants.{Refused}
 use Rattle.bk_world.specs.declared.rule.Rule.{Rule}

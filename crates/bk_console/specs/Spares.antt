@@ -7,9 +7,9 @@ use Rattle.bk_device.specs.Effects.{KeepsFiles, MayLeaveOthers}
 use Rattle.bk_home.specs.Home.{IsMade}
 use Rattle.bk_instance.specs.declared.instance.Instance.{Instance}
 use Rattle.bk_instance.specs.Stands.{ReservesNone}
-use Rattle.bk_instance.specs.Steps.{IsStill}
-use Rattle.bk_instance.specs.Touched.{ActsWrite, IsMaking}
+use Rattle.bk_instance.specs.Touched.{IsMaking}
 use Rattle.bk_machine.specs.Outcome.{Outcome}
+use Rattle.bk_machine.specs.Writes.{ActsWrite, IsStill}
 
 -- no file at all
 abbrev pub NoName : List ℕ → Type 0

@@ -1,11 +1,11 @@
 -- CREATE DATABASE looks at most two tokens ahead.
-use Rattle.std.proofs.Common.{ℕ, ◌≤◌, ◌&&◌, Bool, true, false, if◌then◌else◌, List, [], ◌∷◌, ◌++◌, length, drop, Option, Some, None, Ok, Err, arith, refl, length-drop}
+use Rattle.std.proofs.Common.{ℕ, ◌≤◌, ◌&&◌, Bool, true, false, if◌then◌else◌, List, [], ◌∷◌, ◌++◌, length, drop, Option, Some, None, Ok, arith, refl, length-drop}
 use Rattle.std.specs.Prelude.{codes}
 use Rattle.bk_token.specs.declared.token.Token.{Token}
 use Rattle.bk_items.specs.declared.item.SizeUnit.{SizeUnit}
 use Rattle.bk_items.specs.declared.item.NewFile.{NewFile}
 use Rattle.bk_items.specs.declared.item.NewGroup.{NewGroup}
-use Rattle.bk_parse.specs.Parse.{Parsed, ◌>>=◌, next_is, next_sign, keyword, skip, sign, name, filled_text, equal_filled, equal_number}
+use Rattle.bk_parse.specs.Parse.{Parsed, ◌>>=◌, next_is, next_sign, keyword, skip, name}
 use Rattle.bk_parse.specs.Ahead.{Agrees, behind_it, left_over}
 use Rattle.bk_parse.specs.Laws.{quiet, later, done, stuck-ahead, and_then, if_next, behind_by, behind_next, skipped-ahead, OneToken, taken, not_taken, one-ahead, name-one, keyword-ahead, skip-ahead, sign-ahead, name-ahead, filled_text-ahead, equal_filled-ahead, equal_number-ahead}
 use Rattle.bk_forms.specs.Creating.{or_text, name_or_text, unit_word, sized, size, next_unit, skip_unit, maximum, growth, more_growth, maximum_or_growth, more_limits, settings, more_settings, file_name, file, next_file, next_group, files_from, files, group, groups_from, groups, on_files, log_on, create_database}

@@ -1,15 +1,12 @@
--- The statements on tables and transactions, behind their first keyword.
+-- The statements on the rows of a table.
 use Rattle.std.specs.Prelude.{ℕ, Bool, ◌&&◌, ◌||◌, if◌then◌else◌, List, drop, codes, Option, Some, None, Ok}
 use Rattle.bk_ids.specs.Name.{same_name}
-use Rattle.bk_ids.specs.declared.record.RecoveryModel.{RecoveryModel}
-use Rattle.bk_ids.specs.declared.record.RecoveryModel.TheVariants.{Full, Simple, BulkLogged}
 use Rattle.bk_token.specs.declared.token.Token.{Token}
 use Rattle.bk_items.specs.declared.item.Catalog.{Catalog}
 use Rattle.bk_items.specs.declared.item.Catalog.TheVariants.{BackupSet, RestoreHistory, LogMarkHistory, Databases}
-use Rattle.bk_items.specs.declared.item.Marking.{Marking}
-use Rattle.bk_items.specs.declared.item.Marking.TheVariants.{Unmarked, Marked, Described}
+use Rattle.bk_items.specs.declared.rows.RowStatement.TheVariants.{Insert, Update, Delete, Select, BulkInsert}
 use Rattle.bk_items.specs.declared.item.ScriptItem.{ScriptItem}
-use Rattle.bk_items.specs.declared.item.ScriptItem.TheVariants.{CreateTable, Insert, Update, Delete, Select, BulkInsert, Begin, Use, SetRecovery, DropDatabase, SelectCatalog}
+use Rattle.bk_items.specs.declared.item.ScriptItem.TheVariants.{Rows, SelectCatalog}
 use Rattle.bk_parse.specs.Parse.{Parsed, ◌>>=◌, stuck, next_is, next_sign, keyword, skip, sign, number, number_in, name, fixed, text}
 
 -- the name, or where it is dbo with a point behind it the name behind that
@@ -21,54 +18,6 @@ unfoldable pub table : List ℕ → List Token → Parsed (List ℕ × List Toke
 table src ts = do
   n ← name src ts
   owned src n.0 n.1
-
--- NOT NULL, or nothing
-unfoldable pub not_null : List ℕ → List Token → Parsed (List Token)
-not_null src ts = if next_is src ts (codes "NOT") then keyword src (codes "NULL") (drop 1 ts) else Ok ts
-
--- k BIGINT NOT NULL PRIMARY KEY
-unfoldable pub key_column : List ℕ → List Token → Parsed (List Token)
-key_column src ts = do
-  column ← fixed src (codes "k") ts
-  bigint ← keyword src (codes "BIGINT") column
-  filled ← not_null src bigint
-  primary ← keyword src (codes "PRIMARY") filled
-  keyword src (codes "KEY") primary
-
--- v VARCHAR ( 112 ) NOT NULL
-unfoldable pub value_column : List ℕ → List Token → Parsed (List Token)
-value_column src ts = do
-  column ← fixed src (codes "v") ts
-  varchar ← keyword src (codes "VARCHAR") column
-  opened ← sign 40 varchar
-  bytes ← number_in 112 112 opened
-  closed ← sign 41 bytes.1
-  not_null src closed
-
--- ( k .. , v .. )
-unfoldable pub columns : List ℕ → List Token → Parsed (List Token)
-columns src ts = do
-  opened ← sign 40 ts
-  first ← key_column src opened
-  comma ← sign 44 first
-  second ← value_column src comma
-  sign 41 second
-
--- ON name, or nothing
-unfoldable pub on_group : List ℕ → List Token → Parsed (Option (List ℕ) × List Token)
-on_group src ts =
-    if next_is src ts (codes "ON") then (do
-      n ← name src (drop 1 ts)
-      Ok (Some n.0, n.1))
-    else Ok (None, ts)
-
--- table ( columns ) ON name
-unfoldable pub create_table : List ℕ → List Token → Parsed (ScriptItem × List Token)
-create_table src ts = do
-  made ← table src ts
-  rest ← columns src made.1
-  group ← on_group src rest
-  Ok (CreateTable made.0 group.0, group.1)
 
 -- ( k , v ), or nothing
 unfoldable pub column_names : List ℕ → List Token → Parsed (List Token)
@@ -90,14 +39,14 @@ row src ts = do
   closed ← sign 41 value.1
   Ok ((n.0, value.0), closed)
 
--- INTO table ( k , v ) VALUES ( n , text )
+-- INSERT, behind it: INTO table ( k , v ) VALUES ( n , text )
 unfoldable pub insert : List ℕ → List Token → Parsed (ScriptItem × List Token)
 insert src ts = do
   into ← table src (skip src (codes "INTO") ts)
   named ← column_names src into.1
   values ← keyword src (codes "VALUES") named
   added ← row src values
-  Ok (Insert into.0 added.0.0 added.0.1, added.1)
+  Ok (Rows into.0 (Insert added.0.0 added.0.1), added.1)
 
 -- WHERE k = n
 unfoldable pub where_key : List ℕ → List Token → Parsed (ℕ × List Token)
@@ -114,21 +63,21 @@ assignment src ts = do
   equal ← sign 61 column
   text src equal
 
--- table SET v = text WHERE k = n
+-- UPDATE, behind it: table SET v = text WHERE k = n
 unfoldable pub update : List ℕ → List Token → Parsed (ScriptItem × List Token)
 update src ts = do
   changed ← table src ts
   assigned ← keyword src (codes "SET") changed.1
   value ← assignment src assigned
   key ← where_key src value.1
-  Ok (Update changed.0 value.0 key.0, key.1)
+  Ok (Rows changed.0 (Update key.0 value.0), key.1)
 
--- FROM table WHERE k = n
+-- DELETE, behind it: FROM table WHERE k = n
 unfoldable pub delete : List ℕ → List Token → Parsed (ScriptItem × List Token)
 delete src ts = do
   from ← table src (skip src (codes "FROM") ts)
   key ← where_key src from.1
-  Ok (Delete from.0 key.0, key.1)
+  Ok (Rows from.0 (Delete key.0), key.1)
 
 -- WHERE k = n, or nothing
 unfoldable pub maybe_key : List ℕ → List Token → Parsed (Option ℕ × List Token)
@@ -163,7 +112,7 @@ unfoldable pub select_rows : List ℕ → List ℕ → List Token → Parsed (Sc
 select_rows src n ts = do
   from ← owned src n ts
   key ← maybe_key src from.1
-  Ok (Select from.0 key.0, key.1)
+  Ok (Rows from.0 (Select key.0), key.1)
 
 -- * FROM table WHERE k = n, or * FROM msdb . dbo . backupset and its like
 unfoldable pub select_all : List ℕ → List Token → Parsed (ScriptItem × List Token)
@@ -189,7 +138,7 @@ select_databases src ts = do
   rest ← system_view src from
   Ok (SelectCatalog Databases, rest)
 
--- * .. or name ..
+-- SELECT, behind it: * .. or name ..
 unfoldable pub select : List ℕ → List Token → Parsed (ScriptItem × List Token)
 select src ts = if next_sign ts 42 then select_all src (drop 1 ts) else select_databases src ts
 
@@ -202,7 +151,7 @@ rows src ts = do
   count ← number_in 1 18446744073709551615 comma
   Ok ((first.0, count.0), count.1)
 
--- INSERT table ROWS n , n , text
+-- BULK INSERT, behind BULK: INSERT table ROWS n , n , text
 unfoldable pub bulk_insert : List ℕ → List Token → Parsed (ScriptItem × List Token)
 bulk_insert src ts = do
   insert ← keyword src (codes "INSERT") ts
@@ -210,64 +159,23 @@ bulk_insert src ts = do
   counted ← rows src into.1
   comma ← sign 44 counted.1
   value ← text src comma
-  Ok (BulkInsert into.0 counted.0.0 counted.0.1 value.0, value.1)
+  Ok (Rows into.0 (BulkInsert counted.0.0 counted.0.1 value.0), value.1)
 
--- whether the next token is TRAN or TRANSACTION
-abbrev pub next_tran : List ℕ → List Token → Bool
-next_tran src ts = next_is src ts (codes "TRAN") || next_is src ts (codes "TRANSACTION")
+-- whether the next token begins a statement on rows
+abbrev pub begins_row_statement : List ℕ → List Token → Bool
+begins_row_statement src ts =
+    next_is src ts (codes "INSERT")
+    || next_is src ts (codes "UPDATE")
+    || next_is src ts (codes "DELETE")
+    || next_is src ts (codes "SELECT")
+    || next_is src ts (codes "BULK")
 
-abbrev pub described : Parsed (List ℕ × List Token) → List Token → Marking × List Token
-described (Ok t) ts = (Described t.0, t.1)
-described _ ts = (Marked, ts)
-
--- WITH MARK text, WITH MARK, or nothing
-unfoldable pub marking : List ℕ → List Token → Parsed (Marking × List Token)
-marking src ts =
-    if next_is src ts (codes "WITH") then (do
-      mark ← keyword src (codes "MARK") (drop 1 ts)
-      Ok (described (text src mark) mark))
-    else Ok (Unmarked, ts)
-
-abbrev pub transaction_by : List ℕ → Parsed (List ℕ × List Token) → List Token → Parsed (ScriptItem × List Token)
-transaction_by src (Ok n) ts = do
-  m ← marking src n.1
-  Ok (Begin (Some (record { name = n.0; marking = m.0 })), m.1)
-transaction_by src _ ts = Ok (Begin None, ts)
-
--- TRAN name WITH MARK text, or less of it
-unfoldable pub begin : List ℕ → List Token → Parsed (ScriptItem × List Token)
-begin src ts = if next_tran src ts then transaction_by src (name src (drop 1 ts)) (drop 1 ts) else stuck ts
-
--- the tokens behind TRAN or TRANSACTION, if it is there
-abbrev pub skip_tran : List ℕ → List Token → List Token
-skip_tran src ts = if next_tran src ts then drop 1 ts else ts
-
--- .. name
-unfoldable pub use_database : List ℕ → List Token → Parsed (ScriptItem × List Token)
-use_database src ts = do
-  n ← name src ts
-  Ok (Use n.0, n.1)
-
-abbrev pub model_by : List ℕ → List Token → Parsed (RecoveryModel × List Token)
-model_by src ts =
-    if next_is src ts (codes "FULL") then Ok (Full, drop 1 ts)
-    else (if next_is src ts (codes "SIMPLE") then Ok (Simple, drop 1 ts)
-    else (if next_is src ts (codes "BULK_LOGGED") then Ok (BulkLogged, drop 1 ts)
-    else stuck ts))
-
--- DATABASE name SET RECOVERY model
-unfoldable pub alter : List ℕ → List Token → Parsed (ScriptItem × List Token)
-alter src ts = do
-  database ← keyword src (codes "DATABASE") ts
-  n ← name src database
-  changed ← keyword src (codes "SET") n.1
-  recovery ← keyword src (codes "RECOVERY") changed
-  model ← model_by src recovery
-  Ok (SetRecovery n.0 model.0, model.1)
-
--- DATABASE name
-unfoldable pub drop_database : List ℕ → List Token → Parsed (ScriptItem × List Token)
-drop_database src ts = do
-  database ← keyword src (codes "DATABASE") ts
-  n ← name src database
-  Ok (DropDatabase n.0, n.1)
+-- a statement on rows, by its first token
+unfoldable pub row_statement : List ℕ → List Token → Parsed (ScriptItem × List Token)
+row_statement src ts =
+    if next_is src ts (codes "INSERT") then insert src (drop 1 ts)
+    else (if next_is src ts (codes "UPDATE") then update src (drop 1 ts)
+    else (if next_is src ts (codes "DELETE") then delete src (drop 1 ts)
+    else (if next_is src ts (codes "SELECT") then select src (drop 1 ts)
+    else (if next_is src ts (codes "BULK") then bulk_insert src (drop 1 ts)
+    else stuck ts))))

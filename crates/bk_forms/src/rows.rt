@@ -1,11 +1,11 @@
-//! The statements on tables and transactions.
+//! The statements on the rows of a table.
 
 ghost use Rattle.std.specs.Prelude.{◌≡◌};
-ghost use Rattle.bk_parse.specs.Parse.{Parses, name, text};
+ghost use Rattle.bk_parse.specs.Parse.{Parses};
 ghost use Rattle.bk_forms.specs.Rows as spec;
 
-use bk_ids::{RecoveryModel, Text};
-use bk_items::{Catalog, Marking, NamedTransaction, ScriptItem};
+use bk_ids::Text;
+use bk_items::{Catalog, RowStatement, ScriptItem};
 use bk_parse::{
     Stop, behind, fixed, keyword, name, next_is, next_sign, number, number_in, same_text, sign,
     skip, stuck, text,
@@ -29,88 +29,17 @@ fn owned<'t>(
     }
 }
 
+/// The name of a table, with dbo and a point before it or without.
 #[tactic(auto, unfolding(crate::specs::Rows::table))]
-fn table<'t>(alloc: Global, src: &[u8], tokens: &'t [Token]) -> Result<(Text, &'t [Token]), Stop>
+pub fn table<'t>(
+    alloc: Global,
+    src: &[u8],
+    tokens: &'t [Token],
+) -> Result<(Text, &'t [Token]), Stop>
     ensures { Parses (λ x. (x.0, x.1.now)) result (spec.table src.now tokens.now) }
 {
     let (name, rest) = name(alloc, src, tokens)?;
     owned(alloc, src, name, rest)
-}
-
-#[tactic(auto, unfolding(crate::specs::Rows::not_null))]
-fn not_null<'t>(src: &[u8], tokens: &'t [Token]) -> Result<&'t [Token], Stop>
-    ensures { Parses (λ x. x.now) result (spec.not_null src.now tokens.now) }
-{
-    if next_is(src, tokens, b"NOT") {
-        keyword(src, b"NULL", behind(tokens))
-    } else {
-        Ok(tokens)
-    }
-}
-
-#[tactic(auto, unfolding(crate::specs::Rows::key_column))]
-fn key_column<'t>(alloc: Global, src: &[u8], tokens: &'t [Token]) -> Result<&'t [Token], Stop>
-    ensures { Parses (λ x. x.now) result (spec.key_column src.now tokens.now) }
-{
-    let rest = fixed(alloc, src, "k", tokens)?;
-    let rest = keyword(src, b"BIGINT", rest)?;
-    let rest = not_null(src, rest)?;
-    let rest = keyword(src, b"PRIMARY", rest)?;
-    keyword(src, b"KEY", rest)
-}
-
-#[tactic(auto, unfolding(crate::specs::Rows::value_column))]
-fn value_column<'t>(alloc: Global, src: &[u8], tokens: &'t [Token]) -> Result<&'t [Token], Stop>
-    ensures { Parses (λ x. x.now) result (spec.value_column src.now tokens.now) }
-{
-    let rest = fixed(alloc, src, "v", tokens)?;
-    let rest = keyword(src, b"VARCHAR", rest)?;
-    let rest = sign(b'(', rest)?;
-    let (_, rest) = number_in(112, 112, rest)?;
-    let rest = sign(b')', rest)?;
-    not_null(src, rest)
-}
-
-#[tactic(auto, unfolding(crate::specs::Rows::columns))]
-fn columns<'t>(alloc: Global, src: &[u8], tokens: &'t [Token]) -> Result<&'t [Token], Stop>
-    ensures { Parses (λ x. x.now) result (spec.columns src.now tokens.now) }
-{
-    let rest = sign(b'(', tokens)?;
-    let rest = key_column(alloc, src, rest)?;
-    let rest = sign(b',', rest)?;
-    let rest = value_column(alloc, src, rest)?;
-    sign(b')', rest)
-}
-
-#[tactic(auto, unfolding(crate::specs::Rows::on_group))]
-fn on_group<'t>(
-    alloc: Global,
-    src: &[u8],
-    tokens: &'t [Token],
-) -> Result<(Option<Text>, &'t [Token]), Stop>
-    ensures { Parses (λ x. (x.0, x.1.now)) result (spec.on_group src.now tokens.now) }
-{
-    if next_is(src, tokens, b"ON") {
-        let (group, rest) = name(alloc, src, behind(tokens))?;
-        Ok((Some(group), rest))
-    } else {
-        Ok((None, tokens))
-    }
-}
-
-/// `CREATE TABLE`, behind these words.
-#[tactic(auto, unfolding(crate::specs::Rows::create_table))]
-pub fn create_table<'t>(
-    alloc: Global,
-    src: &[u8],
-    tokens: &'t [Token],
-) -> Result<(ScriptItem, &'t [Token]), Stop>
-    ensures { Parses (λ x. (x.0, x.1.now)) result (spec.create_table src.now tokens.now) }
-{
-    let (table, rest) = table(alloc, src, tokens)?;
-    let rest = columns(alloc, src, rest)?;
-    let (group, rest) = on_group(alloc, src, rest)?;
-    Ok((ScriptItem::CreateTable { table, group }, rest))
 }
 
 #[tactic(auto, unfolding(crate::specs::Rows::column_names))]
@@ -143,9 +72,9 @@ fn row<'t>(
     Ok(((key, value), rest))
 }
 
-/// `INSERT`, behind it.
+// `INSERT`, behind it.
 #[tactic(auto, unfolding(crate::specs::Rows::insert))]
-pub fn insert<'t>(
+fn insert<'t>(
     alloc: Global,
     src: &[u8],
     tokens: &'t [Token],
@@ -156,7 +85,8 @@ pub fn insert<'t>(
     let rest = column_names(alloc, src, rest)?;
     let rest = keyword(src, b"VALUES", rest)?;
     let ((key, value), rest) = row(alloc, src, rest)?;
-    Ok((ScriptItem::Insert { table, key, value }, rest))
+    let statement = RowStatement::Insert { key, value };
+    Ok((ScriptItem::Rows { table, statement }, rest))
 }
 
 #[tactic(auto, unfolding(crate::specs::Rows::where_key))]
@@ -182,9 +112,9 @@ fn assignment<'t>(
     text(alloc, src, rest)
 }
 
-/// `UPDATE`, behind it.
+// `UPDATE`, behind it.
 #[tactic(auto, unfolding(crate::specs::Rows::update))]
-pub fn update<'t>(
+fn update<'t>(
     alloc: Global,
     src: &[u8],
     tokens: &'t [Token],
@@ -195,12 +125,13 @@ pub fn update<'t>(
     let rest = keyword(src, b"SET", rest)?;
     let (value, rest) = assignment(alloc, src, rest)?;
     let (key, rest) = where_key(alloc, src, rest)?;
-    Ok((ScriptItem::Update { table, value, key }, rest))
+    let statement = RowStatement::Update { key, value };
+    Ok((ScriptItem::Rows { table, statement }, rest))
 }
 
-/// `DELETE`, behind it.
+// `DELETE`, behind it.
 #[tactic(auto, unfolding(crate::specs::Rows::delete))]
-pub fn delete<'t>(
+fn delete<'t>(
     alloc: Global,
     src: &[u8],
     tokens: &'t [Token],
@@ -209,7 +140,8 @@ pub fn delete<'t>(
 {
     let (table, rest) = table(alloc, src, skip(src, b"FROM", tokens))?;
     let (key, rest) = where_key(alloc, src, rest)?;
-    Ok((ScriptItem::Delete { table, key }, rest))
+    let statement = RowStatement::Delete { key };
+    Ok((ScriptItem::Rows { table, statement }, rest))
 }
 
 #[tactic(auto, unfolding(crate::specs::Rows::maybe_key))]
@@ -270,7 +202,8 @@ fn select_rows<'t>(
 {
     let (table, rest) = owned(alloc, src, name, tokens)?;
     let (key, rest) = maybe_key(alloc, src, rest)?;
-    Ok((ScriptItem::Select { table, key }, rest))
+    let statement = RowStatement::Select { key };
+    Ok((ScriptItem::Rows { table, statement }, rest))
 }
 
 #[tactic(auto, unfolding(crate::specs::Rows::select_all))]
@@ -316,9 +249,9 @@ fn select_databases<'t>(
     Ok((ScriptItem::SelectCatalog { catalog }, rest))
 }
 
-/// `SELECT`, behind it.
+// `SELECT`, behind it.
 #[tactic(auto, unfolding(crate::specs::Rows::select))]
-pub fn select<'t>(
+fn select<'t>(
     alloc: Global,
     src: &[u8],
     tokens: &'t [Token],
@@ -343,9 +276,9 @@ fn rows<'t>(src: &[u8], tokens: &'t [Token]) -> Result<((u64, u64), &'t [Token])
     Ok(((first, count), rest))
 }
 
-/// `BULK INSERT`, behind BULK.
+// `BULK INSERT`, behind BULK.
 #[tactic(auto, unfolding(crate::specs::Rows::bulk_insert))]
-pub fn bulk_insert<'t>(
+fn bulk_insert<'t>(
     alloc: Global,
     src: &[u8],
     tokens: &'t [Token],
@@ -357,150 +290,45 @@ pub fn bulk_insert<'t>(
     let ((first, count), rest) = rows(src, rest)?;
     let rest = sign(b',', rest)?;
     let (value, rest) = text(alloc, src, rest)?;
-    let item = ScriptItem::BulkInsert {
-        table,
+    let statement = RowStatement::BulkInsert {
         first,
         count,
         value,
     };
-    Ok((item, rest))
+    Ok((ScriptItem::Rows { table, statement }, rest))
 }
 
-fn next_tran(src: &[u8], tokens: &[Token]) -> bool
-    ensures { result ≡ spec.next_tran src.now tokens.now }
+/// The next token begins a statement on rows.
+pub fn begins_row_statement(src: &[u8], tokens: &[Token]) -> bool
+    ensures { result ≡ spec.begins_row_statement src.now tokens.now }
 {
-    next_is(src, tokens, b"TRAN") || next_is(src, tokens, b"TRANSACTION")
+    next_is(src, tokens, b"INSERT")
+        || next_is(src, tokens, b"UPDATE")
+        || next_is(src, tokens, b"DELETE")
+        || next_is(src, tokens, b"SELECT")
+        || next_is(src, tokens, b"BULK")
 }
 
-fn described<'t>(
-    alloc: Global,
-    src: &[u8],
-    tokens: &'t [Token],
-) -> Result<(Marking, &'t [Token]), Stop>
-    ensures { Parses (λ x. (x.0, x.1.now)) result (Ok (spec.described (text src.now tokens.now) tokens.now)) }
-{
-    match text(alloc, src, tokens) {
-        Ok((text, rest)) => Ok((Marking::Described(text), rest)),
-        Err(Stop::NoMemory) => Err(Stop::NoMemory),
-        Err(Stop::At { .. }) => Ok((Marking::Marked, tokens)),
-    }
-}
-
-#[tactic(auto, unfolding(crate::specs::Rows::marking))]
-fn marking<'t>(
-    alloc: Global,
-    src: &[u8],
-    tokens: &'t [Token],
-) -> Result<(Marking, &'t [Token]), Stop>
-    ensures { Parses (λ x. (x.0, x.1.now)) result (spec.marking src.now tokens.now) }
-{
-    if next_is(src, tokens, b"WITH") {
-        let rest = keyword(src, b"MARK", behind(tokens))?;
-        described(alloc, src, rest)
-    } else {
-        Ok((Marking::Unmarked, tokens))
-    }
-}
-
-fn transaction<'t>(
+/// A statement on rows, by its first token.
+#[tactic(auto, unfolding(crate::specs::Rows::row_statement))]
+pub fn row_statement<'t>(
     alloc: Global,
     src: &[u8],
     tokens: &'t [Token],
 ) -> Result<(ScriptItem, &'t [Token]), Stop>
-    ensures { Parses (λ x. (x.0, x.1.now)) result (spec.transaction_by src.now (name src.now tokens.now) tokens.now) }
+    ensures { Parses (λ x. (x.0, x.1.now)) result (spec.row_statement src.now tokens.now) }
 {
-    match name(alloc, src, tokens) {
-        Ok((name, rest)) => {
-            let (marking, rest) = marking(alloc, src, rest)?;
-            let transaction = Some(NamedTransaction { name, marking });
-            Ok((ScriptItem::Begin { transaction }, rest))
-        }
-        Err(Stop::NoMemory) => Err(Stop::NoMemory),
-        Err(Stop::At { .. }) => Ok((ScriptItem::Begin { transaction: None }, tokens)),
-    }
-}
-
-/// `BEGIN TRAN`, behind BEGIN.
-#[tactic(auto, unfolding(crate::specs::Rows::begin))]
-pub fn begin<'t>(
-    alloc: Global,
-    src: &[u8],
-    tokens: &'t [Token],
-) -> Result<(ScriptItem, &'t [Token]), Stop>
-    ensures { Parses (λ x. (x.0, x.1.now)) result (spec.begin src.now tokens.now) }
-{
-    if next_tran(src, tokens) {
-        transaction(alloc, src, behind(tokens))
+    if next_is(src, tokens, b"INSERT") {
+        insert(alloc, src, behind(tokens))
+    } else if next_is(src, tokens, b"UPDATE") {
+        update(alloc, src, behind(tokens))
+    } else if next_is(src, tokens, b"DELETE") {
+        delete(alloc, src, behind(tokens))
+    } else if next_is(src, tokens, b"SELECT") {
+        select(alloc, src, behind(tokens))
+    } else if next_is(src, tokens, b"BULK") {
+        bulk_insert(alloc, src, behind(tokens))
     } else {
         Err(stuck(tokens))
     }
-}
-
-/// The tokens behind TRAN or TRANSACTION, if it comes next; else all.
-pub fn skip_tran<'t>(src: &[u8], tokens: &'t [Token]) -> &'t [Token]
-    ensures { result.now ≡ spec.skip_tran src.now tokens.now }
-{
-    if next_tran(src, tokens) {
-        behind(tokens)
-    } else {
-        tokens
-    }
-}
-
-/// `USE`, behind it.
-#[tactic(auto, unfolding(crate::specs::Rows::use_database))]
-pub fn use_database<'t>(
-    alloc: Global,
-    src: &[u8],
-    tokens: &'t [Token],
-) -> Result<(ScriptItem, &'t [Token]), Stop>
-    ensures { Parses (λ x. (x.0, x.1.now)) result (spec.use_database src.now tokens.now) }
-{
-    let (database, rest) = name(alloc, src, tokens)?;
-    Ok((ScriptItem::Use { database }, rest))
-}
-
-fn model_by<'t>(src: &[u8], tokens: &'t [Token]) -> Result<(RecoveryModel, &'t [Token]), Stop>
-    ensures { Parses (λ x. (x.0, x.1.now)) result (spec.model_by src.now tokens.now) }
-{
-    if next_is(src, tokens, b"FULL") {
-        Ok((RecoveryModel::Full, behind(tokens)))
-    } else if next_is(src, tokens, b"SIMPLE") {
-        Ok((RecoveryModel::Simple, behind(tokens)))
-    } else if next_is(src, tokens, b"BULK_LOGGED") {
-        Ok((RecoveryModel::BulkLogged, behind(tokens)))
-    } else {
-        Err(stuck(tokens))
-    }
-}
-
-/// `ALTER DATABASE`, behind ALTER.
-#[tactic(auto, unfolding(crate::specs::Rows::alter))]
-pub fn alter<'t>(
-    alloc: Global,
-    src: &[u8],
-    tokens: &'t [Token],
-) -> Result<(ScriptItem, &'t [Token]), Stop>
-    ensures { Parses (λ x. (x.0, x.1.now)) result (spec.alter src.now tokens.now) }
-{
-    let rest = keyword(src, b"DATABASE", tokens)?;
-    let (database, rest) = name(alloc, src, rest)?;
-    let rest = keyword(src, b"SET", rest)?;
-    let rest = keyword(src, b"RECOVERY", rest)?;
-    let (model, rest) = model_by(src, rest)?;
-    Ok((ScriptItem::SetRecovery { database, model }, rest))
-}
-
-/// `DROP DATABASE`, behind DROP.
-#[tactic(auto, unfolding(crate::specs::Rows::drop_database))]
-pub fn drop_database<'t>(
-    alloc: Global,
-    src: &[u8],
-    tokens: &'t [Token],
-) -> Result<(ScriptItem, &'t [Token]), Stop>
-    ensures { Parses (λ x. (x.0, x.1.now)) result (spec.drop_database src.now tokens.now) }
-{
-    let rest = keyword(src, b"DATABASE", tokens)?;
-    let (database, rest) = name(alloc, src, rest)?;
-    Ok((ScriptItem::DropDatabase { database }, rest))
 }

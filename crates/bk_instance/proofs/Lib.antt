@@ -15,7 +15,6 @@ pub mod Replays
 pub mod Resting
 pub mod Seals
 pub mod Standing
-pub mod Statements
 pub mod StoredActs
 pub mod Texts
 pub mod Touching

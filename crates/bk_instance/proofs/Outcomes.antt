@@ -7,13 +7,14 @@ use Rattle.bk_acts.specs.Meaning.{Means}
 use Rattle.bk_machine.specs.Acts.{Act, turned, created, dropped, logged, medium_made, set_sealed, based, replaced, restored, recovered, done}
 use Rattle.bk_machine.specs.Outcome.{Outcome}
 use Rattle.bk_machine.specs.World.{World}
+use Rattle.bk_machine.specs.Writes.{ActWrites, ActsWrite, IsStill, IsTurn}
 use Rattle.bk_plans.specs.declared.parts.Part.{Part}
 use Rattle.bk_plans.specs.declared.parts.Part.TheVariants.{Stored, MediumMade, SetSealed}
 use Rattle.bk_plans.specs.declared.parts.Plan.{Plan}
 use Rattle.bk_plans.specs.declared.parts.Plan.TheVariants.{Refused, Answered, Turned, Parts}
 use Rattle.bk_plans.specs.Planning.{AreActsOf, AreParts, IsPart}
-use Rattle.bk_instance.specs.Steps.{HasNoParts, IsStill, IsTurn}
-use Rattle.bk_instance.specs.Touched.{ActWrites, ActsWrite, PartWrites, PartsWrite, PlanWrites}
+use Rattle.bk_instance.specs.Steps.{HasNoParts}
+use Rattle.bk_instance.specs.Touched.{PartWrites, PartsWrite, PlanWrites}
 
 -- Parts.
 
@@ -38,7 +39,7 @@ plan-writes w (Parts parts answer) acts are path writes = parts-write w parts.it
 -- What stores nothing.
 
 not-meant : (stored : StoredAct) (name : Option (List ℕ)) → Means stored (turned name) → ⊥
-not-meant (kind.Created other family branch time) name means = cc means
+not-meant (kind.Created creation) name means = cc means
 not-meant (kind.Dropped other) name means = cc means
 not-meant (kind.Logged other records) name means = let is = means.act_is in absurd cc
 not-meant (kind.Based other header) name means = cc means

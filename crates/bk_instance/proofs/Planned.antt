@@ -9,6 +9,7 @@ use Rattle.bk_device.specs.Laws.{nothing_then, nothing_yet}
 use Rattle.bk_items.specs.declared.item.ScriptEntry.{ScriptEntry}
 use Rattle.bk_items.specs.declared.item.ScriptItem.{ScriptItem}
 use Rattle.bk_machine.specs.World.{World}
+use Rattle.bk_machine.specs.Writes.{ActsWrite, IsStill}
 use Rattle.bk_plans.specs.declared.parts.Plan.{Plan}
 use Rattle.bk_plans.specs.Planning.{Plans, reply_of}
 use Rattle.bk_world.specs.declared.reply.Reply.{Reply}
@@ -17,8 +18,8 @@ use Rattle.bk_instance.specs.declared.error.ExecuteError.TheVariants.{Broken}
 use Rattle.bk_instance.specs.declared.instance.Instance.{Instance}
 use Rattle.bk_instance.specs.Media.{IfDurable, MediaAreDurable}
 use Rattle.bk_instance.specs.Stands.{IsReady, IsStored, StandsFor, IsOurs}
-use Rattle.bk_instance.specs.Steps.{DoesPlan, CutsPlan, HasNoParts, IsNoPlan, IsStill, MayCome, Cuts, Executed, Failed, Rests}
-use Rattle.bk_instance.specs.Touched.{ActsWrite, PlanWrites, TouchesOnly}
+use Rattle.bk_instance.specs.Steps.{DoesPlan, CutsPlan, HasNoParts, IsNoPlan, MayCome, Cuts, Executed, Failed, Rests}
+use Rattle.bk_instance.specs.Touched.{PlanWrites, TouchesOnly}
 use Rattle.bk_instance.proofs.Outcomes.{plan-writes, still-plan}
 use Rattle.bk_instance.proofs.Resting.{calm-nothing, stands-nothing, stays-nothing}
 use Rattle.bk_instance.proofs.Touching.{touches-nothing, touches-wider}

@@ -53,7 +53,7 @@ where-media w (Some db) next same = same db
 -- a stored act touches no medium
 stored-media : (w : World) (stored : StoredAct) (act : Act) → Means stored act → (done w act).media ≡ w.media
 unfolding done says goes_online
-stored-media w (Created name family branch time) act is = ap (λ (a : Act). (done w a).media) is
+stored-media w (Created creation) act is = ap (λ (a : Act). (done w a).media) is
 stored-media w (Dropped name) act is = ap (λ (a : Act). (done w a).media) is
 stored-media w (Logged name records) act is =
     ap (λ (a : Act). (done w a).media) is.act_is ∙ where-media w (database_named w.databases name) (λ db. says w db is.said is.transactions) (λ db. refl)

@@ -1,14 +1,14 @@
 -- What the calls of an instance do, part by part and statement by statement.
 use Rattle.std.specs.Prelude.{◌≡◌, ◌⊎◌, ℕ, List, []}
-use Rattle.std.specs.List.{AllByRecursion}
 use Rattle.bk_device.specs.Calls.{ChangesNothing}
 use Rattle.bk_device.specs.Disk.{Files, Disk}
 use Rattle.bk_device.specs.Effects.{Effect}
 use Rattle.bk_items.specs.declared.item.ScriptEntry.{ScriptEntry}
-use Rattle.bk_machine.specs.Acts.{Act, turned, done, done_all}
+use Rattle.bk_machine.specs.Acts.{Act, done, done_all}
 use Rattle.bk_machine.specs.Machine.{May}
 use Rattle.bk_machine.specs.Outcome.{Outcome}
 use Rattle.bk_machine.specs.World.{World}
+use Rattle.bk_machine.specs.Writes.{ActsWrite, IsStill}
 use Rattle.bk_plans.specs.declared.parts.Part.{Part}
 use Rattle.bk_plans.specs.declared.parts.Plan.{Plan}
 use Rattle.bk_plans.specs.declared.parts.Plan.TheVariants.{Parts}
@@ -17,7 +17,7 @@ use Rattle.bk_world.specs.declared.reply.Reply.{Reply}
 use Rattle.bk_instance.specs.declared.instance.Instance.{Instance}
 use Rattle.bk_instance.specs.Media.{IfDurable}
 use Rattle.bk_instance.specs.Stands.{Covers, CutIn, IsOurs, ReservesNone, StandsFor}
-use Rattle.bk_instance.specs.Touched.{ActsWrite, TouchesOnly}
+use Rattle.bk_instance.specs.Touched.{TouchesOnly}
 
 -- One part.
 
@@ -60,17 +60,6 @@ IsNoPlan old before plan = (w : World) (acts : List Act) → StandsFor old befor
 abbrev pub HasNoParts : Plan → Type 0
 HasNoParts (Parts parts answer) = parts.items ≡ []
 HasNoParts _ = Unit {0}
-
--- What changes nothing.
-
--- an act that touches memory alone: the one of USE
-abbrev pub IsTurn : Act → Type 0
-IsTurn (turned name) = Unit {0}
-IsTurn _ = ⊥
-
--- An outcome that changes nothing that is stored: that of each refused statement, of USE, of SELECT.
-abbrev pub IsStill : Outcome → Type 0
-IsStill outcome = AllByRecursion IsTurn outcome.acts
 
 -- The device was left as it was, and no GUID was reserved.
 pub record Rests (old : Instance) (before : Disk) (new : Instance) (after : Disk) : Type 0 where

@@ -4,9 +4,6 @@ use Rattle.bk_device.specs.Disk.{Files, Disk}
 use Rattle.bk_device.specs.Effects.{Effect}
 use Rattle.bk_home.specs.declared.record.Record.{Record}
 use Rattle.bk_home.specs.Home.{IsOwn, record_of}
-use Rattle.bk_items.specs.declared.item.ScriptItem.{ScriptItem}
-use Rattle.bk_items.specs.declared.item.ScriptItem.TheVariants.{BackupDatabase}
-use Rattle.bk_machine.specs.Acts.{Act, medium_made, set_sealed}
 use Rattle.bk_media.specs.Names.{medium_file}
 use Rattle.bk_plans.specs.declared.parts.Part.{Part}
 use Rattle.bk_plans.specs.declared.parts.Part.TheVariants.{Stored, MediumMade, SetSealed}
@@ -33,17 +30,6 @@ TouchesOwn before after = Effect IsOwn (λ image. Unit {0}) before after
 abbrev pub IsMaking : Files → List ℕ → Type 0
 IsMaking files path = (r : Record) × (record_of files ≡ Some r) × (r.making ≡ Some path)
 
--- an act that makes it, or seals a set on it; a RESTORE has none
-abbrev pub ActWrites : Act → List ℕ → Type 0
-ActWrites (medium_made at) path = path ≡ at
-ActWrites (set_sealed at header) path = path ≡ at
-ActWrites _ path = ⊥
-
--- one of several acts
-abbrev pub ActsWrite : List Act → List ℕ → Type 0
-ActsWrite [] path = ⊥
-ActsWrite (act ∷ acts) path = ActWrites act path ⊎ ActsWrite acts path
-
 -- a part
 abbrev pub PartWrites : Part → List ℕ → Type 0
 PartWrites (Stored stored) path = ⊥
@@ -58,8 +44,3 @@ PartsWrite (part ∷ parts) path = PartWrites part path ⊎ PartsWrite parts pat
 abbrev pub PlanWrites : Plan → List ℕ → Type 0
 PlanWrites (Parts parts answer) path = PartsWrite parts.items path
 PlanWrites _ path = ⊥
-
--- a statement: BACKUP, to the medium that it names
-abbrev pub StatementWrites : ScriptItem → List ℕ → Type 0
-StatementWrites (BackupDatabase name units disk options) path = path ≡ disk
-StatementWrites _ path = ⊥

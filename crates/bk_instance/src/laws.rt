@@ -1,19 +1,11 @@
-ghost use Rattle.std.specs.Prelude.{◌≡◌, ℕ, List, Option, None};
+ghost use Rattle.std.specs.Prelude.{◌≡◌, ℕ, List, None};
 ghost use Rattle.bk_bytes.specs.Field.{AreBytes};
 ghost use Rattle.bk_device.specs.Disk.{Files};
 ghost use Rattle.bk_home.specs.Home.{IsNotMade};
 ghost use Rattle.bk_media.specs.Names.{medium_file};
-ghost use Rattle.bk_items.specs.declared.item.ScriptEntry.{ScriptEntry};
-ghost use Rattle.bk_items.specs.declared.item.ScriptItem.TheVariants as script;
 ghost use Rattle.bk_machine.specs.Events.{Happen};
-ghost use Rattle.bk_machine.specs.Machine.{May};
-ghost use Rattle.bk_machine.specs.Outcome.{Outcome};
 ghost use Rattle.bk_machine.specs.World.{World, empty_world};
-ghost use Rattle.bk_world.specs.declared.reply.Reply.TheVariants.{Refused};
-ghost use Rattle.bk_world.specs.declared.rule.Rule.{Rule};
 ghost use Rattle.bk_instance.specs.Events.{StandsAtRest, RemovesMedium, RemovesStandby, ChangesMedium, AddsMedium, HappenOn};
-ghost use Rattle.bk_instance.specs.Steps.{IsStill};
-ghost use Rattle.bk_instance.specs.Touched.{ActsWrite, StatementWrites};
 
 use bk_machine::{
     empty_worlds_are_sound, events_keep_worlds_sound, logs_that_stay, sets_that_stay,
@@ -39,12 +31,3 @@ pub fn events_keep_what_stands()
     logs_that_stay();
     sets_that_stay();
 }
-
-/// What statements write to: one that is refused, USE and SELECT store nothing, and only BACKUP writes to a medium, the one
-/// that it names.
-pub fn what_statements_write_to()
-    ensures refused { (w : World) (s : ScriptEntry) (now : ℕ) (outcome : Outcome) (rule : Rule) → May w s now outcome → outcome.reply ≡ Refused rule → IsStill outcome }
-    ensures uses { (w : World) (line : ℕ) (name : List ℕ) (now : ℕ) (outcome : Outcome) → May w (record { item = script.Use name; line = line }) now outcome → IsStill outcome }
-    ensures selects { (w : World) (line : ℕ) (table : List ℕ) (key : Option ℕ) (now : ℕ) (outcome : Outcome) → May w (record { item = script.Select table key; line = line }) now outcome → IsStill outcome }
-    ensures media { (w : World) (s : ScriptEntry) (now : ℕ) (outcome : Outcome) (path : List ℕ) → May w s now outcome → ActsWrite outcome.acts path → StatementWrites s.item path }
-{}

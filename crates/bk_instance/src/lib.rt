@@ -18,4 +18,4 @@ mod unfinished;
 
 pub use error::{ExecuteError, LoadError};
 pub use instance::Instance;
-pub use laws::{empty_files_stand, events_keep_what_stands, what_statements_write_to};
+pub use laws::{empty_files_stand, events_keep_what_stands};

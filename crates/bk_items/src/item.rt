@@ -1,6 +1,7 @@
 //! The items of a script.
 
 use crate::options::{BackupOptions, RestoreOptions};
+use crate::rows::RowStatement;
 use bk_ids::{RecoveryModel, Sequence, Text};
 
 /// A named set of system rows.
@@ -136,34 +137,10 @@ pub enum ScriptItem {
         table: Text,
         group: Option<Text>,
     },
-    /// `INSERT INTO table VALUES (key, value)`
-    Insert {
+    /// A statement on the rows of a table
+    Rows {
         table: Text,
-        key: u64,
-        value: Text,
-    },
-    /// `UPDATE table SET v = value WHERE k = key`
-    Update {
-        table: Text,
-        value: Text,
-        key: u64,
-    },
-    /// `DELETE FROM table WHERE k = key`
-    Delete {
-        table: Text,
-        key: u64,
-    },
-    /// `SELECT * FROM table`, of one key or of all
-    Select {
-        table: Text,
-        key: Option<u64>,
-    },
-    /// `BULK INSERT table ROWS first, count, value`
-    BulkInsert {
-        table: Text,
-        first: u64,
-        count: u64,
-        value: Text,
+        statement: RowStatement,
     },
     /// `BEGIN TRAN`, with a name or without
     Begin {

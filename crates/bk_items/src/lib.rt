@@ -3,6 +3,7 @@
 
 mod item;
 mod options;
+mod rows;
 
 pub use item::{
     Catalog, Marking, MediumQuery, NamedTransaction, NewFile, NewGroup, PageName, RestoredUnits,
@@ -11,3 +12,4 @@ pub use item::{
 pub use options::{
     BackupOptions, Ending, FileMove, IdleOption, IdleOptions, RestoreOptions, StopMark, Stopping,
 };
+pub use rows::RowStatement;

@@ -1,35 +1,73 @@
 -- A database that is made: its files, its log, and the world behind it.
-use Rattle.std.proofs.Common.{◌≡◌, ◌<◌, ◌≤◌, ℕ, zero, suc, ◌+◌, true, List, [], ◌∷◌, ◌++◌, map, refl, sym, ◌∙◌, ap, subst, arith}
+use Rattle.std.proofs.Common.{◌≡◌, ◌<◌, ◌≤◌, ℕ, zero, suc, ◌+◌, true, List, [], ◌∷◌, ◌++◌, length, map, refl, sym, ◌∙◌, ap, subst, arith}
 use Rattle.std.specs.List.{AllByRecursion}
-use Rattle.std.specs.Prelude.{◌==◌, slice_index_or}
+use Rattle.std.specs.Prelude.{◌==◌, ◌&&◌, nat_le, slice_index_or}
+use Rattle.std.proofs.lemmas.Bool.{and_from, and_parts, eq-eqb, eqb-true, le-leb, leb-true}
 use Rattle.std.proofs.lemmas.Bool.Decides.{nat_tests}
 use Rattle.std.proofs.lemmas.List.{map-append}
+use Rattle.std.proofs.lemmas.List.Sums.{sum_by-cons}
 use Rattle.bk_groups.specs.Groups.{AreFiles}
 use Rattle.bk_ids.specs.declared.guid.Guid.{Guid}
 use Rattle.bk_ids.specs.declared.path.Branch.{Branch}
-use Rattle.bk_machine.specs.Acts.{Creation, created, creation_said, default_file, done, new_database, new_line}
+use Rattle.bk_machine.specs.Acts.{created, creation_said, done, new_database, new_line}
+use Rattle.bk_machine.specs.Files.{AreDataFiles, CountFrom, extents_in}
 use Rattle.bk_machine.specs.World.{World, Database}
 use Rattle.bk_shown.specs.Shown.{Shows, IsNext}
+use Rattle.bk_world.specs.declared.database.Creation.{Creation}
 use Rattle.bk_world.specs.declared.database.FileSpec.{FileSpec}
 use Rattle.bk_world.specs.History.{is_guid}
 use Rattle.bk_world.specs.Lines.{RecordLines, log_below}
 use Rattle.bk_world.specs.Records.{Counts, Logged, database_made}
 use Rattle.bk_kept.specs.declared.kept.Database.{Database as KeptDatabase}
 use Rattle.bk_kept.specs.Keeps.{KeepsDatabases, ShowsLog, database_of}
-use Rattle.bk_kept.specs.Made.{IsMade, first_log}
+use Rattle.bk_kept.specs.Made.{IsMade, are_counted, first_log}
 
--- Its one file.
+-- Its files.
 
-pub first-files : (name : List ℕ) → AreFiles (default_file name ∷ [])
-first-files name = record { few = grind arith; numbers = numbers; sizes = sizes }
+-- files that pass the test
+record AreCounted (n : ℕ) (files : List FileSpec) : Type 0 where
+  numbers : (i : ℕ) (d : FileSpec) → i < length files → (slice_index_or files i d).number ≡ i + n
+  sizes : (i : ℕ) (d : FileSpec) → i < length files → (slice_index_or files i d).extents ≤ 4096
+
+counted-true : (n : ℕ) (files : List FileSpec) → are_counted n files ≡ true → AreCounted n files
+counted-true n [] e = record { numbers = λ i d lt. absurd (omega (arith, lt)); sizes = λ i d lt. absurd (omega (arith, lt)) }
+counted-true n (f ∷ files) e =
+    let p = and_parts (f.number == n && nat_le f.extents 4096) (are_counted (n + 1) files) e in
+    let q = and_parts (f.number == n) (nat_le f.extents 4096) p.0 in
+    let rest : AreCounted (n + 1) files = counted-true (n + 1) files p.1 in
+    record { numbers = number (eqb-true f.number n q.0) rest.numbers; sizes = size (leb-true f.extents 4096 q.1) rest.sizes }
   where
-    numbers : (i : ℕ) (d : FileSpec) → i < 1 → (slice_index_or (default_file name ∷ []) i d).number ≡ i + 1
-    numbers zero d lt = refl
-    numbers (suc i) d lt = absurd (omega (arith, lt))
+    number : f.number ≡ n → ((i : ℕ) (d : FileSpec) → i < length files → (slice_index_or files i d).number ≡ i + (n + 1))
+        → (i : ℕ) (d : FileSpec) → i < length (f ∷ files) → (slice_index_or (f ∷ files) i d).number ≡ i + n
+    number is later zero d lt = let here : f.number ≡ 0 + n = omega (arith, is) in here
+    number is later (suc i) d lt =
+        let there : (slice_index_or files i d).number ≡ i + (n + 1) = later i d (omega (arith, lt)) in
+        let on : i + (n + 1) ≡ suc i + n = omega arith in
+        there ∙ on
 
-    sizes : (i : ℕ) (d : FileSpec) → i < 1 → (slice_index_or (default_file name ∷ []) i d).extents ≤ 4096
-    sizes zero d lt = omega arith
-    sizes (suc i) d lt = absurd (omega (arith, lt))
+    size : f.extents ≤ 4096 → ((i : ℕ) (d : FileSpec) → i < length files → (slice_index_or files i d).extents ≤ 4096)
+        → (i : ℕ) (d : FileSpec) → i < length (f ∷ files) → (slice_index_or (f ∷ files) i d).extents ≤ 4096
+    size le later zero d lt = le
+    size le later (suc i) d lt = later i d (omega (arith, lt))
+
+pub files-fit : (files : List FileSpec) → (nat_le (length files) 16 && are_counted 1 files) ≡ true → AreFiles files
+files-fit files e =
+    let p = and_parts (nat_le (length files) 16) (are_counted 1 files) e in
+    let few : length files ≤ 16 = leb-true (length files) 16 p.0 in
+    let counted : AreCounted 1 files = counted-true 1 files p.1 in
+    record { few = omega (arith, few); numbers = counted.numbers; sizes = counted.sizes }
+
+-- and data files pass it
+counted-from : (n : ℕ) (files : List FileSpec) → CountFrom n files → extents_in files ≤ 4096 → are_counted n files ≡ true
+counted-from n [] all le = refl
+counted-from n (f ∷ files) all le =
+    let sum : extents_in (f ∷ files) ≡ f.extents + extents_in files = sum_by-cons (λ (x : FileSpec). x.extents) f files in
+    let own : f.extents ≤ 4096 = omega (arith, le, sum) in
+    and_from (f.number == n && nat_le f.extents 4096) (are_counted (n + 1) files)
+    (and_from (f.number == n) (nat_le f.extents 4096) (eq-eqb f.number n all.0) (le-leb f.extents 4096 own)) (counted-from (n + 1) files all.1 (omega (arith, le, sum)))
+
+pub files-pass : (groups : ℕ) (files : List FileSpec) → AreDataFiles groups files → (nat_le (length files) 16 && are_counted 1 files) ≡ true
+files-pass groups files are = and_from (nat_le (length files) 16) (are_counted 1 files) (le-leb (length files) 16 are.few) (counted-from 1 files are.numbered are.small)
 
 -- Its log.
 

@@ -2,7 +2,6 @@ pub mod Named
 pub mod Tells
 pub mod Places
 pub mod Acted
-pub mod Cuts
 pub mod Fresh
 pub mod SaidSoFar
 pub mod Bases

@@ -8,6 +8,7 @@ use Rattle.bk_machine.specs.Acts.{Act, Recovery, created, dropped, logged, based
 use Rattle.bk_machine.specs.MayDo.{HoldsOf, MayDo}
 use Rattle.bk_machine.specs.World.{World, Database, Open, current_name, database_named}
 use Rattle.bk_world.specs.declared.database.Base.{Base}
+use Rattle.bk_world.specs.declared.database.Creation.{Creation}
 use Rattle.bk_world.specs.declared.header.Header.{Header}
 use Rattle.bk_world.specs.Records.{Said}
 use Rattle.bk_kept.specs.Saying.{SaysNamed, RecoversNamed}
@@ -90,9 +91,9 @@ none-drawn n = omega arith
 same-rest : (w : World) → Rest w w 0
 same-rest w = record { number = refl; counter = none-drawn w.counter; current = refl }
 
-created-rest : (w : World) (name : List ℕ) (family branch : Guid) (time : ℕ) → Rest w (done w (created (record { name = name; family = family; branch = branch; time = time }))) 2
+created-rest : (w : World) (c : Creation) → Rest w (done w (created c)) 2
 unfolding done
-created-rest w name family branch time = record { number = refl; counter = refl; current = refl }
+created-rest w c = record { number = refl; counter = refl; current = refl }
 
 dropped-rest : (w : World) (name : List ℕ) → Rest w (done w (dropped name)) 0
 unfolding done
@@ -139,7 +140,7 @@ by-meaning : (w : World) (a b : Act) (drawn : ℕ) → a ≡ b → Rest w (done 
 by-meaning w a b drawn is rest = subst (λ x. Rest w (done w x) drawn) (sym is) rest
 
 pub rest-of : (w : World) (act : StoredAct) (a : Act) → IsDone w act a → Rest w (done w a) (drawn_by act)
-rest-of w (Created name family branch time) a doing = by-meaning w a (created (record { name = name; family = family; branch = branch; time = time })) 2 doing.means (created-rest w name family branch time)
+rest-of w (Created c) a doing = by-meaning w a (created c) 2 doing.means (created-rest w c)
 rest-of w (Dropped name) a doing = by-meaning w a (dropped name) 0 doing.means (dropped-rest w name)
 rest-of w (LoggedAct name bytes) a doing = by-meaning w a (logged name doing.means.said doing.means.transactions) 0 doing.means.act_is (logged-rest w name doing.means.said doing.means.transactions)
 rest-of w (Based name header) a doing = by-meaning w a (based name header) 0 doing.means (based-rest w name header)

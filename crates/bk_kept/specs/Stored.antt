@@ -58,7 +58,7 @@ IsNumbered w _ = Unit {0}
 
 -- GUIDs are drawn where some are left
 abbrev pub MayDraw : World → StoredAct → Type 0
-MayDraw w (Created name family branch time) = used_up w.counter ≡ false
+MayDraw w (Created creation) = used_up w.counter ≡ false
 MayDraw w (Recovered name at branch records) = used_up w.counter ≡ false
 MayDraw w _ = Unit {0}
 
@@ -73,6 +73,6 @@ pub record IsDone (w : World) (stored : StoredAct) (act : Act) : Type 0 where
 
 -- how many GUIDs a stored act draws
 abbrev pub drawn_by : StoredAct → ℕ
-drawn_by (Created name family branch time) = 2
+drawn_by (Created creation) = 2
 drawn_by (Recovered name at branch records) = 1
 drawn_by _ = 0

@@ -29,7 +29,7 @@ use bk_acts::{StoredAct, said_law};
 use bk_ids::{Guid, Lsn, Name, Sequence, Text};
 use bk_machine::{a_recovery_is_said_last, acts_keep_what_is_read, what_is_said_comes_last};
 use bk_record::Records;
-use bk_world::{Base, Header, State, Unit};
+use bk_world::{Base, Creation, Header, State, Unit};
 use std::alloc::{AllocError, Global};
 
 // The place of the first database of a name.
@@ -84,21 +84,17 @@ fn base_named(databases: &mut Vec<Database>, name: &Name, header: &Header)
     }
 }
 
-// A database of this name is made at a time, with these two GUIDs, and comes behind the others.
+// A database is made, and comes behind the others.
 fn create_named(
     alloc: Global,
     databases: &mut Vec<Database>,
-    name: &Name,
-    family: Guid,
-    branch: Guid,
-    time: u64,
+    creation: &Creation,
 ) -> Result<(), ApplyError>
-    ensures ok { OnOk result ((w : World) → IsSound w → MayCreate w (record { name = name.now; family = family; branch = branch; time = time })
-        → KeepsDatabases w databases.old.items → KeepsDatabases (done w (created (record { name = name.now; family = family; branch = branch; time = time }))) databases.new.items) }
-    ensures fits { IsErrOf result Unfit → ⊥ }
+    ensures ok { OnOk result ((w : World) → IsSound w → MayCreate w creation.now → KeepsDatabases w databases.old.items → KeepsDatabases (done w (created creation.now)) databases.new.items) }
+    ensures unfit { IsErrOf result Unfit → (w : World) → MayCreate w creation.now → ⊥ }
 {
     acts_keep_what_is_read();
-    let database = made(alloc, name, family, branch, time)?;
+    let database = made(alloc, creation)?;
     databases.push(database)?;
     Ok(())
 }
@@ -209,12 +205,7 @@ pub fn apply(
 {
     said_law();
     match act {
-        StoredAct::Created {
-            name,
-            family,
-            branch,
-            time,
-        } => create_named(alloc, databases, name, *family, *branch, *time),
+        StoredAct::Created { creation } => create_named(alloc, databases, creation),
         StoredAct::Dropped { name } => {
             drop_named(databases, name);
             Ok(())

@@ -5,7 +5,6 @@ mod applying;
 mod error;
 mod finding;
 mod kept;
-mod log_name;
 mod making;
 mod numbers;
 mod recovering;

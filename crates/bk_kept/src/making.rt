@@ -1,52 +1,74 @@
 //! Databases that are made.
 
-ghost use Rattle.std.specs.Prelude.{◌≡◌, ◌<◌, ◌≤◌, ◌∷◌, [], length, codes, IfOk, IsErrOf};
+ghost use Rattle.std.specs.Prelude.{◌≡◌, ◌&&◌, ◌≤◌, ◌∷◌, [], length, nat_le, IfOk, IsErrOf};
 ghost use Rattle.bk_groups.specs.Groups.{AreFiles};
-ghost use Rattle.bk_machine.specs.Acts.{default_file, default_log};
-ghost use Rattle.bk_ids.specs.declared.unit.UnitId.TheVariants.{File};
+ghost use Rattle.bk_machine.specs.Acts.{online_files};
+ghost use Rattle.bk_machine.specs.MayDo.{MayCreate};
+ghost use Rattle.bk_machine.specs.World.{World};
 ghost use Rattle.bk_shown.specs.Shown.{Shows};
-ghost use Rattle.bk_world.specs.declared.database.State.TheVariants as state;
-ghost use Rattle.bk_kept.specs.Made.{IsMade, first_log};
+ghost use Rattle.bk_kept.specs.Made.{IsMade, are_counted, first_log};
 ghost use Rattle.bk_kept.specs.declared.error.ApplyError.TheVariants.{Unfit};
 
 use crate::error::ApplyError;
 use crate::kept::Database;
-use crate::log_name::log_name;
-use bk_ids::{Branch, Guid, Name, Path, Sequence, Text, UnitId};
+use crate::replacing::{copy_file, copy_groups};
+use bk_ids::{Branch, Guid, Path, Sequence, UnitId};
 use bk_record::{BodyRef, RecRef};
 use bk_shown::Shown;
-use bk_world::{FileSpec, State, Status, Unit};
+use bk_world::{Creation, FileSpec, State, Status, Unit};
 use std::alloc::{AllocError, Global};
 
-// The name that a text of 1 to 64 bytes spells.
-fn named(alloc: Global, text: &str) -> Result<Name, AllocError>
-    requires some { 0 < length text.now }
-    requires short { length text.now ≤ 64 }
-    ensures { IfOk result (λ name. name ≡ text.now) }
+// How many data files a database has at most.
+const MOST_FILES: usize = 16;
+
+// How many extents a data file has at most.
+const MOST_EXTENTS: u32 = 4096;
+
+// Whether data files count from 1, none of them with more than 4,096 extents.
+fn count_from_one(files: &[FileSpec]) -> bool
+    requires { length files.now ≤ 16 }
+    ensures { result ≡ are_counted 1 files.now }
 {
-    Name::new(alloc, text).map_err(|_| AllocError)
+    let mut number = 1u16;
+    for file in files {
+        if file.number != number || file.extents > MOST_EXTENTS {
+            return false;
+        }
+        number += 1;
+    }
+    true
 }
 
-// The filegroups of a new database: PRIMARY.
-fn primary(alloc: Global) -> Result<Sequence<Name>, AllocError>
-    ensures { IfOk result (λ groups. groups ≡ codes "PRIMARY" ∷ []) }
+// Whether data files are as a database has them.
+fn are_data_files(files: &[FileSpec]) -> bool
+    ensures { result ≡ (nat_le (length files.now) 16 && are_counted 1 files.now) }
 {
-    let primary = named(alloc, "PRIMARY")?;
-    Ok(Sequence::new(vec![in alloc; primary]?))
+    files.len() <= MOST_FILES && count_from_one(files)
 }
 
-// Its one data file, which has its name.
-fn first_file(alloc: Global, name: &Name) -> Result<Sequence<FileSpec>, AllocError>
-    ensures { IfOk result (λ files. files ≡ default_file name.now ∷ []) }
+// Data files of their own.
+fn copy_files(alloc: Global, files: &[FileSpec]) -> Result<Sequence<FileSpec>, AllocError>
+    ensures { IfOk result (λ copy. copy ≡ files.now) }
 {
-    let file = FileSpec {
-        number: 1,
-        group: 0,
-        extents: 128,
-        name: name.copy(alloc)?,
-        path: Text::new(String::from_str(alloc, name.as_str())?),
-    };
-    Ok(Sequence::new(vec![in alloc; file]?))
+    let mut copy = Vec::new(alloc);
+    for file in files {
+        copy.push(copy_file(alloc, file)?)?;
+    }
+    Ok(Sequence::new(copy))
+}
+
+// The units of restore of a new database: its data files, online.
+fn file_units(alloc: Global, files: &[FileSpec]) -> Result<Sequence<Unit>, AllocError>
+    ensures { IfOk result (λ units. units ≡ online_files files.now) }
+{
+    let mut units = Vec::new(alloc);
+    for file in files {
+        units.push(Unit {
+            id: UnitId::File(file.number),
+            state: State::Online,
+        })?;
+    }
+    Ok(Sequence::new(units))
 }
 
 // Its path: a branch that begins with its first log record.
@@ -58,17 +80,6 @@ fn first_path(alloc: Global, branch: Guid) -> Result<Path, AllocError>
         start: 1,
     };
     Ok(Path::new(vec![in alloc; first]?))
-}
-
-// Its units of restore: its one data file, online.
-fn first_units(alloc: Global) -> Result<Sequence<Unit>, AllocError>
-    ensures { IfOk result (λ units. units ≡ (record { id = File 1; state = state.Online }) ∷ []) }
-{
-    let unit = Unit {
-        id: UnitId::File(1),
-        state: State::Online,
-    };
-    Ok(Sequence::new(vec![in alloc; unit]?))
 }
 
 // What its log shows: its first record.
@@ -96,40 +107,34 @@ fn first_shown(
     Ok(shown)
 }
 
-// The name and the path of its log.
-fn log_names(alloc: Global, name: &Name) -> Result<(Name, Text), AllocError>
-    ensures { IfOk result (λ log. (log.0 ≡ default_log name.now) × (log.1 ≡ default_log name.now)) }
-{
-    let log = log_name(alloc, name)?;
-    let log_name = named(alloc, &log)?;
-    Ok((log_name, Text::new(log)))
-}
-
-// A database of this name, as CREATE DATABASE makes it at a time.
+// A database as CREATE DATABASE makes it. `Unfit` comes only where its data files aren't such as a database has.
 #[tactic(auto, unfolding(bk_machine::specs::Acts::new_database))]
-pub(crate) fn made(
-    alloc: Global,
-    name: &Name,
-    family: Guid,
-    branch: Guid,
-    time: u64,
-) -> Result<Database, ApplyError>
-    ensures made { IfOk result (λ d. IsMade (record { name = name.now; family = family; branch = branch; time = time }) d) }
-    ensures fits { IsErrOf result Unfit → ⊥ }
+pub(crate) fn made(alloc: Global, creation: &Creation) -> Result<Database, ApplyError>
+    ensures made { IfOk result (IsMade creation.now) }
+    ensures unfit { IsErrOf result Unfit → (w : World) → MayCreate w creation.now → ⊥ }
 {
-    let files = first_file(alloc, name)?;
-    let shown = first_shown(alloc, files.as_slice(), family, branch, time)?;
-    let (log_name, log_path) = log_names(alloc, name)?;
-    let groups = primary(alloc)?;
-    let path = first_path(alloc, branch)?;
-    let units = first_units(alloc)?;
+    let storage = &creation.storage;
+    if !are_data_files(storage.files.as_slice()) {
+        return Err(ApplyError::Unfit);
+    }
+    let files = copy_files(alloc, storage.files.as_slice())?;
+    let shown = first_shown(
+        alloc,
+        files.as_slice(),
+        creation.family,
+        creation.branch,
+        creation.time,
+    )?;
+    let groups = copy_groups(alloc, storage.groups.as_slice())?;
+    let path = first_path(alloc, creation.branch)?;
+    let units = file_units(alloc, files.as_slice())?;
     Ok(Database {
-        name: name.copy(alloc)?,
-        family,
+        name: creation.name.copy(alloc)?,
+        family: creation.family,
         groups,
         files,
-        log_name,
-        log_path,
+        log_name: storage.log_name.copy(alloc)?,
+        log_path: storage.log_path.copy(alloc)?,
         path,
         archive: 1,
         kept: 1,

@@ -8,6 +8,7 @@ use Rattle.bk_ids.specs.declared.guid.Guid.{Guid}
 use Rattle.bk_ids.specs.declared.path.Branch.{Branch}
 use Rattle.bk_ids.specs.Name.{lowered}
 use Rattle.bk_ids.specs.Path.{IsPath, branch_at, last_branch}
+use Rattle.bk_world.specs.declared.database.Creation.{Creation}
 use Rattle.bk_world.specs.declared.database.FileSpec.{FileSpec}
 use Rattle.bk_world.specs.declared.database.TableSpec.{TableSpec}
 use Rattle.bk_world.specs.declared.database.Status.TheVariants.{Online, Down}
@@ -18,7 +19,7 @@ use Rattle.bk_world.specs.Pending.{Pending, pending, pending_after}
 use Rattle.bk_world.specs.Records.{Counts, Deed, Logged, Said, more, numbered, database_made, table_made, begun, written, committed, rolled_back, undone, checkpointed, stamped, model_set, loaded, recovered}
 use Rattle.bk_world.specs.Telling.{entries, entries_from, entry_of, model, tables}
 use Rattle.bk_world.specs.BranchLaws.{branch_at-last}
-use Rattle.bk_machine.specs.Acts.{Creation, Recovery, created, creation_said, done, drawn, forked, goes_online, gone_online, new_database, new_line}
+use Rattle.bk_machine.specs.Acts.{Recovery, created, creation_said, done, drawn, forked, goes_online, gone_online, new_database, new_line}
 use Rattle.bk_machine.specs.MayDo.{MayCreate, MayRecover}
 use Rattle.bk_machine.specs.Sound.{AreApart, AreNumbered, AreOpen, ArePlaced, Differ, IsIdle, IsLog, IsNotToCome, IsPassed, IsPlaced, IsSound, IsSoundLine, IsWholeDatabase, OpenBy, has_begin}
 use Rattle.bk_machine.specs.statements.Restore.{IsOfRecovery, Recovers, is_recovery_deed}

@@ -1,23 +1,17 @@
 -- Where a run is cut that begins in a sound world in which nothing is open.
-use Rattle.std.proofs.Common.{◌≡◌, ◌≤◌, ◌⊎◌, inl, inr, ℕ, zero, suc, ◌+◌, true, List, [], ◌∷◌, ◌++◌, take, drop, Option, None, Some, refl, sym, ◌∙◌, ap, subst, arith}
-use Rattle.std.specs.Prelude.{◌==◌}
+use Rattle.std.proofs.Common.{◌≡◌, ◌≤◌, inl, inr, ℕ, zero, suc, ◌+◌, List, [], ◌∷◌, ◌++◌, take, drop, refl, sym, ◌∙◌, ap, subst}
 use Rattle.std.specs.List.{AllByRecursion, AllZip}
-use Rattle.std.proofs.lemmas.Bool.Decides.{nat_tests}
 use Rattle.std.proofs.lemmas.List.{take-append-drop}
 use Rattle.bk_items.specs.declared.item.ScriptEntry.{ScriptEntry}
-use Rattle.bk_world.specs.Cut.{is_among, settled}
+use Rattle.bk_world.specs.Cut.{settled}
 use Rattle.bk_world.specs.ListLaws.{all_both}
-use Rattle.bk_world.specs.Records.{Logged, Said, checkpointed, stamped, table_made}
-use Rattle.bk_world.specs.Says.{alone, single_said}
-use Rattle.bk_world.specs.Telling.{telling}
-use Rattle.bk_world.specs.declared.database.Base.{Base}
+use Rattle.bk_world.specs.Records.{Logged}
 use Rattle.bk_world.specs.declared.database.Status.TheVariants.{Online}
-use Rattle.bk_world.specs.declared.header.Header.{Header}
-use Rattle.bk_machine.specs.Acts.{Act, Recovery, turned, created, dropped, logged, medium_made, set_sealed, based, replaced, restored, recovered, done, done_all, drawn}
-use Rattle.bk_machine.specs.Crash.{CutsRun, IsQuiet, Leaves, begin_in, front_of, greatest_end, next_acts, own_begin}
-use Rattle.bk_machine.specs.Machine.{ItemMay, May, behind}
+use Rattle.bk_machine.specs.Acts.{Act, turned, created, dropped, logged, medium_made, set_sealed, based, replaced, restored, recovered, done, done_all}
+use Rattle.bk_machine.specs.Crash.{CutsRun, IsQuiet, Leaves, begin_in, front_of, greatest_end, next_acts}
+use Rattle.bk_machine.specs.Machine.{May, behind}
 use Rattle.bk_machine.specs.MayDo.{LeavesIdle, MayDoAll}
-use Rattle.bk_machine.specs.Outcome.{Outcome, refused}
+use Rattle.bk_machine.specs.Outcome.{Outcome}
 use Rattle.bk_machine.specs.Run.{IsRun, behind_all}
 use Rattle.bk_machine.specs.Sound.{AreIdle, IsIdle, IsSound, IsWhole, IsWholeDatabase}
 use Rattle.bk_machine.specs.Stays.{IsCutOf, IsFront, MayStay}
@@ -27,8 +21,8 @@ use Rattle.bk_machine.proofs.Bounded.{front-bound}
 use Rattle.bk_machine.proofs.Cutting.{IsOwn, PendsOwn, cut-pends}
 use Rattle.bk_machine.proofs.Ends.{IsSteady, IsWithin, Rose, rose-cut, within-before, within-replaced, within-restored, within-rose, within-whole}
 use Rattle.bk_machine.proofs.Remaining.{what-stays}
-use Rattle.bk_machine.proofs.statements.Each.{statement-facts}
-use Rattle.bk_machine.proofs.statements.Facts.{EndWell, Facts, NotLogged, all-take}
+use Rattle.bk_machine.proofs.statements.Each.{statement-goes}
+use Rattle.bk_machine.proofs.statements.Facts.{EndWell, GoWell, NotLogged, all-take}
 use Rattle.bk_machine.proofs.statements.Fronts.{cut-whole}
 use Rattle.bk_machine.proofs.statements.Idling.{idle-done-all}
 use Rattle.bk_machine.proofs.statements.Running.{IsCalm, Within, calm-behind, done-joined, may-front, may-rest, within-run}
@@ -172,12 +166,12 @@ module _ (before : World) (sound : IsSound before) (idle : AreIdle before) (acts
 module _ (w : World) (sound : IsSound w) (idle : AreIdle w) where
   statement-well : (s : ScriptEntry) (now : ℕ) (outcome : Outcome) → May w s now outcome → CutWell w outcome.acts
   statement-well s now outcome may =
-      let facts : Facts w outcome = statement-facts w sound idle s now outcome may in
+      let facts : GoWell w outcome.acts = statement-goes w sound idle s now outcome may in
       record { opens = facts.opens; own = facts.own; ends = facts.ends }
 
   -- each act of a statement leaves nothing open
   pub acts-open : (s : ScriptEntry) (now : ℕ) (outcome : Outcome) → May w s now outcome → AllByRecursion LeavesIdle outcome.acts
-  acts-open s now outcome may = (statement-facts w sound idle s now outcome may).opens
+  acts-open s now outcome may = (statement-goes w sound idle s now outcome may).opens
 
 -- ---- runs
 

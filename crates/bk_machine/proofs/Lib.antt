@@ -19,7 +19,9 @@ mod Truncated
 mod Settling
 mod Remaining
 mod Bounded
+mod NewFiles
 pub mod statements
+mod Writes
 mod Ends
 mod Cutting
 mod CutRuns

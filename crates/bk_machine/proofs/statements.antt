@@ -6,7 +6,8 @@ pub mod Fronts
 pub mod Facts
 pub mod CreateDatabase
 pub mod CreateTable
-pub mod Insert
+pub mod Writing
+pub mod Rows
 pub mod Restore
 pub mod Said
 pub mod Backup

@@ -1,7 +1,6 @@
 -- Acts: what a statement does to a world, one act for each of its parts.
 -- SQL Server: BACKUP, RESTORE (Transact-SQL); "Recovery Paths"; "Transaction Log Architecture and Management Guide".
-use Rattle.std.specs.Prelude.{ℕ, ◌+◌, max, min, Bool, true, false, not, ◌&&◌, ◌||◌, List, [], ◌∷◌, ◌++◌, length, take, codes, filter, map, nat_le, Option, Some, None, ◌==◌, if◌then◌else◌}
-use Rattle.std.specs.Fmt.Cut.{floor_char_boundary}
+use Rattle.std.specs.Prelude.{ℕ, ◌+◌, max, min, Bool, true, false, not, ◌&&◌, ◌||◌, List, [], ◌∷◌, ◌++◌, length, filter, map, nat_le, Option, Some, None, ◌==◌, if◌then◌else◌}
 use Rattle.std.specs.Str.{bytes_eq}
 use Rattle.bk_ids.specs.declared.guid.Guid.{Guid}
 use Rattle.bk_ids.specs.declared.path.Branch.{Branch}
@@ -10,6 +9,7 @@ use Rattle.bk_ids.specs.declared.record.RecoveryModel.TheVariants.{Simple, Full,
 use Rattle.bk_ids.specs.declared.unit.UnitId.TheVariants.{File}
 use Rattle.bk_ids.specs.Path.{last_branch}
 use Rattle.bk_world.specs.declared.database.Base.{Base}
+use Rattle.bk_world.specs.declared.database.Creation.{Creation}
 use Rattle.bk_world.specs.declared.database.FileSpec.{FileSpec}
 use Rattle.bk_world.specs.declared.database.State.{State}
 use Rattle.bk_world.specs.declared.database.State.TheVariants as state
@@ -25,13 +25,6 @@ use Rattle.bk_world.specs.Records.{Deed, Logged, Said, database_made, checkpoint
 use Rattle.bk_world.specs.Says.{alone}
 use Rattle.bk_world.specs.Telling.{model, time}
 use Rattle.bk_machine.specs.World.{World, Database, Open, Job, log_of, log_to, least_begin, database_named, with_database, without_database, with_new_database, session_numbered, with_session}
-
--- a database that is made: its name, the two GUIDs that are drawn for it, and the time
-pub record Creation : Type 0 where
-  pub name : List ℕ
-  pub family : Guid
-  pub branch : Guid
-  pub time : ℕ
 
 -- a recovery: where, on which branch that is drawn for it, and what is said there
 pub record Recovery : Type 0 where
@@ -83,27 +76,19 @@ is_simple BulkLogged = false
 
 -- A new database.
 
--- the longest front of a text that has at most n bytes and ends between characters
-abbrev pub text_front : ℕ → List ℕ → List ℕ
-text_front n text = if nat_le (length text) n then text else take (floor_char_boundary text n) text
-
--- the name and the path of the log where CREATE DATABASE gives none
-abbrev pub default_log : List ℕ → List ℕ
-default_log name = text_front 60 name ++ codes "_log"
-
--- the one data file of a database where CREATE DATABASE names none: 128 extents
-abbrev pub default_file : List ℕ → FileSpec
-default_file name = record { number = 1; group = 0; extents = 128; name = name; path = name }
+-- each data file of a new database, online
+abbrev pub online_files : List FileSpec → List RestoreUnit
+online_files files = map (λ (f : FileSpec). record { id = File f.number; state = state.Online }) files
 
 -- a database as it is made: its first record is number 1
 unfoldable pub new_database : Creation → Database
 new_database c = record {
   name = c.name;
   family = c.family;
-  groups = codes "PRIMARY" ∷ [];
-  files = default_file c.name ∷ [];
-  log_name = default_log c.name;
-  log_path = default_log c.name;
+  groups = c.storage.groups;
+  files = c.storage.files;
+  log_name = c.storage.log_name;
+  log_path = c.storage.log_path;
   path = (record { guid = c.branch; start = 1 }) ∷ [];
   end = 2;
   archive = 1;
@@ -113,7 +98,7 @@ new_database c = record {
   began = false;
   base = None;
   status = status.Online;
-  units = (record { id = File 1; state = state.Online }) ∷ [];
+  units = online_files c.storage.files;
   job = None;
   transactions = [];
 }

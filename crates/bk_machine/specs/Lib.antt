@@ -1,12 +1,14 @@
 pub mod World
 pub mod Same
 pub mod Checks
+pub mod Files
 pub mod Acts
 pub mod Outcome
 pub mod Seen
 pub mod Room
 pub mod statements
 pub mod Machine
+pub mod Writes
 pub mod Run
 pub mod Sound
 pub mod Crash

@@ -2,7 +2,7 @@
 use Rattle.std.specs.Prelude.{◌≡◌, ℕ}
 use Rattle.bk_items.specs.declared.item.ScriptEntry.{ScriptEntry}
 use Rattle.bk_items.specs.declared.item.ScriptItem.{ScriptItem}
-use Rattle.bk_items.specs.declared.item.ScriptItem.TheVariants.{CreateDatabase, DropDatabase, Use, CreateTable, Insert, Select, BackupDatabase, RestoreDatabase, Syntax, TooLong}
+use Rattle.bk_items.specs.declared.item.ScriptItem.TheVariants.{CreateDatabase, DropDatabase, Use, CreateTable, Rows, BackupDatabase, RestoreDatabase, Syntax, TooLong}
 use Rattle.bk_world.specs.declared.rule.Rule.TheVariants as rule
 use Rattle.bk_world.specs.declared.rule.Rule.TheVariants.{NotBuilt}
 use Rattle.bk_machine.specs.Acts.{done_all}
@@ -12,8 +12,7 @@ use Rattle.bk_machine.specs.statements.CreateDatabase.{check_create_database, Do
 use Rattle.bk_machine.specs.statements.DropDatabase.{check_drop_database, DoesDropDatabase}
 use Rattle.bk_machine.specs.statements.Use.{check_use, DoesUse}
 use Rattle.bk_machine.specs.statements.CreateTable.{check_create_table, DoesCreateTable}
-use Rattle.bk_machine.specs.statements.Insert.{check_insert, DoesInsert}
-use Rattle.bk_machine.specs.statements.Select.{check_select, DoesSelect}
+use Rattle.bk_machine.specs.statements.Rows.{RowsMay}
 use Rattle.bk_machine.specs.statements.Backup.{check_backup, DoesBackup}
 use Rattle.bk_machine.specs.statements.Restore.{check_restore, DoesRestore}
 
@@ -23,8 +22,7 @@ ItemMay w line (CreateDatabase name primary groups log) now = ComesTo (check_cre
 ItemMay w line (DropDatabase name) now = ComesTo (check_drop_database w name) DoesDropDatabase
 ItemMay w line (Use name) now = ComesTo (check_use w name) DoesUse
 ItemMay w line (CreateTable name group) now = ComesTo (check_create_table w line name group) (DoesCreateTable w name now)
-ItemMay w line (Insert table key value) now = ComesTo (check_insert w line table key value) (DoesInsert w key value now)
-ItemMay w line (Select table key) now = ComesTo (check_select w line table key) DoesSelect
+ItemMay w line (Rows table statement) now = RowsMay w line table statement now
 ItemMay w line (BackupDatabase name units disk options) now = ComesTo (check_backup w line name units disk options) (DoesBackup w disk now)
 ItemMay w line (RestoreDatabase name units disk options) now = ComesTo (check_restore w line name units disk options) (DoesRestore w name)
 ItemMay w line (Syntax there) now = λ outcome. outcome ≡ refused (rule.Syntax there)

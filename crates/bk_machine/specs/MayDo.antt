@@ -1,19 +1,24 @@
 -- Which acts may be done to a sound world, so that it stays sound.
 use Rattle.std.specs.Prelude.{◌≡◌, ◌<◌, ◌≤◌, ◌+◌, List, [], ◌∷◌, length, Option, Some, None}
+use Rattle.bk_world.specs.declared.database.Creation.{Creation}
 use Rattle.bk_world.specs.declared.database.Status.TheVariants.{Online, Down}
 use Rattle.bk_world.specs.Records.{Said, more, numbered}
 use Rattle.bk_world.specs.SoundLogs.{MayFollow}
 use Rattle.bk_world.specs.Telling.{tables}
-use Rattle.bk_machine.specs.Acts.{Act, Creation, Recovery, turned, created, dropped, logged, medium_made, set_sealed, based, replaced, restored, recovered, done, drawn}
+use Rattle.bk_machine.specs.Acts.{Act, Recovery, turned, created, dropped, logged, medium_made, set_sealed, based, replaced, restored, recovered, done, drawn}
+use Rattle.bk_machine.specs.Files.{AreDataFiles}
 use Rattle.bk_machine.specs.Sound.{AreNumbered, AreOpen, ArePlaced, IsSoundSet}
 use Rattle.bk_machine.specs.World.{World, Database, Open, database_named, log_of, log_to}
+use Rattle.bk_machine.specs.statements.CreateTable.{most_groups}
 use Rattle.bk_machine.specs.statements.Restore.{Recovers}
 
--- the two next GUIDs, and a name that no database has
+-- the two next GUIDs, a name that no database has, and files and filegroups as a database may have them
 pub record MayCreate (w : World) (c : Creation) : Type 0 where
   pub family : c.family ≡ drawn w w.counter
   pub branch : c.branch ≡ drawn w (w.counter + 1)
   pub new : database_named w.databases c.name ≡ None
+  pub groups : length c.storage.groups ≤ most_groups
+  pub files : AreDataFiles (length c.storage.groups) c.storage.files
 
 -- a database that is online may say this: each record may come, and rows get cells of their groups
 pub record MaySay (w : World) (db : Database) (said : List Said) : Type 0 where

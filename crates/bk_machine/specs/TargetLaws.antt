@@ -1,49 +1,44 @@
--- The table of the current database into which a row goes, as INSERT finds it.
-use Rattle.std.proofs.Common.{◌≡◌, ◌≤◌, ℕ, ◌+◌, Bool, true, false, cond, List, [], ◌∷◌, Some, refl, sym, ◌∙◌, ap, subst, arith}
-use Rattle.std.specs.Prelude.{◌==◌, ◌||◌, Ok}
+-- What is known of the table of a row statement behind its check.
+use Rattle.std.proofs.Common.{◌≡◌, ◌≤◌, ℕ, ◌+◌, Bool, true, false, cond, List, [], ◌∷◌, Some, sym, ◌∙◌, ap, subst, arith}
+use Rattle.std.specs.Prelude.{◌==◌, Ok}
 use Rattle.std.specs.List.{find}
 use Rattle.std.proofs.lemmas.Bool.Decides.{nat_tests}
 use Rattle.bk_ids.specs.Name.{same_name}
 use Rattle.bk_world.specs.declared.database.TableSpec.{TableSpec}
 use Rattle.bk_world.specs.declared.database.Status.TheVariants.{Online}
-use Rattle.bk_world.specs.declared.rule.Rule.TheVariants.{NoSuchDatabase, NoSuchTable, DuplicateKey, NotBuilt}
-use Rattle.bk_machine.specs.CheckLaws.{Up, not-refused, passed, second-false, was-found, was-online}
-use Rattle.bk_machine.specs.Checks.{limit, online, or_refuse, refuse_if, table_named, used_up}
-use Rattle.bk_machine.specs.Seen.{has_key, tables_in, visible}
-use Rattle.bk_machine.specs.Sound.{AreNumbered}
-use Rattle.bk_machine.specs.World.{World, Database, current_database}
-use Rattle.bk_machine.specs.statements.Insert.{Target, check_insert, is_full_in, is_no_row}
+use Rattle.bk_world.specs.declared.rule.Rule.TheVariants.{NoSuchDatabase, NoSuchTable}
+use Rattle.bk_world.specs.Telling.{rows, tables}
+use Rattle.bk_machine.specs.CheckLaws.{Up, passed, was-found, was-online}
+use Rattle.bk_machine.specs.Checks.{online, or_refuse, table_named}
+use Rattle.bk_machine.specs.FindingLaws.{current-found}
+use Rattle.bk_machine.specs.ReadyLaws.{IsReady, ready}
+use Rattle.bk_machine.specs.Seen.{tables_in, visible, visible_by}
+use Rattle.bk_machine.specs.Sound.{AreIdle, AreNumbered, IsSound}
+use Rattle.bk_machine.specs.World.{World, Database, Open, current_database, log_of, transaction_of}
+use Rattle.bk_machine.specs.statements.Target.{Target, check_table}
 
 -- What was checked.
 
--- the table of the current database, which is online, has no row of this key that the session sees
-pub record IsTarget (w : World) (name : List ℕ) (key : ℕ) (to : Target) : Type 0 where
+-- it is the table of this name in the current database, which is online
+pub record IsTarget (w : World) (name : List ℕ) (to : Target) : Type 0 where
   pub is : current_database w ≡ Some to.database
   pub up : to.database.status ≡ Online
   pub table : table_named (tables_in w to.database) name ≡ Some to.table
-  pub room : is_full_in w (current_database w) name key ≡ false
-  pub new : has_key (visible w to.database to.table) key ≡ false
 
-pub is-target : (w : World) (line : ℕ) (table : List ℕ) (key : ℕ) (value : List ℕ) (to : Target) → check_insert w line table key value ≡ Ok to → IsTarget w table key to
-unfolding check_insert
-is-target w line table key value to e =
-    let one = passed (refuse_if (is_no_row key value || is_full_in w (current_database w) table key) (NotBuilt line)) _ to e in
-    let two = passed (or_refuse (current_database w) NoSuchDatabase) _ to one.then in
+pub is-target : (w : World) (table : List ℕ) (to : Target) → check_table w table ≡ Ok to → IsTarget w table to
+unfolding check_table
+is-target w table to e =
+    let two = passed (or_refuse (current_database w) NoSuchDatabase) _ to e in
     let three = passed (online two.found) _ to two.then in
     let four = passed (or_refuse (table_named (tables_in w three.found) table) NoSuchTable) _ to three.then in
-    let five = passed (refuse_if (has_key (visible w three.found four.found) key) (DuplicateKey key)) _ to four.then in
-    let six = passed (limit (used_up three.found.end)) _ to five.then in
     let up : Up two.found three.found = was-online two.found three.found three.is in
     let mine : Target = record { database = three.found; table = four.found } in
-    let last = six.then in
+    let last = four.then in
     let same : mine ≡ to = cc in
-    subst (IsTarget w table key) same (record {
+    subst (IsTarget w table) same (record {
       is = was-found (current_database w) NoSuchDatabase two.found two.is ∙ ap (λ (d : Database). Some d) up.is;
       up = up.up;
       table = was-found (table_named (tables_in w three.found) table) NoSuchTable four.found four.is;
-      room = second-false (is_no_row key value) (is_full_in w (current_database w) table key)
-          (not-refused (is_no_row key value || is_full_in w (current_database w) table key) (NotBuilt line) one.found one.is);
-      new = not-refused (has_key (visible w three.found four.found) key) (DuplicateKey key) five.found five.is;
     })
 
 -- Tables by name and by number.
@@ -72,3 +67,18 @@ by-number n (m ∷ made) name t all e = by (same_name m.name name) e (by-number 
 -- where tables are numbered in their order, one that is found by its name is found by its number
 pub numbered-named : (made : List TableSpec) (name : List ℕ) (t : TableSpec) → AreNumbered 1 made → table_named made name ≡ Some t → find (λ (m : TableSpec). m.number == t.number) made ≡ Some t
 numbered-named made name t all e = (by-number 1 made name t all e).is
+
+-- In a sound world in which nothing is open.
+
+pub target-ready : (w : World) (name : List ℕ) (to : Target) → IsSound w → AreIdle w → IsTarget w name to → IsReady w to.database
+target-ready w name to sound idle its = ready w to.database sound idle (current-found w to.database its.is) its.up
+
+-- the table is found by its number
+pub target-numbered : (w : World) (name : List ℕ) (to : Target) → IsReady w to.database → IsTarget w name to → find (λ (m : TableSpec). m.number == to.table.number) (tables (log_of w.history to.database)) ≡ Some to.table
+unfolding tables_in
+target-numbered w name to r its = numbered-named (tables (log_of w.history to.database)) name to.table r.whole.log.tables its.table
+
+-- a session sees the committed rows
+pub sees-committed : (w : World) (to : Target) → IsReady w to.database → visible w to.database to.table ≡ rows (log_of w.history to.database) to.table.number
+unfolding visible
+sees-committed w to r = ap (λ (ts : List Open). visible_by (log_of w.history to.database) (transaction_of ts w.session) to.table.number) r.closed

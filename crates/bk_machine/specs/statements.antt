@@ -3,7 +3,11 @@ pub mod CreateDatabase
 pub mod DropDatabase
 pub mod Use
 pub mod CreateTable
+pub mod Target
 pub mod Insert
+pub mod Update
+pub mod Delete
 pub mod Select
+pub mod Rows
 pub mod Backup
 pub mod Restore

@@ -32,4 +32,7 @@ pub use reaching_laws::reached_worlds_are_sound;
 pub use room_laws::groups_are_full_where_no_cell_is_free;
 pub use same_laws::logs_that_stay;
 pub use set_laws::sets_that_stay;
-pub use statement_laws::{acts_of_statements, runs_keep_worlds_sound, statements_do_what_they_may};
+pub use statement_laws::{
+    acts_of_statements, runs_keep_worlds_sound, statements_do_what_they_may,
+    what_statements_write_to,
+};

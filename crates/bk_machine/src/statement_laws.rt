@@ -1,6 +1,8 @@
-ghost use Rattle.std.specs.Prelude.{ℕ, List, take};
+ghost use Rattle.std.specs.Prelude.{◌≡◌, ℕ, List, Option, take};
 ghost use Rattle.std.specs.List.{AllByRecursion};
 ghost use Rattle.bk_items.specs.declared.item.ScriptEntry.{ScriptEntry};
+ghost use Rattle.bk_items.specs.declared.item.ScriptItem.TheVariants as script;
+ghost use Rattle.bk_items.specs.declared.rows.RowStatement.TheVariants as row;
 ghost use Rattle.bk_machine.specs.Acts.{Act, done, done_all};
 ghost use Rattle.bk_machine.specs.Crash.{Leaves};
 ghost use Rattle.bk_machine.specs.Machine.{May, behind};
@@ -9,6 +11,9 @@ ghost use Rattle.bk_machine.specs.Outcome.{Outcome};
 ghost use Rattle.bk_machine.specs.Run.{IsRun, behind_all};
 ghost use Rattle.bk_machine.specs.Sound.{AreIdle, IsSound};
 ghost use Rattle.bk_machine.specs.World.{World};
+ghost use Rattle.bk_machine.specs.Writes.{ActsWrite, IsStill, StatementWrites};
+ghost use Rattle.bk_world.specs.declared.reply.Reply.TheVariants.{Refused};
+ghost use Rattle.bk_world.specs.declared.rule.Rule.{Rule};
 
 /// What a statement comes to in a sound world in which nothing is open are acts that may be done, and nothing is open behind them.
 pub fn statements_do_what_they_may()
@@ -23,6 +28,16 @@ pub fn acts_of_statements()
     ensures opens { (w : World) (s : ScriptEntry) (now : ℕ) (outcome : Outcome) → IsSound w → AreIdle w → May w s now outcome
         → AllByRecursion LeavesIdle outcome.acts }
     ensures idle { (w : World) (act : Act) → IsSound w → AreIdle w → MayDo w act → LeavesIdle act → AreIdle (done w act) }
+{}
+
+/// What statements write to: one that is refused, USE and SELECT store nothing, and only BACKUP writes to a medium, the one
+/// that it names.
+pub fn what_statements_write_to()
+    ensures refused { (w : World) (s : ScriptEntry) (now : ℕ) (outcome : Outcome) (rule : Rule) → May w s now outcome → outcome.reply ≡ Refused rule → IsStill outcome }
+    ensures uses { (w : World) (line : ℕ) (name : List ℕ) (now : ℕ) (outcome : Outcome) → May w (record { item = script.Use name; line = line }) now outcome → IsStill outcome }
+    ensures selects { (w : World) (line : ℕ) (table : List ℕ) (key : Option ℕ) (now : ℕ) (outcome : Outcome)
+        → May w (record { item = script.Rows table (row.Select key); line = line }) now outcome → IsStill outcome }
+    ensures media { (w : World) (s : ScriptEntry) (now : ℕ) (outcome : Outcome) (path : List ℕ) → May w s now outcome → ActsWrite outcome.acts path → StatementWrites s.item path }
 {}
 
 /// A run keeps a sound world sound, and opens nothing. So does a crash of it.

@@ -1,13 +1,13 @@
--- The group of a table is full for a row exactly where the row has no place and no cell is free.
-use Rattle.std.proofs.Common.{◌≡◌, ◌≢◌, ◌<◌, ℕ, suc, ◌+◌, Bool, true, false, List, [], ◌∷◌, ◌++◌, length, Option, Some, None, refl, sym, ◌∙◌, subst, arith}
+-- A log that is shown is one in which no load was said, beside files of different numbers.
+use Rattle.std.proofs.Common.{◌≡◌, ◌≢◌, ◌<◌, ℕ, suc, ◌+◌, false, List, [], ◌∷◌, ◌++◌, length, Some, None, sym, subst, arith}
 use Rattle.std.specs.List.{AllByRecursion, find}
-use Rattle.std.specs.Prelude.{◌==◌, MatchOption, is_some, not, slice_index_or}
+use Rattle.std.specs.Prelude.{◌==◌, slice_index_or}
 use Rattle.bk_ids.specs.declared.record.Place.{Place}
-use Rattle.bk_machine.specs.Built.{AreFilesApart, FreeCell, IsBuiltLog, IsNoLoad}
+use Rattle.bk_machine.specs.Built.{AreFilesApart, FreeCell, IsBuiltLog, IsNoLoad, LiesWell}
 use Rattle.bk_machine.specs.Room.{is_full}
-use Rattle.bk_shown.specs.Shown.{ArePlaced, IsFreeFor, IsPlaced, Shows}
+use Rattle.bk_shown.specs.Shown.{ArePlaced, IsPlaced, Shows}
 use Rattle.bk_shown.specs.declared.shown.Shown.{Shown}
-use Rattle.bk_world.specs.Places.{IsCellOf, place_of}
+use Rattle.bk_world.specs.Places.{place_of}
 use Rattle.bk_world.specs.Records.{Deed, Logged, RowId, database_made, table_made, begun, written, committed, rolled_back, undone, checkpointed, stamped, model_set, loaded, recovered}
 use Rattle.bk_world.specs.Telling.{tables}
 use Rattle.bk_world.specs.declared.database.FileSpec.{FileSpec}
@@ -60,45 +60,9 @@ no-loads files before (r ∷ rs) placed = (no-load files (tables before) r.deed 
 pub is-built : (files : List FileSpec) (rs : List Logged) (s : Shown) → Shows files rs s → IsBuiltLog files rs
 is-built files rs s shows = record { apart = apart-from 1 files (numbered-from 1 files shows.files_are.numbers); loads = no-loads files [] rs shows.placed }
 
--- The answers.
-
--- what the machine's law says of a log in files
+-- what the machine's laws say of a log in files
 pub record FullWhere (files : List FileSpec) (rs : List Logged) : Type 0 where
+  pub lies : (id : RowId) (at : Place) → place_of rs id ≡ Some at → LiesWell files (tables rs) id at
   pub room : (group : ℕ) (id : RowId) → place_of rs id ≡ None → is_full rs files group (id ∷ []) ≡ false → FreeCell rs files group
   pub free : (group : ℕ) (id : RowId) → place_of rs id ≡ None → FreeCell rs files group → is_full rs files group (id ∷ []) ≡ false
   pub own : (id : RowId) (at : Place) (t : TableSpec) → place_of rs id ≡ Some at → find (λ (m : TableSpec). m.number == id.0) (tables rs) ≡ Some t → is_full rs files t.group (id ∷ []) ≡ false
-
-pub full-placed : (files : List FileSpec) (rs : List Logged) (t : TableSpec) (key : ℕ) (at : Place) → FullWhere files rs → find (λ (m : TableSpec). m.number == t.number) (tables rs) ≡ Some t
-    → Some at ≡ place_of rs (t.number, key) → false ≡ is_full rs files t.group ((t.number, key) ∷ [])
-full-placed files rs t key at full there is = sym (full.own (t.number, key) at t (sym is) there)
-
-pub full-free : (files : List FileSpec) (rs : List Logged) (t : TableSpec) (key : ℕ) (found : Option Place) (none_free : Bool) → FullWhere files rs → find (λ (m : TableSpec). m.number == t.number) (tables rs) ≡ Some t
-    → None ≡ place_of rs (t.number, key) → MatchOption found ((at : Place) → ¬ IsFreeFor files rs t.number at) (λ at. IsFreeFor files rs t.number at)
-    → is_some found ≡ not none_free → none_free ≡ is_full rs files t.group ((t.number, key) ∷ [])
-full-free files rs t key (Some at) none_free full there none free is =
-    let same : free.spec ≡ t = (let both : Some free.spec ≡ Some t = sym free.there ∙ there in cc) in
-    is-not none_free is
-    ∙ sym (full.free t.group (t.number, key) (sym none) (record { at = at; cell = subst (λ (u : TableSpec). IsCellOf files u.group at) same free.cell; free = free.free }))
-  where
-    is-not : (b : Bool) → true ≡ not b → b ≡ false
-    is-not true e = absurd cc
-    is-not false e = refl
-full-free files rs t key None none_free full there none taken is = is-not none_free is ∙ by (is_full rs files t.group ((t.number, key) ∷ [])) refl
-  where
-    is-not : (b : Bool) → false ≡ not b → b ≡ true
-    is-not true e = refl
-    is-not false e = absurd cc
-
-    by : (b : Bool) → is_full rs files t.group ((t.number, key) ∷ []) ≡ b → true ≡ b
-    by true full_is = refl
-    by false full_is =
-        let room : FreeCell rs files t.group = full.room t.group (t.number, key) (sym none) full_is in
-        absurd (taken room.at (record { spec = t; there = there; cell = room.cell; free = room.free }))
-
--- a free place that was looked for, by one log that is shown
-pub free-place : (found : Option Place) (files : List FileSpec) (rs : List Logged) (s : Shown) → Shows files rs s → (table : ℕ)
-    → MatchOption found ((others : List FileSpec) (ss : List Logged) → Shows others ss s → (at : Place) → ¬ IsFreeFor others ss table at)
-    (λ at. (others : List FileSpec) (ss : List Logged) → Shows others ss s → IsFreeFor others ss table at)
-    → MatchOption found ((at : Place) → ¬ IsFreeFor files rs table at) (λ at. IsFreeFor files rs table at)
-free-place None files rs s shows table given = given files rs shows
-free-place (Some at) files rs s shows table given = given files rs shows

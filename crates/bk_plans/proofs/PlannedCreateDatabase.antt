@@ -1,28 +1,26 @@
 -- CREATE DATABASE as it is planned.
 use Rattle.std.proofs.Common.{◌≡◌, ℕ, ◌+◌, min, false, List, Option, Ok, refl, sym, ◌∙◌, ap, subst}
-use Rattle.bk_acts.specs.declared.act.StoredAct.TheVariants.{Created, Dropped}
+use Rattle.bk_acts.specs.declared.act.StoredAct.TheVariants.{Created}
 use Rattle.bk_items.specs.declared.item.NewFile.{NewFile}
 use Rattle.bk_items.specs.declared.item.NewGroup.{NewGroup}
 use Rattle.bk_items.specs.declared.item.ScriptItem.TheVariants as script
-use Rattle.bk_machine.specs.Acts.{created, dropped, latest, turned}
+use Rattle.bk_machine.specs.Acts.{created, latest}
 use Rattle.bk_machine.specs.Checks.{used_up}
 use Rattle.bk_machine.specs.Machine.{May}
 use Rattle.bk_machine.specs.Outcome.{Outcome, in_one}
 use Rattle.bk_machine.specs.World.{World}
 use Rattle.bk_machine.specs.statements.CreateDatabase.{check_create_database, DoesCreateDatabase}
-use Rattle.bk_machine.specs.statements.DropDatabase.{check_drop_database, DoesDropDatabase}
-use Rattle.bk_machine.specs.statements.Use.{check_use, DoesUse}
+use Rattle.bk_world.specs.declared.database.Creation.{Creation}
+use Rattle.bk_world.specs.declared.database.Storage.{Storage}
 use Rattle.bk_world.specs.declared.reply.Reply.TheVariants.{Done}
-use Rattle.bk_kept.specs.declared.kept.Database.{Database as KeptDatabase}
 use Rattle.bk_kept.specs.declared.kept.Kept.{Kept}
 use Rattle.bk_plans.specs.declared.parts.Plan.{Plan}
-use Rattle.bk_plans.specs.declared.parts.Plan.TheVariants.{Turned}
 use Rattle.bk_plans.specs.declared.refusal.Refusal.{Refusal}
 use Rattle.bk_plans.specs.Checking.{IsRefused}
-use Rattle.bk_kept.specs.Keeps.{Keeps, database_of}
+use Rattle.bk_kept.specs.Keeps.{Keeps}
 use Rattle.bk_plans.specs.Planned.{IsOne, IsRefusedBy}
 use Rattle.bk_plans.specs.Planning.{Plans}
-use Rattle.bk_plans.specs.PlanLaws.{DoWhatTheyMay, comes-found, comes-refused, plans-one, plans-refusal, plans-turned}
+use Rattle.bk_plans.specs.PlanLaws.{DoWhatTheyMay, comes-found, comes-refused, plans-one, plans-refusal}
 
 module _ (k : Kept) (line now : ℕ) (name : List ℕ) (primary : List NewFile) (groups : List NewGroup) (log : Option NewFile) where
   pub create-refused : (refusal : Refusal) (plan : Plan) → IsRefusedBy refusal plan → ((w : World) → Keeps w k → IsRefused refusal (check_create_database w line name primary groups log))
@@ -32,21 +30,22 @@ module _ (k : Kept) (line now : ℕ) (name : List ℕ) (primary : List NewFile) 
       plans-refusal k (λ w. Unit {0}) (record { item = script.CreateDatabase name primary groups log; line = line }) now (λ w. check_create_database w line name primary groups log) refusal plan is
       (λ w sound idle keeps known. refuses w keeps) (λ w rule e. comes-refused (check_create_database w line name primary groups log) (DoesCreateDatabase w name now) rule e)
 
-  -- a database that is made on these two GUIDs
-  made_on : ℕ → ℕ → Outcome
-  made_on high low = in_one (created (record { name = name; family = record { high = high; low = low }; branch = record { high = high; low = low + 1 }; time = min now latest })) Done
+  -- a database with these files, made on these two GUIDs
+  creation_on : Storage → ℕ → ℕ → Creation
+  creation_on storage high low = record { name = name; family = record { high = high; low = low }; branch = record { high = high; low = low + 1 }; time = min now latest; storage = storage }
 
-  pub create-made : (found : Unit {0}) (plan : Plan)
-      → IsOne (Created name (record { high = k.number; low = k.counter }) (record { high = k.number; low = k.counter + 1 }) (min now latest)) Done plan → DoWhatTheyMay
+  made_on : Storage → ℕ → ℕ → Outcome
+  made_on storage high low = in_one (created (creation_on storage high low)) Done
+
+  pub create-made : (found : Storage) (plan : Plan)
+      → IsOne (Created (record { name = name; family = record { high = k.number; low = k.counter }; branch = record { high = k.number; low = k.counter + 1 }; time = min now latest; storage = found })) Done plan → DoWhatTheyMay
       → ((w : World) → Keeps w k → check_create_database w line name primary groups log ≡ Ok found) → used_up k.counter ≡ false
       → Plans k (λ w. Unit {0}) (record { item = script.CreateDatabase name primary groups log; line = line }) now plan
-  unfolding May made_on
+  unfolding May made_on creation_on
   create-made found plan one law passes left =
       plans-one k (λ w. Unit {0}) (record { item = script.CreateDatabase name primary groups log; line = line }) now
-      (Created name (record { high = k.number; low = k.counter }) (record { high = k.number; low = k.counter + 1 }) (min now latest))
-      (created (record { name = name; family = record { high = k.number; low = k.counter }; branch = record { high = k.number; low = k.counter + 1 }; time = min now latest }))
-      Done plan one refl law
+      (Created (creation_on found k.number k.counter)) (created (creation_on found k.number k.counter)) Done plan one refl law
       (λ w sound idle keeps known.
-      comes-found (check_create_database w line name primary groups log) (DoesCreateDatabase w name now) found (made_on k.number k.counter) (passes w keeps)
-      (ap (λ (n : ℕ). made_on n k.counter) (sym keeps.number) ∙ ap (λ (n : ℕ). made_on w.instance n) (sym keeps.counter)))
+      comes-found (check_create_database w line name primary groups log) (DoesCreateDatabase w name now) found (made_on found k.number k.counter) (passes w keeps)
+      (ap (λ (n : ℕ). made_on found n k.counter) (sym keeps.number) ∙ ap (λ (n : ℕ). made_on found w.instance n) (sym keeps.counter)))
       (λ w sound idle keeps known. record { draws = subst (λ (n : ℕ). used_up n ≡ false) (sym keeps.counter) left; carried = tt; from_end = tt; taken = tt })

@@ -1,28 +1,22 @@
 -- DROP DATABASE as it is planned.
-use Rattle.std.proofs.Common.{◌≡◌, ℕ, ◌+◌, min, false, List, Option, Ok, refl, sym, ◌∙◌, ap, subst}
-use Rattle.bk_acts.specs.declared.act.StoredAct.TheVariants.{Created, Dropped}
-use Rattle.bk_items.specs.declared.item.NewFile.{NewFile}
-use Rattle.bk_items.specs.declared.item.NewGroup.{NewGroup}
+use Rattle.std.proofs.Common.{◌≡◌, ℕ, List, Ok, refl, ap}
+use Rattle.bk_acts.specs.declared.act.StoredAct.TheVariants.{Dropped}
 use Rattle.bk_items.specs.declared.item.ScriptItem.TheVariants as script
-use Rattle.bk_machine.specs.Acts.{created, dropped, latest, turned}
-use Rattle.bk_machine.specs.Checks.{used_up}
+use Rattle.bk_machine.specs.Acts.{dropped}
 use Rattle.bk_machine.specs.Machine.{May}
-use Rattle.bk_machine.specs.Outcome.{Outcome, in_one}
+use Rattle.bk_machine.specs.Outcome.{in_one}
 use Rattle.bk_machine.specs.World.{World}
-use Rattle.bk_machine.specs.statements.CreateDatabase.{check_create_database, DoesCreateDatabase}
 use Rattle.bk_machine.specs.statements.DropDatabase.{check_drop_database, DoesDropDatabase}
-use Rattle.bk_machine.specs.statements.Use.{check_use, DoesUse}
 use Rattle.bk_world.specs.declared.reply.Reply.TheVariants.{Done}
 use Rattle.bk_kept.specs.declared.kept.Database.{Database as KeptDatabase}
 use Rattle.bk_kept.specs.declared.kept.Kept.{Kept}
 use Rattle.bk_plans.specs.declared.parts.Plan.{Plan}
-use Rattle.bk_plans.specs.declared.parts.Plan.TheVariants.{Turned}
 use Rattle.bk_plans.specs.declared.refusal.Refusal.{Refusal}
 use Rattle.bk_plans.specs.Checking.{IsRefused}
 use Rattle.bk_kept.specs.Keeps.{Keeps, database_of}
 use Rattle.bk_plans.specs.Planned.{IsOne, IsRefusedBy}
 use Rattle.bk_plans.specs.Planning.{Plans}
-use Rattle.bk_plans.specs.PlanLaws.{DoWhatTheyMay, comes-found, comes-refused, plans-one, plans-refusal, plans-turned}
+use Rattle.bk_plans.specs.PlanLaws.{DoWhatTheyMay, comes-found, comes-refused, plans-one, plans-refusal}
 
 module _ (k : Kept) (line now : ℕ) (name : List ℕ) where
   pub drop-refused : (refusal : Refusal) (plan : Plan) → IsRefusedBy refusal plan → ((w : World) → Keeps w k → IsRefused refusal (check_drop_database w name))

@@ -1,6 +1,7 @@
 //! `CREATE DATABASE`: its check and its plan.
 
 ghost use Rattle.std.specs.Prelude.{◌≡◌, ◌+◌, min, true, false, IfOk};
+ghost use Rattle.bk_acts.specs.Storage.{KeepsStorage};
 ghost use Rattle.bk_acts.specs.declared.act.StoredAct.TheVariants.{Created};
 ghost use Rattle.bk_items.specs.declared.item.ScriptItem.TheVariants as script;
 ghost use Rattle.bk_machine.specs.Acts.{latest};
@@ -13,31 +14,46 @@ ghost use Rattle.bk_plans.specs.Checking.{IsCheck};
 ghost use Rattle.bk_plans.specs.Planned.{IsOne};
 ghost use Rattle.bk_plans.specs.Planning.{KeepsPlan, Plans};
 
+use crate::new_storage::{are_named, check_in_use, storage_within};
 use crate::parts::Plan;
-use crate::paths::{in_use, is_in_use};
 use crate::planning_parts::{LATEST, name_in, refused, stored};
 use crate::refusal::Refusal;
-use crate::rules::{MOST_DATABASES, is_name, is_system, limit, refuse_if};
+use crate::rules::{MOST_DATABASES, is_system, limit, refuse_if};
 use bk_acts::StoredAct;
 use bk_ids::{Guid, Sequence, Text};
 use bk_items::{NewFile, NewGroup};
 use bk_kept::{Kept, used_up};
 use bk_machine::statements_do_what_they_may;
-use bk_world::{Limit, Reply, Rule};
+use bk_world::{Creation, Limit, Reply, Rule, Storage};
 use std::alloc::{AllocError, Global};
 
-// Whether files, filegroups and the log of a new database are left to the server.
-fn names_no_files(
-    primary: &Sequence<NewFile>,
-    groups: &Sequence<NewGroup>,
-    log: &Option<NewFile>,
-) -> bool
-    ensures { result ≡ create.names_no_files primary.now groups.now log.now }
+// Whether files, filegroups and a log may be used, and GUIDs are left.
+#[tactic(auto, unfolding(bk_machine::specs::statements::CreateDatabase::check_free))]
+fn check_free(kept: &Kept, alloc: Global, storage: &Storage) -> Result<(), Refusal>
+    ensures check { (w : World) → Keeps w kept.now → IsCheck (λ u. storage.now) result (create.check_free w storage.now) }
+    ensures left { IfOk result (λ u. checks.used_up kept.now.counter ≡ false) }
 {
-    primary.as_slice().is_empty() && groups.as_slice().is_empty() && log.is_none()
+    check_in_use(alloc, &kept.databases, storage)?;
+    limit(used_up(kept.counter))?;
+    Ok(())
 }
 
-// Whether `CREATE DATABASE` on this line may be done.
+// These files, filegroups and log, where they may be used.
+fn free_storage(kept: &Kept, alloc: Global, storage: Storage) -> Result<Storage, Refusal>
+    ensures check { (w : World) → Keeps w kept.now → IsCheck (λ s. s) result (create.check_free w storage) }
+    ensures same { IfOk result (λ s. s ≡ storage) }
+    ensures left { IfOk result (λ s. checks.used_up kept.now.counter ≡ false) }
+{
+    match check_free(kept, alloc, &storage) {
+        Ok(()) => Ok(storage),
+        Err(refusal) => {
+            drop(storage);
+            Err(refusal)
+        }
+    }
+}
+
+// The files, filegroups and log that `CREATE DATABASE` on this line makes.
 #[tactic(auto, unfolding(bk_machine::specs::statements::CreateDatabase::check_create_database))]
 fn check_create_database(
     kept: &Kept,
@@ -47,14 +63,16 @@ fn check_create_database(
     primary: &Sequence<NewFile>,
     groups: &Sequence<NewGroup>,
     log: &Option<NewFile>,
-) -> Result<(), Refusal>
-    ensures check { (w : World) → Keeps w kept.now → IsCheck (λ u. u) result (create.check_create_database w line name.now primary.now groups.now log.now) }
-    ensures named { IfOk result (λ u. checks.is_name name.now ≡ true) }
-    ensures left { IfOk result (λ u. checks.used_up kept.now.counter ≡ false) }
+) -> Result<Storage, Refusal>
+    ensures check { (w : World) → Keeps w kept.now → IsCheck (λ s. s) result (create.check_create_database w line name.now primary.now groups.now log.now) }
+    ensures named { IfOk result (λ s. checks.is_name name.now ≡ true) }
+    ensures left { IfOk result (λ s. checks.used_up kept.now.counter ≡ false) }
+    ensures keeps { IfOk result KeepsStorage }
 {
     let text = name.as_str();
+    let (primary, groups) = (primary.as_slice(), groups.as_slice());
     refuse_if(
-        !(names_no_files(primary, groups, log) && is_name(text)),
+        !are_named(text, primary, groups, log),
         Rule::NotBuilt { line },
     )?;
     refuse_if(
@@ -68,36 +86,52 @@ fn check_create_database(
             which: Limit::Databases,
         },
     )?;
-    if is_in_use(&kept.databases, text) {
-        return Err(in_use(alloc, name));
-    }
-    limit(used_up(kept.counter))
+    let storage = storage_within(alloc, name, primary, groups, log)?;
+    free_storage(kept, alloc, storage)
 }
 
-// A database is made on the two next GUIDs.
-fn creation(kept: &Kept, alloc: Global, name: &Text, now: u64) -> Result<Plan, AllocError>
+// A database of these files is made on the two next GUIDs.
+fn creation(
+    kept: &Kept,
+    alloc: Global,
+    name: &Text,
+    storage: Storage,
+    now: u64,
+) -> Result<Plan, AllocError>
     requires named { checks.is_name name.now ≡ true }
     requires left { checks.used_up kept.now.counter ≡ false }
-    ensures one { IfOk result (IsOne (Created name.now (record { high = kept.now.number; low = kept.now.counter }) (record { high = kept.now.number; low = kept.now.counter + 1 }) (min now latest)) Done) }
+    requires keeps { KeepsStorage storage }
+    ensures one { IfOk result (IsOne (Created (record {
+      name = name.now;
+      family = record { high = kept.now.number; low = kept.now.counter };
+      branch = record { high = kept.now.number; low = kept.now.counter + 1 };
+      time = min now latest;
+      storage = storage;
+    })) Done) }
     ensures keeps { IfOk result KeepsPlan }
 {
-    let name = name_in(alloc, name)?;
-    let family = Guid {
-        high: kept.number,
-        low: kept.counter,
-    };
-    let branch = Guid {
-        high: kept.number,
-        low: kept.counter + 1,
-    };
-    let time = now.min(LATEST);
-    let act = StoredAct::Created {
-        name,
-        family,
-        branch,
-        time,
-    };
-    stored(alloc, act, Reply::Done)
+    match name_in(alloc, name) {
+        Ok(name) => {
+            let creation = Creation {
+                name,
+                family: Guid {
+                    high: kept.number,
+                    low: kept.counter,
+                },
+                branch: Guid {
+                    high: kept.number,
+                    low: kept.counter + 1,
+                },
+                time: now.min(LATEST),
+                storage,
+            };
+            stored(alloc, StoredAct::Created { creation }, Reply::Done)
+        }
+        Err(error) => {
+            drop(storage);
+            Err(error)
+        }
+    }
 }
 
 // What `CREATE DATABASE` on this line comes to.
@@ -116,7 +150,7 @@ pub(crate) fn plan_create_database(
 {
     statements_do_what_they_may();
     match check_create_database(kept, alloc, line, name, primary, groups, log) {
-        Ok(()) => creation(kept, alloc, name, now),
+        Ok(storage) => creation(kept, alloc, name, storage, now),
         Err(refusal) => refused(refusal),
     }
 }

@@ -3,12 +3,17 @@
 ghost use Rattle.std.specs.Prelude.{◌≡◌, IfOk};
 ghost use Rattle.bk_machine.specs.Checks.{or_refuse, table_named};
 ghost use Rattle.bk_machine.specs.Seen.{tables_in};
+ghost use Rattle.bk_machine.specs.TargetLaws.{IsTarget};
 ghost use Rattle.bk_machine.specs.World.{World, current_database, database_named};
+ghost use Rattle.bk_machine.specs.statements.Target as target;
 ghost use Rattle.bk_world.specs.declared.rule.Rule.TheVariants.{NoSuchDatabase, NoSuchTable};
 ghost use Rattle.bk_kept.specs.Keeps.{Keeps, ShowsLog, database_of};
 ghost use Rattle.bk_plans.specs.Checking.{IsCheck};
+ghost use Rattle.bk_plans.specs.Targets.{target_of};
 
 use crate::refusal::Refusal;
+use crate::rules::online;
+use bk_ids::Text;
 use bk_kept::{Database, Kept};
 use bk_world::{Rule, TableSpec};
 
@@ -53,4 +58,17 @@ pub(crate) fn table_or_refuse<'a>(
         Some(table) => Ok(table),
         None => Err(Refusal::Broken(Rule::NoSuchTable)),
     }
+}
+
+// The table of this name in the current database, which is online.
+#[tactic(auto, unfolding(bk_machine::specs::statements::Target::check_table))]
+pub(crate) fn check_table<'a>(kept: &'a Kept, name: &Text) -> Result<Target<'a>, Refusal>
+    ensures check { (w : World) → Keeps w kept.now → IsCheck (λ t. target_of t.database.now t.table.now) result (target.check_table w name.now) }
+    ensures shows { (w : World) → Keeps w kept.now → IfOk result (λ t. ShowsLog w.history t.database.now) }
+    ensures its { (w : World) → Keeps w kept.now → IfOk result (λ t. IsTarget w name.now (target_of t.database.now t.table.now)) }
+{
+    let current = current_or_refuse(kept)?;
+    let database = online(current)?;
+    let table = table_or_refuse(database, name.as_str())?;
+    Ok(Target { database, table })
 }

@@ -2,18 +2,21 @@
 //! what the plans of the others are made of.
 #![tactic(auto)]
 
+mod cells;
 mod create_database;
 mod create_table;
 mod drop_database;
 mod finding;
-mod insert;
+mod log_name;
+mod new_files;
+mod new_storage;
 mod parts;
 mod paths;
 mod planning;
 mod planning_parts;
 mod refusal;
-mod room;
 mod row;
+mod rows;
 mod rules;
 mod select;
 mod use_database;

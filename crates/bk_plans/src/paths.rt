@@ -52,12 +52,21 @@ pub fn is_in_use_by_others(databases: &[Database], name: &str, path: &str) -> bo
     any_other_has_file(databases, name, path)
 }
 
+// The refusal by a name or a path that is in use.
+pub(crate) fn taken(alloc: Global, what: &str) -> Refusal
+    ensures { IsInUse what.now result }
+{
+    match String::from_str(alloc, what) {
+        Ok(what) => Refusal::Broken(Rule::FileInUse {
+            what: Text::new(what),
+        }),
+        Err(_) => Refusal::NoMemory,
+    }
+}
+
 /// The refusal by a path that is in use.
 pub fn in_use(alloc: Global, path: &Text) -> Refusal
     ensures { IsInUse path.now result }
 {
-    match path.copy(alloc) {
-        Ok(path) => Refusal::Broken(Rule::FileInUse { path }),
-        Err(_) => Refusal::NoMemory,
-    }
+    taken(alloc, path.as_str())
 }

@@ -6,9 +6,8 @@ ghost use Rattle.bk_plans.specs.Planning.{KeepsPlan, Plans, ReadsNoMedium};
 use crate::create_database::plan_create_database;
 use crate::create_table::plan_create_table;
 use crate::drop_database::plan_drop_database;
-use crate::insert::plan_insert;
 use crate::parts::Plan;
-use crate::select::plan_select;
+use crate::rows::plan_rows;
 use crate::use_database::plan_use;
 use bk_items::{ScriptEntry, ScriptItem};
 use bk_kept::Kept;
@@ -38,10 +37,9 @@ pub fn plan(
         ScriptItem::CreateTable { table, group } => {
             plan_create_table(kept, alloc, line, table, group, now)
         }
-        ScriptItem::Insert { table, key, value } => {
-            plan_insert(kept, alloc, line, table, *key, value, now)
+        ScriptItem::Rows { table, statement } => {
+            plan_rows(kept, alloc, line, table, statement, now)
         }
-        ScriptItem::Select { table, key } => plan_select(kept, alloc, line, table, *key),
         ScriptItem::Syntax { line } => Ok(Plan::Refused {
             rule: Rule::Syntax { line: *line },
         }),

@@ -1,18 +1,29 @@
 //! Checks that several statements make.
 
-ghost use Rattle.std.specs.Prelude.{◌≡◌, false, IfOk, Some};
+ghost use Rattle.std.specs.Prelude.{◌≡◌, ◌≤◌, false, length, IfOk, Some};
 ghost use Rattle.std.specs.List.{list_any};
 ghost use Rattle.bk_machine.specs.Checks as checks;
+ghost use Rattle.bk_machine.specs.statements.Target as target;
 ghost use Rattle.bk_world.specs.declared.database.Status.TheVariants.{Down};
 ghost use Rattle.bk_kept.specs.Keeps.{database_of};
 ghost use Rattle.bk_plans.specs.Checking.{IsCheck};
 
 use crate::refusal::Refusal;
+use bk_ids::Text;
 use bk_kept::Database;
 use bk_world::{Limit, Rule, State, Status, StatusWord, Unit};
 
 /// How many databases an instance has at most.
 pub const MOST_DATABASES: usize = 16;
+
+// How many filegroups a database has at most.
+pub(crate) const MOST_GROUPS: usize = 8;
+
+// The greatest key.
+const GREATEST_KEY: u64 = 9_223_372_036_854_775_807;
+
+/// How many bytes a value has at most.
+pub(crate) const MOST_VALUE_BYTES: usize = 112;
 
 /// Refused by this rule where the test holds.
 pub fn refuse_if(test: bool, rule: Rule) -> Result<(), Refusal>
@@ -34,6 +45,30 @@ pub fn limit(used_up: bool) -> Result<(), Refusal>
     if used_up {
         return Err(Refusal::Broken(Rule::LimitReached { which: Limit::Lsn }));
     }
+    Ok(())
+}
+
+// Refused where a text is too long for a value of a row.
+pub(crate) fn check_value(value: &Text) -> Result<(), Refusal>
+    ensures check { IsCheck (λ u. u) result (target.check_value value.now) }
+    ensures short { IfOk result (λ u. length value.now ≤ 112) }
+{
+    let bytes = value.as_str().len();
+    refuse_if(
+        bytes > MOST_VALUE_BYTES,
+        Rule::ValueTooLong {
+            bytes: bytes as u64,
+        },
+    )?;
+    Ok(())
+}
+
+// Refused where a number is no key of a row.
+pub(crate) fn check_key(key: u64) -> Result<(), Refusal>
+    ensures check { IsCheck (λ u. u) result (target.check_key key) }
+    ensures low { IfOk result (λ u. key ≤ 9223372036854775807) }
+{
+    refuse_if(key > GREATEST_KEY, Rule::LimitReached { which: Limit::Key })?;
     Ok(())
 }
 

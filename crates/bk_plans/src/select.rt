@@ -1,57 +1,72 @@
-//! `SELECT`: its check and its plan.
+//! `SELECT` of rows: its check and its plan.
 
 ghost use Rattle.std.specs.Prelude.{◌≡◌, ℕ, IfOk};
+ghost use Rattle.std.specs.Option.{option_map};
 ghost use Rattle.bk_items.specs.declared.item.ScriptItem.TheVariants as script;
+ghost use Rattle.bk_items.specs.declared.rows.RowStatement.TheVariants as row;
+ghost use Rattle.bk_kept.specs.Keeps.{ShowsLog, database_of};
 ghost use Rattle.bk_machine.specs.Seen.{visible};
 ghost use Rattle.bk_machine.specs.World.{World};
 ghost use Rattle.bk_machine.specs.statements.Select as selecting;
-ghost use Rattle.bk_kept.specs.Keeps.{Keeps, ShowsLog, database_of};
-ghost use Rattle.bk_plans.specs.Checking.{IsCheck};
 ghost use Rattle.bk_plans.specs.Planning.{KeepsPlan, Plans};
 
-use crate::finding::{Target, current_or_refuse, table_or_refuse};
+use crate::finding::check_table;
 use crate::parts::Plan;
 use crate::planning_parts::refused;
-use crate::refusal::Refusal;
-use crate::rules::{online, refuse_if};
 use bk_ids::{Sequence, Text};
-use bk_kept::Kept;
-use bk_world::{Reply, Rule};
+use bk_kept::{Database, Kept};
+use bk_world::{Reply, TableSpec};
 use std::alloc::{AllocError, Global};
 
-// The table of which `SELECT` on this line shows the rows.
-#[tactic(auto, unfolding(bk_machine::specs::statements::Select::check_select))]
-fn check_select<'a>(
-    kept: &'a Kept,
-    line: u32,
-    table: &Text,
-    key: Option<u64>,
-) -> Result<Target<'a>, Refusal>
-    ensures check { (w : World) → Keeps w kept.now → IsCheck (λ t. visible w (database_of t.database.now) t.table.now) result (selecting.check_select w line table.now key) }
-    ensures shows { (w : World) → Keeps w kept.now → IfOk result (λ t. ShowsLog w.history t.database.now) }
+// The row of a key, if there is one.
+fn row_of(alloc: Global, key: u64, value: Option<&Text>) -> Result<Vec<(u64, Text)>, AllocError>
+    ensures { IfOk result (λ rows. rows.items ≡ selecting.row_of key (option_map (λ v. v.now) value.entry)) }
 {
-    refuse_if(key.is_some(), Rule::NotBuilt { line })?;
-    let current = current_or_refuse(kept)?;
-    let database = online(current)?;
-    let table = table_or_refuse(database, table.as_str())?;
-    Ok(Target { database, table })
+    match value {
+        Some(value) => {
+            let row = (key, value.copy(alloc)?);
+            let rows = vec![in alloc; row]?;
+            Ok(rows)
+        }
+        None => Ok(Vec::new(alloc)),
+    }
 }
 
-// What `SELECT` on this line comes to, at any time.
+// The rows of a table that are asked for: all of them, or the one of a key.
+fn asked_rows(
+    alloc: Global,
+    database: &Database,
+    table: &TableSpec,
+    key: Option<u64>,
+) -> Result<Vec<(u64, Text)>, AllocError>
+    ensures { IfOk result (λ rows. (w : World) → ShowsLog w.history database.now → rows.items ≡ selecting.asked_rows key (visible w (database_of database.now) table.now)) }
+{
+    match key {
+        None => {
+            let rows = database.shown.rows(alloc, table.number)?;
+            Ok(rows)
+        }
+        Some(key) => {
+            let value = database.shown.value(table.number, key);
+            let rows = row_of(alloc, key, value)?;
+            Ok(rows)
+        }
+    }
+}
+
+// What `SELECT` comes to.
 pub(crate) fn plan_select(
     kept: &Kept,
     alloc: Global,
-    line: u32,
     table: &Text,
     key: Option<u64>,
 ) -> Result<Plan, AllocError>
-    ensures plans { IfOk result (λ plan. (now : ℕ) → Plans kept.now (λ w. Unit {0}) (record { item = script.Select table.now key; line = line }) now plan) }
+    ensures plans { IfOk result (λ plan. (line now : ℕ) → Plans kept.now (λ w. Unit {0}) (record { item = script.Rows table.now (row.Select key); line = line }) now plan) }
     ensures keeps { IfOk result KeepsPlan }
 {
-    match check_select(kept, line, table, key) {
+    match check_table(kept, table) {
         Ok(to) => {
-            let listed = to.database.shown.rows(alloc, to.table.number)?;
-            let rows = Sequence::new(listed);
+            let rows = Sequence::new(asked_rows(alloc, to.database, to.table, key)?);
             Ok(Plan::Answered {
                 reply: Reply::Selected { rows },
             })

@@ -1,19 +1,17 @@
 -- What stands in front of tokens stands there whatever others follow, if two tokens are left behind it.
-use Rattle.std.proofs.Common.{◌≡◌, ◌⊎◌, inl, inr, ⊎_elim, ℕ, zero, suc, ◌+◌, ◌-◌, ◌<◌, ◌≤◌, min, Bool, true, false, ◌||◌, if◌then◌else◌, List, [], ◌∷◌, ◌++◌, length, drop, Option, Some, None, Ok, Err, arith, refl, ap, subst, sym, ◌∙◌, length-drop, length-append, append-nil}
+use Rattle.std.proofs.Common.{◌≡◌, ◌⊎◌, inl, inr, ⊎_elim, ℕ, zero, suc, ◌+◌, ◌-◌, ◌<◌, ◌≤◌, min, Bool, true, false, ◌||◌, if◌then◌else◌, List, [], ◌∷◌, ◌++◌, length, drop, Ok, Err, arith, refl, ap, subst, sym, ◌∙◌, length-drop, length-append, append-nil}
 use Rattle.std.specs.List.{slice_get}
 use Rattle.std.proofs.Math.Seq.{drop-append_seam}
 use Rattle.std.proofs.lemmas.List.{drop-append-le}
 use Rattle.bk_token.specs.declared.token.Token.{Token}
 use Rattle.bk_items.specs.declared.item.ScriptItem.{ScriptItem}
 use Rattle.bk_items.specs.declared.item.ScriptItem.TheVariants.{Syntax, TooLong}
-use Rattle.bk_items.specs.declared.item.ScriptEntry.{ScriptEntry}
 use Rattle.bk_parse.specs.Parse.{Parsed}
 use Rattle.bk_parse.specs.Ahead.{Agrees, IsEnd, LeavesEnd, behind_it}
-use Rattle.bk_syntax.specs.Items.{read_entry, fault_entry, from_place, line_at, measured}
+use Rattle.bk_syntax.specs.Items.{from_place, line_at, measured}
 use Rattle.bk_syntax.specs.Limits.{ends, recovered, is_long, is_wide, wide_by}
 use Rattle.bk_syntax.specs.Reader.{StandsInFront, IsInFront}
-use Rattle.bk_syntax.specs.declared.front.Front.{Front}
-use Rattle.bk_syntax.specs.declared.front.Front.TheVariants.{Wants, Read, Stuck}
+use Rattle.bk_syntax.specs.declared.front.Front.TheVariants.{Read, Stuck}
 use Rattle.bk_syntax.specs.Statement.{next_colon, line_or_statement}
 use Rattle.bk_syntax.proofs.StatementLaws.{line-ahead, fewer_behind, left-le, console_left}
 use Rattle.bk_syntax.proofs.ItemsLaw.{stands_read, stands_stuck}

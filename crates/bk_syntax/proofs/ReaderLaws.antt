@@ -1,21 +1,19 @@
 -- What a reader has before it, step by step.
-use Rattle.std.proofs.Common.{◌≡◌, ℕ, ◌+◌, ◌-◌, ◌*◌, ◌<◌, ◌≤◌, Bool, true, false, List, [], ◌∷◌, ◌++◌, length, take, drop, Option, Some, None, arith, refl, ap, subst, sym, ◌∙◌, length-append, append-nil, append_assoc, length-drop, get_or, Result, Ok, Err}
+use Rattle.std.proofs.Common.{◌≡◌, ℕ, ◌-◌, ◌*◌, ◌<◌, ◌≤◌, true, false, List, [], ◌∷◌, ◌++◌, length, take, drop, Some, arith, refl, ap, subst, sym, ◌∙◌, length-append, append-nil, append_assoc, length-drop, get_or, Result, Ok, Err}
 use Rattle.std.specs.Prelude.{IfOk}
 use Rattle.std.specs.declared.alloc.AllocError.{AllocError}
 use Rattle.std.proofs.Math.ListN.{drop_of_length-le}
-use Rattle.std.proofs.lemmas.List.{drop-append-le}
 use Rattle.bk_token.specs.Laws.{none_left}
 use Rattle.bk_token.specs.Places.{IsPlace, AreTokensAt, IsNext}
-use Rattle.bk_token.specs.Tokens.{AreTokensFrom, ended as no_tokens, AreTokens}
+use Rattle.bk_token.specs.Tokens.{AreTokensFrom, ended as no_tokens}
 use Rattle.bk_token.specs.declared.place.Place.{Place}
-use Rattle.bk_token.specs.declared.token.Kind.{Kind}
 use Rattle.bk_token.specs.declared.token.Token.{Token}
 use Rattle.bk_items.specs.declared.item.ScriptItem.{ScriptItem}
 use Rattle.bk_items.specs.declared.item.ScriptItem.TheVariants.{Syntax}
 use Rattle.bk_items.specs.declared.item.ScriptEntry.{ScriptEntry}
 use Rattle.bk_syntax.specs.Items.{AreEntries, AreItems, from_place}
 use Rattle.bk_syntax.specs.Limits.{ends, recovered}
-use Rattle.bk_syntax.specs.Reader.{ahead, IsReader, HasTokens, HasItems, GivesItem, work, ReadsOn, Fills, StandsInFront, IsInFront, Peeked, Passes, Begun, Recovers}
+use Rattle.bk_syntax.specs.Reader.{ahead, IsReader, HasTokens, HasItems, GivesItem, work, ReadsOn, Fills, IsInFront, Passes, Recovers}
 use Rattle.bk_syntax.specs.Statement.{next_colon}
 use Rattle.bk_syntax.specs.declared.front.Front.{Front}
 use Rattle.bk_syntax.specs.declared.front.Front.TheVariants.{Wants, Read, Stuck}

@@ -1,16 +1,19 @@
 -- A statement or a console line looks at most two tokens ahead, and takes at least one.
-use Rattle.std.proofs.Common.{◌≡◌, ℕ, ◌≤◌, ◌<◌, Bool, true, false, if◌then◌else◌, List, [], ◌∷◌, ◌++◌, length, drop, Ok, Err, arith, refl, ap, subst, length-append}
+use Rattle.std.proofs.Common.{◌≡◌, ℕ, ◌≤◌, true, List, [], ◌∷◌, ◌++◌, length, drop, Ok, Err, arith, refl, subst}
 use Rattle.std.specs.Prelude.{codes}
 use Rattle.bk_token.specs.declared.token.Token.{Token}
 use Rattle.bk_items.specs.declared.item.ScriptItem.{ScriptItem}
 use Rattle.bk_items.specs.declared.item.ScriptItem.TheVariants.{Commit, Rollback, Checkpoint, Start, Wait}
 use Rattle.bk_parse.specs.Parse.{Parsed, stuck, next_is, number_in}
-use Rattle.bk_parse.specs.Ahead.{Agrees, LeavesEnd, IsEnd, behind_it, left_of}
-use Rattle.bk_parse.specs.Laws.{fewer, done, stuck-ahead, and_then, if_next, behind_next, number_in-ahead}
+use Rattle.bk_parse.specs.Ahead.{Agrees, LeavesEnd, behind_it}
+use Rattle.bk_parse.specs.Laws.{done, stuck-ahead, and_then, if_next, behind_next, number_in-ahead}
 use Rattle.bk_forms.specs.Creating.{create_database}
-use Rattle.bk_forms.specs.Rows.{create_table, insert, update, delete, select, bulk_insert, begin, skip_tran, use_database, alter, drop_database}
+use Rattle.bk_forms.specs.Rows.{begins_row_statement, row_statement}
+use Rattle.bk_forms.specs.Statements.{create_table, begin, skip_tran, use_database, alter, drop_database}
 use Rattle.bk_forms.specs.CreatingLaws.{create_database-ahead}
-use Rattle.bk_forms.specs.RowsLaws.{create_table-ahead, insert-ahead, update-ahead, delete-ahead, select-ahead, bulk_insert-ahead, begin-ahead, skip_tran-ahead, use_database-ahead, alter-ahead, drop_database-ahead}
+use Rattle.bk_forms.specs.LeavesLaws.{Leaves, leaves_of, either}
+use Rattle.bk_forms.specs.RowsLaws.{row_statement-ahead, row_statement-leaves}
+use Rattle.bk_forms.specs.StatementsLaws.{create_table-ahead, begin-ahead, skip_tran-ahead, use_database-ahead, alter-ahead, drop_database-ahead}
 use Rattle.bk_media_forms.specs.Media.{backup}
 use Rattle.bk_media_forms.specs.Restore.{restore}
 use Rattle.bk_media_forms.specs.BackupLaws.{backup-ahead}
@@ -43,12 +46,7 @@ transaction_statement-ahead src more ts =
 
 statement-ahead : (src : List ℕ) (more ts : List Token) → Agrees behind_it more ts (statement src ts) (statement src (ts ++ more))
 unfolding statement
-statement-ahead src more ts =
-    if_next ts (λ us. next_is src us (codes "INSERT")) (λ t u us. refl) (behind_next ts (insert src) (insert-ahead src more))
-    (if_next ts (λ us. next_is src us (codes "UPDATE")) (λ t u us. refl) (behind_next ts (update src) (update-ahead src more))
-    (if_next ts (λ us. next_is src us (codes "DELETE")) (λ t u us. refl) (behind_next ts (delete src) (delete-ahead src more))
-    (if_next ts (λ us. next_is src us (codes "SELECT")) (λ t u us. refl) (behind_next ts (select src) (select-ahead src more))
-    (if_next ts (λ us. next_is src us (codes "BULK")) (λ t u us. refl) (behind_next ts (bulk_insert src) (bulk_insert-ahead src more)) (transaction_statement-ahead src more ts)))))
+statement-ahead src more ts = if_next ts (λ us. begins_row_statement src us) (λ t u us. refl) (row_statement-ahead src more ts) (transaction_statement-ahead src more ts)
 
 console_line-ahead : (src : List ℕ) (more ts : List Token) → Agrees behind_it more ts (console_line src ts) (console_line src (ts ++ more))
 unfolding console_line
@@ -61,19 +59,6 @@ console_line-ahead src more ts =
 pub line-ahead : (src : List ℕ) (more ts : List Token) → Agrees behind_it more ts (line_or_statement src ts) (line_or_statement src (ts ++ more))
 unfolding line_or_statement
 line-ahead src more ts = if_next ts next_colon (λ t u us. refl) (behind_next ts (console_line src) (console_line-ahead src more)) (statement-ahead src more ts)
-
--- what is read leaves at most so many tokens
-abbrev Leaves : ℕ → Parsed (ScriptItem × List Token) → Type 0
-Leaves most (Ok x) = length x.1 ≤ most
-Leaves most (Err left) = Unit {0}
-
-leaves_of : {more ts : List Token} {q : Parsed (ScriptItem × List Token)} (p : Parsed (ScriptItem × List Token)) → Agrees behind_it more ts p q → Leaves (length ts) p
-leaves_of (Ok x) a = fewer a
-leaves_of (Err left) a = tt
-
-either : (n : ℕ) (b : Bool) (p q : Parsed (ScriptItem × List Token)) → Leaves n p → Leaves n q → Leaves n (if b then p else q)
-either n true p q h k = h
-either n false p q h k = k
 
 -- behind its first keyword a statement leaves no more than stood there
 database_statement-leaves : (src : List ℕ) (ts : List Token) → Leaves (length (drop 1 ts)) (database_statement src ts)
@@ -95,12 +80,7 @@ transaction_statement-leaves src ts =
 
 statement-leaves : (src : List ℕ) (ts : List Token) → Leaves (length (drop 1 ts)) (statement src ts)
 unfolding statement
-statement-leaves src ts =
-    either (length (drop 1 ts)) (next_is src ts (codes "INSERT")) (insert src (drop 1 ts)) _ (leaves_of (insert src (drop 1 ts)) (insert-ahead src [] (drop 1 ts)))
-    (either (length (drop 1 ts)) (next_is src ts (codes "UPDATE")) (update src (drop 1 ts)) _ (leaves_of (update src (drop 1 ts)) (update-ahead src [] (drop 1 ts)))
-    (either (length (drop 1 ts)) (next_is src ts (codes "DELETE")) (delete src (drop 1 ts)) _ (leaves_of (delete src (drop 1 ts)) (delete-ahead src [] (drop 1 ts)))
-    (either (length (drop 1 ts)) (next_is src ts (codes "SELECT")) (select src (drop 1 ts)) _ (leaves_of (select src (drop 1 ts)) (select-ahead src [] (drop 1 ts)))
-    (either (length (drop 1 ts)) (next_is src ts (codes "BULK")) (bulk_insert src (drop 1 ts)) (transaction_statement src ts) (leaves_of (bulk_insert src (drop 1 ts)) (bulk_insert-ahead src [] (drop 1 ts))) (transaction_statement-leaves src ts)))))
+statement-leaves src ts = either (length (drop 1 ts)) (begins_row_statement src ts) (row_statement src ts) (transaction_statement src ts) (row_statement-leaves src ts) (transaction_statement-leaves src ts)
 
 -- a statement or a console line takes at least a token
 line-leaves : (src : List ℕ) (t : Token) (ts : List Token) → Leaves (length ts) (line_or_statement src (t ∷ ts))

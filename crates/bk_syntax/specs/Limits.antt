@@ -17,7 +17,7 @@ use Rattle.bk_items.specs.declared.options.FileMove.{FileMove}
 use Rattle.bk_items.specs.declared.options.RestoreOptions.{RestoreOptions}
 use Rattle.bk_syntax.specs.Statement.{next_colon}
 use Rattle.bk_items.specs.declared.item.ScriptItem.{ScriptItem}
-use Rattle.bk_items.specs.declared.item.ScriptItem.TheVariants.{CreateDatabase, BackupDatabase, BackupLog, RestoreDatabase, RestoreLog, QueryMedium, CreateTable, Insert, Update, Delete, Select, BulkInsert, Begin, Use, SetRecovery, DropDatabase}
+use Rattle.bk_items.specs.declared.item.ScriptItem.TheVariants.{CreateDatabase, BackupDatabase, BackupLog, RestoreDatabase, RestoreLog, QueryMedium, CreateTable, Rows, Begin, Use, SetRecovery, DropDatabase}
 
 -- a name has more than 64 bytes
 abbrev pub long_name : List ℕ → Bool
@@ -78,11 +78,7 @@ is_long (RestoreDatabase d u p o) = long_name d || long_units u || long_disk p |
 is_long (RestoreLog d p o) = long_name d || long_disk p || long_options o
 is_long (QueryMedium q p f) = long_path p
 is_long (CreateTable t g) = long_name t || long_table_group g
-is_long (Insert t k v) = long_name t
-is_long (Update t v k) = long_name t
-is_long (Delete t k) = long_name t
-is_long (Select t k) = long_name t
-is_long (BulkInsert t f c v) = long_name t
+is_long (Rows t s) = long_name t
 is_long (Begin t) = long_transaction t
 is_long (Use d) = long_name d
 is_long (SetRecovery d m) = long_name d

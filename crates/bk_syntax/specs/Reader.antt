@@ -1,9 +1,8 @@
 -- Reading a script item by item.
-use Rattle.std.specs.Prelude.{◌≡◌, ◌<◌, ◌≤◌, ℕ, ◌+◌, ◌-◌, ◌*◌, true, false, List, [], ◌∷◌, ◌++◌, length, drop, Option, Some, None}
+use Rattle.std.specs.Prelude.{◌≡◌, ◌<◌, ◌≤◌, ℕ, ◌+◌, ◌-◌, ◌*◌, false, List, [], ◌∷◌, ◌++◌, length, drop, Option, Some, None}
 use Rattle.bk_token.specs.Places.{IsPlace, AreTokensAt}
 use Rattle.bk_token.specs.declared.place.Place.{Place}
 use Rattle.bk_token.specs.declared.token.Token.{Token}
-use Rattle.bk_items.specs.declared.item.ScriptItem.{ScriptItem}
 use Rattle.bk_items.specs.declared.item.ScriptItem.TheVariants.{Syntax}
 use Rattle.bk_items.specs.declared.item.ScriptEntry.{ScriptEntry}
 use Rattle.bk_syntax.specs.Items.{AreEntries, from_place}

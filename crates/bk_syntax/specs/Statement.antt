@@ -6,7 +6,8 @@ use Rattle.bk_token.specs.declared.token.Token.{Token}
 use Rattle.bk_items.specs.declared.item.ScriptItem.{ScriptItem}
 use Rattle.bk_items.specs.declared.item.ScriptItem.TheVariants.{Commit, Rollback, Checkpoint, Session, Start, Step, Wait}
 use Rattle.bk_forms.specs.Creating.{create_database}
-use Rattle.bk_forms.specs.Rows.{create_table, insert, update, delete, select, bulk_insert, begin, skip_tran, use_database, alter, drop_database}
+use Rattle.bk_forms.specs.Rows.{begins_row_statement, row_statement}
+use Rattle.bk_forms.specs.Statements.{create_table, begin, skip_tran, use_database, alter, drop_database}
 use Rattle.bk_media_forms.specs.Media.{backup}
 use Rattle.bk_media_forms.specs.Restore.{restore}
 use Rattle.bk_parse.specs.Parse.{Parsed, ◌>>=◌, stuck, next_is, number_in}
@@ -38,15 +39,9 @@ transaction_statement src ts =
     else (if next_is src ts (codes "CHECKPOINT") then Ok (Checkpoint, drop 1 ts)
     else database_statement src ts)))
 
--- a statement
+-- a statement, on rows or on others
 unfoldable pub statement : List ℕ → List Token → Parsed (ScriptItem × List Token)
-statement src ts =
-    if next_is src ts (codes "INSERT") then insert src (drop 1 ts)
-    else (if next_is src ts (codes "UPDATE") then update src (drop 1 ts)
-    else (if next_is src ts (codes "DELETE") then delete src (drop 1 ts)
-    else (if next_is src ts (codes "SELECT") then select src (drop 1 ts)
-    else (if next_is src ts (codes "BULK") then bulk_insert src (drop 1 ts)
-    else transaction_statement src ts))))
+statement src ts = if begins_row_statement src ts then row_statement src ts else transaction_statement src ts
 
 -- the words of a console line, behind its colon
 unfoldable pub console_line : List ℕ → List Token → Parsed (ScriptItem × List Token)

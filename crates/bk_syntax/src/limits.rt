@@ -154,11 +154,7 @@ pub fn is_long(item: &ScriptItem) -> bool
                     None => false,
                 }
         }
-        ScriptItem::Insert { table, .. } => long_name(table),
-        ScriptItem::Update { table, .. } => long_name(table),
-        ScriptItem::Delete { table, .. } => long_name(table),
-        ScriptItem::Select { table, .. } => long_name(table),
-        ScriptItem::BulkInsert { table, .. } => long_name(table),
+        ScriptItem::Rows { table, .. } => long_name(table),
         ScriptItem::Begin { transaction } => match transaction {
             Some(transaction) => long_name(&transaction.name),
             None => false,

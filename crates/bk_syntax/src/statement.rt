@@ -5,8 +5,8 @@ ghost use Rattle.bk_parse.specs.Parse.{Parses};
 ghost use Rattle.bk_syntax.specs.Statement as spec;
 
 use bk_forms::{
-    alter, begin, bulk_insert, create_database, create_table, delete, drop_database, insert,
-    select, skip_tran, update, use_database,
+    alter, begin, begins_row_statement, create_database, create_table, drop_database,
+    row_statement, skip_tran, use_database,
 };
 use bk_items::ScriptItem;
 use bk_media_forms::{backup, restore};
@@ -85,16 +85,8 @@ fn statement_at<'t>(
 ) -> Result<(ScriptItem, &'t [Token]), Stop>
     ensures { Parses (λ x. (x.0, x.1.now)) result (spec.statement src.now tokens.now) }
 {
-    if next_is(src, tokens, b"INSERT") {
-        insert(alloc, src, behind(tokens))
-    } else if next_is(src, tokens, b"UPDATE") {
-        update(alloc, src, behind(tokens))
-    } else if next_is(src, tokens, b"DELETE") {
-        delete(alloc, src, behind(tokens))
-    } else if next_is(src, tokens, b"SELECT") {
-        select(alloc, src, behind(tokens))
-    } else if next_is(src, tokens, b"BULK") {
-        bulk_insert(alloc, src, behind(tokens))
+    if begins_row_statement(src, tokens) {
+        row_statement(alloc, src, tokens)
     } else {
         transaction_statement(alloc, src, tokens)
     }

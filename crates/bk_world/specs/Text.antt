@@ -4,17 +4,22 @@ use Rattle.std.specs.Fmt.{decimal}
 use Rattle.bk_world.specs.declared.reply.Reply.{Reply}
 use Rattle.bk_world.specs.declared.reply.Reply.TheVariants.{Done, Counted, Selected, SetMade, Recovered, Refused}
 use Rattle.bk_world.specs.declared.rule.Limit.{Limit}
-use Rattle.bk_world.specs.declared.rule.Limit.TheVariants.{Databases, Lsn}
+use Rattle.bk_world.specs.declared.rule.Limit.TheVariants.{Databases, Files, Groups, Extents, Tables, Key, Lsn}
 use Rattle.bk_world.specs.declared.rule.StatusWord.{StatusWord}
 use Rattle.bk_world.specs.declared.rule.StatusWord.TheVariants.{Restoring, Standby, Interrupted}
 use Rattle.bk_world.specs.declared.rule.Rule.{Rule}
-use Rattle.bk_world.specs.declared.rule.Rule.TheVariants.{Syntax, TooLong, NoSuchDatabase, DatabaseExists, NotOnline, NoSuchTable, DuplicateKey, MediaMissing, NotMedia, NoSuchSet, SetDamaged, OtherFamily, TailNotBackedUp, PathFull, FileInUse, LimitReached, NotBuilt}
+use Rattle.bk_world.specs.declared.rule.Rule.TheVariants.{Syntax, TooLong, NoSuchDatabase, DatabaseExists, NotOnline, NoSuchTable, TableExists, NoSuchGroup, DuplicateKey, ValueTooLong, GroupFull, MediaMissing, NotMedia, NoSuchSet, SetDamaged, OtherFamily, TailNotBackedUp, PathFull, FileInUse, LimitReached, NotBuilt}
 use Rattle.bk_ids.specs.Digest.{digest_text}
 use Rattle.bk_ids.specs.Guid.{guid_text}
 
 -- the word of a limit
 abbrev pub limit_text : Limit → List ℕ
 limit_text Databases = codes "DATABASES"
+limit_text Files = codes "FILES"
+limit_text Groups = codes "GROUPS"
+limit_text Extents = codes "EXTENTS"
+limit_text Tables = codes "TABLES"
+limit_text Key = codes "KEY"
 limit_text Lsn = codes "LSN"
 
 -- the word of a status that isn't online
@@ -31,7 +36,11 @@ rule_text NoSuchDatabase = codes "3 NoSuchDatabase"
 rule_text DatabaseExists = codes "4 DatabaseExists"
 rule_text (NotOnline status) = codes "5 NotOnline " ++ status_text status
 rule_text NoSuchTable = codes "7 NoSuchTable"
+rule_text TableExists = codes "8 TableExists"
+rule_text NoSuchGroup = codes "9 NoSuchGroup"
 rule_text (DuplicateKey key) = codes "10 DuplicateKey " ++ decimal key
+rule_text (ValueTooLong bytes) = codes "11 ValueTooLong " ++ decimal bytes
+rule_text (GroupFull group) = codes "13 GroupFull " ++ group
 rule_text MediaMissing = codes "30 MediaMissing"
 rule_text NotMedia = codes "31 NotMedia"
 rule_text (NoSuchSet position count) = codes "32 NoSuchSet " ++ (decimal position ++ (codes " " ++ decimal count))
@@ -39,7 +48,7 @@ rule_text (SetDamaged stored found) = codes "33 SetDamaged " ++ (digest_text sto
 rule_text (OtherFamily database set) = codes "36 OtherFamily " ++ (guid_text database ++ (codes " " ++ guid_text set))
 rule_text (TailNotBackedUp archive end) = codes "37 TailNotBackedUp " ++ (decimal archive ++ (codes " " ++ decimal end))
 rule_text PathFull = codes "52 PathFull 64"
-rule_text (FileInUse path) = codes "53 FileInUse " ++ path
+rule_text (FileInUse what) = codes "53 FileInUse " ++ what
 rule_text (LimitReached which) = codes "54 LimitReached " ++ limit_text which
 rule_text (NotBuilt line) = codes "99 NotBuilt " ++ decimal line
 

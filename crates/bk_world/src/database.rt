@@ -1,4 +1,4 @@
-use bk_ids::{Guid, Lsn, Name, Text, UnitId};
+use bk_ids::{Guid, Lsn, Name, Sequence, Text, UnitId};
 
 /// A data file of a database.
 #[derive(Debug, Drop)]
@@ -24,6 +24,30 @@ pub struct TableSpec {
     pub name: Name,
     /// Its filegroup, from 0.
     pub group: u8,
+}
+
+/// The filegroups, data files and log file of a database.
+#[derive(Debug, Drop)]
+pub struct Storage {
+    /// PRIMARY first.
+    pub groups: Sequence<Name>,
+    /// By number.
+    pub files: Sequence<FileSpec>,
+    pub log_name: Name,
+    /// The path of its log, 1 to 100 bytes.
+    pub log_path: Text,
+}
+
+/// A database as CREATE DATABASE makes it.
+#[derive(Debug, Drop)]
+pub struct Creation {
+    pub name: Name,
+    pub family: Guid,
+    /// Its first branch.
+    pub branch: Guid,
+    /// When it was made, in milliseconds since 1970-01-01 00:00:00 UTC.
+    pub time: u64,
+    pub storage: Storage,
 }
 
 /// What a differential is based on: a full set, and its checkpoint.

@@ -10,7 +10,7 @@ mod reply;
 mod row;
 mod rule;
 
-pub use database::{Base, FileSpec, State, Status, TableSpec, Unit};
+pub use database::{Base, Creation, FileSpec, State, Status, Storage, TableSpec, Unit};
 pub use header::{Header, HeaderFile, SetKind};
 pub use log_laws::{
     a_grown_history_reads_the_same, ends_of_transactions, homes_of_rows, logs_behind_a_crash,

@@ -11,6 +11,16 @@ use std::alloc::{AllocError, Global};
 pub enum Limit {
     /// There are 16 databases.
     Databases,
+    /// The database would have more than 16 data files.
+    Files,
+    /// The database would have more than 8 filegroups.
+    Groups,
+    /// The data files of the database would have more than 4,096 extents in all.
+    Extents,
+    /// The database has 64 tables.
+    Tables,
+    /// The key is above 9223372036854775807.
+    Key,
     /// Log records or GUIDs are used up, but for those that what is never refused may need.
     Lsn,
 }
@@ -22,6 +32,11 @@ impl Limit {
     {
         match self {
             Limit::Databases => "DATABASES",
+            Limit::Files => "FILES",
+            Limit::Groups => "GROUPS",
+            Limit::Extents => "EXTENTS",
+            Limit::Tables => "TABLES",
+            Limit::Key => "KEY",
             Limit::Lsn => "LSN",
         }
     }
@@ -66,8 +81,16 @@ pub enum Rule {
     NotOnline { status: StatusWord },
     /// The current database has no table of this name.
     NoSuchTable,
+    /// The current database has a table of this name.
+    TableExists,
+    /// The current database has no filegroup of this name.
+    NoSuchGroup,
     /// The table has a row with this key.
     DuplicateKey { key: u64 },
+    /// The value has so many bytes, more than 112.
+    ValueTooLong { bytes: u64 },
+    /// The files of the table's filegroup, whose name this is, have no room for the row.
+    GroupFull { group: Text },
     /// There is no file at the medium's path.
     MediaMissing,
     /// The file is no medium, or what stands at the position is no backup set.
@@ -82,8 +105,8 @@ pub enum Rule {
     TailNotBackedUp { archive: Lsn, end: Lsn },
     /// The recovery path has 64 branches, and can take no more.
     PathFull,
-    /// A data file of another database has this path, or two files would have it.
-    FileInUse { path: Text },
+    /// A data file of another database has this path, or two data files of the database would have it; or two of its data files or filegroups would have this name.
+    FileInUse { what: Text },
     /// The statement would pass a limit.
     LimitReached { which: Limit },
     /// This program doesn't know the statement on this line yet.
@@ -105,7 +128,14 @@ impl Rule {
                 format!(in alloc; "5 NotOnline {status}")
             }
             Rule::NoSuchTable => String::from_str(alloc, "7 NoSuchTable"),
+            Rule::TableExists => String::from_str(alloc, "8 TableExists"),
+            Rule::NoSuchGroup => String::from_str(alloc, "9 NoSuchGroup"),
             Rule::DuplicateKey { key } => format!(in alloc; "10 DuplicateKey {key}"),
+            Rule::ValueTooLong { bytes } => format!(in alloc; "11 ValueTooLong {bytes}"),
+            Rule::GroupFull { group } => {
+                let group = group.as_str();
+                format!(in alloc; "13 GroupFull {group}")
+            }
             Rule::MediaMissing => String::from_str(alloc, "30 MediaMissing"),
             Rule::NotMedia => String::from_str(alloc, "31 NotMedia"),
             Rule::NoSuchSet { position, count } => {
@@ -117,9 +147,9 @@ impl Rule {
                 format!(in alloc; "37 TailNotBackedUp {archive} {end}")
             }
             Rule::PathFull => String::from_str(alloc, "52 PathFull 64"),
-            Rule::FileInUse { path } => {
-                let path = path.as_str();
-                format!(in alloc; "53 FileInUse {path}")
+            Rule::FileInUse { what } => {
+                let what = what.as_str();
+                format!(in alloc; "53 FileInUse {what}")
             }
             Rule::LimitReached { which } => {
                 let which = which.text();

@@ -1,5 +1,5 @@
 // Items on tables, rows and transactions.
-use bk_items::{Marking, NamedTransaction, ScriptItem};
+use bk_items::{Marking, NamedTransaction, RowStatement, ScriptItem};
 use std::alloc::AllocError;
 
 fn add_begin(out: &mut String, transaction: &Option<NamedTransaction>) -> Result<(), AllocError> {
@@ -26,41 +26,38 @@ fn add_transaction_item(out: &mut String, item: &ScriptItem) -> Result<(), Alloc
     }
 }
 
-fn add_read_item(out: &mut String, item: &ScriptItem) -> Result<(), AllocError> {
-    match item {
-        ScriptItem::CreateTable { table, group: None } => write!(out, "table {}", table.as_str()),
-        ScriptItem::CreateTable {
-            table,
-            group: Some(group),
-        } => write!(out, "table {} on {}", table.as_str(), group.as_str()),
-        ScriptItem::Select { table, key: None } => write!(out, "select {}", table.as_str()),
-        ScriptItem::Select {
-            table,
-            key: Some(key),
-        } => write!(out, "select {} {key}", table.as_str()),
-        _ => add_transaction_item(out, item),
+fn add_statement(
+    out: &mut String,
+    table: &str,
+    statement: &RowStatement,
+) -> Result<(), AllocError> {
+    match statement {
+        RowStatement::Insert { key, value } => {
+            write!(out, "insert {table} {key} '{}'", value.as_str())
+        }
+        RowStatement::Update { key, value } => {
+            write!(out, "update {table} '{}' {key}", value.as_str())
+        }
+        RowStatement::Delete { key } => write!(out, "delete {table} {key}"),
+        RowStatement::Select { key: None } => write!(out, "select {table}"),
+        RowStatement::Select { key: Some(key) } => write!(out, "select {table} {key}"),
+        RowStatement::BulkInsert {
+            first,
+            count,
+            value,
+        } => write!(out, "bulk {table} {first} {count} '{}'", value.as_str()),
     }
 }
 
 /// Adds what the item is: one on tables, rows or transactions.
 pub fn add_row_item(out: &mut String, item: &ScriptItem) -> Result<(), AllocError> {
     match item {
-        ScriptItem::Insert { table, key, value } => {
-            write!(out, "insert {} {key} '{}'", table.as_str(), value.as_str())
-        }
-        ScriptItem::Update { table, value, key } => {
-            write!(out, "update {} '{}' {key}", table.as_str(), value.as_str())
-        }
-        ScriptItem::Delete { table, key } => write!(out, "delete {} {key}", table.as_str()),
-        ScriptItem::BulkInsert {
+        ScriptItem::CreateTable { table, group: None } => write!(out, "table {}", table.as_str()),
+        ScriptItem::CreateTable {
             table,
-            first,
-            count,
-            value,
-        } => {
-            let (table, value) = (table.as_str(), value.as_str());
-            write!(out, "bulk {table} {first} {count} '{value}'")
-        }
-        _ => add_read_item(out, item),
+            group: Some(group),
+        } => write!(out, "table {} on {}", table.as_str(), group.as_str()),
+        ScriptItem::Rows { table, statement } => add_statement(out, table.as_str(), statement),
+        _ => add_transaction_item(out, item),
     }
 }

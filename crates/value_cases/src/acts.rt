@@ -6,7 +6,7 @@ use bk_acts::{StoredAct, Unread, acts_law, encode_act, read_act};
 use bk_ids::{Guid, Lsn, Name};
 use bk_record::Records;
 use bk_set::SetBody;
-use bk_world::Header;
+use bk_world::{Creation, Header, Storage};
 use std::alloc::{AllocError, Global};
 
 // The spelling of an act.
@@ -64,20 +64,37 @@ fn show_recovered(
     records::show(records.as_slice(), out)
 }
 
+// The filegroups, data files and log of a database.
+fn show_storage(storage: &Storage, out: &mut String) -> Result<(), AllocError> {
+    for group in storage.groups.as_slice() {
+        let group = group.as_str();
+        writeln!(out, "group {group}")?;
+    }
+    for file in storage.files.as_slice() {
+        let (name, path) = (file.name.as_str(), file.path.as_str());
+        writeln!(
+            out,
+            "file {} group {} extents {} {name} {path}",
+            file.number, file.group, file.extents
+        )?;
+    }
+    let (name, path) = (storage.log_name.as_str(), storage.log_path.as_str());
+    writeln!(out, "log {name} {path}")
+}
+
+fn show_created(creation: &Creation, out: &mut String) -> Result<(), AllocError> {
+    let name = creation.name.as_str();
+    writeln!(
+        out,
+        "created {name} family {:?} branch {:?} time {}",
+        creation.family, creation.branch, creation.time
+    )?;
+    show_storage(&creation.storage, out)
+}
+
 fn show_act(alloc: Global, act: &StoredAct, out: &mut String) -> Result<(), AllocError> {
     match act {
-        StoredAct::Created {
-            name,
-            family,
-            branch,
-            time,
-        } => {
-            let name = name.as_str();
-            writeln!(
-                out,
-                "created {name} family {family:?} branch {branch:?} time {time}"
-            )
-        }
+        StoredAct::Created { creation } => show_created(creation, out),
         StoredAct::Dropped { name } => {
             let name = name.as_str();
             writeln!(out, "dropped {name}")

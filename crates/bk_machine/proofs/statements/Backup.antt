@@ -240,15 +240,20 @@ module _ (w : World) (db : Database) (path : List ℕ) (now : ℕ) (sound : IsSo
         ),
       )
 
-pub its-ready : (w : World) (line : ℕ) (name : List ℕ) (units : List UnitName) (path : List ℕ) (options : BackupOptions) (db : Database) → IsSound w → AreIdle w → check_backup w line name units path options ≡ Ok db → IsReady w db
+its-ready : (w : World) (line : ℕ) (name : List ℕ) (units : List UnitName) (path : List ℕ) (options : BackupOptions) (db : Database) → IsSound w → AreIdle w → check_backup w line name units path options ≡ Ok db → IsReady w db
 its-ready w line name units path options db sound idle e = let its : IsUp w db = checked w line name units path options db e in ready w db sound idle its.named its.up
 
-pub facts : (w : World) (db : Database) (path : List ℕ) (now : ℕ) → IsSound w → AreIdle w → IsReady w db → (outcome : Outcome) → DoesBackup w path now db outcome → Facts w outcome
+pub facts : (w : World) (line : ℕ) (name : List ℕ) (units : List UnitName) (path : List ℕ) (options : BackupOptions) (now : ℕ) (db : Database) → check_backup w line name units path options ≡ Ok db
+    → (outcome : Outcome) → DoesBackup w path now db outcome → Facts w (λ at. at ≡ path) outcome
 unfolding full_header
-facts w db path now sound idle r outcome is = facts-of w _ outcome (record {
-  may = backs-up w db path now sound idle r;
-  opens = (tt, (r.closed, (r.closed, (tt, (tt, tt)))));
-  own = (tt, (own-checkpoint w db.name (said_time w db now) db.transactions, (own-stamp w db.name (said_time w db now) (drawn w w.counter) db.transactions, (tt, (tt, tt)))));
-  ends = inl (tt, (tt, (tt, (tt, (tt, tt)))));
-  plain = λ built. backs-no-load w db path now sound idle r built;
-}) is
+facts w line name units path options now db e outcome is = facts-of w _ outcome is (record {
+  writes = (refl, (tt, (tt, (refl, (tt, tt)))));
+  refused = λ rule no. absurd cc;
+  well = λ sound idle. let r : IsReady w db = its-ready w line name units path options db sound idle e in record {
+    may = backs-up w db path now sound idle r;
+    opens = (tt, (r.closed, (r.closed, (tt, (tt, tt)))));
+    own = (tt, (own-checkpoint w db.name (said_time w db now) db.transactions, (own-stamp w db.name (said_time w db now) (drawn w w.counter) db.transactions, (tt, (tt, tt)))));
+    ends = inl (tt, (tt, (tt, (tt, (tt, tt)))));
+    plain = λ built. backs-no-load w db path now sound idle r built;
+  };
+})

@@ -1,6 +1,6 @@
--- What is proved of what a statement comes to.
+-- What is proved of what a statement comes to, and of its acts in a sound world in which nothing is open.
 use Rattle.std.proofs.Common.{◌≡◌, ◌⊎◌, inl, ℕ, zero, suc, true, List, [], ◌∷◌, take, Option, None, Some, refl, sym, ◌∙◌, ap, subst, arith}
-use Rattle.std.specs.Prelude.{◌==◌}
+use Rattle.std.specs.Prelude.{◌==◌, Ok, Err}
 use Rattle.std.specs.List.{AllByRecursion}
 use Rattle.std.proofs.lemmas.Bool.Decides.{nat_tests}
 use Rattle.bk_ids.specs.declared.guid.Guid.{Guid}
@@ -14,13 +14,16 @@ use Rattle.bk_world.specs.declared.database.Base.{Base}
 use Rattle.bk_world.specs.declared.database.TableSpec.{TableSpec}
 use Rattle.bk_world.specs.declared.header.Header.{Header}
 use Rattle.bk_world.specs.declared.rule.Rule.{Rule}
-use Rattle.bk_machine.specs.Acts.{Act, Recovery, logged, replaced, restored, recovered}
+use Rattle.bk_machine.specs.Acts.{Act, Recovery, logged, medium_made, set_sealed, replaced, restored, recovered}
 use Rattle.bk_machine.specs.Built.{IsBuilt, SayNoLoad}
+use Rattle.bk_machine.specs.Checks.{Checked}
 use Rattle.bk_machine.specs.Crash.{own_begin}
 use Rattle.bk_machine.specs.MayDo.{LeavesIdle, MayDoAll}
-use Rattle.bk_machine.specs.Outcome.{Outcome, answered, refused}
+use Rattle.bk_machine.specs.Outcome.{ComesTo, Outcome, answered, refused}
+use Rattle.bk_machine.specs.Sound.{AreIdle, IsSound}
 use Rattle.bk_machine.specs.World.{Database, Open, World, database_named}
 use Rattle.bk_world.specs.declared.reply.Reply.{Reply}
+use Rattle.bk_world.specs.declared.reply.Reply.TheVariants.{Refused}
 use Rattle.bk_machine.proofs.Cutting.{IsOwn}
 use Rattle.bk_machine.proofs.Ends.{IsSteady}
 
@@ -45,25 +48,48 @@ IsRestore acts = (name : List ℕ) × (header : Header) × (base : Option Base) 
 abbrev pub EndWell : List Act → Type 0
 EndWell acts = AllByRecursion IsSteady acts ⊎ (IsOne acts ⊎ IsRestore acts)
 
--- Its acts may be done, none leaves anything open, and none says a load. Where they are cut, each front that is quiet is of the statement's own
+-- Acts may be done, none leaves anything open, and none says a load. Where they are cut, each front that is quiet is of the statement's own
 -- transaction, and the ends of databases lie within those before and behind.
-pub record Facts (w : World) (outcome : Outcome) : Type 0 where
-  pub may : MayDoAll w outcome.acts
-  pub opens : AllByRecursion LeavesIdle outcome.acts
-  pub own : AllByRecursion (IsOwn w) outcome.acts
-  pub ends : EndWell outcome.acts
-  pub plain : IsBuilt w → SayNoLoad w outcome.acts
+pub record GoWell (w : World) (acts : List Act) : Type 0 where
+  pub may : MayDoAll w acts
+  pub opens : AllByRecursion LeavesIdle acts
+  pub own : AllByRecursion (IsOwn w) acts
+  pub ends : EndWell acts
+  pub plain : IsBuilt w → SayNoLoad w acts
+
+-- ---- what a statement comes to
+
+-- an act writes to no medium but those that are named
+abbrev pub WritesOnly : (List ℕ → Type 0) → Act → Type 0
+WritesOnly named (medium_made path) = named path
+WritesOnly named (set_sealed path header) = named path
+WritesOnly named _ = Unit {0}
+
+-- no medium is named
+abbrev pub NoMedium : List ℕ → Type 0
+NoMedium path = ⊥
+
+-- Each act writes to no medium but those that the statement names. Where it is refused it does nothing.
+pub record Facts (w : World) (named : List ℕ → Type 0) (outcome : Outcome) : Type 0 where
+  pub writes : AllByRecursion (WritesOnly named) outcome.acts
+  pub refused : (rule : Rule) → outcome.reply ≡ Refused rule → outcome.acts ≡ []
+  pub well : IsSound w → AreIdle w → GoWell w outcome.acts
 
 -- an outcome that is known
-pub facts-of : (w : World) (known outcome : Outcome) → Facts w known → outcome ≡ known → Facts w outcome
-facts-of w known outcome facts is = subst (Facts w) (sym is) facts
+pub facts-of : {named : List ℕ → Type 0} (w : World) (known outcome : Outcome) → outcome ≡ known → Facts w named known → Facts w named outcome
+facts-of {named} w known outcome is facts = subst (Facts w named) (sym is) facts
 
--- a statement that is refused, or only answers
-pub facts-refused : (w : World) (rule : Rule) → Facts w (refused rule)
-facts-refused w rule = record { may = tt; opens = tt; own = tt; ends = inl tt; plain = λ built. tt }
+-- a statement that only answers, or is refused
+pub facts-answered : {named : List ℕ → Type 0} (w : World) (reply : Reply) → Facts w named (answered reply)
+facts-answered w reply = record { writes = tt; refused = λ rule is. refl; well = λ sound idle. record { may = tt; opens = tt; own = tt; ends = inl tt; plain = λ built. tt } }
 
-pub facts-answered : (w : World) (reply : Reply) → Facts w (answered reply)
-facts-answered w reply = record { may = tt; opens = tt; own = tt; ends = inl tt; plain = λ built. tt }
+pub facts-refused : {named : List ℕ → Type 0} (w : World) (rule : Rule) → Facts w named (refused rule)
+facts-refused w rule = facts-answered w (Refused rule)
+
+-- checks come to something where what they find leads to something
+pub comes-by : {A : Type 0} (checked : Checked A) (may : A → Outcome → Type 0) → ((found : A) → checked ≡ Ok found → (outcome : Outcome) × may found outcome) → (outcome : Outcome) × ComesTo checked may outcome
+comes-by (Err rule) may leads = (refused rule, refl)
+comes-by (Ok found) may leads = leads found refl
 
 -- ---- what a database says
 

@@ -1,27 +1,14 @@
 -- What a crash of a run leaves is sound.
-use Rattle.std.proofs.Common.{◌≡◌, ℕ, zero, suc, ◌+◌, List, [], ◌∷◌, ◌++◌, length, take, drop, Option, None, Some, refl, sym, ◌∙◌, ap, subst, append_assoc}
-use Rattle.std.proofs.lemmas.List.{take-append-drop}
+use Rattle.std.proofs.Common.{ℕ, List, ◌++◌, take, drop, sym, ◌∙◌, ap, subst}
 use Rattle.bk_items.specs.declared.item.ScriptEntry.{ScriptEntry}
-use Rattle.bk_world.specs.declared.database.TableSpec.{TableSpec}
-use Rattle.bk_world.specs.Pending.{pending}
-use Rattle.bk_world.specs.ReadingLaws.{numbered-append}
-use Rattle.bk_world.specs.Records.{Logged, Said, more, numbered}
-use Rattle.bk_world.specs.Rows.{tables_of}
-use Rattle.bk_world.specs.SoundLogs.{MayFollow}
-use Rattle.bk_world.specs.Telling.{entries_from, tables}
-use Rattle.bk_world.specs.SoundLaws.{follow-front}
-use Rattle.bk_machine.specs.Acts.{Act, turned, created, dropped, logged, medium_made, set_sealed, based, replaced, restored, recovered, done, done_all, says, where_found}
+use Rattle.bk_machine.specs.Acts.{Act, done_all}
 use Rattle.bk_machine.specs.Crash.{Leaves, front_of, next_acts}
-use Rattle.bk_machine.specs.MayDo.{HoldsOf, MayDoAll, MayLog, MaySay}
 use Rattle.bk_machine.specs.Outcome.{Outcome}
 use Rattle.bk_machine.specs.Run.{IsRun, behind_all}
-use Rattle.bk_machine.specs.Sound.{AreIdle, AreNumbered, ArePlaced, IsSound, IsWhole}
-use Rattle.bk_machine.specs.World.{World, Database, Open, database_named, log_of}
+use Rattle.bk_machine.specs.Sound.{AreIdle, IsSound, IsWhole}
+use Rattle.bk_machine.specs.World.{World}
 use Rattle.bk_machine.proofs.Acting.{acts-sound}
-use Rattle.bk_machine.proofs.ActsLogs.{placed-front, tables-more}
-use Rattle.bk_machine.proofs.ActsSays.{says-whole}
 use Rattle.bk_machine.proofs.Crashed.{crash-sound}
-use Rattle.bk_machine.specs.NamedLaws.{named-own}
 use Rattle.bk_machine.proofs.statements.Fronts.{cut-whole}
 use Rattle.bk_machine.proofs.statements.Running.{Within, done-joined, may-front, may-rest, within-run}
 

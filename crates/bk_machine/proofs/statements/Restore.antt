@@ -1,5 +1,5 @@
 -- RESTORE DATABASE takes over a set of a medium, and recovers it at its end.
-use Rattle.std.proofs.Common.{◌≡◌, ◌≤◌, inr, ℕ, zero, List, [], ◌∷◌, Option, None, Some, refl, sym, subst, arith}
+use Rattle.std.proofs.Common.{◌≡◌, ◌≤◌, inr, ℕ, List, Option, refl, sym, subst, arith}
 use Rattle.std.specs.Prelude.{◌&&◌, not, Ok}
 use Rattle.bk_items.specs.declared.item.RestoredUnits.{RestoredUnits}
 use Rattle.bk_items.specs.declared.options.RestoreOptions.{RestoreOptions}
@@ -19,7 +19,7 @@ use Rattle.bk_machine.specs.Outcome.{Outcome}
 use Rattle.bk_machine.proofs.Happened.{of-medium}
 use Rattle.bk_machine.proofs.Left.{of-contained}
 use Rattle.bk_machine.proofs.Recovering.{recovers, recovery}
-use Rattle.bk_machine.proofs.statements.Facts.{Facts, facts-of}
+use Rattle.bk_machine.proofs.statements.Facts.{Facts, NoMedium, facts-of}
 use Rattle.bk_machine.proofs.Histories.{counts-positive}
 use Rattle.bk_machine.specs.NamedLaws.{named-changed}
 use Rattle.bk_machine.proofs.Sets.{set-sound}
@@ -76,22 +76,26 @@ restores w name header r set at branch recovers =
 set-built : (w : World) (path : List ℕ) (header : Header) → IsBuilt w → SetIn w path header → IsBuiltLog (files_of_set header) (log_below w.history header.path header.last)
 set-built w path header built there = of-contained (IsBuiltSlot w) there.0 (readable header) (of-medium (IsBuiltReading w) w.media path (medium there.0) built.media there.1) there.2
 
-module _ (w : World) (line : ℕ) (name : List ℕ) (units : RestoredUnits) (disk : Option (List ℕ)) (options : RestoreOptions) (header : Header) (sound : IsSound w) (e : check_restore w line name units disk options ≡ Ok header) where
+module _ (w : World) (line : ℕ) (name : List ℕ) (units : RestoredUnits) (disk : Option (List ℕ)) (options : RestoreOptions) (header : Header) (e : check_restore w line name units disk options ≡ Ok header) where
   there : SetIn w (disk_path disk) header
   there = set-in w line name units disk options header e
 
-  pub facts : (outcome : Outcome) → DoesRestore w name header outcome → Facts w outcome
-  facts outcome (r, at, branch, recovers, is) = facts-of w _ outcome (record {
-    may = restores w (name_known (database_named w.databases name) name) header r (set-sound w (disk_path disk) header sound there) at branch recovers;
-    opens = (tt, (tt, (tt, tt)));
-    own = (tt, (tt, (tt, tt)));
-    ends = inr (inr (name_known (database_named w.databases name) name, header, _, header.last, r, refl));
-    plain = λ built. (set-built w (disk_path disk) header built there, (tt, (tt, tt)));
-  }) is
+  pub facts : (outcome : Outcome) → DoesRestore w name header outcome → Facts w NoMedium outcome
+  facts outcome (r, at, branch, recovers, is) = facts-of w _ outcome is (record {
+    writes = (tt, (tt, (tt, tt)));
+    refused = λ rule no. absurd cc;
+    well = λ sound idle. record {
+      may = restores w (name_known (database_named w.databases name) name) header r (set-sound w (disk_path disk) header sound there) at branch recovers;
+      opens = (tt, (tt, (tt, tt)));
+      own = (tt, (tt, (tt, tt)));
+      ends = inr (inr (name_known (database_named w.databases name) name, header, _, header.last, r, refl));
+      plain = λ built. (set-built w (disk_path disk) header built there, (tt, (tt, tt)));
+    };
+  })
 
   -- there is a recovery to which it may come
-  pub comes : IsBuilt w → (outcome : Outcome) × DoesRestore w name header outcome
-  comes built =
+  pub comes : IsSound w → IsBuilt w → (outcome : Outcome) × DoesRestore w name header outcome
+  comes sound built =
       let set : IsSoundSet w header = set-sound w (disk_path disk) header sound there in
       let log : IsBuiltLog (files_of_set header) (log_below w.history header.path header.last) = set-built w (disk_path disk) header built there in
       let r : Recovery = recovery (files_of_set header) (log_below w.history header.path header.last) header.last (drawn w w.counter) set.log log in (

@@ -1,15 +1,25 @@
 use Rattle.std.proofs.Common.{sym, subst}
 use Rattle.bk_acts.specs.Spelling.{IsAct}
 use Rattle.bk_machine.specs.Acts.{done}
+use Rattle.bk_machine.specs.MayDo.{MayDo}
 use Rattle.bk_kept.specs.Keeps.{KeepsDatabases}
 use Rattle.bk_kept.proofs.Acted.{keeps-based, keeps-dropped}
 use Rattle.bk_kept.proofs.KeptWorlds.{on-ok}
 use Rattle.bk_kept.proofs.StoredActs.{meant, says-so}
-use Rattle.bk_acts.specs.declared.act.StoredAct.TheVariants.{Dropped, Based}
+use Rattle.bk_acts.specs.declared.act.StoredAct.TheVariants.{Created, Dropped, Based}
 use Rattle.bk_kept.proofs.applying.apply.Goals as goal
 
 pub replace-requires : goal.replace-requires
 replace-requires c = (subst IsAct c.in-Replaced.is c.requires).1
+
+pub returns-in-Created-clause-ok : goal.returns-in-Created-clause-ok
+returns-in-Created-clause-ok c = on-ok c.create_named.result c.create_named.ensures.ok (λ ok w a sound idle keeps doing.
+    let means = meant w c.args.act.now (Created c.in-Created.creation) a c.in-Created.is doing in
+    subst (λ b. KeepsDatabases (done w b) c.create_named.new.databases.items) (sym means) (ok w sound (subst (MayDo w) means doing.may) keeps))
+
+pub returns-in-Created-clause-unfit : goal.returns-in-Created-clause-unfit
+returns-in-Created-clause-unfit c = λ unfit w a sound idle keeps doing.
+    c.create_named.ensures.unfit unfit w (subst (MayDo w) (meant w c.args.act.now (Created c.in-Created.creation) a c.in-Created.is doing) doing.may)
 
 pub returns-in-Dropped-clause-ok : goal.returns-in-Dropped-clause-ok
 returns-in-Dropped-clause-ok c = λ w a sound idle keeps doing.

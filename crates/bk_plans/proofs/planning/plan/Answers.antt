@@ -3,7 +3,7 @@ use Rattle.bk_items.specs.declared.item.NewFile.{NewFile}
 use Rattle.bk_items.specs.declared.item.NewGroup.{NewGroup}
 use Rattle.bk_items.specs.declared.item.ScriptItem.{ScriptItem}
 use Rattle.bk_items.specs.declared.item.ScriptItem.TheVariants as script
-use Rattle.bk_kept.specs.declared.kept.Kept.{Kept}
+use Rattle.bk_items.specs.declared.rows.RowStatement.{RowStatement}
 use Rattle.bk_machine.specs.Machine.{ItemMay, May}
 use Rattle.bk_machine.specs.Outcome.{refused}
 use Rattle.bk_machine.specs.World.{World}
@@ -17,34 +17,30 @@ use Rattle.bk_plans.proofs.planning.plan.Goals as goal
 -- An item that no plan is written for is refused as not built. This is the one list of items here.
 module _ (w : World) (line now : ℕ) where
   unbuilt : (item : ScriptItem) → ((a : List ℕ) (b : List NewFile) (c : List NewGroup) (d : Option NewFile) → item ≡ script.CreateDatabase a b c d → ⊥) → ((a : List ℕ) (b : Option (List ℕ)) → item ≡ script.CreateTable a b → ⊥)
-      → ((a : List ℕ) (b : ℕ) (c : List ℕ) → item ≡ script.Insert a b c → ⊥) → ((a : List ℕ) (b : Option ℕ) → item ≡ script.Select a b → ⊥) → ((a : List ℕ) → item ≡ script.Use a → ⊥) → ((a : List ℕ) → item ≡ script.DropDatabase a → ⊥)
+      → ((a : List ℕ) (b : RowStatement) → item ≡ script.Rows a b → ⊥) → ((a : List ℕ) → item ≡ script.Use a → ⊥) → ((a : List ℕ) → item ≡ script.DropDatabase a → ⊥)
       → ((a : ℕ) → item ≡ script.Syntax a → ⊥) → (item ≡ script.TooLong → ⊥) → ReadsNoMedium item → ItemMay w line item now (refused (NotBuilt line))
-  unbuilt (script.CreateDatabase a b c d) n1 n2 n3 n4 n5 n6 n7 n8 plain = absurd (n1 a b c d refl)
-  unbuilt (script.BackupDatabase a b c d) n1 n2 n3 n4 n5 n6 n7 n8 plain = absurd plain
-  unbuilt (script.BackupLog a b c) n1 n2 n3 n4 n5 n6 n7 n8 plain = refl
-  unbuilt (script.RestoreDatabase a b c d) n1 n2 n3 n4 n5 n6 n7 n8 plain = absurd plain
-  unbuilt (script.RestoreLog a b c) n1 n2 n3 n4 n5 n6 n7 n8 plain = refl
-  unbuilt (script.QueryMedium a b c) n1 n2 n3 n4 n5 n6 n7 n8 plain = refl
-  unbuilt (script.CreateTable a b) n1 n2 n3 n4 n5 n6 n7 n8 plain = absurd (n2 a b refl)
-  unbuilt (script.Insert a b c) n1 n2 n3 n4 n5 n6 n7 n8 plain = absurd (n3 a b c refl)
-  unbuilt (script.Update a b c) n1 n2 n3 n4 n5 n6 n7 n8 plain = refl
-  unbuilt (script.Delete a b) n1 n2 n3 n4 n5 n6 n7 n8 plain = refl
-  unbuilt (script.Select a b) n1 n2 n3 n4 n5 n6 n7 n8 plain = absurd (n4 a b refl)
-  unbuilt (script.BulkInsert a b c d) n1 n2 n3 n4 n5 n6 n7 n8 plain = refl
-  unbuilt (script.Begin a) n1 n2 n3 n4 n5 n6 n7 n8 plain = refl
-  unbuilt (script.Commit) n1 n2 n3 n4 n5 n6 n7 n8 plain = refl
-  unbuilt (script.Rollback) n1 n2 n3 n4 n5 n6 n7 n8 plain = refl
-  unbuilt (script.Checkpoint) n1 n2 n3 n4 n5 n6 n7 n8 plain = refl
-  unbuilt (script.Use a) n1 n2 n3 n4 n5 n6 n7 n8 plain = absurd (n5 a refl)
-  unbuilt (script.SetRecovery a b) n1 n2 n3 n4 n5 n6 n7 n8 plain = refl
-  unbuilt (script.DropDatabase a) n1 n2 n3 n4 n5 n6 n7 n8 plain = absurd (n6 a refl)
-  unbuilt (script.SelectCatalog a) n1 n2 n3 n4 n5 n6 n7 n8 plain = refl
-  unbuilt (script.Session a) n1 n2 n3 n4 n5 n6 n7 n8 plain = refl
-  unbuilt (script.Start) n1 n2 n3 n4 n5 n6 n7 n8 plain = refl
-  unbuilt (script.Step a) n1 n2 n3 n4 n5 n6 n7 n8 plain = refl
-  unbuilt (script.Wait) n1 n2 n3 n4 n5 n6 n7 n8 plain = refl
-  unbuilt (script.Syntax a) n1 n2 n3 n4 n5 n6 n7 n8 plain = absurd (n7 a refl)
-  unbuilt (script.TooLong) n1 n2 n3 n4 n5 n6 n7 n8 plain = absurd (n8 refl)
+  unbuilt (script.CreateDatabase a b c d) n1 n2 n3 n4 n5 n6 n7 plain = absurd (n1 a b c d refl)
+  unbuilt (script.BackupDatabase a b c d) n1 n2 n3 n4 n5 n6 n7 plain = absurd plain
+  unbuilt (script.BackupLog a b c) n1 n2 n3 n4 n5 n6 n7 plain = refl
+  unbuilt (script.RestoreDatabase a b c d) n1 n2 n3 n4 n5 n6 n7 plain = absurd plain
+  unbuilt (script.RestoreLog a b c) n1 n2 n3 n4 n5 n6 n7 plain = refl
+  unbuilt (script.QueryMedium a b c) n1 n2 n3 n4 n5 n6 n7 plain = refl
+  unbuilt (script.CreateTable a b) n1 n2 n3 n4 n5 n6 n7 plain = absurd (n2 a b refl)
+  unbuilt (script.Rows a b) n1 n2 n3 n4 n5 n6 n7 plain = absurd (n3 a b refl)
+  unbuilt (script.Begin a) n1 n2 n3 n4 n5 n6 n7 plain = refl
+  unbuilt (script.Commit) n1 n2 n3 n4 n5 n6 n7 plain = refl
+  unbuilt (script.Rollback) n1 n2 n3 n4 n5 n6 n7 plain = refl
+  unbuilt (script.Checkpoint) n1 n2 n3 n4 n5 n6 n7 plain = refl
+  unbuilt (script.Use a) n1 n2 n3 n4 n5 n6 n7 plain = absurd (n4 a refl)
+  unbuilt (script.SetRecovery a b) n1 n2 n3 n4 n5 n6 n7 plain = refl
+  unbuilt (script.DropDatabase a) n1 n2 n3 n4 n5 n6 n7 plain = absurd (n5 a refl)
+  unbuilt (script.SelectCatalog a) n1 n2 n3 n4 n5 n6 n7 plain = refl
+  unbuilt (script.Session a) n1 n2 n3 n4 n5 n6 n7 plain = refl
+  unbuilt (script.Start) n1 n2 n3 n4 n5 n6 n7 plain = refl
+  unbuilt (script.Step a) n1 n2 n3 n4 n5 n6 n7 plain = refl
+  unbuilt (script.Wait) n1 n2 n3 n4 n5 n6 n7 plain = refl
+  unbuilt (script.Syntax a) n1 n2 n3 n4 n5 n6 n7 plain = absurd (n6 a refl)
+  unbuilt (script.TooLong) n1 n2 n3 n4 n5 n6 n7 plain = absurd (n7 refl)
 
 pub returns-in-DropDatabase-clause-plans : goal.returns-in-DropDatabase-clause-plans
 returns-in-DropDatabase-clause-plans c =
@@ -57,12 +53,6 @@ returns-in-Use-clause-plans c =
     if-plan _ _ c.plan_use.result
     (λ plan plans plain. subst (λ (i : ScriptItem). Plans c.args.kept.now (λ w. Unit {0}) (record { item = i; line = c.args.statement.now.line }) c.args.now plan) (sym c.in-Use.is) (plans c.args.statement.now.line c.args.now))
     c.plan_use.ensures.plans
-
-pub returns-in-Select-clause-plans : goal.returns-in-Select-clause-plans
-returns-in-Select-clause-plans c =
-    if-plan _ _ c.plan_select.result
-    (λ plan plans plain. subst (λ (i : ScriptItem). Plans c.args.kept.now (λ w. Unit {0}) (record { item = i; line = c.args.statement.now.line }) c.args.now plan) (sym c.in-Select.is) (plans c.args.now))
-    c.plan_select.ensures.plans
 
 pub returns-in-Syntax-clause-plans : goal.returns-in-Syntax-clause-plans
 unfolding May
@@ -82,7 +72,7 @@ returns-in_default c = record {
   plans = λ plain.
       plans-refused c.args.kept.now (λ w. Unit {0}) c.args.statement.now c.args.now (NotBuilt c.args.statement.now.line)
       (λ w sound idle keeps known.
-      unbuilt w c.args.statement.now.line c.args.now c.args.statement.now.item c.in_default.not-CreateDatabase c.in_default.not-CreateTable c.in_default.not-Insert c.in_default.not-Select c.in_default.not-Use c.in_default.not-DropDatabase
+      unbuilt w c.args.statement.now.line c.args.now c.args.statement.now.item c.in_default.not-CreateDatabase c.in_default.not-CreateTable c.in_default.not-Rows c.in_default.not-Use c.in_default.not-DropDatabase
       c.in_default.not-Syntax c.in_default.not-TooLong plain);
   keeps = tt;
 }

@@ -1,4 +1,5 @@
-use Rattle.bk_shown.proofs.Committed.{holds-all}
+use Rattle.std.proofs.Common.{subst}
+use Rattle.bk_shown.proofs.Committed.{ValueFits, holds-all}
 use Rattle.bk_shown.proofs.Keeps.{keeps-along, placed-join}
 use Rattle.bk_shown.proofs.Starts.{keeps-none}
 use Rattle.bk_shown.proofs.laws.placed_logs.Goals as goal
@@ -11,3 +12,6 @@ returns-clause-lie c = λ files rs n counts sound placed id at e. (holds-all fil
 
 pub returns-clause-more : goal.returns-clause-more
 returns-clause-more c = λ files rs next first then. placed-join files _ rs next first then
+
+pub returns-clause-values : goal.returns-clause-values
+returns-clause-values c = λ files rs n counts sound placed table key value e. (subst (ValueFits (table, key)) e ((holds-all files rs n counts sound placed keeps-none).values (table, key))).1

@@ -1,4 +1,4 @@
-use Rattle.std.proofs.Common.{◌≡◌, ◌∷◌, [], List, Option, sym, subst}
+use Rattle.std.proofs.Common.{◌≡◌, [], List, Option, sym, subst}
 use Rattle.bk_items.specs.declared.item.ScriptEntry.{ScriptEntry}
 use Rattle.bk_syntax.specs.Reader.{HasItems, GivesItem}
 use Rattle.bk_syntax.proofs.ItemsLaw.{some_items}

@@ -1,7 +1,5 @@
-use Rattle.std.proofs.Common.{◌≡◌, ◌∙◌, ap, inl, inr, ⊎_elim, sym, subst, min, length, ◌-◌}
+use Rattle.std.proofs.Common.{◌≡◌, ◌∙◌, ap, inl, inr, ⊎_elim, min, length, ◌-◌}
 use Rattle.bk_syntax.specs.Items.{line_at, from_place}
-use Rattle.bk_syntax.specs.Reader.{IsInFront}
-use Rattle.bk_syntax.specs.declared.front.Front.TheVariants.{Stuck}
 use Rattle.bk_syntax.proofs.FrontLaws.{read_known, stuck_known}
 use Rattle.bk_syntax.proofs.front.front_of.Goals as goal
 

@@ -1,4 +1,4 @@
-use Rattle.std.proofs.Common.{◌≡◌, ◌∙◌, sym, subst, true, Option}
+use Rattle.std.proofs.Common.{◌∙◌, sym, subst, Option}
 use Rattle.bk_token.specs.declared.token.Token.{Token}
 use Rattle.bk_syntax.specs.Reader.{Peeked}
 use Rattle.bk_syntax.proofs.ReaderLaws.{passes_filled, passes_end, none_begun}

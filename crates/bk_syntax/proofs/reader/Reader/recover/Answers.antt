@@ -1,4 +1,4 @@
-use Rattle.std.proofs.Common.{◌≡◌, ◌∙◌, sym, subst, Option}
+use Rattle.std.proofs.Common.{◌∙◌, sym, subst, Option}
 use Rattle.bk_token.specs.declared.token.Token.{Token}
 use Rattle.bk_syntax.specs.Reader.{Peeked}
 use Rattle.bk_syntax.proofs.ReaderLaws.{Recovering, recovering_filled, recovering_other, recovers_end, recovers_colon, recovers_over, recovers_filled}

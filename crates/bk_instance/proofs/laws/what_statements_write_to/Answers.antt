@@ -1,5 +1,0 @@
-use Rattle.bk_instance.proofs.Statements.{refused-still, select-still, statement-writes, use-still}
-use Rattle.bk_instance.proofs.laws.what_statements_write_to.Goals as goal
-
-pub returns : goal.returns
-returns c = record { refused = refused-still; uses = use-still; selects = select-still; media = statement-writes }
