@@ -26,14 +26,17 @@ use Rattle.bk_set.specs.Reading.{body_form, body_of}
 use Rattle.bk_set.specs.Spelling.{body_bytes, set_bytes}
 use Rattle.bk_world.specs.declared.database.Base.{Base}
 use Rattle.bk_world.specs.declared.header.Header.{Header}
+use Rattle.bk_world.specs.declared.transaction.Open.{Open}
 use Rattle.bk_acts.specs.declared.act.StoredAct.{StoredAct}
 use Rattle.bk_acts.specs.declared.act.StoredAct.TheVariants.{Created, Dropped, Logged, Based, Replaced, Restored, Recovered}
 use Rattle.bk_acts.specs.declared.unread.Unread.{Unread}
 use Rattle.bk_acts.specs.Decoding.{Reads}
-use Rattle.bk_acts.specs.Reading.{base_behind, base_at, base_form, created_fields, based_fields, restored_fields, recovered_fields, whole_of, with_records, created_in, dropped_in, logged_in, based_in, body_held, replaced_in, restored_in, recovered_in, fields_in, act_of}
+use Rattle.bk_acts.specs.Reading.{base_behind, base_at, base_form, created_fields, logged_fields, based_fields, restored_fields, recovered_fields, whole_of, with_records, created_in, dropped_in, logged_in, based_in, body_held, replaced_in, restored_in, recovered_in, fields_in, act_of}
 use Rattle.bk_record.specs.Records.{AreRecords, are_records, records_in}
 use Rattle.bk_acts.specs.Storage.{spec_form, storage_form}
 use Rattle.bk_acts.proofs.StorageCodes.{storage-keeps, storage_form-IsCodec}
+use Rattle.bk_acts.specs.TransactionLaws.{transactions-keep}
+use Rattle.bk_acts.proofs.TransactionCodes.{transactions_form-fits, transactions_form-Fits, transactions_form-IsCodec, transactions_form-spelling}
 use Rattle.bk_acts.specs.Spelling.{kind_of, base_bytes, fields_bytes, act_bytes, IsAct, KeepsAct}
 use Rattle.bk_record.specs.RecordsLaws.{are_records-true, are_records-from}
 
@@ -84,6 +87,9 @@ name-form = string-IsCodec 1 64 (lit< tt)
 created-form : IsCodec _ created_fields
 created-form = followed-IsCodec _ _ name-form (λ _. followed-IsCodec _ _ guid_form-IsCodec (λ _. followed-IsCodec _ _ guid_form-IsCodec (λ _. followed-IsCodec _ _ (number-IsCodec 8) (λ _. storage_form-IsCodec))))
 
+logged-form : IsCodec _ logged_fields
+logged-form = followed-IsCodec _ _ name-form (λ _. transactions_form-IsCodec)
+
 based-form : IsCodec _ based_fields
 based-form = followed-IsCodec _ _ name-form (λ _. header_form-IsCodec)
 
@@ -123,6 +129,16 @@ records-take form is make bytes act fits e =
 header-fits : (h : Header) → header_form.Fits h → IsHeader h
 unfolding header_form
 header-fits h is = is
+
+logged-takes : (bytes : List ℕ) (act : StoredAct) → AreBytes bytes → logged_in bytes ≡ Some act → AreFields 3 bytes act
+unfolding logged_in
+logged-takes bytes act fits e =
+    let w = records-take logged_fields logged-form _ bytes act fits e in
+    subst (AreFields 3 bytes) w.5 (record {
+      is_act = ((w.2.0, transactions_form-fits w.0.1 w.2.1), w.3);
+      kind_is = refl;
+      spelled = w.4 ∙ ap (λ (s : List ℕ). (text_bytes w.0.0 ++ s) ++ w.1) (transactions_form-spelling w.0.1);
+    })
 
 based-takes : (bytes : List ℕ) (act : StoredAct) → AreBytes bytes → based_in bytes ≡ Some act → AreFields 4 bytes act
 unfolding based_in
@@ -178,14 +194,13 @@ replaced-takes bytes act fits e =
     subst (AreFields 5 bytes) is (record { is_act = (name.1, set.0); kind_is = refl; spelled = name.0 ∙ ap (λ (s : List ℕ). text_bytes b.0.0 ++ s) set.1 })
 
 fields-take : (kind : ℕ) (bytes : List ℕ) (act : StoredAct) → AreBytes bytes → fields_in kind bytes ≡ Some act → AreFields kind bytes act
-unfolding fields_in created_in dropped_in logged_in restored_in recovered_in guid_form storage_form spec_form
+unfolding fields_in created_in dropped_in restored_in recovered_in guid_form storage_form spec_form
 fields-take zero bytes act fits e = absurd cc
 fields-take (suc zero) bytes act fits e =
     let w = whole-takes created_fields created-form _ bytes act fits e in subst (AreFields 1 bytes) w.3 (record { is_act = w.1; kind_is = refl; spelled = w.2 })
 fields-take (suc (suc zero)) bytes act fits e =
     let w = whole-takes (string 1 64) name-form Dropped bytes act fits e in subst (AreFields 2 bytes) w.3 (record { is_act = w.1; kind_is = refl; spelled = w.2 })
-fields-take (suc (suc (suc zero))) bytes act fits e =
-    let w = records-take (string 1 64) name-form Logged bytes act fits e in subst (AreFields 3 bytes) w.5 (record { is_act = (w.2, w.3); kind_is = refl; spelled = w.4 })
+fields-take (suc (suc (suc zero))) bytes act fits e = logged-takes bytes act fits e
 fields-take (suc (suc (suc (suc zero)))) bytes act fits e = based-takes bytes act fits e
 fields-take (suc (suc (suc (suc (suc zero))))) bytes act fits e = replaced-takes bytes act fits e
 fields-take (suc (suc (suc (suc (suc (suc zero)))))) bytes act fits e =
@@ -241,6 +256,13 @@ header-is : (h : Header) → IsHeader h → header_form.Fits h
 unfolding header_form
 header-is h is = is
 
+logged-again : (name : List ℕ) (transactions : List Open) (records : List ℕ) → IsAct (Logged name transactions records)
+    → logged_in (fields_bytes (Logged name transactions records)) ≡ Some (Logged name transactions records)
+unfolding logged_in
+logged-again name transactions records is =
+    ap (λ (s : List ℕ). with_records logged_fields (λ x rs. Logged x.0 x.1 rs) ((text_bytes name ++ s) ++ records)) (sym (transactions_form-spelling transactions))
+    ∙ records-again logged_fields logged-form (λ x rs. Logged x.0 x.1 rs) (name, transactions) records (is.0.0, transactions_form-Fits transactions is.0.1) is.1
+
 based-again : (name : List ℕ) (header : Header) → IsAct (Based name header) → based_in (fields_bytes (Based name header)) ≡ Some (Based name header)
 unfolding based_in
 based-again name header is =
@@ -255,10 +277,10 @@ replaced-again name body is =
     rw (read, held) refl
 
 fields-again : (act : StoredAct) → IsAct act → fields_in (kind_of act) (fields_bytes act) ≡ Some act
-unfolding fields_in created_in dropped_in logged_in restored_in recovered_in guid_form storage_form spec_form
+unfolding fields_in created_in dropped_in restored_in recovered_in guid_form storage_form spec_form
 fields-again (Created c) is = whole-again created_fields created-form _ (c.name, (c.family, (c.branch, (c.time, c.storage)))) is
 fields-again (Dropped name) is = whole-again (string 1 64) name-form Dropped name is
-fields-again (Logged name records) is = records-again (string 1 64) name-form Logged name records is.0 is.1
+fields-again (Logged name transactions records) is = logged-again name transactions records is
 fields-again (Based name header) is = based-again name header is
 fields-again (Replaced name body) is = replaced-again name body is
 fields-again (Restored name base redo) is = whole-again restored_fields restored-form _ (name, (base, redo)) is
@@ -267,7 +289,7 @@ fields-again (Recovered name at branch records) is = records-again recovered_fie
 small-kind : (act : StoredAct) → kind_of act < 256
 small-kind (Created creation) = lit< tt
 small-kind (Dropped name) = lit< tt
-small-kind (Logged name records) = lit< tt
+small-kind (Logged name transactions records) = lit< tt
 small-kind (Based name header) = lit< tt
 small-kind (Replaced name body) = lit< tt
 small-kind (Restored name base redo) = lit< tt
@@ -281,7 +303,7 @@ act-again act is = kind-again (kind_of act) (fields_bytes act) (small-kind act) 
 pub act-keeps : (act : StoredAct) → IsAct act → KeepsAct act
 act-keeps (Created c) is = storage-keeps c.storage is.1.1.1.1
 act-keeps (Dropped name) is = tt
-act-keeps (Logged name records) is = tt
+act-keeps (Logged name transactions records) is = transactions-keep transactions is.0.1.1
 act-keeps (Based name header) is = header_keeps header is.1
 act-keeps (Replaced name body) is = body_keeps body is.1
 act-keeps (Restored name base redo) is = tt

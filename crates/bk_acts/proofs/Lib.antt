@@ -1,4 +1,5 @@
 pub mod StorageCodes
+pub mod TransactionCodes
 pub mod Codes
 pub mod Meant
 pub mod Said

@@ -1,4 +1,4 @@
--- A stored act means one act, but for the open transactions.
+-- A stored act means one act.
 use Rattle.std.proofs.Common.{◌≡◌, ℕ, ◌+◌, List, [], ◌∷◌, ◌++◌, map, Option, Some, None, refl, sym, ap, subst, ◌∙◌}
 use Rattle.std.specs.List.{AllByRecursion}
 use Rattle.std.proofs.lemmas.List.{append-nil}
@@ -17,7 +17,7 @@ use Rattle.bk_world.specs.Records.{Deed, Said, database_made, table_made, begun,
 use Rattle.bk_world.specs.Records.{recovered as recovery_said}
 use Rattle.bk_acts.specs.declared.act.StoredAct.{StoredAct}
 use Rattle.bk_acts.specs.declared.act.StoredAct.TheVariants.{Created, Dropped, Logged, Based, Replaced, Restored, Recovered}
-use Rattle.bk_acts.specs.Meaning.{Means, HasValue, NamesItsRow, NamesItsRows, with_open, AreOneButOpen}
+use Rattle.bk_acts.specs.Meaning.{Means, HasValue, NamesItsRow, NamesItsRows}
 
 -- ---- what a record says, from its spelling
 
@@ -102,15 +102,15 @@ one-said n m said others all alls same = sym (said-again n said all) ∙ ap (map
 
 -- ---- what a stored act means
 
-pub one-meaning : (stored : StoredAct) (a b : Act) → Means stored a → Means stored b → NamesItsRows a → NamesItsRows b → AreOneButOpen a b
-one-meaning (Created creation) a b is other named names transactions = ap (with_open transactions) (is ∙ sym other)
-one-meaning (Dropped name) a b is other named names transactions = ap (with_open transactions) (is ∙ sym other)
-one-meaning (Logged name records) a b is other named names transactions =
+pub one-meaning : (stored : StoredAct) (a b : Act) → Means stored a → Means stored b → NamesItsRows a → NamesItsRows b → a ≡ b
+one-meaning (Created creation) a b is other named names = is ∙ sym other
+one-meaning (Dropped name) a b is other named names = is ∙ sym other
+one-meaning (Logged name transactions records) a b is other named names =
     let same = one-said is.n other.n is.said other.said (subst NamesItsRows is.act_is named) (subst NamesItsRows other.act_is names) (one_log records _ _ None None is.spell other.spell).0 in
-    ap (with_open transactions) is.act_is ∙ ap (λ (said : List Said). logged name said transactions) same ∙ sym (ap (with_open transactions) other.act_is)
-one-meaning (Based name header) a b is other named names transactions = ap (with_open transactions) (is ∙ sym other)
-one-meaning (Replaced name set) a b is other named names transactions = ap (with_open transactions) (is ∙ sym other)
-one-meaning (Restored name base redo) a b is other named names transactions = ap (with_open transactions) (is ∙ sym other)
-one-meaning (Recovered name at branch records) a b is other named names transactions =
+    is.act_is ∙ ap (λ (said : List Said). logged name said transactions) same ∙ sym other.act_is
+one-meaning (Based name header) a b is other named names = is ∙ sym other
+one-meaning (Replaced name set) a b is other named names = is ∙ sym other
+one-meaning (Restored name base redo) a b is other named names = is ∙ sym other
+one-meaning (Recovered name at branch records) a b is other named names =
     let same = one-said at at is.said other.said (subst NamesItsRows is.act_is named) (subst NamesItsRows other.act_is names) (one_log records _ _ None None is.spell other.spell).0 in
-    ap (with_open transactions) (is.act_is ∙ ap (λ (said : List Said). recovered name (record { at = at; branch = branch; said = said })) same ∙ sym other.act_is)
+    is.act_is ∙ ap (λ (said : List Said). recovered name (record { at = at; branch = branch; said = said })) same ∙ sym other.act_is

@@ -4,12 +4,12 @@ use Rattle.std.specs.List.{AllByRecursion}
 use Rattle.bk_bytes.specs.Cell.{IsCellValue}
 use Rattle.bk_ids.specs.declared.guid.Guid.{Guid}
 use Rattle.bk_ids.specs.declared.record.Rec.{Rec}
-use Rattle.bk_machine.specs.Acts.{Act, turned, created, dropped, logged, medium_made, set_sealed, based, replaced, restored, recovered}
-use Rattle.bk_machine.specs.World.{Open}
+use Rattle.bk_machine.specs.Acts.{Act, turned, seated, created, dropped, logged, medium_made, set_sealed, based, replaced, restored, recovered}
 use Rattle.bk_record.specs.Log.{IsLog}
 use Rattle.bk_undo.specs.Spelled.{spelled, cell}
 use Rattle.bk_world.specs.Records.{Deed, Said, database_made, table_made, begun, written, committed, rolled_back, undone, checkpointed, stamped, model_set, loaded, numbered}
 use Rattle.bk_world.specs.Records.{recovered as recovery_said}
+use Rattle.bk_world.specs.declared.transaction.Open.{Open}
 use Rattle.bk_acts.specs.declared.act.StoredAct.{StoredAct}
 use Rattle.bk_acts.specs.declared.act.StoredAct.TheVariants.{Created, Dropped, Logged, Based, Replaced, Restored, Recovered}
 
@@ -21,11 +21,10 @@ under n s = spelled (record { lsn = n; begin = s.begin; deed = s.deed })
 abbrev pub Spell : List ℕ → ℕ → List Said → Type 0
 Spell bytes n said = IsLog bytes (map spelled (numbered n said)) None
 
--- a database said what these bytes spell, from some number on, and then some transactions are open
-pub record Says (name records : List ℕ) (act : Act) : Type 0 where
+-- a database said what these bytes spell, from some number on, and then these transactions are open
+pub record Says (name : List ℕ) (transactions : List Open) (records : List ℕ) (act : Act) : Type 0 where
   pub n : ℕ
   pub said : List Said
-  pub transactions : List Open
   pub act_is : act ≡ logged name said transactions
   pub spell : Spell records n said
 
@@ -35,11 +34,11 @@ pub record GoesOnline (name : List ℕ) (at : ℕ) (branch : Guid) (records : Li
   pub act_is : act ≡ recovered name (record { at = at; branch = branch; said = said })
   pub spell : Spell records at said
 
--- the act of the machine that a stored act is; which transactions are open behind it is free
+-- the act of the machine that a stored act is
 abbrev pub Means : StoredAct → Act → Type 0
 Means (Created creation) act = act ≡ created creation
 Means (Dropped name) act = act ≡ dropped name
-Means (Logged name records) act = Says name records act
+Means (Logged name transactions records) act = Says name transactions records act
 Means (Based name header) act = act ≡ based name header
 Means (Replaced name body) act = act ≡ replaced name body.header
 Means (Restored name base redo) act = act ≡ restored name base redo
@@ -70,6 +69,7 @@ abbrev pub NamesItsRows : Act → Type 0
 NamesItsRows (logged name said transactions) = AllByRecursion (λ s. NamesItsRow s.deed) said
 NamesItsRows (recovered name r) = AllByRecursion (λ s. NamesItsRow s.deed) r.said
 NamesItsRows (turned name) = Unit {0}
+NamesItsRows (seated session) = Unit {0}
 NamesItsRows (created c) = Unit {0}
 NamesItsRows (dropped name) = Unit {0}
 NamesItsRows (medium_made path) = Unit {0}
@@ -77,12 +77,3 @@ NamesItsRows (set_sealed path header) = Unit {0}
 NamesItsRows (based name header) = Unit {0}
 NamesItsRows (replaced name header) = Unit {0}
 NamesItsRows (restored name base redo) = Unit {0}
-
--- an act with these transactions open behind what it says
-abbrev pub with_open : List Open → Act → Act
-with_open transactions (logged name said others) = logged name said transactions
-with_open transactions act = act
-
--- two acts are one but for the open transactions
-abbrev pub AreOneButOpen : Act → Act → Type 0
-AreOneButOpen a b = (transactions : List Open) → with_open transactions a ≡ with_open transactions b

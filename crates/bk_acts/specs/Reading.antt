@@ -12,11 +12,13 @@ use Rattle.bk_set.specs.Found.{found}
 use Rattle.bk_world.specs.declared.database.Base.{Base}
 use Rattle.bk_world.specs.declared.database.Storage.{Storage}
 use Rattle.bk_world.specs.declared.header.Header.{Header}
+use Rattle.bk_world.specs.declared.transaction.Open.{Open}
 use Rattle.bk_acts.specs.declared.act.StoredAct.{StoredAct}
 use Rattle.bk_acts.specs.declared.act.StoredAct.TheVariants.{Created, Dropped, Logged, Based, Replaced, Restored, Recovered}
 use Rattle.bk_record.specs.Records.{records_in}
 use Rattle.bk_acts.specs.Spelling.{base_bytes}
 use Rattle.bk_acts.specs.Storage.{storage_form}
+use Rattle.bk_acts.specs.Transactions.{transactions_form}
 
 -- a base by the byte before it
 abbrev pub base_behind : ℕ → List ℕ → Option (Option Base × List ℕ)
@@ -38,6 +40,9 @@ base_form = record { spelling = base_bytes; Fits = IsBase; reading = base_at }
 -- the fields of each kind, in their order; records and sets come behind them
 abbrev pub created_fields : Codec (List ℕ × (Guid × (Guid × (ℕ × Storage))))
 created_fields = followed (string 1 64) (λ _. followed guid_form (λ _. followed guid_form (λ _. followed (number 8) (λ _. storage_form))))
+
+abbrev pub logged_fields : Codec (List ℕ × List Open)
+logged_fields = followed (string 1 64) (λ _. transactions_form)
 
 abbrev pub based_fields : Codec (List ℕ × Header)
 based_fields = followed (string 1 64) (λ _. header_form)
@@ -68,7 +73,7 @@ unfoldable pub dropped_in : List ℕ → Option StoredAct
 dropped_in = whole_of (string 1 64) Dropped
 
 unfoldable pub logged_in : List ℕ → Option StoredAct
-logged_in = with_records (string 1 64) Logged
+logged_in = with_records logged_fields (λ x records. Logged x.0 x.1 records)
 
 unfoldable pub based_in : List ℕ → Option StoredAct
 based_in = whole_of based_fields (λ x. Based x.0 x.1)

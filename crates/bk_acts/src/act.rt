@@ -1,7 +1,7 @@
-use bk_ids::{Guid, Lsn, Name};
+use bk_ids::{Guid, Lsn, Name, Sequence};
 use bk_record::Records;
 use bk_set::SetBody;
-use bk_world::{Base, Creation, Header};
+use bk_world::{Base, Creation, Header, Open};
 
 /// An act of the machine that outlasts a run, as a blob holds it. Times are milliseconds since 1970-01-01 00:00:00 UTC. A
 /// database is the first whose name is the same in any case of ASCII letters.
@@ -15,9 +15,10 @@ pub enum StoredAct {
     Dropped {
         name: Name,
     },
-    /// A database said these log records at its end.
+    /// A database said these log records at its end, and then these transactions are open in it.
     Logged {
         name: Name,
+        transactions: Sequence<Open>,
         records: Records,
     },
     /// A database was based on the set with this header.

@@ -4,7 +4,7 @@ ghost use Rattle.bk_machine.specs.Acts.{Act};
 ghost use Rattle.bk_record.specs.Spelling.{spelling, IsRecord};
 ghost use Rattle.bk_acts.specs.declared.act.StoredAct.{StoredAct};
 ghost use Rattle.bk_world.specs.Records.{Said};
-ghost use Rattle.bk_acts.specs.Meaning.{Means, NamesItsRows, AreOneButOpen, Spell, under};
+ghost use Rattle.bk_acts.specs.Meaning.{Means, NamesItsRows, Spell, under};
 ghost use Rattle.bk_acts.specs.Reading.{act_of};
 ghost use Rattle.bk_record.specs.Records.{AreRecords};
 ghost use Rattle.bk_acts.specs.Spelling.{act_bytes, IsAct, KeepsAct};
@@ -26,7 +26,7 @@ pub fn said_law()
     ensures whole { (bytes : List ℕ) (n : ℕ) (said : List Said) → Spell bytes n said → AreRecords bytes }
 {}
 
-/// A stored act means at most one act of the machine, but for the transactions that are open behind it, of those whose records name their rows.
+/// A stored act means at most one act of the machine, of those whose records name their rows.
 pub fn meaning_law()
-    ensures { (stored : StoredAct) (a b : Act) → Means stored a → Means stored b → NamesItsRows a → NamesItsRows b → AreOneButOpen a b }
+    ensures { (stored : StoredAct) (a b : Act) → Means stored a → Means stored b → NamesItsRows a → NamesItsRows b → a ≡ b }
 {}

@@ -8,6 +8,8 @@ mod laws;
 mod reading;
 mod storage_reading;
 mod storage_writing;
+mod transactions_reading;
+mod transactions_writing;
 mod unread;
 mod writing;
 

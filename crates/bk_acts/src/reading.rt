@@ -11,6 +11,7 @@ ghost use Rattle.bk_acts.specs.Spelling.{act_bytes, IsAct};
 
 use crate::act::StoredAct;
 use crate::storage_reading::{read_name, read_storage};
+use crate::transactions_reading::read_transactions;
 use crate::unread::Unread;
 use bk_bytes::{split_u8, split_u64};
 use bk_fields::split_guid;
@@ -117,8 +118,13 @@ fn read_logged(alloc: Global, bytes: &[u8]) -> Result<StoredAct, Unread>
     ensures { Reads (λ act. act) result (logged_in bytes.now) }
 {
     let (name, rest) = read_name(alloc, bytes)?;
+    let (transactions, rest) = read_transactions(alloc, rest)?;
     let records = read_records(alloc, rest)?;
-    Ok(StoredAct::Logged { name, records })
+    Ok(StoredAct::Logged {
+        name,
+        transactions,
+        records,
+    })
 }
 
 #[tactic(auto, unfolding(crate::specs::Reading::based_in))]

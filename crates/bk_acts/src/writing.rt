@@ -1,6 +1,7 @@
 //! Writing an act.
 
 ghost use Rattle.std.specs.Prelude.{◌≡◌, ◌^◌, ◌<◌, ◌++◌, OnOk, IfOk};
+ghost use Rattle.std.specs.List.{All};
 ghost use Rattle.bk_bytes.specs.Codec.{IsString};
 ghost use Rattle.bk_bytes.specs.Field.{bytes_of};
 ghost use Rattle.bk_fields.specs.Guids.{guid_bytes, IsGuid};
@@ -11,16 +12,18 @@ ghost use Rattle.bk_set.specs.Spelling.{set_bytes};
 ghost use Rattle.bk_record.specs.Records.{AreRecords};
 ghost use Rattle.bk_acts.specs.Spelling.{kind_of, base_bytes, fields_bytes, act_bytes, IsAct, KeepsAct};
 ghost use Rattle.bk_acts.specs.Storage.{storage_bytes, IsStorage, KeepsStorage};
+ghost use Rattle.bk_acts.specs.Transactions.{transactions_bytes, AreTransactions, KeepsTransaction};
 
 use crate::act::StoredAct;
 use crate::storage_writing::{append_name, append_storage};
+use crate::transactions_writing::append_transactions;
 use bk_bytes::{append_u8, append_u64};
 use bk_fields::append_guid;
 use bk_header::encode;
 use bk_ids::{Guid, Lsn, Name};
 use bk_record::Records;
 use bk_set::{SetBody, encode_set};
-use bk_world::{Base, Creation, Header};
+use bk_world::{Base, Creation, Header, Open};
 use std::alloc::{AllocError, Global};
 
 // The number of its kind.
@@ -84,11 +87,18 @@ fn append_created(out: &mut Vec<u8>, creation: &Creation) -> Result<(), AllocErr
     Ok(())
 }
 
-fn append_logged(out: &mut Vec<u8>, name: &Name, records: &Records) -> Result<(), AllocError>
-    ensures ok { OnOk result (out.new.items ≡ out.old.items ++ (text_bytes name.now ++ records.now)) }
-    ensures fits { OnOk result (IsString 1 64 name.now × AreRecords records.now) }
+fn append_logged(
+    out: &mut Vec<u8>,
+    name: &Name,
+    transactions: &[Open],
+    records: &Records,
+) -> Result<(), AllocError>
+    requires { All KeepsTransaction transactions.now }
+    ensures ok { OnOk result (out.new.items ≡ out.old.items ++ ((text_bytes name.now ++ transactions_bytes transactions.now) ++ records.now)) }
+    ensures fits { OnOk result ((IsString 1 64 name.now × AreTransactions transactions.now) × AreRecords records.now) }
 {
     append_name(out, name)?;
+    append_transactions(out, transactions)?;
     append_records(out, records)
 }
 
@@ -161,7 +171,11 @@ fn append_fields(alloc: Global, out: &mut Vec<u8>, act: &StoredAct) -> Result<()
     match act {
         StoredAct::Created { creation } => append_created(out, creation),
         StoredAct::Dropped { name } => append_name(out, name),
-        StoredAct::Logged { name, records } => append_logged(out, name, records),
+        StoredAct::Logged {
+            name,
+            transactions,
+            records,
+        } => append_logged(out, name, transactions.as_slice(), records),
         StoredAct::Based { name, header } => append_based(alloc, out, name, header),
         StoredAct::Replaced { name, body } => append_replaced(alloc, out, name, body),
         StoredAct::Restored { name, base, redo } => append_restored(out, name, *base, *redo),

@@ -19,13 +19,14 @@ use Rattle.bk_machine.specs.Run.{IsRun, behind_all, replies_of}
 use Rattle.bk_machine.specs.World.{World}
 use Rattle.bk_machine.specs.Writes.{ActsWrite}
 use Rattle.bk_world.specs.declared.reply.Reply.{Reply}
-use Rattle.bk_world.specs.declared.reply.Reply.TheVariants.{Done, Counted, Selected, SetMade, Recovered, Refused}
+use Rattle.bk_world.specs.declared.reply.Reply.TheVariants.{Done, Nothing, Counted, Selected, SetMade, Recovered, Refused}
 use Rattle.bk_world.specs.Text.{reply_text, replies_text}
 use Rattle.bk_console.specs.Answers.{is_refusal, NoneRefused, EndsRefused, GoesOnAccepted, Asked, CrashLeaves, CutWithin, CutNowhere, Runs, Answered, CutTelling, CutExecuting, CutShort, AnsweredFront, Stopped, CutAll}
+use Rattle.bk_console.specs.Crashes.{CrashLaws}
 use Rattle.bk_console.specs.Spares.{AreStill, LeavesAlone, OutcomesWrite, Spares}
 use Rattle.bk_console.proofs.Asking.{elapses-none, elapses-then}
 use Rattle.bk_console.proofs.Sparing.{spares-more, spares-none, spares-then, spares-wider, still-front, writes-before, writes-last}
-use Rattle.bk_console.proofs.Leaving.{CutLeaves, run-more, behind-more, replies-more, replies-length, LeavesOf-done, LeavesOf-within, LeavesOf-more}
+use Rattle.bk_console.proofs.Leaving.{run-more, behind-more, replies-more, replies-length, LeavesOf-done, LeavesOf-within, LeavesOf-more}
 
 -- Refusals.
 
@@ -55,6 +56,7 @@ goes-on-all replies n is none =
 ends-refused : (before : List Reply) (reply : Reply) → is_refusal reply ≡ true → EndsRefused (before ++ reply ∷ [])
 ends-refused before (Refused rule) is = (before, rule, refl)
 ends-refused before Done is = let no : ⊥ = cc is in absurd no
+ends-refused before Nothing is = let no : ⊥ = cc is in absurd no
 ends-refused before (Counted rows) is = let no : ⊥ = cc is in absurd no
 ends-refused before (Selected rows) is = let no : ⊥ = cc is in absurd no
 ends-refused before (SetMade position first checkpoint last) is = let no : ⊥ = cc is in absurd no
@@ -124,7 +126,7 @@ front_next : (told told1 told2 : List ℕ) (os : List Outcome) (o : Outcome) →
 front_next told told1 told2 os o before more =
     subst (λ rs. TellsFront (replies_text rs) told told2) (sym (replies-more os o)) (front_more told told1 told2 (replies_of os) o.reply before more)
 
-module _ (leave : CutLeaves) (stop : Bool) (old mid : Instance) (script ss : List ScriptEntry) (s : ScriptEntry) (ct : Type 0) (before middle after : ℕ → ℕ) (dt : Type 0) (disk disk1 disk2 : Disk)
+module _ (laws : CrashLaws) (stop : Bool) (old mid : Instance) (script ss : List ScriptEntry) (s : ScriptEntry) (ct : Type 0) (before middle after : ℕ → ℕ) (dt : Type 0) (disk disk1 disk2 : Disk)
     (so_far : AnsweredFront stop old mid ss ct before middle dt disk disk1) (front : take (length ss) script ≡ ss) (more : take (length ss + 1) script ≡ ss ++ s ∷ []) where
   front-is : take (length so_far.outcomes) script ≡ ss
   front-is = ap (λ k. take k script) so_far.each_outcome ∙ front
@@ -153,7 +155,7 @@ module _ (leave : CutLeaves) (stop : Bool) (old mid : Instance) (script ss : Lis
   cut-nowhere : dt → (image : Files) (heard : List ℕ) → CutNowhere mid disk1 image heard → CrashLeaves old disk so_far.outcomes image heard
   cut-nowhere t image heard cut durable number w stands =
       let to = so_far.runs t w stands in
-      LeavesOf-done leave number w stands.sound stands.idle ss so_far.moments so_far.outcomes to.0 disk.told image heard
+      LeavesOf-done laws number w stands.sound ss so_far.moments so_far.outcomes to.0 disk.told image heard
       (cut.0 (so_far.media t durable) number (behind_all w so_far.outcomes) to.1)
       (front_same disk.told disk1.told heard (replies_of so_far.outcomes) (so_far.text t) cut.1)
 
@@ -163,11 +165,11 @@ module _ (leave : CutLeaves) (stop : Bool) (old mid : Instance) (script ss : Lis
   cut-telling t now o may image heard (inl cut) durable number w stands =
       let to = so_far.runs t w stands in
       let within = cut.0 (so_far.media t durable) number (behind_all w so_far.outcomes) to.1 in
-      LeavesOf-within leave number w stands.sound stands.idle ss so_far.moments so_far.outcomes to.0 s now o (may (behind_all w so_far.outcomes) to.1) within.done disk.told image heard
+      LeavesOf-within laws number w stands.sound ss so_far.moments so_far.outcomes to.0 s now o (may (behind_all w so_far.outcomes) to.1) within.done disk.told image heard
       within.covers (cut.1 ∙ so_far.text t)
   cut-telling t now o may image heard (inr holds) durable number w stands =
       let to = so_far.runs t w stands in
-      LeavesOf-done leave number w stands.sound stands.idle (ss ++ s ∷ []) (so_far.moments ++ now ∷ []) (so_far.outcomes ++ o ∷ []) (run-next t now o may w stands) disk.told image heard
+      LeavesOf-done laws number w stands.sound (ss ++ s ∷ []) (so_far.moments ++ now ∷ []) (so_far.outcomes ++ o ∷ []) (run-next t now o may w stands) disk.told image heard
       (subst (Covers number image) (sym (behind-more w so_far.outcomes o)) (holds.0 (so_far.media t durable) number (behind_all w so_far.outcomes) to.1))
       (front_next disk.told disk1.told heard so_far.outcomes o (so_far.text t) holds.1)
 

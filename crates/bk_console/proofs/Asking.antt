@@ -91,7 +91,6 @@ told-media before after bytes tells durable path are =
 pub told-stands : (i : Instance) (before after : Disk) (w : World) (bytes : List ℕ) → TellsBytes bytes before after → StandsFor i before w → StandsFor i after w
 told-stands i before after w bytes tells stands = record {
   sound = stands.sound;
-  idle = stands.idle;
   keeps = stands.keeps;
   made = subst (λ blobs. AreMade blobs w) (sym (blobs_same before.files after.files (tells.files rows_file))) stands.made;
   media = media-in w None before.files after.files (λ path are. tells.files (medium_file path)) stands.media;

@@ -1,23 +1,28 @@
 -- What a crash of a run leaves, from the files that it leaves.
-use Rattle.std.proofs.Common.{◌≡◌, ◌<◌, ◌≤◌, ◌⊎◌, ℕ, zero, suc, List, [], ◌∷◌, ◌++◌, length, take, inl, inr, refl, sym, ◌∙◌, ap, subst, arith, length-append}
+use Rattle.std.proofs.Common.{◌≡◌, ◌<◌, ◌≤◌, ◌⊎◌, ℕ, zero, suc, List, [], ◌∷◌, ◌++◌, length, take, None, inl, inr, refl, sym, ◌∙◌, ap, subst, arith, length-append}
+use Rattle.std.specs.List.{AllByRecursion}
 use Rattle.std.proofs.lemmas.List.{append-nil, take-append-le, length-map, map-append}
 use Rattle.std.proofs.lemmas.Bool.{cases_lt}
 use Rattle.std.proofs.lemmas.Grind.{flat_map-append}
 use Rattle.std.proofs.Math.Seq.{take-append_seam, take-length, drop-append_seam}
 use Rattle.bk_device.specs.Calls.{TellsFront}
 use Rattle.bk_device.specs.Disk.{Files}
-use Rattle.bk_instance.specs.Stands.{Stands, Covers}
+use Rattle.bk_instance.specs.Stands.{Covers, StandsNear}
 use Rattle.bk_items.specs.declared.item.ScriptEntry.{ScriptEntry}
-use Rattle.bk_machine.specs.Acts.{done_all}
+use Rattle.bk_machine.specs.Acts.{Act, done, done_all}
+use Rattle.bk_machine.specs.Closing.{AreClosing, closed_by}
+use Rattle.bk_machine.specs.ClosingLaws.{first-alone}
 use Rattle.bk_machine.specs.Crash.{Leaves, cut_between, next_acts}
 use Rattle.bk_machine.specs.Machine.{May, behind}
 use Rattle.bk_machine.specs.Outcome.{Outcome}
 use Rattle.bk_machine.specs.Run.{IsRun, behind_all, replies_of}
-use Rattle.bk_machine.specs.Sound.{AreIdle, IsSound}
-use Rattle.bk_machine.specs.World.{World}
+use Rattle.bk_machine.specs.Sound.{IsSound}
+use Rattle.bk_machine.specs.World.{Database, World, held_by, held_in, opened, transaction_of}
+use Rattle.bk_machine.specs.statements.Rollback.{rolls_back}
 use Rattle.bk_world.specs.declared.reply.Reply.{Reply}
 use Rattle.bk_world.specs.Text.{reply_text, replies_text}
 use Rattle.bk_console.specs.Answers.{told_whole, LeavesOf}
+use Rattle.bk_console.specs.Crashes.{CrashLaws, LeavesFrom}
 use Rattle.bk_console.proofs.Told.{told-none, told-all, told-front}
 
 -- Runs.
@@ -42,11 +47,23 @@ replies-more os o = map-append (λ (o : Outcome). o.reply) os (o ∷ [])
 pub replies-length : (os : List Outcome) → length (replies_of os) ≡ length os
 replies-length os = length-map os (λ (o : Outcome). o.reply)
 
--- What a crash leaves of a run, from files that cover the world at the cut.
-abbrev pub CutLeaves : Type 0
-CutLeaves = (number : ℕ) (first : World) (statements : List ScriptEntry) (moments : List ℕ) (outcomes : List Outcome) (least done k : ℕ) (image : Files)
-    → IsSound first → AreIdle first → IsRun first statements moments outcomes → least ≤ done → done ≤ length outcomes
-    → Covers number image (cut_between first outcomes done k) → (left : World) × Leaves first outcomes least left × Stands number image left
+-- Closing.
+
+-- where none is open, no session has one
+none-held : (dbs : List Database) (session : ℕ) → AllByRecursion (λ (db : Database). db.transactions ≡ []) dbs → held_in dbs session ≡ None
+none-held [] session none = refl
+none-held (db ∷ dbs) session none = ap (λ ts. held_by db (transaction_of ts session) (held_in dbs session)) none.0 ∙ none-held dbs session none.1
+
+-- just one list of acts closes a world
+pub closing-alone : (w : World) (a b : List Act) → AreClosing w a → AreClosing w b → a ≡ b
+closing-alone w [] [] one two = refl
+closing-alone w [] (act ∷ b) none (held, first, is, rest) = let no : ⊥ = cc (none-held w.databases held.transaction.session none, first.there) in absurd no
+closing-alone w (act ∷ a) [] (held, first, is, rest) none = let no : ⊥ = cc (none-held w.databases held.transaction.session none, first.there) in absurd no
+closing-alone w (act ∷ a) (next ∷ b) (held, first, is, rest) (other, second, so, more) =
+    let same : act ≡ next = is ∙ ap (rolls_back w) (first-alone w held other first second) ∙ sym so in
+    ap (λ x. x ∷ a) same ∙ ap (λ xs. next ∷ xs) (closing-alone (done w next) a b (subst (λ x. AreClosing (done w x) a) same rest) more)
+
+-- Bytes.
 
 take-over : (bytes : List ℕ) (n : ℕ) → length bytes ≤ n → take n bytes ≡ bytes
 take-over [] zero le = refl
@@ -62,69 +79,81 @@ front-within bytes told heard front = by (cases_lt front.0 (length bytes))
     by (inl below) = (front.0, front.1, omega (arith, below))
     by (inr above) = (length bytes, front.1 ∙ ap (λ b. told ++ b) (take-over bytes front.0 above ∙ sym (take-length bytes)), omega arith)
 
-module _ (cut : CutLeaves) (number : ℕ) (first : World) (sound : IsSound first) (idle : AreIdle first) where
-  -- no statement was begun
-  pub LeavesOf-none : (outcomes : List Outcome) (told : List ℕ) (image : Files) (heard : List ℕ) → Covers number image first → heard ≡ told → LeavesOf number first outcomes told image heard
-  LeavesOf-none outcomes told image heard covers same =
-      let to = cut number first [] [] [] (told_whole (replies_of outcomes) 0) 0 0 image sound idle tt (omega (arith, told-none (replies_of outcomes))) (omega arith) covers in
+-- no statement was begun
+pub LeavesOf-none : CrashLaws → (number : ℕ) (w : World) (outcomes : List Outcome) (told : List ℕ) (image : Files) (heard : List ℕ) → StandsNear number image (opened w) → heard ≡ told
+    → LeavesOf number (opened w) outcomes told image heard
+LeavesOf-none laws number w outcomes told image heard near same =
+    let to = laws.begins number w image near in
+    record {
+      count = 0;
+      bytes = same ∙ sym (append-nil told);
+      within = omega arith;
+      begun = 0;
+      few = omega arith;
+      left = to.0;
+      leaves = subst (λ least. Leaves (opened w) [] least to.0) (sym (told-none (replies_of outcomes))) to.1;
+      stands = to.2;
+    }
+
+-- behind some acts of the last one, once the texts of the replies to those before it were told
+pub LeavesOf-last : (number : ℕ) (first : World) (outcomes : List Outcome) (o : Outcome) → LeavesFrom number first (outcomes ++ o ∷ []) → (k : ℕ) (told : List ℕ) (image : Files) (heard : List ℕ)
+    → Covers number image (done_all (behind_all first outcomes) (take k o.acts)) → heard ≡ told ++ replies_text (replies_of outcomes)
+    → LeavesOf number first (outcomes ++ o ∷ []) told image heard
+LeavesOf-last number first outcomes o cut k told image heard covers same =
+    let all : List Outcome = outcomes ++ o ∷ [] in
+    let count : ℕ = length (replies_text (replies_of outcomes)) in
+    let whole : told_whole (replies_of all) count ≡ told_whole (replies_of outcomes) count =
+    ap (λ rs. told_whole rs count) (replies-more outcomes o) ∙ told-front (replies_of outcomes) (o.reply ∷ []) count (omega arith) in
+    let there : Covers number image (cut_between first all (length outcomes) k) =
+    subst (λ os. Covers number image (done_all (behind_all first (take (length outcomes) all)) (take k (next_acts os)))) (sym (drop-append_seam outcomes (o ∷ [])))
+    (subst (λ os. Covers number image (done_all (behind_all first os) (take k o.acts))) (sym (take-append_seam outcomes (o ∷ []))) covers) in
+    let to = cut (told_whole (replies_of all) count) (length outcomes) k image
+    (omega (arith, whole, told-all (replies_of outcomes) count, replies-length outcomes)) (omega (arith, length-append outcomes (o ∷ []))) there in
+    let texts : replies_text (replies_of all) ≡ replies_text (replies_of outcomes) ++ replies_text (o.reply ∷ []) =
+    ap replies_text (replies-more outcomes o) ∙ flat_map-append reply_text (replies_of outcomes) (o.reply ∷ []) in
+    record {
+      count = count;
+      bytes = same ∙ ap (λ b. told ++ b) (sym (ap (take count) texts ∙ take-append_seam (replies_text (replies_of outcomes)) (replies_text (o.reply ∷ []))));
+      within = omega (arith, ap (λ (b : List ℕ). length b) texts, length-append (replies_text (replies_of outcomes)) (replies_text (o.reply ∷ [])));
+      begun = length all;
+      few = omega arith;
+      left = to.0;
+      leaves = subst (λ os. Leaves first os (told_whole (replies_of all) count) to.0) (sym (take-length all)) to.1;
+      stands = to.2;
+    }
+
+module _ (laws : CrashLaws) (number : ℕ) (first : World) (sound : IsSound first) (statements : List ScriptEntry) (moments : List ℕ) (outcomes : List Outcome) (run : IsRun first statements moments outcomes) where
+  -- behind all of them, of whose replies' texts a front was told
+  pub LeavesOf-done : (told : List ℕ) (image : Files) (heard : List ℕ) → Covers number image (behind_all first outcomes) → TellsFront (replies_text (replies_of outcomes)) told heard
+      → LeavesOf number first outcomes told image heard
+  LeavesOf-done told image heard covers front =
+      let texts = front-within (replies_text (replies_of outcomes)) told heard front in
+      let there : Covers number image (cut_between first outcomes (length outcomes) 0) = subst (λ os. Covers number image (behind_all first os)) (sym (take-length outcomes)) covers in
+      let to = laws.runs number first statements moments outcomes sound run (told_whole (replies_of outcomes) texts.0) (length outcomes) 0 image
+      (omega (arith, told-all (replies_of outcomes) texts.0, replies-length outcomes)) (omega arith) there in
       record {
-        count = 0;
-        bytes = same ∙ sym (append-nil told);
-        within = omega arith;
-        begun = 0;
+        count = texts.0;
+        bytes = texts.1;
+        within = texts.2;
+        begun = length outcomes;
         few = omega arith;
         left = to.0;
-        leaves = to.1;
+        leaves = subst (λ os. Leaves first os (told_whole (replies_of outcomes) texts.0) to.0) (sym (take-length outcomes)) to.1;
         stands = to.2;
       }
 
-  module _ (statements : List ScriptEntry) (moments : List ℕ) (outcomes : List Outcome) (run : IsRun first statements moments outcomes) where
-    -- behind all of them, of whose replies' texts a front was told
-    pub LeavesOf-done : (told : List ℕ) (image : Files) (heard : List ℕ) → Covers number image (behind_all first outcomes) → TellsFront (replies_text (replies_of outcomes)) told heard
-        → LeavesOf number first outcomes told image heard
-    LeavesOf-done told image heard covers front =
-        let texts = front-within (replies_text (replies_of outcomes)) told heard front in
-        let there : Covers number image (cut_between first outcomes (length outcomes) 0) = subst (λ os. Covers number image (behind_all first os)) (sym (take-length outcomes)) covers in
-        let to = cut number first statements moments outcomes (told_whole (replies_of outcomes) texts.0) (length outcomes) 0 image sound idle run
-        (omega (arith, told-all (replies_of outcomes) texts.0, replies-length outcomes)) (omega arith) there in
-        record {
-          count = texts.0;
-          bytes = texts.1;
-          within = texts.2;
-          begun = length outcomes;
-          few = omega arith;
-          left = to.0;
-          leaves = subst (λ os. Leaves first os (told_whole (replies_of outcomes) texts.0) to.0) (sym (take-length outcomes)) to.1;
-          stands = to.2;
-        }
+  -- behind some acts of the next one
+  pub LeavesOf-within : (s : ScriptEntry) (now : ℕ) (o : Outcome) → May (behind_all first outcomes) s now o → (k : ℕ) (told : List ℕ) (image : Files) (heard : List ℕ)
+      → Covers number image (done_all (behind_all first outcomes) (take k o.acts)) → heard ≡ told ++ replies_text (replies_of outcomes)
+      → LeavesOf number first (outcomes ++ o ∷ []) told image heard
+  LeavesOf-within s now o may = LeavesOf-last number first outcomes o
+      (laws.runs number first (statements ++ s ∷ []) (moments ++ now ∷ []) (outcomes ++ o ∷ []) sound (run-more first statements moments outcomes s now o run may))
 
-    -- behind some acts of the next one
-    pub LeavesOf-within : (s : ScriptEntry) (now : ℕ) (o : Outcome) → May (behind_all first outcomes) s now o → (k : ℕ) (told : List ℕ) (image : Files) (heard : List ℕ)
-        → Covers number image (done_all (behind_all first outcomes) (take k o.acts)) → heard ≡ told ++ replies_text (replies_of outcomes)
-        → LeavesOf number first (outcomes ++ o ∷ []) told image heard
-    LeavesOf-within s now o may k told image heard covers same =
-        let all : List Outcome = outcomes ++ o ∷ [] in
-        let count : ℕ = length (replies_text (replies_of outcomes)) in
-        let whole : told_whole (replies_of all) count ≡ told_whole (replies_of outcomes) count =
-        ap (λ rs. told_whole rs count) (replies-more outcomes o) ∙ told-front (replies_of outcomes) (o.reply ∷ []) count (omega arith) in
-        let there : Covers number image (cut_between first all (length outcomes) k) =
-        subst (λ os. Covers number image (done_all (behind_all first (take (length outcomes) all)) (take k (next_acts os)))) (sym (drop-append_seam outcomes (o ∷ [])))
-        (subst (λ os. Covers number image (done_all (behind_all first os) (take k o.acts))) (sym (take-append_seam outcomes (o ∷ []))) covers) in
-        let to = cut number first (statements ++ s ∷ []) (moments ++ now ∷ []) all (told_whole (replies_of all) count) (length outcomes) k image sound idle
-        (run-more first statements moments outcomes s now o run may)
-        (omega (arith, whole, told-all (replies_of outcomes) count, replies-length outcomes)) (omega (arith, length-append outcomes (o ∷ []))) there in
-        let texts : replies_text (replies_of all) ≡ replies_text (replies_of outcomes) ++ replies_text (o.reply ∷ []) =
-        ap replies_text (replies-more outcomes o) ∙ flat_map-append reply_text (replies_of outcomes) (o.reply ∷ []) in
-        record {
-          count = count;
-          bytes = same ∙ ap (λ b. told ++ b) (sym (ap (take count) texts ∙ take-append_seam (replies_text (replies_of outcomes)) (replies_text (o.reply ∷ []))));
-          within = omega (arith, ap (λ (b : List ℕ). length b) texts, length-append (replies_text (replies_of outcomes)) (replies_text (o.reply ∷ [])));
-          begun = length all;
-          few = omega arith;
-          left = to.0;
-          leaves = subst (λ os. Leaves first os (told_whole (replies_of all) count) to.0) (sym (take-length all)) to.1;
-          stands = to.2;
-        }
+  -- behind some acts of its closing
+  pub LeavesOf-closing : (acts : List Act) → AreClosing (behind_all first outcomes) acts → (k : ℕ) (told : List ℕ) (image : Files) (heard : List ℕ)
+      → Covers number image (done_all (behind_all first outcomes) (take k acts)) → heard ≡ told ++ replies_text (replies_of outcomes)
+      → LeavesOf number first (outcomes ++ closed_by acts ∷ []) told image heard
+  LeavesOf-closing acts closing = LeavesOf-last number first outcomes (closed_by acts) (laws.closings number first statements moments outcomes acts sound run closing)
 
 -- one outcome more
 pub LeavesOf-more : (number : ℕ) (first : World) (outcomes : List Outcome) (o : Outcome) (told : List ℕ) (image : Files) (heard : List ℕ)

@@ -9,7 +9,7 @@ use Rattle.bk_syntax.specs.Reader.{HasItems, GivesItem}
 use Rattle.bk_syntax.specs.declared.reader.Reader.{Reader}
 use Rattle.bk_machine.specs.Run.{IsRun, replies_of}
 use Rattle.bk_console.specs.Answers.{Answered, AnsweredFront, AnsweredAll, Stopped, CutShort, CutAll}
-use Rattle.bk_console.proofs.Leaving.{CutLeaves}
+use Rattle.bk_console.specs.Crashes.{CrashLaws}
 use Rattle.bk_console.proofs.Answering.{front-more, front-none, none-front, front_same, Stopped-from, CutAll-from}
 
 -- a front of the statements was answered, and the reader has the others before it
@@ -30,7 +30,7 @@ so_far-none stop old src r script ct before dt disk has items = record {
   answered = front-none stop old ct before dt disk;
 }
 
-module _ (leave : CutLeaves) (stop : Bool) (old mid : Instance) (src : List ℕ) (r : Reader) (script : List ScriptEntry) (ct : Type 0) (before middle : ℕ → ℕ) (dt : Type 0) (disk disk1 : Disk)
+module _ (laws : CrashLaws) (stop : Bool) (old mid : Instance) (src : List ℕ) (r : Reader) (script : List ScriptEntry) (ct : Type 0) (before middle : ℕ → ℕ) (dt : Type 0) (disk disk1 : Disk)
     (so_far : AnsweredSoFar stop old mid src r script ct before middle dt disk disk1) where
   front-is : take (length so_far.front) script ≡ so_far.front
   front-is = ap (take (length so_far.front)) so_far.whole ∙ take-append_seam so_far.front so_far.rest
@@ -78,7 +78,7 @@ module _ (leave : CutLeaves) (stop : Bool) (old mid : Instance) (src : List ℕ)
 
     pub so_far-cut : (after : ℕ → ℕ) (disk2 : Disk) (has_reply asks : Type 0) → (asks → has_reply) → CutShort mid s ct middle after dt disk1 disk2 has_reply → CutAll stop old script ct before after dt disk disk2 asks
     so_far-cut after disk2 has_reply asks weaker cut =
-        CutAll-from leave stop old mid script so_far.front s ct before middle after dt disk disk1 disk2 so_far.answered front-is more-is room has_reply asks weaker cut
+        CutAll-from laws stop old mid script so_far.front s ct before middle after dt disk disk1 disk2 so_far.answered front-is more-is room has_reply asks weaker cut
 
     module _ (new : Instance) (after : ℕ → ℕ) (disk2 : Disk) (refused : Bool) (one : Answered mid new s ct middle after dt disk1 disk2 refused) where
       pub so_far-more : (stop ≡ true → refused ≡ false) → AnsweredSoFar stop old new src r2 script ct before after dt disk disk2
@@ -88,9 +88,9 @@ module _ (leave : CutLeaves) (stop : Bool) (old mid : Instance) (src : List ℕ)
         rest = others;
         whole = next-is ∙ sym (append_assoc so_far.front (s ∷ []) others);
         left = (gives so_far.rest so_far.left).2;
-        answered = front-more leave stop old mid script so_far.front s ct before middle after dt disk disk1 disk2 so_far.answered front-is more-is new refused one accepted;
+        answered = front-more laws stop old mid script so_far.front s ct before middle after dt disk disk1 disk2 so_far.answered front-is more-is new refused one accepted;
       }
 
       pub so_far-stopped : refused ≡ true → stop ≡ true → Stopped stop old new script ct before after dt disk disk2
       so_far-stopped is on =
-          Stopped-from leave stop old mid script so_far.front s ct before middle after dt disk disk1 disk2 so_far.answered front-is more-is new refused one room is on
+          Stopped-from laws stop old mid script so_far.front s ct before middle after dt disk disk1 disk2 so_far.answered front-is more-is new refused one room is on

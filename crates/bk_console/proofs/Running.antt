@@ -1,10 +1,10 @@
 -- How a run ends, from what its parts did.
-use Rattle.std.proofs.Common.{◌≡◌, ◌⊎◌, ◌<◌, ◌≤◌, ℕ, ◌+◌, true, Bool, List, [], ◌++◌, length, take, Option, None, Some, inl, inr, refl, sym, ◌∙◌, ap, subst, arith, Err}
+use Rattle.std.proofs.Common.{◌≡◌, ◌⊎◌, ◌<◌, ◌≤◌, ℕ, ◌+◌, true, Bool, List, [], ◌∷◌, ◌++◌, length, take, Option, None, Some, inl, inr, refl, sym, ◌∙◌, ap, subst, arith, Err}
 use Rattle.std.specs.Prelude.{IsErrOf}
 use Rattle.std.proofs.lemmas.List.{append-nil}
 use Rattle.std.proofs.Math.Seq.{take-length}
 use Rattle.bk_device.specs.Calls.{ChangesNothing, Elapses}
-use Rattle.bk_device.specs.Compose.{keeps_then, left_begins, left_effect}
+use Rattle.bk_device.specs.Compose.{keeps_then, left_begins, left_effect, left_weaken}
 use Rattle.bk_device.specs.Disk.{Files, Disk, MayLeave, IsSettled, IsLawful}
 use Rattle.bk_device.specs.Effects.{Effect, KeepsFiles, LeavesSince}
 use Rattle.bk_home.specs.Home.{IsMade}
@@ -15,10 +15,14 @@ use Rattle.bk_instance.specs.declared.error.LoadError.TheVariants as load
 use Rattle.bk_instance.specs.declared.instance.Instance.{Instance}
 use Rattle.bk_instance.specs.Loading.{LeavesOpened}
 use Rattle.bk_instance.specs.Media.{MediaAreDurable, IfDurable}
-use Rattle.bk_instance.specs.Stands.{Stands, Covers, CutsEnd, StandsEnded, IsStored, ReservesNone, StandsFor, IsOurs}
+use Rattle.bk_instance.specs.Stands.{Covers, Stands, StandsNear, CutsEnd, IsStored, ReservesNone, StandsFor, IsOurs}
+use Rattle.bk_instance.specs.Steps.{Closed}
 use Rattle.bk_instance.specs.Touched.{IsMaking, IsTouched, TouchesOnly, TouchesOwn}
 use Rattle.bk_items.specs.declared.item.ScriptEntry.{ScriptEntry}
+use Rattle.bk_machine.specs.Acts.{Act, done_all}
+use Rattle.bk_machine.specs.Closing.{AreClosing, closed_by}
 use Rattle.bk_machine.specs.Outcome.{Outcome}
+use Rattle.bk_machine.specs.Sound.{AreIdle, IsSound}
 use Rattle.bk_machine.specs.Run.{IsRun, behind_all, replies_of}
 use Rattle.bk_machine.specs.World.{World, opened, ended}
 use Rattle.bk_syntax.specs.Items.{AreItems}
@@ -36,11 +40,12 @@ use Rattle.bk_console.specs.declared.status.Status.TheVariants as status
 use Rattle.bk_console.specs.Answers.{NotOurs, NoneRefused, EndsRefused, GoesOnAccepted, Asked, LeavesOf, CrashLeaves, Runs, AnsweredAll, Stopped, AnsweredBy, CutAll}
 use Rattle.bk_console.proofs.Answering.{none-front}
 use Rattle.bk_console.proofs.Asking.{left-elapses, keeps-effect, settled-again}
-use Rattle.bk_console.proofs.Leaving.{CutLeaves, LeavesOf-none, LeavesOf-done}
-use Rattle.bk_console.specs.Run.{code_of, words_status, read_status, answer_status, load_status, close_status, script_bytes, MayBegin, asked_number, IsWhole, Executed, Ran}
+use Rattle.bk_console.proofs.Leaving.{LeavesOf-none, LeavesOf-closing, closing-alone}
+use Rattle.bk_console.specs.Crashes.{CrashLaws}
+use Rattle.bk_console.specs.Run.{code_of, words_status, read_status, answer_status, load_status, close_status, script_bytes, MayBegin, asked_number, IsWhole, LeavesRun, Closes, Executed, Ran}
 use Rattle.bk_console.specs.Spares.{AreStill, IsFinished, LeavesAlone, NoName, OutcomesWrite, RunWrites, Spares}
 use Rattle.bk_console.specs.Words.{WordOptions}
-use Rattle.bk_console.proofs.Sparing.{spares-effect, spares-more, spares-none, spares-nothing, spares-own, spares-then}
+use Rattle.bk_console.proofs.Sparing.{spares-effect, spares-more, spares-none, spares-nothing, spares-own, spares-then, still-idle}
 
 -- Statuses.
 
@@ -61,9 +66,10 @@ closed-as execute.Broken h = cc h
 
 -- What comes only from what is broken.
 
-pub load-broken : (e : LoadError) → load_status e ≡ status.Broken → e ≡ load.Broken
+pub load-broken : (e : LoadError) → load_status e ≡ status.Broken → (e ≡ load.Broken) ⊎ (e ≡ load.Unsettled)
 load-broken load.NotAnInstance h = absurd cc
-load-broken load.Broken h = refl
+load-broken load.Broken h = inl refl
+load-broken load.Unsettled h = inr refl
 load-broken load.Fault h = absurd cc
 load-broken load.NoMemory h = absurd cc
 
@@ -80,38 +86,48 @@ close-broken execute.Broken h = refl
 
 -- Worlds.
 
--- files that stand for a world cover it as a run opens it
-abbrev pub BegunCovers : Type 0
-BegunCovers = (number : ℕ) (w : World) (files image : Files) → ((name : List ℕ) → image name ≡ files name) → Stands number files w → Covers number image (opened w)
+-- a world with which the run may begin is sound as it is opened
+begin-sound : CrashLaws → (asks : Option WordOptions) (files : Files) (w : World) → MayBegin asks files w → IsSound (opened w)
+begin-sound laws None files w may = absurd may
+begin-sound laws (Some options) files w may = (laws.opens options.instance w files files (λ name. refl) may).sound
 
--- what a crash leaves of a run that is begun
-abbrev pub NoneBegun : Type 0
-NoneBegun = (number : ℕ) (w : World) (outcomes : List Outcome) (told : List ℕ) (image : Files) (heard : List ℕ) → Covers number image w → heard ≡ told → LeavesOf number w outcomes told image heard
+-- where nothing is pending, a crash leaves files that stand near the world with which a run begins
+settled-near : CrashLaws → (number : ℕ) (disk : Disk) (w : World) (image : Files) → IsSettled disk → MayLeave disk image → Stands number disk.files w → StandsNear number image (opened w)
+settled-near laws number disk w image settled left stands = laws.opens number w disk.files image (λ name. settled name (image name) (left name)) stands
 
-none-begun : CutLeaves → NoneBegun
-none-begun cut number w outcomes told image heard covers same = LeavesOf-none cut number w covers.sound covers.idle outcomes told image heard covers same
+begin-near : CrashLaws → (asks : Option WordOptions) (disk : Disk) (w : World) (image : Files) → IsSettled disk → MayLeave disk image → MayBegin asks disk.files w → StandsNear (asked_number asks) image (opened w)
+begin-near laws None disk w image settled left may = absurd may
+begin-near laws (Some options) disk w image settled left may = settled-near laws options.instance disk w image settled left may
 
--- where nothing is pending, a crash leaves the world with which a run begins
-settled-covers : BegunCovers → (number : ℕ) (disk : Disk) (w : World) (image : Files) → IsSettled disk → MayLeave disk image → Stands number disk.files w → Covers number image (opened w)
-settled-covers begun number disk w image settled left stands = begun number w disk.files image (λ name. settled name (image name) (left name)) stands
+-- what a crash of a run leaves one of it and its closing leaves
+run-left : (number : ℕ) (first : World) (outcomes : List Outcome) (acts : List Act) (told : List ℕ) (image : Files) (heard : List ℕ) → LeavesOf number first outcomes told image heard → LeavesRun number first outcomes acts told image heard
+run-left number first outcomes acts told image heard leaves = record { cut = outcomes; which = inl refl; leaves = leaves }
 
-begin-covers : BegunCovers → (asks : Option WordOptions) (disk : Disk) (w : World) (image : Files) → IsSettled disk → MayLeave disk image → MayBegin asks disk.files w → Covers (asked_number asks) image (opened w)
-begin-covers begun None disk w image settled left may = absurd may
-begin-covers begun (Some options) disk w image settled left may = settled-covers begun options.instance disk w image settled left may
+-- a run that wasn't closed
+not-closing : CrashLaws → (asks : Option WordOptions) (w : World) (disk disk1 : Disk) (code : ℕ) → MayBegin asks disk.files w → (statements : List ScriptEntry) (moments : List ℕ) (outcomes : List Outcome)
+    → IsRun (opened w) statements moments outcomes → LeavesSince disk.moment (LeavesOf (asked_number asks) (opened w) outcomes disk.told) disk1 → 1 < code → Closes asks (opened w) outcomes disk disk1 code
+not-closing laws asks w disk disk1 code may statements moments outcomes run since above =
+    let to = laws.closes (opened w) statements moments outcomes (begin-sound laws asks disk.files w may) run in
+    record {
+      acts = to.0;
+      closing = to.1;
+      stands = λ h. absurd (not_ended code above h);
+      crashes = left_weaken (run-left (asked_number asks) (opened w) outcomes to.0 disk.told) since;
+    }
 
 -- no statement was begun
-pub nothing-executed : CutLeaves → BegunCovers → (asks : Option WordOptions) (statements : List ScriptEntry) (ct : Type 0) (coming : ℕ → ℕ) (dt : Type 0) (disk : Disk) (code : ℕ)
+pub nothing-executed : CrashLaws → (asks : Option WordOptions) (statements : List ScriptEntry) (ct : Type 0) (coming : ℕ → ℕ) (dt : Type 0) (disk : Disk) (code : ℕ)
     → (dt → IsLawful disk) → 1 < code → (code ≡ 4 → ⊥) → Executed asks statements ct coming coming dt disk disk code
-nothing-executed cut begun asks statements ct coming dt disk code lawful above not_cut = record {
+nothing-executed laws asks statements ct coming dt disk code lawful above not_cut = record {
   moments = [];
   outcomes = [];
   asked = record { shown = λ t i lt. absurd (omega (arith, lt)); moved = λ t i. ap coming (omega arith) };
   asked_each = (omega arith, omega arith);
-  runs = λ t settled w may. (tt, λ h. absurd (not_ended code above h));
+  runs = λ t settled w may. tt;
+  closes = λ t settled w may. not-closing laws asks w disk disk code may [] [] [] tt
+      (left_begins disk (lawful t) (λ image left. LeavesOf-none laws (asked_number asks) w [] disk.told image disk.told (begin-near laws asks disk w image settled left may) refl)) above;
   settled = λ t settled h. absurd (not_ended code above h);
   made = λ t h. absurd (not_ended code above h);
-  crashes = λ t settled w may. left_begins disk (lawful t) (λ image left.
-      none-begun cut (asked_number asks) (opened w) [] disk.told image disk.told (begin-covers begun asks disk w image settled left may) refl);
   spares = λ t settled w may. spares-none disk;
   still = λ t settled w may h. absurd (not_ended code above h);
   front = λ t. (0, sym (append-nil disk.told));
@@ -173,28 +189,28 @@ came AtTheEnd stop old new ss ct before after dt disk disk1 all = came-all stop 
 came AtARefusal stop old new ss ct before after dt disk disk1 there = came-stopped stop old new ss ct before after dt disk disk1 there
 
 -- what closing leaves
-abbrev pub Closes : Instance → Disk → Files → Type 0
-Closes finish disk = IfDurable disk (CutsEnd finish disk)
+abbrev pub Closing : Instance → Disk → Files → Type 0
+Closing finish disk = IfDurable disk (CutsEnd finish disk)
 
 -- What loading an instance leaves alone.
-pub record LoadSpares (device_tells : Type 0) (disk disk_after : Disk) (start : Instance) : Type 0 where
-  pub still : device_tells → IsMade disk.files → ((path : List ℕ) → IsMaking disk.files path → ⊥) → ChangesNothing disk disk_after
+pub record LoadSpares (device_tells : Type 0) (number : ℕ) (disk disk_after : Disk) (start : Instance) : Type 0 where
+  pub still : device_tells → IsMade disk.files → ((path : List ℕ) → IsMaking disk.files path → ⊥) → (w : World) → Covers number disk.files w → AreIdle w → ChangesNothing disk disk_after
   pub exact : ReservesNone start
 
 -- What closing it leaves alone.
 pub record CloseSpares (device_tells : Type 0) (finish : Instance) (disk disk_after : Disk) : Type 0 where
-  pub still : device_tells → ReservesNone finish → ChangesNothing disk disk_after
+  pub still : device_tells → ReservesNone finish → (w : World) → StandsFor finish disk w → AreIdle w → ChangesNothing disk disk_after
   pub spares : device_tells → TouchesOwn disk disk_after
 
-module _ (cut_leaves : CutLeaves) (begun : BegunCovers) (options : WordOptions) (statements : List ScriptEntry) (ct : Type 0) (coming coming_after : ℕ → ℕ) (dt : Type 0) (disk disk1 : Disk)
+module _ (laws : CrashLaws) (options : WordOptions) (statements : List ScriptEntry) (ct : Type 0) (coming coming_after : ℕ → ℕ) (dt : Type 0) (disk disk1 : Disk)
     (lawful : dt → IsLawful disk) (loading : dt → Effect IsOurs (LeavesOpened options.instance disk) disk disk1) (loading_spares : dt → TouchesOnly (IsMaking disk.files) disk disk1) where
   since-load : dt → IsSettled disk → (w : World) → Stands options.instance disk.files w → (outcomes : List Outcome)
       → LeavesSince disk.moment (LeavesOf options.instance (opened w) outcomes disk.told) disk1
   since-load t settled w stands outcomes = left_effect
       (left_begins disk (lawful t) (λ image left.
-      none-begun cut_leaves options.instance (opened w) outcomes disk.told image disk.told (settled-covers begun options.instance disk w image settled left stands) refl))
+      LeavesOf-none laws options.instance w outcomes disk.told image disk.told (settled-near laws options.instance disk w image settled left stands) refl))
       (λ image here others.
-      none-begun cut_leaves options.instance (opened w) outcomes disk.told image disk.told (here settled w stands) refl)
+      LeavesOf-none laws options.instance w outcomes disk.told image disk.told (here settled w stands) refl)
       (loading t)
 
   -- loading may touch a medium that was being made
@@ -208,10 +224,10 @@ module _ (cut_leaves : CutLeaves) (begun : BegunCovers) (options : WordOptions) 
     outcomes = [];
     asked = record { shown = λ t i lt. absurd (omega (arith, lt)); moved = λ t i. ap coming (omega arith) };
     asked_each = (omega arith, omega arith);
-    runs = λ t settled w may. (tt, λ h. absurd (not_ended _ (above e) h));
+    runs = λ t settled w may. tt;
+    closes = λ t settled w may. not-closing laws (Some options) w disk disk1 (code_of (load_status e)) may [] [] [] tt (since-load t settled w may []) (above e);
     settled = λ t settled h. absurd (not_ended _ (above e) h);
     made = λ t h. absurd (not_ended _ (above e) h);
-    crashes = λ t settled w may. since-load t settled w may [];
     spares = λ t settled w may. spares-load t [];
     still = λ t settled w may h. absurd (not_ended _ (above e) h);
     front = λ t. (0, (loading t).told ∙ sym (append-nil disk.told));
@@ -224,12 +240,14 @@ module _ (cut_leaves : CutLeaves) (begun : BegunCovers) (options : WordOptions) 
       above : (e : LoadError) → 1 < code_of (load_status e)
       above load.NotAnInstance = omega arith
       above load.Broken = omega arith
+      above load.Unsettled = omega arith
       above load.Fault = omega arith
       above load.NoMemory = omega arith
 
       not_cut : (e : LoadError) → code_of (load_status e) ≡ 4 → ⊥
       not_cut load.NotAnInstance h = omega (arith, h)
       not_cut load.Broken h = omega (arith, h)
+      not_cut load.Unsettled h = omega (arith, h)
       not_cut load.Fault h = omega (arith, h)
       not_cut load.NoMemory h = omega (arith, h)
 
@@ -249,10 +267,11 @@ module _ (cut_leaves : CutLeaves) (begun : BegunCovers) (options : WordOptions) 
       outcomes = cut.outcomes;
       asked = cut.asked;
       asked_each = cut.asked_each;
-      runs = λ t settled w may. (cut.runs t (opened w) (begins t settled w may), λ h. absurd (not_ended _ (above e) h));
+      runs = λ t settled w may. cut.runs t (opened w) (begins t settled w may);
+      closes = λ t settled w may. not-closing laws (Some options) w disk disk2 (code_of (answer_status e)) may _ _ cut.outcomes (cut.runs t (opened w) (begins t settled w may))
+          (since-answers t settled w may cut.outcomes (cut.crashes t)) (above e);
       settled = λ t settled h. absurd (not_ended _ (above e) h);
       made = λ t h. absurd (not_ended _ (above e) h);
-      crashes = λ t settled w may. since-answers t settled w may cut.outcomes (cut.crashes t);
       spares = λ t settled w may. spares-then (spares-load t cut.outcomes) (spares-more (λ path writes. inr writes) (cut.spares t (opened w) (begins t settled w may)));
       still = λ t settled w may h. absurd (not_ended _ (above e) h);
       front = λ t. let some = cut.front t in (some.0, some.1 ∙ ap (λ told. told ++ take some.0 (replies_text (replies_of cut.outcomes))) (loading t).told);
@@ -275,28 +294,46 @@ module _ (cut_leaves : CutLeaves) (begun : BegunCovers) (options : WordOptions) 
         is_console answer.Broken h = absurd (omega (arith, h))
 
     -- no other file is touched
-    others-then : (disk3 : Disk) (finish : Instance) → (dt → Effect IsOurs (Closes finish disk2) disk2 disk3) → (dt → KeepsFiles NotOurs disk1 disk2) → dt → KeepsFiles NotOurs disk disk3
+    others-then : (disk3 : Disk) (finish : Instance) → (dt → Effect IsOurs (Closing finish disk2) disk2 disk3) → (dt → KeepsFiles NotOurs disk1 disk2) → dt → KeepsFiles NotOurs disk disk3
     others-then disk3 finish closing others t =
-        keeps_then (keeps_then (keeps-effect (LeavesOpened options.instance disk) disk disk1 (loading t)) (others t)) (keeps-effect (Closes finish disk2) disk2 disk3 (closing t))
+        keeps_then (keeps_then (keeps-effect (LeavesOpened options.instance disk) disk disk1 (loading t)) (others t)) (keeps-effect (Closing finish disk2) disk2 disk3 (closing t))
 
     module _ (disk3 : Disk) (finish : Instance) (there : Came options.stop start finish statements ct coming coming_after dt disk1 disk2)
-        (closing : dt → Effect IsOurs (Closes finish disk2) disk2 disk3) (load_spares : LoadSpares dt disk disk1 start) (close_spares : CloseSpares dt finish disk2 disk3) where
+        (effect : dt → Effect IsOurs (Closing finish disk2) disk2 disk3) (load_spares : LoadSpares dt options.instance disk disk1 start) (close_spares : CloseSpares dt finish disk2 disk3) where
       told-then : dt → disk3.told ≡ disk.told ++ replies_text (replies_of there.outcomes)
-      told-then t = (closing t).told ∙ there.text t ∙ ap (λ told. told ++ replies_text (replies_of there.outcomes)) (loading t).told
+      told-then t = (effect t).told ∙ there.text t ∙ ap (λ told. told ++ replies_text (replies_of there.outcomes)) (loading t).told
 
       moments-are : take (length there.outcomes) there.moments ≡ there.moments
       moments-are = ap (λ n. take n there.moments) (sym there.each) ∙ take-length there.moments
 
-      since-close : dt → IsSettled disk → (w : World) → Stands options.instance disk.files w → LeavesSince disk.moment (LeavesOf options.instance (opened w) there.outcomes disk.told) disk3
-      since-close t settled w stands = left_effect (since-answers t settled w stands there.outcomes (there.crashes t))
-          (λ image here others.
+      -- the acts that close a world
+      run-closes : dt → IsSettled disk → (w : World) → Stands options.instance disk.files w → (acts : List Act) × AreClosing (behind_all (opened w) there.outcomes) acts
+      run-closes t settled w stands =
+          let begin = begins t settled w stands in
+          laws.closes (opened w) (take (length there.outcomes) statements) there.moments there.outcomes begin.sound (there.runs t (opened w) begin).0
+
+      -- a crash while they are done
+      cut-closing : dt → IsSettled disk → (w : World) → Stands options.instance disk.files w → (acts : List Act) → AreClosing (behind_all (opened w) there.outcomes) acts → (image : Files)
+          → Closing finish disk2 image → LeavesRun options.instance (opened w) there.outcomes acts disk.told image disk2.told
+      cut-closing t settled w stands acts closes image here =
           let begin = begins t settled w stands in
           let to = there.runs t (opened w) begin in
-          let texts = replies_text (replies_of there.outcomes) in
-          LeavesOf-done cut_leaves options.instance (opened w) begin.sound begin.idle (take (length there.outcomes) statements) there.moments there.outcomes to.0 disk.told image disk2.told
-          (here (there.media t (calm t settled)) options.instance (behind_all (opened w) there.outcomes) to.1)
-          (length texts, there.text t ∙ ap (λ told. told ++ texts) (loading t).told ∙ ap (λ all. disk.told ++ all) (sym (take-length texts))))
-          (closing t)
+          let cut = here (there.media t (calm t settled)) options.instance (behind_all (opened w) there.outcomes) to.1 in
+          let same : acts ≡ cut.0 = closing-alone (behind_all (opened w) there.outcomes) acts cut.0 closes cut.1 in
+          let told : disk2.told ≡ disk.told ++ replies_text (replies_of there.outcomes) = there.text t ∙ ap (λ told. told ++ replies_text (replies_of there.outcomes)) (loading t).told in
+          record {
+            cut = there.outcomes ++ closed_by acts ∷ [];
+            which = inr (refl, told);
+            leaves = LeavesOf-closing laws options.instance (opened w) begin.sound (take (length there.outcomes) statements) there.moments there.outcomes to.0 acts closes cut.2.done disk.told image disk2.told
+                (subst (λ xs. Covers options.instance image (done_all (behind_all (opened w) there.outcomes) (take cut.2.done xs))) (sym same) cut.2.covers) told;
+          }
+
+      since-close : dt → (settled : IsSettled disk) (w : World) (stands : Stands options.instance disk.files w) (acts : List Act) → AreClosing (behind_all (opened w) there.outcomes) acts
+          → LeavesSince disk.moment (LeavesRun options.instance (opened w) there.outcomes acts disk.told) disk3
+      since-close t settled w stands acts closes = left_effect
+          (left_weaken (run-left options.instance (opened w) there.outcomes acts disk.told) (since-answers t settled w stands there.outcomes (there.crashes t)))
+          (λ image here others. cut-closing t settled w stands acts closes image here)
+          (effect t)
 
       -- statements that were begun were answered
       spares-close : dt → IsSettled disk → (w : World) → Stands options.instance disk.files w → Spares (IsTouched (RunWrites disk.files there.outcomes)) disk disk3
@@ -306,13 +343,15 @@ module _ (cut_leaves : CutLeaves) (begun : BegunCovers) (options : WordOptions) 
       -- none of them stored something
       still-close : dt → IsSettled disk → (w : World) → Stands options.instance disk.files w → IsFinished disk.files → AreStill there.outcomes → Spares NoName disk disk3
       still-close t settled w may finished all =
-          let rests = there.still t (opened w) (begins t settled w may) all in
-          spares-then (spares-nothing (load_spares.still t finished.made finished.none))
-          (spares-then rests.files (spares-nothing (close_spares.still t (rests.reserves load_spares.exact))))
+          let begin = begins t settled w may in
+          let rests = there.still t (opened w) begin all in
+          let idle : AreIdle (opened w) = laws.idle options.instance (opened w) disk.files (laws.opens options.instance w disk.files disk.files (λ name. refl) may) in
+          spares-then (spares-nothing (load_spares.still t finished.made finished.none may.before may.covers (finished.idle options.instance may.before may.covers)))
+          (spares-then rests.files (spares-nothing (close_spares.still t (rests.reserves load_spares.exact) (behind_all (opened w) there.outcomes) (there.runs t (opened w) begin).1 (still-idle (opened w) there.outcomes all idle))))
 
       -- the instance was closed, or it failed
       pub ended-by : (code : ℕ) → (code ≡ 4 → ⊥)
-          → (dt → (code ≡ 0) ⊎ (code ≡ 1) → (w : World) → StandsFor finish disk2 w → Stands options.instance disk3.files (ended w))
+          → (dt → (code ≡ 0) ⊎ (code ≡ 1) → (w : World) (acts : List Act) → StandsFor finish disk2 w → AreClosing w acts → Stands options.instance disk3.files (ended (done_all w acts)))
           → (dt → IsSettled disk → (code ≡ 0) ⊎ (code ≡ 1) → IsSettled disk3)
           → (dt → (code ≡ 0) ⊎ (code ≡ 1) → IsMade disk3.files)
           → (code ≡ 0 → (length there.outcomes ≡ length statements) × (options.stop ≡ true → NoneRefused (replies_of there.outcomes)))
@@ -324,11 +363,17 @@ module _ (cut_leaves : CutLeaves) (begun : BegunCovers) (options : WordOptions) 
         asked = there.asked;
         asked_each = (omega (arith, there.each), omega (arith, there.each));
         runs = λ t settled w may.
-            let to = there.runs t (opened w) (begins t settled w may) in
-            (subst (λ ms. IsRun (opened w) (take (length there.outcomes) statements) ms there.outcomes) (sym moments-are) to.0, λ h. stood t h (behind_all (opened w) there.outcomes) to.1);
+            subst (λ ms. IsRun (opened w) (take (length there.outcomes) statements) ms there.outcomes) (sym moments-are) (there.runs t (opened w) (begins t settled w may)).0;
+        closes = λ t settled w may.
+            let acts = run-closes t settled w may in
+            record {
+              acts = acts.0;
+              closing = acts.1;
+              stands = λ h. stood t h (behind_all (opened w) there.outcomes) acts.0 (there.runs t (opened w) (begins t settled w may)).1 acts.1;
+              crashes = since-close t settled w may acts.0 acts.1;
+            };
         settled = still;
         made = made;
-        crashes = since-close;
         spares = spares-close;
         still = λ t settled w may h finished all. still-close t settled w may finished all;
         front = λ t. let texts = replies_text (replies_of there.outcomes) in (length texts, told-then t ∙ ap (λ all. disk.told ++ all) (sym (take-length texts)));
@@ -353,29 +398,35 @@ module _ (cut_leaves : CutLeaves) (begun : BegunCovers) (options : WordOptions) 
           not_cut execute.NoMemory h = omega (arith, h)
           not_cut execute.Broken h = omega (arith, h)
 
+    -- the acts by which it was closed are those that close its world
+    closed-stands : {finish : Instance} {disk3 : Disk} → dt → Closed dt finish disk2 disk3 → (w : World) (acts : List Act) → StandsFor finish disk2 w → AreClosing w acts
+        → Stands options.instance disk3.files (ended (done_all w acts))
+    closed-stands {finish} {disk3} t one w acts stands closes =
+        subst (λ xs. Stands options.instance disk3.files (ended (done_all w xs))) (closing-alone w one.acts acts (one.closes t w stands) closes) (one.stands t options.instance w stands)
+
     -- every statement was answered, and the instance closed
     pub all-ended : (disk3 : Disk) (finish closed : Instance) → AnsweredAll options.stop start finish statements ct coming coming_after dt disk1 disk2
-        → (dt → Effect IsOurs (Closes finish disk2) disk2 disk3) → LoadSpares dt disk disk1 start → CloseSpares dt finish disk2 disk3 → (dt → KeepsFiles NotOurs disk1 disk2) → (dt → IsStored disk3 closed)
-        → (dt → MediaAreDurable disk2 → MediaAreDurable disk3) → (dt → StandsEnded finish disk2 disk3.files) → Executed (Some options) statements ct coming coming_after dt disk disk3 0
-    all-ended disk3 finish closed all closing load_spares close_spares others stored media stood =
+        → (dt → Effect IsOurs (Closing finish disk2) disk2 disk3) → LoadSpares dt options.instance disk disk1 start → CloseSpares dt finish disk2 disk3 → (dt → KeepsFiles NotOurs disk1 disk2) → (dt → IsStored disk3 closed)
+        → (dt → MediaAreDurable disk2 → MediaAreDurable disk3) → Closed dt finish disk2 disk3 → Executed (Some options) statements ct coming coming_after dt disk disk3 0
+    all-ended disk3 finish closed all closing load_spares close_spares others stored media closed_by_acts =
         ended-by disk3 finish (came-all options.stop start finish statements ct coming coming_after dt disk1 disk2 all) closing load_spares close_spares 0 (λ h. omega (arith, h))
-        (λ t h w stands. stood t options.instance w stands)
+        (λ t h w acts stands closes. closed-stands t closed_by_acts w acts stands closes)
         (λ t settled h. settled-again closed disk disk3 settled (others-then disk3 finish closing others t) (stored t) (media t (all.media t (calm t settled))))
         (λ t h. (stored t).made) (λ h. (all.each_outcome, all.accepted)) (λ h. absurd (omega (arith, h)))
 
     -- a statement was refused where the run was to stop, and the instance closed
     pub stopped-there : (disk3 : Disk) (finish closed : Instance) → Stopped options.stop start finish statements ct coming coming_after dt disk1 disk2
-        → (dt → Effect IsOurs (Closes finish disk2) disk2 disk3) → LoadSpares dt disk disk1 start → CloseSpares dt finish disk2 disk3 → (dt → KeepsFiles NotOurs disk1 disk2) → (dt → IsStored disk3 closed)
-        → (dt → MediaAreDurable disk2 → MediaAreDurable disk3) → (dt → StandsEnded finish disk2 disk3.files) → Executed (Some options) statements ct coming coming_after dt disk disk3 1
-    stopped-there disk3 finish closed there closing load_spares close_spares others stored media stood =
+        → (dt → Effect IsOurs (Closing finish disk2) disk2 disk3) → LoadSpares dt options.instance disk disk1 start → CloseSpares dt finish disk2 disk3 → (dt → KeepsFiles NotOurs disk1 disk2) → (dt → IsStored disk3 closed)
+        → (dt → MediaAreDurable disk2 → MediaAreDurable disk3) → Closed dt finish disk2 disk3 → Executed (Some options) statements ct coming coming_after dt disk disk3 1
+    stopped-there disk3 finish closed there closing load_spares close_spares others stored media closed_by_acts =
         ended-by disk3 finish (came-stopped options.stop start finish statements ct coming coming_after dt disk1 disk2 there) closing load_spares close_spares 1 (λ h. omega (arith, h))
-        (λ t h w stands. stood t options.instance w stands)
+        (λ t h w acts stands closes. closed-stands t closed_by_acts w acts stands closes)
         (λ t settled h. settled-again closed disk disk3 settled (others-then disk3 finish closing others t) (stored t) (media t (there.media t (calm t settled))))
         (λ t h. (stored t).made) (λ h. absurd (omega (arith, h))) (λ h. (there.stops, there.refused))
 
 -- Runs.
 
-module _ (cut_leaves : CutLeaves) (begun : BegunCovers) (asks : Option WordOptions) (st : Type 0) (rest rest_after : List ℕ) (ct : Type 0) (coming : ℕ → ℕ) (dt : Type 0) (disk : Disk)
+module _ (laws : CrashLaws) (asks : Option WordOptions) (st : Type 0) (rest rest_after : List ℕ) (ct : Type 0) (coming : ℕ → ℕ) (dt : Type 0) (disk : Disk)
     (lawful : dt → IsLawful disk) where
   -- no statement was begun
   nothing-ran : (code : ℕ) (bytes : List ℕ) → (st → rest ≡ bytes ++ rest_after) → length bytes ≤ script_bytes + 1 → (code ≡ 8 → script_bytes < length bytes)
@@ -388,11 +439,11 @@ module _ (cut_leaves : CutLeaves) (begun : BegunCovers) (asks : Option WordOptio
     few = few;
     too_long = too_long;
     long = long;
-    executed = nothing-executed cut_leaves begun asks [] ct coming dt disk code lawful above not_cut;
+    executed = nothing-executed laws asks [] ct coming dt disk code lawful above not_cut;
     whole = none;
   }
     where
-      none : (0 < length (nothing-executed cut_leaves begun asks [] ct coming dt disk code lawful above not_cut).moments) ⊎ (code ≡ 0) ⊎ (code ≡ 1) → IsWhole st bytes rest_after []
+      none : (0 < length (nothing-executed laws asks [] ct coming dt disk code lawful above not_cut).moments) ⊎ (code ≡ 0) ⊎ (code ≡ 1) → IsWhole st bytes rest_after []
       none (inl some) = absurd (omega (arith, some))
       none (inr h) = absurd (not_ended code above h)
 

@@ -1,5 +1,6 @@
 -- Which files are left alone by several calls.
 use Rattle.std.proofs.Common.{◌≡◌, inl, inr, ℕ, List, [], ◌∷◌, ◌++◌}
+use Rattle.std.specs.List.{AllByRecursion}
 use Rattle.bk_device.specs.Calls.{ChangesNothing, Elapses, TellsBytes, TellsFront}
 use Rattle.bk_device.specs.Compose.{keeps_by_effect, keeps_by_nothing, keeps_by_telling, keeps_then}
 use Rattle.bk_device.specs.Disk.{Files, Disk, MayLeave}
@@ -10,9 +11,12 @@ use Rattle.bk_instance.specs.Stands.{StandsFor}
 use Rattle.bk_instance.specs.Steps.{Failed, MayCome}
 use Rattle.bk_instance.specs.Touched.{IsTouched}
 use Rattle.bk_items.specs.declared.item.ScriptEntry.{ScriptEntry}
+use Rattle.bk_machine.specs.Acts.{Act, done, done_all, turned, seated, created, dropped, logged, medium_made, set_sealed, based, replaced, restored, recovered}
 use Rattle.bk_machine.specs.Outcome.{Outcome}
+use Rattle.bk_machine.specs.Run.{behind_all}
+use Rattle.bk_machine.specs.Sound.{AreIdle}
 use Rattle.bk_machine.specs.World.{World}
-use Rattle.bk_machine.specs.Writes.{ActsWrite, IsStill}
+use Rattle.bk_machine.specs.Writes.{ActsWrite, IsStill, IsTurn}
 use Rattle.bk_world.specs.Text.{reply_text}
 use Rattle.bk_console.specs.Answers.{Asked, CutShort, CutWithin}
 use Rattle.bk_console.specs.Spares.{AreStill, OutcomesWrite, Spares}
@@ -85,6 +89,26 @@ writes-last (first ∷ os) o path writes = inr (writes-last os o path writes)
 pub still-front : (os : List Outcome) (o : Outcome) → AreStill (os ++ o ∷ []) → AreStill os × IsStill o
 still-front [] o all = (tt, all.0)
 still-front (first ∷ os) o all = let rest = still-front os o all.1 in ((all.0, rest.0), rest.1)
+
+-- nothing more is open behind acts that touch memory alone
+turns-idle : (w : World) (acts : List Act) → AllByRecursion IsTurn acts → AreIdle w → AreIdle (done_all w acts)
+unfolding done
+turns-idle w [] all idle = idle
+turns-idle w (turned name ∷ acts) all idle = turns-idle (done w (turned name)) acts all.1 idle
+turns-idle w (seated session ∷ acts) all idle = turns-idle (done w (seated session)) acts all.1 idle
+turns-idle w (created c ∷ acts) all idle = absurd all.0
+turns-idle w (dropped name ∷ acts) all idle = absurd all.0
+turns-idle w (logged name said transactions ∷ acts) all idle = absurd all.0
+turns-idle w (medium_made path ∷ acts) all idle = absurd all.0
+turns-idle w (set_sealed path header ∷ acts) all idle = absurd all.0
+turns-idle w (based name header ∷ acts) all idle = absurd all.0
+turns-idle w (replaced name header ∷ acts) all idle = absurd all.0
+turns-idle w (restored name base redo ∷ acts) all idle = absurd all.0
+turns-idle w (recovered name r ∷ acts) all idle = absurd all.0
+
+pub still-idle : (w : World) (os : List Outcome) → AreStill os → AreIdle w → AreIdle (behind_all w os)
+still-idle w [] all idle = idle
+still-idle w (o ∷ os) all idle = still-idle (done_all w o.acts) os all.1 (turns-idle w o.acts all.0 idle)
 
 -- An answer that is cut short.
 

@@ -1,5 +1,5 @@
 -- What answering statements does: to the instance, the device, the clock and the told bytes, and what a crash meanwhile leaves.
-use Rattle.std.specs.Prelude.{◌≡◌, ◌⊎◌, ◌<◌, ◌≤◌, ℕ, suc, ◌+◌, ◌-◌, Bool, true, false, nat_le, if◌then◌else◌, List, [], ◌∷◌, ◌++◌, length, take, slice_index}
+use Rattle.std.specs.Prelude.{◌≡◌, ◌⊎◌, ◌<◌, ◌≤◌, ℕ, zero, suc, ◌+◌, ◌-◌, Bool, true, false, nat_le, if◌then◌else◌, List, [], ◌∷◌, ◌++◌, length, take, slice_index}
 use Rattle.std.specs.List.{list_any}
 use Rattle.bk_device.specs.Calls.{Elapses, TellsFront}
 use Rattle.bk_device.specs.Disk.{Files, Disk}
@@ -55,13 +55,20 @@ NotOurs name = IsOurs name → ⊥
 
 -- Crashes.
 
--- how many of these replies have their text whole among the first m bytes that are told
+-- a reply with this text, and so many behind it: alone it counts only where its text isn't empty
+abbrev pub told_before : List ℕ → ℕ → ℕ
+told_before [] zero = 0
+told_before [] (suc n) = suc (suc n)
+told_before (byte ∷ text) n = suc n
+
+-- how many replies come up to the last one with a text that isn't empty and is whole among the first m bytes that are told
 unfoldable pub told_whole : List Reply → ℕ → ℕ
 told_whole [] m = 0
-told_whole (reply ∷ replies) m = if nat_le (length (reply_text reply)) m then suc (told_whole replies (m - length (reply_text reply))) else 0
+told_whole (reply ∷ replies) m =
+    if nat_le (length (reply_text reply)) m then told_before (reply_text reply) (told_whole replies (m - length (reply_text reply))) else 0
 
--- These files, with these bytes told, are left by a crash of a run from this world that came to these outcomes: it did at least the statements whose text
--- was told whole.
+-- These files, with these bytes told, are left by a crash of a run from this world that came to these outcomes: it did at least the statements up to the last
+-- one of whose reply a text was told whole.
 pub record LeavesOf (number : ℕ) (first : World) (outcomes : List Outcome) (told : List ℕ) (image : Files) (heard : List ℕ) : Type 0 where
   -- how many bytes were told
   pub count : ℕ

@@ -1,4 +1,5 @@
 pub mod Answers
+pub mod Crashes
 pub mod Causes
 pub mod Given
 pub mod Life

@@ -1,5 +1,5 @@
 -- The run: what a call of the console read, told and did, and how it ended.
-use Rattle.std.specs.Prelude.{◌≡◌, ◌⊎◌, ◌<◌, ◌≤◌, ℕ, ◌+◌, true, List, [], ◌++◌, length, take, Option, None, Some, Result, Ok, Err}
+use Rattle.std.specs.Prelude.{◌≡◌, ◌⊎◌, ◌<◌, ◌≤◌, ℕ, ◌+◌, true, List, [], ◌∷◌, ◌++◌, length, take, Option, None, Some, Result, Ok, Err}
 use Rattle.bk_device.specs.Calls.{TellsFront}
 use Rattle.bk_device.specs.Disk.{Files, Disk, IsSettled}
 use Rattle.bk_device.specs.Effects.{LeavesSince}
@@ -11,6 +11,8 @@ use Rattle.bk_instance.specs.Stands.{Stands}
 use Rattle.bk_instance.specs.Touched.{IsTouched}
 use Rattle.bk_home.specs.Home.{IsMade}
 use Rattle.bk_items.specs.declared.item.ScriptEntry.{ScriptEntry}
+use Rattle.bk_machine.specs.Acts.{Act, done_all}
+use Rattle.bk_machine.specs.Closing.{AreClosing, closed_by}
 use Rattle.bk_machine.specs.Outcome.{Outcome}
 use Rattle.bk_machine.specs.Run.{IsRun, behind_all, replies_of}
 use Rattle.bk_machine.specs.World.{World, opened, ended}
@@ -60,6 +62,7 @@ answer_status answer.Broken = Broken
 abbrev pub load_status : LoadError → Status
 load_status load.NotAnInstance = NotAnInstance
 load_status load.Broken = Broken
+load_status load.Unsettled = Broken
 load_status load.Fault = DeviceFault
 load_status load.NoMemory = NoMemory
 
@@ -98,6 +101,22 @@ pub record IsWhole (tells : Type 0) (bytes rest_after : List ℕ) (statements : 
   pub to_its_end : tells → rest_after ≡ []
   pub short : length bytes ≤ script_bytes
 
+-- These files, with these bytes told, are left by a crash of a run, or of its closing by these acts, which is begun once all texts are told.
+pub record LeavesRun (number : ℕ) (first : World) (outcomes : List Outcome) (acts : List Act) (told : List ℕ) (image : Files) (heard : List ℕ) : Type 0 where
+  -- what was cut
+  pub cut : List Outcome
+  pub which : (cut ≡ outcomes) ⊎ ((cut ≡ outcomes ++ closed_by acts ∷ []) × (heard ≡ told ++ replies_text (replies_of outcomes)))
+  pub leaves : LeavesOf number first cut told image heard
+
+-- A run from this world that came to these outcomes is closed: what is open is rolled back.
+pub record Closes (asks : Option WordOptions) (first : World) (outcomes : List Outcome) (disk disk_after : Disk) (status : ℕ) : Type 0 where
+  pub acts : List Act
+  pub closing : AreClosing (behind_all first outcomes) acts
+  -- at the end the files stand for the world behind that
+  pub stands : (status ≡ 0) ⊎ (status ≡ 1) → MayBegin asks disk_after.files (ended (done_all (behind_all first outcomes) acts))
+  -- each crash meanwhile left what a crash of the run or of its closing leaves, so that the next run with these words may begin with it
+  pub crashes : LeavesSince disk.moment (LeavesRun (asked_number asks) first outcomes acts disk.told) disk_after
+
 -- Executing statements, from each world with which the run may begin: the machine's outcomes, what was told of their replies, and what is left.
 pub record Executed (asks : Option WordOptions) (statements : List ScriptEntry) (clock_tells : Type 0) (coming coming_after : ℕ → ℕ)
     (device_tells : Type 0) (disk disk_after : Disk) (status : ℕ) : Type 0 where
@@ -107,23 +126,21 @@ pub record Executed (asks : Option WordOptions) (statements : List ScriptEntry) 
   pub outcomes : List Outcome
   pub asked : Asked clock_tells coming coming_after moments
   pub asked_each : (length outcomes ≤ length moments) × (length moments ≤ length outcomes + 1)
-  -- where nothing was pending at entry: the machine's run over a front of the statements; at the end the files stand for its last world
+  -- where nothing was pending at entry: the machine's run over a front of the statements
   pub runs : device_tells → IsSettled disk → (w : World) → MayBegin asks disk.files w
       → IsRun (opened w) (take (length outcomes) statements) (take (length outcomes) moments) outcomes
-      × ((status ≡ 0) ⊎ (status ≡ 1) → MayBegin asks disk_after.files (ended (behind_all (opened w) outcomes)))
-  -- and nothing is pending
+  -- its closing, and what each crash meanwhile left
+  pub closes : device_tells → IsSettled disk → (w : World) → MayBegin asks disk.files w → Closes asks (opened w) outcomes disk disk_after status
+  -- at the end nothing is pending
   pub settled : device_tells → IsSettled disk → (status ≡ 0) ⊎ (status ≡ 1) → IsSettled disk_after
   -- the instance is made then, also by an empty script
   pub made : device_tells → (status ≡ 0) ⊎ (status ≡ 1) → IsMade disk_after.files
-  -- each crash meanwhile left what a crash of this run leaves, so that the next run with these words may begin with it
-  pub crashes : device_tells → IsSettled disk → (w : World) → MayBegin asks disk.files w
-      → LeavesSince disk.moment (LeavesOf (asked_number asks) (opened w) outcomes disk.told) disk_after
   -- No file was touched but the instance's own three, a medium that was being made at entry, and media to which acts of the outcomes write: the others are byte
   -- for byte as they were, and each crash meanwhile left them so.
   pub spares : device_tells → IsSettled disk → (w : World) → MayBegin asks disk.files w
       → Spares (IsTouched (RunWrites disk.files outcomes)) disk disk_after
-  -- Where all that was executed stores nothing, as what is refused, USE and SELECT, no file was touched at all. The instance was made, and none of its media was
-  -- being made.
+  -- Where all that was executed stores nothing, as what is refused, USE, `:session` and SELECT, no file was touched at all. The instance was made, none of its
+  -- media was being made, and nothing was open in its files.
   pub still : device_tells → IsSettled disk → (w : World) → MayBegin asks disk.files w → (status ≡ 0) ⊎ (status ≡ 1) → IsFinished disk.files → AreStill outcomes
       → Spares NoName disk disk_after
   -- whole texts of replies, and then perhaps a front of the next

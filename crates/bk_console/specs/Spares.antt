@@ -6,9 +6,11 @@ use Rattle.bk_device.specs.Disk.{Files, Disk}
 use Rattle.bk_device.specs.Effects.{KeepsFiles, MayLeaveOthers}
 use Rattle.bk_home.specs.Home.{IsMade}
 use Rattle.bk_instance.specs.declared.instance.Instance.{Instance}
-use Rattle.bk_instance.specs.Stands.{ReservesNone}
+use Rattle.bk_instance.specs.Stands.{Covers, ReservesNone}
 use Rattle.bk_instance.specs.Touched.{IsMaking}
 use Rattle.bk_machine.specs.Outcome.{Outcome}
+use Rattle.bk_machine.specs.Sound.{AreIdle}
+use Rattle.bk_machine.specs.World.{World}
 use Rattle.bk_machine.specs.Writes.{ActsWrite, IsStill}
 
 -- no file at all
@@ -38,7 +40,8 @@ pub record LeavesAlone (old : Instance) (disk : Disk) (new : Instance) (disk_aft
   pub files : Spares NoName disk disk_after
   pub reserves : ReservesNone old → ReservesNone new
 
--- The instance is made, and no medium is being made.
+-- The instance is made, no medium is being made, and nothing is open in the world that its files hold.
 pub record IsFinished (files : Files) : Type 0 where
   pub made : IsMade files
   pub none : (path : List ℕ) → IsMaking files path → ⊥
+  pub idle : (number : ℕ) (w : World) → Covers number files w → AreIdle w

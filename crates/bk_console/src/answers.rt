@@ -127,6 +127,7 @@ pub fn answer_all<D: Device, C: Clock>(
     ensures cut_short { (ss : List EntryOf) → AreItems script.now ss → OnErr result (CutAll stop instance.old ss C.tells (C.coming clock.old) (C.coming clock.new)
         D.tells (D.disk device.old) (D.disk device.new) (IsErrOf result answer_error.Console)) }
     ensures ready { OnOk result (IsReady instance.new) }
+    ensures stands { D.tells → OnOk result ((w : World) → StandsFor instance.old (D.disk device.old) w → (v : World) × StandsFor instance.new (D.disk device.new) v) }
     ensures stored { D.tells → OnOk result (IsStored (D.disk device.new) instance.new) }
     ensures others { D.tells → KeepsFiles NotOurs (D.disk device.old) (D.disk device.new) }
     ensures broken { D.tells → IsErrOf result answer_error.Broken → (w : World) → StandsFor instance.old (D.disk device.old) w → ⊥ }

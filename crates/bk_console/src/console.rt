@@ -28,8 +28,8 @@ use std::alloc::Global;
 use std::thread::Threads;
 
 /// Runs the script that the source gives over the instance on the device: reads it to its end, executes its items in order,
-/// one after the other, and tells each reply before the next item is read. With `-b` it stops at the first refusal. Answers the
-/// exit status.
+/// one after the other, and tells each reply before the next item is read. With `-b` it stops at the first refusal. At its end
+/// what is open is rolled back. Answers the exit status.
 ///
 /// The instance is made where the device holds none. What a statement changed is on the device before its reply is told,
 /// and a crash at any moment leaves what a crash of the machine leaves. No other file is touched. At statuses 2, 3, 7 and
@@ -42,7 +42,7 @@ pub fn run<R: Threads + Sync, D: Device, S: Source, C: Clock>(
     device: &mut D,
     clock: &mut C,
 ) -> u8
-    // The replies are the machine's, over the script of the bytes read, and are what was told.
+    // The replies are the machine's, over the script of the bytes read, and are what was told; crashes leave what the machine's leave.
     ensures run { Ran (options_of (map string_bytes words.now)) S.tells (S.rest source.old) (S.rest source.new) C.tells (C.coming clock.old) (C.coming clock.new)
         D.tells (D.disk device.old) (D.disk device.new) result }
 

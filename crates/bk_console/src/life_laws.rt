@@ -4,7 +4,7 @@ ghost use Rattle.bk_machine.specs.World.{World, empty_world};
 ghost use Rattle.bk_console.specs.Life.{IsEmpty, Lasts, Live};
 
 use bk_device::{Clock, Device, Source};
-use bk_instance::{empty_files_stand, events_keep_what_stands};
+use bk_instance::{crashes_leave_files_that_stand, empty_files_stand, events_keep_what_stands};
 use bk_machine::events_keep_worlds_sound;
 
 /// The life of a device, from an empty one on: however many calls of `run` with any words come to it, each ended or cut
@@ -15,6 +15,7 @@ pub fn lives_of_devices<D: Device, S: Source, C: Clock>()
     ensures lasts { (n : ℕ) (files : Files) (w : World) → Live files w → Lasts S.tells C.tells D.tells D.disk n files w }
     ensures lives { (n number : ℕ) (files : Files) → IsEmpty files → Lasts S.tells C.tells D.tells D.disk n files (empty_world number) }
 {
+    crashes_leave_files_that_stand();
     empty_files_stand();
     events_keep_what_stands();
     events_keep_worlds_sound();

@@ -8,12 +8,13 @@ use bk_ids::{Lsn, Text};
 use bk_world::{Reply, Rule};
 use std::alloc::{AllocError, Global};
 
-/// The bytes of a reply, each line ended by a line feed.
+/// The bytes of a reply, each line ended by a line feed; none where nothing is answered.
 pub fn text(alloc: Global, reply: &Reply) -> Result<String, AllocError>
     ensures { IfOk result (λ text. string_bytes text ≡ reply_text reply.now) }
 {
     match reply {
         Reply::Done => String::from_str(alloc, "Done.\n"),
+        Reply::Nothing => Ok(String::new(alloc)),
         Reply::Counted { rows } => format!(in alloc; "({rows} rows)\n"),
         Reply::Selected { rows } => table_text(alloc, rows.as_slice()),
         Reply::SetMade {

@@ -96,7 +96,7 @@ impl From<LoadError> for Status {
             LoadError::NotAnInstance => Status::NotAnInstance,
             LoadError::Fault => Status::DeviceFault,
             LoadError::NoMemory => Status::NoMemory,
-            LoadError::Broken => Status::Broken,
+            LoadError::Broken | LoadError::Unsettled => Status::Broken,
         }
     }
 }

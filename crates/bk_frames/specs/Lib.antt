@@ -1,2 +1,4 @@
 pub mod Pages
+pub mod Blocks
+pub mod Lent
 pub mod Lending

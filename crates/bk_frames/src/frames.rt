@@ -2,7 +2,8 @@ ghost use Rattle.std.specs.Prelude.{◌≡◌, ◌≢◌, ◌<◌, ◌≤◌, �
 ghost use Rattle.std.specs.Borrow.{sem};
 ghost use Rattle.bk_frames.specs.Pages.{zeroed_page};
 
-use crate::frames_mut::{FramesMut, lend_pair, lend_parts};
+use crate::block::Block;
+use crate::frames_mut::{FramesMut, lend_page, lend_pair, lend_parts};
 use std::alloc::{AllocError, Global};
 use std::marker::Model;
 
@@ -12,10 +13,10 @@ pub const PAGE_BYTES: usize = 8192;
 /// The bytes of a page.
 pub type Page = [u8; 8192];
 
-/// A fixed number of pages in memory. Contracts see the list of them, each as its bytes.
-#[derive(Drop)]
+/// A fixed number of pages in one block of memory. Contracts see the list of them, each as its bytes.
 pub struct Frames {
-    pages: Vec<Page>,
+    block: Block<Global>,
+    alloc: Global,
 }
 
 impl Model for Frames {
@@ -23,7 +24,14 @@ impl Model for Frames {
 
     ghost Value = { List (List ℕ) };
 
-    ghost view = { λ frames. frames.pages.items };
+    ghost view = { λ frames. frames.block.pages };
+}
+
+impl Drop for Frames {
+    fn drop(self) {
+        let Frames { block, alloc } = self;
+        block.free(&alloc);
+    }
 }
 
 impl Frames {
@@ -33,16 +41,15 @@ impl Frames {
     pub fn new(alloc: Global, n: usize) -> Result<Frames, AllocError>
         ensures { IfOk result (λ frames. frames ≡ replicate n zeroed_page) }
     {
-        Ok(Frames {
-            pages: Vec::from_elem(alloc, [0; 8192], n)?,
-        })
+        let block = Block::zeroed(&alloc, n)?;
+        Ok(Frames { block, alloc })
     }
 
     /// How many pages there are.
     pub fn len(&self) -> usize
         ensures { result ≡ length self.now }
     {
-        self.pages.len()
+        self.block.len()
     }
 
     /// The page at a place below `len`.
@@ -50,14 +57,14 @@ impl Frames {
         requires { i < length self.now }
         ensures { slice_get self.now i ≡ Some result.now }
     {
-        &self.pages[i]
+        &self.block.as_slice()[i]
     }
 
     /// All pages.
     pub fn as_slice(&self) -> &[Page]
         ensures { result.now ≡ self.now }
     {
-        &self.pages
+        self.block.as_slice()
     }
 
     /// The page at a place below `len`, to be written. All others stay as they are.
@@ -66,7 +73,7 @@ impl Frames {
         ensures* writes_back { sem 𝓛 (LendsPage self.entry i result) }
         ensures value { slice_get self.old i ≡ Some result.now }
     {
-        &mut self.pages[i]
+        lend_page(self.as_mut_slice(), i)
     }
 
     /// All pages, to be written.
@@ -74,7 +81,7 @@ impl Frames {
         ensures* writes_back { sem 𝓛 (LendsPages self.entry result) }
         ensures value { result.now ≡ self.old }
     {
-        self.pages.as_mut_slice()
+        self.block.as_mut_slice()
     }
 
     /// The pages at two places below `len`, to be written. The places differ, and all other pages stay as they are. A caller's proof

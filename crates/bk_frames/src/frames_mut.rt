@@ -63,7 +63,7 @@ impl<'a> FramesMut<'a> {
 }
 
 // The page at a place.
-fn lend_page(pages: &mut [Page], i: usize) -> &mut Page
+pub(crate) fn lend_page(pages: &mut [Page], i: usize) -> &mut Page
     requires { i < length pages.old }
     ensures* writes_back { sem 𝓛 (Lends (Array (Array u8 0) 0) (Array u8 0) pages.entry result (slice_set pages.old i)) }
     ensures value { slice_get pages.old i ≡ Some result.now }

@@ -1,6 +1,7 @@
 //! Frames: a fixed number of pages in memory, and parts of them that are lent to be written.
 #![tactic(auto)]
 
+mod block;
 mod frames;
 mod frames_mut;
 

@@ -100,6 +100,21 @@ lies_spans file (suc most) gate (span ∷ spans) end enough lies ends =
     let first : (gate + 9, span.1) ≡ span = ap (λ (p : ℕ). let s : ℕ × ℕ = (p, span.1) in s) (sym lies.0) in
     rw (lies.1, rest) (ap (λ (s : ℕ × ℕ). s ∷ spans) first)
 
+-- and the one behind those next
+pub lies_next : (file : List ℕ) (most gate : ℕ) (spans : List (ℕ × ℕ)) (end size : ℕ) → length file < most + gate → Lies file gate spans end → blob_at file end ≡ Some size → (rest : List (ℕ × ℕ)) × (spans_from most gate file ≡ spans ++ (end + 9, size) ∷ rest)
+lies_next file zero gate [] end size enough lies blob = absurd (omega (arith, (of_blob file end size blob).2, lies, enough))
+lies_next file (suc most) gate [] end size enough lies blob =
+    let here : blob_at file gate ≡ Some size = ap (blob_at file) lies ∙ blob in
+    let place : gate + 9 ≡ end + 9 = ap (λ (n : ℕ). n + 9) lies in
+    (spans_from most (gate + 9 + size) file, rw here (ap (λ (n : ℕ). let s : ℕ × ℕ = (n, size) in s ∷ spans_from most (gate + 9 + size) file) place))
+lies_next file zero gate (span ∷ spans) end size enough lies blob =
+    let first = of_blob file gate span.1 lies.1 in
+    absurd (omega (arith, first.2, enough))
+lies_next file (suc most) gate (span ∷ spans) end size enough lies blob =
+    let rest = lies_next file most (gate + 9 + span.1) spans end size (omega (arith, enough)) lies.2 blob in
+    let first : (gate + 9, span.1) ≡ span = ap (λ (p : ℕ). let s : ℕ × ℕ = (p, span.1) in s) (sym lies.0) in
+    (rest.0, rw (lies.1, rest.1) (ap (λ (s : ℕ × ℕ). s ∷ spans ++ (end + 9, size) ∷ rest.0) first))
+
 pub stands_spans : (spans : List (ℕ × ℕ)) (end : ℕ) (file : List ℕ) → Stands spans end file → spans_of file ≡ spans
 unfolding spans_of
 stands_spans spans end file stands = lies_spans file (length file) 16 spans end (omega arith) stands.lies stands.ends

@@ -1,10 +1,10 @@
 -- A gate file that is kept on a device.
-use Rattle.std.proofs.Common.{◌≡◌, ◌≢◌, ◌⊎◌, ◌≤◌, ◌<◌, ◌+◌, ℕ, Bool, true, false, List, [], ◌∷◌, Option, Some, None, length, take}
+use Rattle.std.proofs.Common.{◌≡◌, ◌≢◌, ◌⊎◌, ◌≤◌, ◌<◌, ◌+◌, ℕ, Bool, true, false, List, [], ◌∷◌, Option, Some, None, length, map, take}
 use Rattle.std.specs.Prelude.{slice_index, unwrap_or}
 use Rattle.std.specs.List.{All}
 use Rattle.bk_device.specs.Calls.{contents, read_at}
 use Rattle.bk_device.specs.Disk.{Disk, IsDurable}
-use Rattle.bk_gate.specs.Blobs.{number, number_bytes, blob_at, IsGateFile}
+use Rattle.bk_gate.specs.Blobs.{number, number_bytes, blob_at, part_of, IsGateFile}
 
 -- from this gate byte on lie blobs in these parts of the file, and then comes the gate byte at this end
 abbrev pub Lies : List ℕ → ℕ → List (ℕ × ℕ) → ℕ → Type 0
@@ -86,3 +86,7 @@ begun_of disk gate = read_at (contents (disk.files gate.name)) (gate.end + 9) (u
 abbrev pub IsShut : List ℕ → ℕ → Bool → Type 0
 IsShut file end true = (end < length file) × (slice_index file end ≢ 1)
 IsShut file end false = (end ≡ length file) ⊎ (end < length file) × (slice_index file end ≡ 1)
+
+-- these are the blobs of the file up to this gate byte
+abbrev pub AreUpTo : List ℕ → ℕ → List (List ℕ) → Type 0
+AreUpTo file gate blobs = (spans : List (ℕ × ℕ)) × (blobs ≡ map (part_of file) spans) × Lies file 16 spans gate

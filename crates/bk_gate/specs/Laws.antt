@@ -1,14 +1,15 @@
 -- What the layers above may take of a gate file.
-use Rattle.std.proofs.Common.{◌≡◌, ◌≤◌, ◌<◌, ◌⊎◌, ◌+◌, ℕ, Bool, true, false, List, Option, Some, length, map, take, refl, ap, sym, subst, ◌∙◌, arith}
+use Rattle.std.proofs.Common.{◌≡◌, ◌≤◌, ◌<◌, ◌⊎◌, ◌+◌, ℕ, Bool, true, false, List, [], ◌∷◌, ◌++◌, Option, Some, None, length, map, take, refl, ap, sym, subst, ◌∙◌, arith}
 use Rattle.std.specs.Prelude.{slice_index, slice_get, option_map}
+use Rattle.std.proofs.lemmas.List.{map-append}
 use Rattle.std.proofs.lemmas.Option.{slice_get-map}
 use Rattle.bk_device.specs.Calls.{contents, read_at}
 use Rattle.bk_device.specs.Compose.{durable_kept}
 use Rattle.bk_device.specs.Disk.{Disk}
 use Rattle.bk_device.specs.Effects.{IsName, KeepsFiles}
-use Rattle.bk_gate.specs.Blobs.{sealed, spans_of, part_of, blobs_in, IsGateFile}
-use Rattle.bk_gate.specs.Gate.{Kept, Stands, Quiet, IsAt, IsGate}
-use Rattle.bk_gate.specs.BlobLaws.{stands_spans, front_stands, front_sealed, shorter, gate_blobs, spans_inside}
+use Rattle.bk_gate.specs.Blobs.{sealed, spans_of, blob_at, part_of, blobs_in, IsGateFile}
+use Rattle.bk_gate.specs.Gate.{Kept, Lies, Stands, Quiet, IsAt, IsGate, AreUpTo}
+use Rattle.bk_gate.specs.BlobLaws.{stands_spans, lies_more, lies_next, front_stands, front_sealed, shorter, gate_blobs, spans_inside}
 
 -- files that agree up to the closed gate byte have the same blobs
 pub quiet_front : (spans : List (ℕ × ℕ)) (end : ℕ) (name : List ℕ) (a : Disk) (file : Option (List ℕ)) → Quiet spans end name a → take (end + 1) (contents file) ≡ take (end + 1) (contents (a.files name)) → sealed file ≡ sealed (a.files name)
@@ -115,3 +116,35 @@ pub blob_there : (file : List ℕ) (spans : List (ℕ × ℕ)) (i : ℕ) (span :
 blob_there file spans i span gate are there =
     ap (λ (blobs : List (List ℕ)). slice_get blobs i) (blobs_are file spans gate are) ∙ slice_get-map (part_of file) spans i
     ∙ ap (λ (o : Option (ℕ × ℕ)). option_map (part_of file) o) there
+
+-- a file whose blobs are read one behind the other
+
+-- before the first one there is none
+pub up_to_none : (file : List ℕ) → AreUpTo file 16 []
+up_to_none file = ([], refl, refl)
+
+-- one more
+pub up_to_more : (file : List ℕ) (gate : ℕ) (blobs : List (List ℕ)) (blob : List ℕ) → AreUpTo file gate blobs → blob_at file gate ≡ Some (length blob) → blob ≡ read_at file (gate + 9) (length blob) → AreUpTo file (gate + (9 + length blob)) (blobs ++ blob ∷ [])
+up_to_more file gate blobs blob are at is =
+    let span : ℕ × ℕ = (gate + 9, length blob) in
+    let end : gate + 9 + length blob ≡ gate + (9 + length blob) = omega arith in (
+      are.0 ++ span ∷ [],
+      ap (λ (bs : List (List ℕ)). bs ++ blob ∷ []) are.1 ∙ ap (λ (b : List ℕ). map (part_of file) are.0 ++ b ∷ []) is ∙ sym (map-append (part_of file) are.0 (span ∷ [])),
+      subst (λ (e : ℕ). Lies file 16 (are.0 ++ span ∷ []) e) end (lies_more file 16 are.0 gate (length blob) are.2 at),
+    )
+
+-- one behind those is the next
+pub up_to_next : (file : List ℕ) (gate : ℕ) (blobs : List (List ℕ)) (blob : List ℕ) → IsGateFile file → AreUpTo file gate blobs → blob_at file gate ≡ Some (length blob) → blob ≡ read_at file (gate + 9) (length blob) → (rest : List (List ℕ)) × (blobs_in file ≡ blobs ++ blob ∷ rest)
+unfolding spans_of
+up_to_next file gate blobs blob is_gate are at is =
+    let span : ℕ × ℕ = (gate + 9, length blob) in
+    let next = lies_next file (length file) 16 are.0 gate (length blob) (omega arith) are.2 at in (
+      map (part_of file) next.0,
+      gate_blobs file is_gate ∙ ap (map (part_of file)) next.1 ∙ map-append (part_of file) are.0 (span ∷ next.0) ∙ ap (λ (b : List ℕ). map (part_of file) are.0 ++ b ∷ map (part_of file) next.0) (sym is)
+          ∙ ap (λ (bs : List (List ℕ)). bs ++ blob ∷ map (part_of file) next.0) (sym are.1),
+    )
+
+-- and where there is none, those are all
+pub up_to_end : (file : List ℕ) (gate : ℕ) (blobs : List (List ℕ)) → IsGateFile file → gate ≤ length file → AreUpTo file gate blobs → blob_at file gate ≡ None → blobs_in file ≡ blobs
+up_to_end file gate blobs is_gate inside are none =
+    gate_blobs file is_gate ∙ ap (map (part_of file)) (stands_spans are.0 gate file (record { lies = are.2; ends = none; is_gate = is_gate; within = inside })) ∙ sym are.1

@@ -5,6 +5,8 @@ mod blob;
 mod error;
 mod gate;
 mod read;
+mod whole;
 
 pub use error::GateError;
 pub use gate::Gate;
+pub use whole::{blob_behind, read_file};

@@ -1,5 +1,5 @@
 // Reading a gate file.
-ghost use Rattle.std.specs.Prelude.{◌≡◌, ◌≢◌, ◌≤◌, ◌<◌, ◌+◌, ◌++◌, ◌∷◌, [], List, ℕ, None, length, take, IsTrue, IfOk, IfSome, OnOk, OnErr, IsErrOf, IsErr};
+ghost use Rattle.std.specs.Prelude.{◌≡◌, ◌≢◌, ◌≤◌, ◌<◌, ◌+◌, ◌++◌, ◌∷◌, [], List, ℕ, None, length, vec_len, take, IsTrue, IfOk, IfSome, OnOk, OnErr, IsErrOf, IsErr};
 ghost use Rattle.std.specs.Bool.{MatchBool};
 ghost use Rattle.bk_gate.specs.Blobs.{blob_at, magic, IsGateFile};
 ghost use Rattle.bk_gate.specs.Gate.{Lies, IsShut, AreWithin};
@@ -120,6 +120,7 @@ pub fn read_span<D: Device>(
 ) -> Result<Vec<u8>, GateError>
     requires { D.tells → at + len ≤ length (contents ((D.disk dev.old).files name.now)) }
     ensures bytes { D.tells → IfOk result (λ bytes. bytes.items ≡ read_at (contents ((D.disk dev.old).files name.now)) at len) }
+    ensures len { IfOk result (λ bytes. vec_len bytes ≡ len) }
     ensures effect { D.tells → ChangesNothing (D.disk dev.old) (D.disk dev.new) }
     ensures foreign { IsErrOf result GateError.Foreign → ⊥ }
     ensures cause { HasCause D.disk_faults D.tell_faults dev.old dev.new (IsErrOf result GateError.Fault) }

@@ -1,6 +1,8 @@
 -- Events keep what files stand for.
-use Rattle.std.proofs.Common.{◌≡◌, inl, inr, ℕ, cond, List, [], Option, None, Some, refl, sym, ◌∙◌, ap, subst}
+use Rattle.std.proofs.Common.{◌≡◌, inl, inr, ℕ, cond, List, [], ◌∷◌, ◌++◌, Option, None, Some, refl, sym, ◌∙◌, ap, subst, arith}
+use Rattle.std.specs.List.{AllByRecursion}
 use Rattle.std.proofs.lemmas.Slice.Eq.{bytes_eq-Decides}
+use Rattle.bk_acts.specs.Spelling.{act_bytes}
 use Rattle.bk_bytes.specs.Field.{AreBytes}
 use Rattle.bk_device.specs.Disk.{Files}
 use Rattle.bk_home.specs.declared.record.Record.{Record}
@@ -9,7 +11,8 @@ use Rattle.bk_home.specs.Laws.{own_made}
 use Rattle.bk_machine.specs.Events.{Happens, Happen, MediumRemoved, StandbyRemoved, MediumChanged, MediumAdded}
 use Rattle.bk_machine.specs.Events as world
 use Rattle.bk_machine.specs.Same.{SameLogs}
-use Rattle.bk_machine.specs.Sound.{AreIdle, IsSound, SetIn}
+use Rattle.bk_machine.specs.Settled.{IsSettledTo}
+use Rattle.bk_machine.specs.Sound.{AreIdle, IsIdle, IsSound, SetIn}
 use Rattle.bk_machine.specs.World.{World, empty_world}
 use Rattle.bk_media.specs.Media.{read_medium, found_at}
 use Rattle.bk_media.specs.Names.{medium_file}
@@ -19,8 +22,9 @@ use Rattle.bk_world.specs.Lines.{Grew, RecordLines, log_below}
 use Rattle.bk_world.specs.Medium.{Reading, medium_at, without_medium, with_medium}
 use Rattle.bk_instance.specs.Events.{IsAtRest, StandsAtRest, OnlyMedium, RemovesMedium, RemovesStandby, ChangesMedium, AddsMedium, HappensOn, HappenOn, nothing_more, one_more}
 use Rattle.bk_instance.specs.Media.{KeepsMedia, shown_medium}
-use Rattle.bk_instance.specs.Stands.{nothing}
+use Rattle.bk_instance.specs.Stands.{AreMade, Stands, nothing, one_more as more_made}
 use Rattle.bk_instance.proofs.Joins.{there-grew}
+use Rattle.bk_instance.proofs.KeptMedia.{media-on}
 use Rattle.bk_instance.proofs.MediumAt.{SameOthers, carries-same, found-in, media-at, medium_at-other, nothing-found, nothing-read, shown-read, with_medium-other, with_medium-own, without-own}
 use Rattle.bk_instance.proofs.Opened.{holds-same, media-in, not-own}
 use Rattle.bk_instance.proofs.Replays.{made-same}
@@ -29,6 +33,8 @@ use Rattle.bk_instance.proofs.Replays.{made-same}
 pub record EventLaws : Type 0 where
   pub sound : (old new : World) → IsSound old → Happens old new → IsSound new
   pub idle : (old new : World) → SameLogs old new → AreIdle old → AreIdle new
+  pub settled : (w : World) → IsSound w → AreIdle w → IsSettledTo w w
+  pub ended : (w v : World) → IsSound w → AreIdle w → IsSettledTo w v → SameLogs w v
   pub removed : (old new : World) → IsSound old → MediumRemoved old new → SameLogs old new
   pub standby : (old new : World) → IsSound old → StandbyRemoved old new → SameLogs old new
   pub changed : (old new : World) → IsSound old → MediumChanged old new → SameLogs old new
@@ -47,35 +53,68 @@ others-same path f g others other bytes apart = others (medium_file other) apart
 -- At rest.
 
 -- no medium is being made
-rest-none : (number : ℕ) (files : Files) (w : World) (at : StandsAtRest number files w) → at.stands.«record».making ≡ None
+rest-none : (number : ℕ) (files : Files) (w : World) (at : StandsAtRest number files w) → at.stands.covers.«record».making ≡ None
 rest-none number files w at = elim at.rest [
   | inl closed ↦ at.stands.finished closed
-  | inr not ↦ elim at.stands.holds [ inl new ↦ ap (λ (r : Record). r.making) new.1 | inr made ↦ absurd (made.made not) ]
+  | inr not ↦ elim at.stands.covers.holds [ inl new ↦ ap (λ (r : Record). r.making) new.1 | inr made ↦ absurd (made.made not) ]
 ]
 
-media-of : (number : ℕ) (files : Files) (w : World) → StandsAtRest number files w → KeepsMedia w None files
-media-of number files w at = subst (λ making. KeepsMedia w making files) (rest-none number files w at) at.stands.media
+-- and nothing is open in the world that the files hold
+none-made : (blobs : List (List ℕ)) (w : World) → AreMade blobs w → blobs ≡ [] → w.databases ≡ []
+none-made _ w (nothing _ none) is = none
+none-made _ w (more_made blobs old _ stored act made sound is_act done_so goes) is = absurd (none-behind blobs (act_bytes stored) is)
+  where
+    none-behind : (xs : List (List ℕ)) (x : List ℕ) → xs ++ x ∷ [] ≡ [] → ⊥
+    none-behind [] x is = absurd cc
+    none-behind (y ∷ xs) x is = absurd cc
+
+rest-idle : (number : ℕ) (files : Files) (w : World) (at : StandsAtRest number files w) → AreIdle at.stands.before
+rest-idle number files w at = elim at.rest [
+  | inl closed ↦ at.stands.idle closed
+  | inr not ↦ elim at.stands.covers.holds [
+    | inl new ↦ subst (AllByRecursion IsIdle) (sym (none-made at.stands.covers.blobs at.stands.before at.stands.covers.made new.2)) tt
+    | inr made ↦ absurd (made.made not)
+  ]
+]
+
+-- the media of a world for which files stand are those that they hold
+pub stands-media : EventLaws → (number : ℕ) (files : Files) (w : World) (stands : Stands number files w) → KeepsMedia w stands.covers.«record».making files
+stands-media laws number files w stands = media-on stands.before w stands.covers.«record».making files stands.settled.media.media (λ path header there. stands.settled.media.reads path header there) stands.covers.media
+
+media-of : EventLaws → (number : ℕ) (files : Files) (w : World) → StandsAtRest number files w → KeepsMedia w None files
+media-of laws number files w at = subst (λ making. KeepsMedia w making files) (rest-none number files w at) (stands-media laws number files w at.stands)
 
 rest-on : (path : List ℕ) (f g : Files) (w v : World) → OnlyMedium path f g → v.closed ≡ w.closed → IsAtRest f w → IsAtRest g v
 rest-on path f g w v others closed rest = elim rest [ inl is ↦ inl (closed ∙ is) | inr not ↦ inr (own-same path f g others made_file own_made ∙ not) ]
 
 -- Files of which one medium's may be another stand for a world with the same databases and logs.
-stands-on : (number : ℕ) (path : List ℕ) (f g : Files) (w v : World) (at : StandsAtRest number f w) → OnlyMedium path f g → IsSound v → AreIdle v → SameLogs w v
+stands-on : EventLaws → (number : ℕ) (path : List ℕ) (f g : Files) (w v : World) (at : StandsAtRest number f w) → OnlyMedium path f g → IsSound v → SameLogs w v
     → v.instance ≡ w.instance → v.counter ≡ w.counter → v.closed ≡ w.closed → KeepsMedia v None g → StandsAtRest number g v
-stands-on number path f g w v at others sound idle same instance counter closed media =
-    let none : at.stands.«record».making ≡ None = rest-none number f w at in
+stands-on laws number path f g w v at others sound same instance counter closed media =
+    let covers = at.stands.covers in
+    let none : covers.«record».making ≡ None = rest-none number f w at in
+    let before : SameLogs at.stands.before w = laws.ended at.stands.before w covers.sound (rest-idle number f w at) at.stands.settled in
+    let idle : AreIdle v = laws.idle w v same (laws.idle at.stands.before w before (rest-idle number f w at)) in
+    let exact : v.counter ≡ covers.«record».counter = counter ∙ at.stands.counter in
     record {
       stands = record {
         sound = sound;
-        idle = idle;
-        «record» = at.stands.«record»;
-        blobs = at.stands.blobs;
-        holds = holds-same number f g at.stands.«record» at.stands.blobs (own-same path f g others) at.stands.holds;
-        instance = instance ∙ at.stands.instance;
-        counter = counter ∙ at.stands.counter;
-        made = made-same at.stands.blobs w v same at.stands.made;
-        media = subst (λ making. KeepsMedia v making g) (sym none) media;
-        finished = λ _. none;
+        before = v;
+        covers = record {
+          sound = sound;
+          «record» = covers.«record»;
+          blobs = covers.blobs;
+          holds = holds-same number f g covers.«record» covers.blobs (own-same path f g others) covers.holds;
+          instance = instance ∙ at.stands.settled.media.instance ∙ covers.instance;
+          no_less = omega (arith, exact);
+          no_more = omega (arith, exact);
+          made = made-same covers.blobs w v same (made-same covers.blobs at.stands.before w before covers.made);
+          media = subst (λ making. KeepsMedia v making g) (sym none) media;
+        };
+        settled = laws.settled v sound idle;
+        counter = exact;
+        idle = λ is. idle;
+        finished = λ is. none;
       };
       rest = rest-on path f g w v others closed at.rest;
     }
@@ -88,8 +127,8 @@ removed-stands laws number f g w v at event =
     let becomes = event.world.becomes in
     let next : World = record w { media = without_medium w.media path } in
     let same : SameLogs w v = laws.removed w v at.stands.sound event.world in
-    let keeps : KeepsMedia w None f = media-of number f w at in
-    stands-on number path f g w v at event.others (laws.sound w v at.stands.sound (inr (inr (inl event.world)))) (laws.idle w v same at.stands.idle) same
+    let keeps : KeepsMedia w None f = media-of laws number f w at in
+    stands-on laws number path f g w v at event.others (laws.sound w v at.stands.sound (inr (inr (inl event.world)))) same
     (ap (λ (x : World). x.instance) becomes) (ap (λ (x : World). x.counter) becomes) (ap (λ (x : World). x.closed) becomes)
     (subst (λ x. KeepsMedia x None g) (sym becomes)
     (media-at w next f g path event.bytes keeps (others-same path f g event.others)
@@ -104,8 +143,8 @@ pub standby-stands : EventLaws → (number : ℕ) (f g : Files) (w v : World) �
 standby-stands laws number f g w v at event =
     let becomes = event.world.becomes in
     let same : SameLogs w v = laws.standby w v at.stands.sound event.world in
-    let keeps : KeepsMedia w None g = media-in w None f g (λ path bytes. event.others (medium_file path)) (media-of number f w at) in
-    stands-on number [] f g w v at (λ name apart. event.others name) (laws.sound w v at.stands.sound (inr (inr (inr (inl event.world))))) (laws.idle w v same at.stands.idle) same
+    let keeps : KeepsMedia w None g = media-in w None f g (λ path bytes. event.others (medium_file path)) (media-of laws number f w at) in
+    stands-on laws number [] f g w v at (λ name apart. event.others name) (laws.sound w v at.stands.sound (inr (inr (inr (inl event.world))))) same
     (ap (λ (x : World). x.instance) becomes) (ap (λ (x : World). x.counter) becomes) (ap (λ (x : World). x.closed) becomes)
     (subst (λ x. KeepsMedia x None g) (sym becomes) (record { read = keeps.read; carried = keeps.carried }))
 
@@ -118,8 +157,8 @@ changed-stands laws number f g w v at event =
     let becomes = event.world.becomes in
     let next : World = record w { media = with_medium w.media path reading } in
     let same : SameLogs w v = laws.changed w v at.stands.sound event.world in
-    let keeps : KeepsMedia w None f = media-of number f w at in
-    stands-on number path f g w v at event.others (laws.sound w v at.stands.sound (inr (inr (inr (inr (inl event.world)))))) (laws.idle w v same at.stands.idle) same
+    let keeps : KeepsMedia w None f = media-of laws number f w at in
+    stands-on laws number path f g w v at event.others (laws.sound w v at.stands.sound (inr (inr (inr (inr (inl event.world)))))) same
     (ap (λ (x : World). x.instance) becomes) (ap (λ (x : World). x.counter) becomes) (ap (λ (x : World). x.closed) becomes)
     (subst (λ x. KeepsMedia x None g) (sym becomes)
     (media-at w next f g path event.bytes keeps (others-same path f g event.others)
@@ -139,12 +178,12 @@ added-stands laws number f g w v at event =
     let becomes = event.world.becomes in
     let happens : Happens w v = inr (inr (inr (inr (inr event.world)))) in
     let same : SameLogs w v = laws.added w v at.stands.sound event.world in
-    let keeps : KeepsMedia w None f = media-of number f w at in
+    let keeps : KeepsMedia w None f = media-of laws number f w at in
     let file : Option (List ℕ) = event.files (medium_file from) in
     let reads : read_medium file ≡ Some reading =
-    shown-read event.stands.«record».making from file reading (sym (event.stands.media.read from event.from_bytes) ∙ event.world.stood.1) in
+    shown-read event.stands.covers.«record».making from file reading (sym ((stands-media laws event.number event.files other event.stands).read from event.from_bytes) ∙ event.world.stood.1) in
     let grew : Grew other.history v.history = subst (Grew other.history) (sym (ap (λ (x : World). x.history) becomes)) (there-grew w other event.world.history at.stands.sound event.world.was_sound event.world.joins) in
-    stands-on number path f g w v at event.others (laws.sound w v at.stands.sound happens) (laws.idle w v same at.stands.idle) same
+    stands-on laws number path f g w v at event.others (laws.sound w v at.stands.sound happens) same
     (ap (λ (x : World). x.instance) becomes) (ap (λ (x : World). x.counter) becomes) (ap (λ (x : World). x.closed) becomes)
     (media-at w v f g path event.bytes keeps (others-same path f g event.others)
     (ap (λ (x : World). medium_at x.media path) becomes ∙ ap (λ t. cond t (Some reading) (medium_at w.media path)) ((bytes_eq-Decides path path).1 refl) ∙ sym reads ∙ ap read_medium (sym event.comes))
@@ -154,7 +193,7 @@ added-stands laws number f g w v at event =
     (λ p body is.
     let there : found_at file p ≡ Some (Holds body) = ap (λ found. found_at found p) (sym event.comes) ∙ is in
     carries-same other.history v.history body (laws.grown other from body.header event.world.was_sound (found-in other from file p body (event.world.stood.1 ∙ sym reads) there) v.history grew)
-    (event.stands.media.carried from p body event.from_bytes there)))
+    ((stands-media laws event.number event.files other event.stands).carried from p body event.from_bytes there)))
 
 -- Any number of events.
 
@@ -190,22 +229,35 @@ events-happen f g w v (one_more {between = h} {mid = u} event more) = world.one_
 none-shown : (file : Option (List ℕ)) (path : List ℕ) → file ≡ None → None ≡ shown_medium None path file
 none-shown file path none = sym (nothing-read file none)
 
-pub start-stands : ((instance : ℕ) → IsSound (empty_world instance)) → (number : ℕ) (files : Files) → IsNotMade files → ((path : List ℕ) → AreBytes path → files (medium_file path) ≡ None) → StandsAtRest number files (empty_world number)
+-- What the machine says of the empty world.
+pub record StartLaws : Type 0 where
+  pub sound : (instance : ℕ) → IsSound (empty_world instance)
+  pub idle : (instance : ℕ) → AreIdle (empty_world instance)
+  pub settled : (w : World) → IsSound w → AreIdle w → IsSettledTo w w
+
+pub start-stands : StartLaws → (number : ℕ) (files : Files) → IsNotMade files → ((path : List ℕ) → AreBytes path → files (medium_file path) ≡ None) → StandsAtRest number files (empty_world number)
 unfolding empty_world
-start-stands sound number files not none = record {
+start-stands laws number files not none = record {
   stands = record {
-    sound = sound number;
-    idle = tt;
-    «record» = fresh number;
-    blobs = [];
-    holds = inl (not, refl, refl);
-    instance = refl;
-    counter = refl;
-    made = nothing (empty_world number) refl;
-    media = record {
-      read = λ path bytes. none-shown (files (medium_file path)) path (none path bytes);
-      carried = λ path p body bytes is. absurd (nothing-found (files (medium_file path)) (none path bytes) p body is);
+    sound = laws.sound number;
+    before = empty_world number;
+    covers = record {
+      sound = laws.sound number;
+      «record» = fresh number;
+      blobs = [];
+      holds = inl (not, refl, refl);
+      instance = refl;
+      no_less = omega arith;
+      no_more = omega arith;
+      made = nothing (empty_world number) refl;
+      media = record {
+        read = λ path bytes. none-shown (files (medium_file path)) path (none path bytes);
+        carried = λ path p body bytes is. absurd (nothing-found (files (medium_file path)) (none path bytes) p body is);
+      };
     };
+    settled = laws.settled (empty_world number) (laws.sound number) (laws.idle number);
+    counter = refl;
+    idle = λ closed. laws.idle number;
     finished = λ closed. refl;
   };
   rest = inr not;

@@ -13,8 +13,12 @@ pub mod PartByPart
 pub mod Planned
 pub mod Replays
 pub mod Resting
+pub mod RolledBack
 pub mod Seals
+pub mod SettledOpen
+pub mod SettledPlaces
 pub mod Standing
+pub mod StandingFiles
 pub mod StoredActs
 pub mod Texts
 pub mod Touching

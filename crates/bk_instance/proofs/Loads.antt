@@ -17,22 +17,26 @@ use Rattle.bk_gate.specs.BlobLaws.{foreign_blobs, gate_blobs}
 use Rattle.bk_home.specs.declared.record.Record.{Record}
 use Rattle.bk_home.specs.Home.{Kept as KeptHome, IsNotMade, IsMade, HomeIs, IsHome, IsOwn, AreDurable, blobs_of, fresh, made_file, control_file, rows_file}
 use Rattle.bk_home.specs.Laws.{home_files, home_blobs, home_left, home_kept, home_durable, own_made, own_rows, blobs_same}
-use Rattle.bk_machine.specs.Sound.{AreIdle, IsSound}
+use Rattle.bk_machine.specs.Sound.{IsSound}
 use Rattle.bk_machine.specs.World.{World, opened}
 use Rattle.bk_media.specs.Laws.{nothing_sealed, none_read}
 use Rattle.bk_media.specs.Media.{read_medium, found_at}
 use Rattle.bk_media.specs.Names.{medium_file}
-use Rattle.bk_kept.specs.Keeps.{KeepsDatabases}
+use Rattle.bk_kept.specs.Keeps.{KeepsDatabases, session_of}
 use Rattle.bk_kept.specs.Stored.{Carries}
 use Rattle.bk_set.specs.declared.body.SetBody.{SetBody}
 use Rattle.bk_set.specs.declared.found.Found.TheVariants as was
 use Rattle.bk_set.specs.Found.{found}
 use Rattle.bk_instance.specs.declared.instance.Instance.{Instance}
-use Rattle.bk_instance.specs.Loading.{IsCleared, LeavesCleared, LetsGo, LeavesOpened, MakeNone, ShowMade}
+use Rattle.bk_instance.specs.Loading.{CoversExactly, IsCleared, LeavesCleared, LeavesHeld, LetsGo, MakeNone, ShowMade}
 use Rattle.bk_instance.specs.Media.{KeepsMedia, MediaAreDurable, IfDurable, shown_medium, is_making, is_begun}
-use Rattle.bk_instance.specs.Stands.{AreMade, Holds, Stands, StandsFor, IsOurs}
-use Rattle.bk_instance.proofs.Opened.{BeginSound, SameMedia, media-in, media-opened, media-on-nothing, holds-same, stands-covers, covers-same, settled-covers, not-own, media-kept}
+use Rattle.bk_instance.specs.Stands.{AreMade, Holds, StandsFor, IsOurs}
+use Rattle.bk_instance.proofs.Opened.{SameMedia, exactly-same, media-in, media-opened, media-on-nothing, settled-exactly, not-own, media-kept}
 use Rattle.bk_instance.proofs.Replays.{made-same, same-opened}
+
+-- a run begins in a sound world
+abbrev pub BeginSound : Type 0
+BeginSound = (w : World) → IsSound w → IsSound (opened w)
 
 -- Devices.
 
@@ -59,22 +63,11 @@ ours-durable disk home is media name ours =
 pub settled-on : {a b : Disk} → ChangesNothing a b → IsSettled a → IsSettled b
 settled-on nothing settled name = durable_by_nothing name nothing (settled name)
 
--- Files that stand for a world.
+-- Files that hold just a world.
 
--- they stand for it where nothing is changed
-pub stands-on : {a b : Disk} (number : ℕ) (w : World) → ChangesNothing a b → Stands number a.files w → Stands number b.files w
-stands-on {a = a} {b = b} number w nothing stands = record {
-  sound = stands.sound;
-  idle = stands.idle;
-  «record» = stands.«record»;
-  blobs = stands.blobs;
-  holds = holds-same number a.files b.files stands.«record» stands.blobs (λ name own. nothing.files name) stands.holds;
-  instance = stands.instance;
-  counter = stands.counter;
-  made = stands.made;
-  media = media-in w stands.«record».making a.files b.files (λ path bytes. nothing.files (medium_file path)) stands.media;
-  finished = stands.finished;
-}
+-- they hold it where nothing is changed
+pub held-on : {a b : Disk} (number : ℕ) (w : World) → ChangesNothing a b → CoversExactly number a.files w → CoversExactly number b.files w
+held-on {a = a} {b = b} number w nothing held = exactly-same number a.files b.files w (λ name ours. nothing.files name) held
 
 -- an instance that isn't made is made, or not yet
 fresh-holds : (number : ℕ) (image : Files) (r : Record) (blobs : List (List ℕ)) → IsNotMade image ⊎ HomeIs image (fresh number) [] → r ≡ fresh number → blobs ≡ [] → Holds number image r blobs
@@ -87,74 +80,74 @@ fresh-holds number image r blobs here is none =
           inr (subst Blobs (sym none) (subst Home (sym is) home))
     ]
 
-pub fresh-stands : (number : ℕ) (files image : Files) (w : World) → IsNotMade files → IsNotMade image ⊎ HomeIs image (fresh number) [] → SameMedia files image → Stands number files w → Stands number image w
-fresh-stands number files image w not here same stands =
-    let holds : Holds number image stands.«record» stands.blobs = elim stands.holds [
-      | inl new ↦ fresh-holds number image stands.«record» stands.blobs here new.1 new.2
+pub fresh-held : (number : ℕ) (files image : Files) (w : World) → IsNotMade files → IsNotMade image ⊎ HomeIs image (fresh number) [] → SameMedia files image → CoversExactly number files w → CoversExactly number image w
+fresh-held number files image w not here same (covers, exact) =
+    let holds : Holds number image covers.«record» covers.blobs = elim covers.holds [
+      | inl new ↦ fresh-holds number image covers.«record» covers.blobs here new.1 new.2
       | inr made ↦ absurd (made.made not)
-    ] in
-    record {
-      sound = stands.sound;
-      idle = stands.idle;
-      «record» = stands.«record»;
-      blobs = stands.blobs;
-      holds = holds;
-      instance = stands.instance;
-      counter = stands.counter;
-      made = stands.made;
-      media = media-in w stands.«record».making files image same stands.media;
-      finished = stands.finished;
-    }
+    ] in (
+      record {
+        sound = covers.sound;
+        «record» = covers.«record»;
+        blobs = covers.blobs;
+        holds = holds;
+        instance = covers.instance;
+        no_less = covers.no_less;
+        no_more = covers.no_more;
+        made = covers.made;
+        media = media-in w covers.«record».making files image same covers.media;
+      },
+      exact,
+    )
 
 -- the record of a made instance, and the world that its blobs made
 pub record Made (number : ℕ) (files : Files) (w : World) (r : Record) : Type 0 where
   pub sound : IsSound w
-  pub idle : AreIdle w
   pub instance : w.instance ≡ r.number
   pub counter : w.counter ≡ r.counter
   pub made : AreMade (blobs_of files) w
   pub media : KeepsMedia w r.making files
-  pub finished : w.closed ≡ true → r.making ≡ None
 
-pub stands-made : (number : ℕ) (files : Files) (w : World) (r : Record) → HomeIs files r (blobs_of files) → Stands number files w → Made number files w r
-stands-made number files w r home stands =
-    elim stands.holds [
+pub held-made : (number : ℕ) (files : Files) (w : World) (r : Record) → HomeIs files r (blobs_of files) → CoversExactly number files w → Made number files w r
+held-made number files w r home (covers, exact) =
+    elim covers.holds [
       | inl new ↦ absurd (home.made new.0)
       | inr made ↦
-          let same : stands.«record» ≡ r = same_Some stands.«record» r (sym made.is ∙ home.is) in
+          let same : covers.«record» ≡ r = same_Some covers.«record» r (sym made.is ∙ home.is) in
           let Media : Record → Type 0 = λ x. KeepsMedia w x.making files in
           let Blobs : List (List ℕ) → Type 0 = λ bs. AreMade bs w in
           record {
-            sound = stands.sound;
-            idle = stands.idle;
-            instance = stands.instance ∙ ap (λ (x : Record). x.number) same;
-            counter = stands.counter ∙ ap (λ (x : Record). x.counter) same;
-            made = subst Blobs (sym (home_blobs made)) stands.made;
-            media = subst Media same stands.media;
-            finished = λ closed. ap (λ (x : Record). x.making) (sym same) ∙ stands.finished closed;
+            sound = covers.sound;
+            instance = covers.instance ∙ ap (λ (x : Record). x.number) same;
+            counter = exact ∙ ap (λ (x : Record). x.counter) same;
+            made = subst Blobs (sym (home_blobs made)) covers.made;
+            media = subst Media same covers.media;
           }
     ]
 
--- and the world stands so with another record, whose media are those
-pub made-stands : (number : ℕ) (files image : Files) (w : World) (r next : Record) (made : Made number files w r) → HomeIs image next (blobs_of files) → next.number ≡ r.number → next.counter ≡ r.counter
-    → KeepsMedia w next.making image → (r.making ≡ None → next.making ≡ None) → Stands number image w
-made-stands number files image w r next made home n counter media none = record {
-  sound = made.sound;
-  idle = made.idle;
-  «record» = next;
-  blobs = blobs_of files;
-  holds = inr home;
-  instance = made.instance ∙ sym n;
-  counter = made.counter ∙ sym counter;
-  made = made.made;
-  media = media;
-  finished = λ closed. none (made.finished closed);
-}
+-- and the files hold it so with another record, whose media are those
+pub made-held : (number : ℕ) (files image : Files) (w : World) (r next : Record) (made : Made number files w r) → HomeIs image next (blobs_of files) → next.number ≡ r.number → next.counter ≡ r.counter
+    → KeepsMedia w next.making image → CoversExactly number image w
+made-held number files image w r next made home n counter media =
+    let exact : w.counter ≡ next.counter = made.counter ∙ sym counter in (
+      record {
+        sound = made.sound;
+        «record» = next;
+        blobs = blobs_of files;
+        holds = inr home;
+        instance = made.instance ∙ sym n;
+        no_less = omega (arith, exact);
+        no_more = omega (arith, exact);
+        made = made.made;
+        media = media;
+      },
+      exact,
+    )
 
-pub lets-go-stands : (number : ℕ) (files image : Files) (w : World) (r : Record) → HomeIs files r (blobs_of files) → LetsGo r files image → Stands number files w → Stands number image w
-lets-go-stands number files image w r home here stands =
-    let made = stands-made number files w r home stands in
-    made-stands number files image w r here.«record» made here.home here.number here.counter (here.media w made.media) here.none
+pub lets-go-held : (number : ℕ) (files image : Files) (w : World) (r : Record) → HomeIs files r (blobs_of files) → LetsGo r files image → CoversExactly number files w → CoversExactly number image w
+lets-go-held number files image w r home here held =
+    let made = held-made number files w r home held in
+    made-held number files image w r here.«record» made here.home here.number here.counter (here.media w made.media)
 
 -- Opening an instance's own files.
 
@@ -167,43 +160,43 @@ made-or-not files = by (files made_file) refl
     by (Some file) is = inr (λ none. absurd cc)
 
 -- they are synced
-pub sync-crash : BeginSound → (number : ℕ) (a b : Disk) → Effect IsOwn (MayLeaveOwn IsOwn a) a b → Effect IsOurs (LeavesOpened number a) a b
-sync-crash begins number a b effect =
-    effect_widen (λ name own. inl own) (λ image here others settled w stands.
-    covers-same number a.files image (opened w) (λ name ours.
+pub sync-crash : (number : ℕ) (a b : Disk) → Effect IsOwn (MayLeaveOwn IsOwn a) a b → Effect IsOurs (LeavesHeld number a) a b
+sync-crash number a b effect =
+    effect_widen (λ name own. inl own) (λ image here others settled w held.
+    exactly-same number a.files image w (λ name ours.
     elim ours [
       | inl own ↦ settled name (image name) (here name own)
       | inr path ↦
           let Same : List ℕ → Type 0 = λ n. image n ≡ a.files n in
           subst Same (sym path.2) (settled (medium_file path.0) (image (medium_file path.0)) (others (medium_file path.0) (not-own path.0) (inr (path.0, path.1, refl))))
-    ]) (stands-covers begins number a.files w stands)) effect
+    ]) held) effect
 
 -- and opened
-pub open-crash : BeginSound → (number : ℕ) (a b c : Disk) → AreDurable b → ChangesNothing a b → Effect IsOurs (LeavesOpened number a) a b → (IsMade b.files → ChangesNothing b c)
-    → (IsNotMade b.files → IsDurable b made_file → Effect IsOwn (λ image. IsNotMade image ⊎ HomeIs image (fresh number) []) b c) → Effect IsOurs (LeavesOpened number a) a c
-open-crash begins number a b c durable nothing first made new =
+pub open-crash : (number : ℕ) (a b c : Disk) → AreDurable b → ChangesNothing a b → Effect IsOurs (LeavesHeld number a) a b → (IsMade b.files → ChangesNothing b c)
+    → (IsNotMade b.files → IsDurable b made_file → Effect IsOwn (λ image. IsNotMade image ⊎ HomeIs image (fresh number) []) b c) → Effect IsOurs (LeavesHeld number a) a c
+open-crash number a b c durable nothing first made new =
     effect_then first (
     elim (made-or-not b.files) [
-      | inl not ↦ effect_widen (λ name own. inl own) (λ image here others settled w stands.
-          stands-covers begins number image w (fresh-stands number b.files image w not here
+      | inl not ↦ effect_widen (λ name own. inl own) (λ image here others settled w held.
+          fresh-held number b.files image w not here
           (λ path bytes. settled-on nothing settled (medium_file path) (image (medium_file path)) (others (medium_file path) (not-own path) (inr (path, bytes, refl))))
-          (stands-on number w nothing stands))) (new not (durable made_file own_made))
-      | inr is ↦ effect_of_nothing (λ image left settled w stands. settled-covers begins number b w image (settled-on nothing settled) left (stands-on number w nothing stands)) (made is)
+          (held-on number w nothing held)) (new not (durable made_file own_made))
+      | inr is ↦ effect_of_nothing (λ image left settled w held. settled-exactly number b w image (settled-on nothing settled) left (held-on number w nothing held)) (made is)
     ])
 
-pub open-stands : (number : ℕ) (a b c : Disk) (home : KeptHome) (w : World) → AreDurable b → ChangesNothing a b → IsHome c home → (IsNotMade b.files → home.«record» ≡ fresh number)
+pub open-held : (number : ℕ) (a b c : Disk) (home : KeptHome) (w : World) → AreDurable b → ChangesNothing a b → IsHome c home → (IsNotMade b.files → home.«record» ≡ fresh number)
     → (IsNotMade b.files → blobs_of c.files ≡ []) → (IsMade b.files → ChangesNothing b c)
-    → (IsNotMade b.files → IsDurable b made_file → Effect IsOwn (λ image. IsNotMade image ⊎ HomeIs image (fresh number) []) b c) → Stands number a.files w → Stands number c.files w
-open-stands number a b c home w durable nothing is record_is none made new stands =
-    let before : Stands number b.files w = stands-on number w nothing stands in
+    → (IsNotMade b.files → IsDurable b made_file → Effect IsOwn (λ image. IsNotMade image ⊎ HomeIs image (fresh number) []) b c) → CoversExactly number a.files w → CoversExactly number c.files w
+open-held number a b c home w durable nothing is record_is none made new held =
+    let before : CoversExactly number b.files w = held-on number w nothing held in
     elim (made-or-not b.files) [
       | inl not ↦
           let Home : Record → List (List ℕ) → Type 0 = HomeIs c.files in
           let One : Record → Type 0 = λ r. Home r (blobs_of c.files) in
           let Two : List (List ℕ) → Type 0 = λ blobs. Home (fresh number) blobs in
           let effect = new not (durable made_file own_made) in
-          fresh-stands number b.files c.files w not (inr (subst Two (none not) (subst One (record_is not) (home_files is)))) (λ path bytes. effect.others (medium_file path) (not-own path)) before
-      | inr is ↦ stands-on number w (made is) before
+          fresh-held number b.files c.files w not (inr (subst Two (none not) (subst One (record_is not) (home_files is)))) (λ path bytes. effect.others (medium_file path) (not-own path)) before
+      | inr is ↦ held-on number w (made is) before
     ]
 
 pub open-media : (number : ℕ) (a b c : Disk) → IsSettled a → ChangesNothing a b → (IsMade b.files → ChangesNothing b c)
@@ -340,7 +333,6 @@ let-go-none disk home is = effect_none disk (λ image left durable. record {
   home = home_left image is (λ name own. left name (inl own));
   number = refl;
   counter = refl;
-  none = λ before. before;
   media = λ w media. media-in w home.«record».making disk.files image (λ path bytes. durable path bytes (image (medium_file path)) (left (medium_file path) (inr (path, bytes, refl)))) media;
 })
 
@@ -375,7 +367,6 @@ let-go-clear path a b home names is bytes making effect =
       home = home_left image is (λ name own. others name (off-own path name own) (inl own));
       number = refl;
       counter = refl;
-      none = λ before. before;
       media = λ w media.
           let Before : Option (List ℕ) → Type 0 = λ m. KeepsMedia w m a.files in
           let After : Option (List ℕ) → Type 0 = λ m. KeepsMedia w m image in
@@ -404,7 +395,6 @@ let-go-put path a b c home next names bytes making first cleared calm number cou
             home = let Old : List (List ℕ) → Type 0 = Blobs home.«record» in subst Old (blobs-cleared path a b first) old;
             number = refl;
             counter = refl;
-            none = λ before. before;
             media = λ w media.
                 let Before : Option (List ℕ) → Type 0 = λ m. KeepsMedia w m a.files in
                 let After : Option (List ℕ) → Type 0 = λ m. KeepsMedia w m image in
@@ -416,7 +406,6 @@ let-go-put path a b c home next names bytes making first cleared calm number cou
             home = let New : List (List ℕ) → Type 0 = Blobs next in subst New (blobs-cleared path a b first) new;
             number = number;
             counter = counter;
-            none = λ was. none;
             media = λ w media.
                 let Before : Option (List ℕ) → Type 0 = λ m. KeepsMedia w m a.files in
                 let After : Option (List ℕ) → Type 0 = λ m. KeepsMedia w m image in
@@ -432,57 +421,82 @@ pub let-go-then : (path : List ℕ) (a b c : Disk) (home : KeptHome) (next : Rec
 let-go-then path a b c home next names is bytes making first cleared calm number counter none second =
     effect_then (let-go-clear path a b home names is bytes making first) (let-go-put path a b c home next names bytes making first cleared calm number counter none second)
 
+-- what was let go, behind both
+pub lets-none : (disk : Disk) (home : KeptHome) → IsHome disk home → LetsGo home.«record» disk.files disk.files
+lets-none disk home is = record { «record» = home.«record»; home = home_files is; number = refl; counter = refl; media = λ w media. media }
+
+pub lets-both : (path : List ℕ) (a b c : Disk) (home after : KeptHome) (next : Record) → NamesDiffer → AreBytes path → home.«record».making ≡ Some path
+    → Clears path a b → IsCleared (a.files (medium_file path)) (b.files (medium_file path))
+    → next.number ≡ home.«record».number → next.counter ≡ home.«record».counter → next.making ≡ None
+    → IsHome c after → after.«record» ≡ next → blobs_of c.files ≡ blobs_of b.files → {P : Files → Type 0} → Effect IsOwn P b c → LetsGo home.«record» a.files c.files
+lets-both path a b c home after next names bytes making first cleared number counter none is same blobs second =
+    let there : SameMedia b.files c.files = λ p are. second.others (medium_file p) (not-own p) in
+    let other : OtherMedia path a.files c.files = λ p are differ. there p are ∙ first.others (medium_file p) (λ at. differ (names p path are bytes at)) in
+    let Is : Option (List ℕ) → Type 0 = λ file. IsCleared (a.files (medium_file path)) file in
+    let now : IsCleared (a.files (medium_file path)) (c.files (medium_file path)) = subst Is (sym (there path bytes)) cleared in
+    let Home : List (List ℕ) → Type 0 = λ bs. HomeIs c.files after.«record» bs in
+    record {
+      «record» = after.«record»;
+      home = subst Home (blobs ∙ blobs-cleared path a b first) (home_files is);
+      number = ap (λ (x : Record). x.number) same ∙ number;
+      counter = ap (λ (x : Record). x.counter) same ∙ counter;
+      media = λ w media.
+          let Before : Option (List ℕ) → Type 0 = λ m. KeepsMedia w m a.files in
+          let After : Option (List ℕ) → Type 0 = λ m. KeepsMedia w m c.files in
+          subst After (sym (ap (λ (x : Record). x.making) same ∙ none)) (media-cleared w path a.files c.files now other (subst Before making media));
+    }
+
 -- All of it.
 
 -- the changes are read
-pub read-crash : BeginSound → (number : ℕ) (a b c : Disk) (home : KeptHome) → Effect IsOurs (LeavesOpened number a) a b → ((w : World) → Stands number a.files w → Stands number b.files w)
-    → IsHome b home → (IsSettled a → MediaAreDurable b) → ChangesNothing b c → Effect IsOurs (LeavesOpened number a) a c
-read-crash begins number a b c home first same is media nothing =
-    effect_then first (effect_of_nothing (λ image left settled w stands.
-    covers-same number b.files image (opened w) (λ name ours. ours-durable b home is (media settled) name ours (image name) (left name ours)) (stands-covers begins number b.files w (same w stands))) nothing)
+pub read-crash : (number : ℕ) (a b c : Disk) (home : KeptHome) → Effect IsOurs (LeavesHeld number a) a b → ((w : World) → CoversExactly number a.files w → CoversExactly number b.files w)
+    → IsHome b home → (IsSettled a → MediaAreDurable b) → ChangesNothing b c → Effect IsOurs (LeavesHeld number a) a c
+read-crash number a b c home first same is media nothing =
+    effect_then first (effect_of_nothing (λ image left settled w held.
+    exactly-same number b.files image w (λ name ours. ours-durable b home is (media settled) name ours (image name) (left name ours)) (same w held)) nothing)
 
 -- then the medium is let go
-pub load-crash : BeginSound → (number : ℕ) (a b c d : Disk) (home : KeptHome) → Effect IsOurs (LeavesOpened number a) a b → ((w : World) → Stands number a.files w → Stands number b.files w)
-    → IsHome b home → (IsSettled a → MediaAreDurable b) → ChangesNothing b c → Effect IsOurs (IfDurable c (LetsGo home.«record» c.files)) c d → Effect IsOurs (LeavesOpened number a) a d
-load-crash begins number a b c d home first same is media nothing second =
-    effect_then (read-crash begins number a b c home first same is media nothing) (effect_weaken (λ image here settled w stands.
-    stands-covers begins number image w (lets-go-stands number c.files image w home.«record» (home_files (home_kept (keeps_by_nothing nothing) is)) (here (media-on-nothing nothing (media settled))) (stands-on number w nothing (same w stands)))) second)
+pub let-go-crash : (number : ℕ) (a b c d : Disk) (home : KeptHome) → Effect IsOurs (LeavesHeld number a) a b → ((w : World) → CoversExactly number a.files w → CoversExactly number b.files w)
+    → IsHome b home → (IsSettled a → MediaAreDurable b) → ChangesNothing b c → Effect IsOurs (IfDurable c (LetsGo home.«record» c.files)) c d → Effect IsOurs (LeavesHeld number a) a d
+let-go-crash number a b c d home first same is media nothing second =
+    effect_then (read-crash number a b c home first same is media nothing) (effect_weaken (λ image here settled w held.
+    lets-go-held number c.files image w home.«record» (home_files (home_kept (keeps_by_nothing nothing) is)) (here (media-on-nothing nothing (media settled))) (held-on number w nothing (same w held))) second)
 
--- and the files stand for the same worlds
-pub load-stands : (number : ℕ) (a b c d : Disk) (home : KeptHome) (w : World) → IsLawful d → ((w : World) → Stands number a.files w → Stands number b.files w) → IsHome b home → ChangesNothing b c
-    → MediaAreDurable c → Effect IsOurs (IfDurable c (LetsGo home.«record» c.files)) c d → Stands number a.files w → Stands number d.files w
-load-stands number a b c d home w lawful same is nothing durable second stands =
-    lets-go-stands number c.files d.files w home.«record» (home_files (home_kept (keeps_by_nothing nothing) is)) (second.now d.files (λ name ours. lawful.reads name) durable) (stands-on number w nothing (same w stands))
+-- and the files hold the same worlds
+pub let-go-held : (number : ℕ) (a b c d : Disk) (home : KeptHome) (w : World) → ((w : World) → CoversExactly number a.files w → CoversExactly number b.files w) → IsHome b home → ChangesNothing b c
+    → LetsGo home.«record» c.files d.files → CoversExactly number a.files w → CoversExactly number d.files w
+let-go-held number a b c d home w same is nothing lets held =
+    lets-go-held number c.files d.files w home.«record» (home_files (home_kept (keeps_by_nothing nothing) is)) lets (held-on number w nothing (same w held))
 
--- where the blobs make no world there is none for which the files stand
-pub broken-blobs : (number : ℕ) (b : Disk) (home : KeptHome) (w : World) → IsHome b home → MakeNone (blobs_of b.files) → Stands number b.files w → ⊥
-broken-blobs number b home w is none stands =
-    let made = stands-made number b.files w home.«record» (home_files is) stands in
+-- where the blobs make no world, the files hold none
+pub broken-blobs : (number : ℕ) (b : Disk) (home : KeptHome) (w : World) → IsHome b home → MakeNone (blobs_of b.files) → CoversExactly number b.files w → ⊥
+broken-blobs number b home w is none held =
+    let made = held-made number b.files w home.«record» (home_files is) held in
     none w made.made
 
 -- the number is that of the world
-pub load-number : (number : ℕ) (b : Disk) (home : KeptHome) (w : World) → IsHome b home → Stands number b.files w → w.instance ≡ home.«record».number
-load-number number b home w is stands =
-    let made = stands-made number b.files w home.«record» (home_files is) stands in
+pub open-number : (number : ℕ) (b : Disk) (home : KeptHome) (w : World) → IsHome b home → CoversExactly number b.files w → w.instance ≡ home.«record».number
+open-number number b home w is held =
+    let made = held-made number b.files w home.«record» (home_files is) held in
     made.instance
 
 -- the instance stands for the world in which a run begins
-pub instance-stands : BeginSound → (number : ℕ) (i : Instance) (disk : Disk) (w : World) → IsHome disk i.home → i.kept.number ≡ i.home.«record».number → i.kept.counter ≡ i.home.«record».counter → i.kept.current ≡ None
-    → i.home.«record».making ≡ None → ShowMade (blobs_of disk.files) i.kept.databases.items → Stands number disk.files w → StandsFor i disk (opened w)
+pub instance-stands : BeginSound → (number : ℕ) (i : Instance) (disk : Disk) (w : World) → IsHome disk i.home → i.kept.number ≡ i.home.«record».number → i.kept.counter ≡ i.home.«record».counter → i.kept.session ≡ 1 → i.kept.sessions.items ≡ []
+    → i.home.«record».making ≡ None → ShowMade (blobs_of disk.files) i.kept.databases.items → CoversExactly number disk.files w → StandsFor i disk (opened w)
 unfolding opened
-instance-stands begins number i disk w is n counter current none shows stands =
-    let made : Made number disk.files w i.home.«record» = stands-made number disk.files w i.home.«record» (home_files is) stands in
+instance-stands begins number i disk w is n counter session sessions none shows held =
+    let made : Made number disk.files w i.home.«record» = held-made number disk.files w i.home.«record» (home_files is) held in
     let Media : Option (List ℕ) → Type 0 = λ making. KeepsMedia w making disk.files in
     let databases : KeepsDatabases w i.kept.databases.items = shows w made.made in
     record {
       sound = begins w made.sound;
-      idle = made.idle;
       keeps = record {
         number = made.instance ∙ sym n;
         counter = made.counter ∙ sym counter;
-        current = sym current;
+        session = sym session;
+        sessions = sym (ap (map session_of) sessions);
         databases = databases.same;
-        shown = databases.shown;
+        kept = databases.kept;
       };
       made = made-same (blobs_of disk.files) w (opened w) (same-opened w) made.made;
       media = media-opened w None disk.files (subst Media none made.media);

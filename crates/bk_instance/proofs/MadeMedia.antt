@@ -14,7 +14,7 @@ use Rattle.bk_home.specs.Laws.{home_left}
 use Rattle.bk_machine.specs.Acts.{Act, done, medium_made, set_sealed}
 use Rattle.bk_machine.specs.MayDo.{MayDo}
 use Rattle.bk_machine.specs.Same.{SameLogs}
-use Rattle.bk_machine.specs.Sound.{IsSound, AreIdle}
+use Rattle.bk_machine.specs.Sound.{IsSound}
 use Rattle.bk_machine.specs.World.{World}
 use Rattle.bk_media.specs.Laws.{nothing_sealed, sets_read, sets_are, names_differ}
 use Rattle.bk_media.specs.Media.{HasSets, LeavesMade, found_at, read_medium}
@@ -39,7 +39,6 @@ use Rattle.bk_instance.proofs.Standing.{Fits, not-own, own-widens, made-same, co
 -- what acts on media keep
 pub record MediaLaws : Type 0 where
   pub sound : (w : World) (act : Act) → IsSound w → MayDo w act → IsSound (done w act)
-  pub idle : (old new : World) → SameLogs old new → AreIdle old → AreIdle new
   pub transitive : (a b c : World) → SameLogs a b → SameLogs b c → SameLogs a c
   pub made : (w : World) (path : List ℕ) → SameLogs w (done w (medium_made path))
   pub sealed : (w : World) (path : List ℕ) (header : Header) → SameLogs w (done w (set_sealed path header))
@@ -127,7 +126,7 @@ made-media w path making before image media named has others =
 
 made-keeps : (w : World) (path : List ℕ) (k : Kept) → Keeps w k → Keeps (done w (medium_made path)) (record k { counter = k.counter + 1 })
 unfolding done
-made-keeps w path k keeps = record { number = keeps.number; counter = ap (λ n. n + 1) keeps.counter; current = keeps.current; databases = keeps.databases; shown = keeps.shown }
+made-keeps w path k keeps = record { number = keeps.number; counter = ap (λ n. n + 1) keeps.counter; session = keeps.session; sessions = keeps.sessions; databases = keeps.databases; kept = keeps.kept }
 
 -- From an instance with this record a medium begins to be made under another record, which names it.
 pub record Begins (old i : Instance) (first disk : Disk) (path : List ℕ) (r : Record) : Type 0 where
@@ -162,7 +161,6 @@ world-covers laws i disk path q number w image stands is_number no_less no_more 
     let most : q.counter ≤ w.counter + 1 + 1024 = omega (arith, stands.keeps.counter, no_more) in
     record {
       sound = laws.sound w (medium_made path) stands.sound tt;
-      idle = laws.idle w (done w (medium_made path)) (laws.made w path) stands.idle;
       «record» = q;
       blobs = blobs_of disk.files;
       holds = inr home;
@@ -186,7 +184,6 @@ made-does laws old i j first disk after path on kept blobs others has w act stoo
     let v : World = done w (medium_made path) in
     subst (λ a. StandsFor j after (done w a)) (sym makes.is) (record {
       sound = laws.sound w (medium_made path) stands.sound tt;
-      idle = laws.idle w v (laws.made w path) stands.idle;
       keeps = subst (Keeps v) (sym kept) (made-keeps w path i.kept stands.keeps);
       made = subst (λ b. AreMade b v) (sym blobs) (made-same v laws.transitive stands.made (laws.made w path));
       media = made-media w path None disk.files after.files stands.media (inl refl) has others;

@@ -7,13 +7,12 @@ use Rattle.bk_device.specs.Effects.{Effect, MayLeaveOwn}
 use Rattle.bk_home.specs.declared.record.Record.{Record}
 use Rattle.bk_home.specs.Home.{IsOwn, blobs_of, made_file, control_file, rows_file}
 use Rattle.bk_home.specs.Laws.{home_same, own_made, blobs_same}
-use Rattle.bk_machine.specs.Sound.{IsSound}
 use Rattle.bk_machine.specs.World.{World, ended, opened}
 use Rattle.bk_media.specs.Media.{found_at}
 use Rattle.bk_media.specs.Names.{medium_file}
 use Rattle.bk_instance.specs.Media.{KeepsMedia, MediaAreDurable, shown_medium}
-use Rattle.bk_instance.specs.Stands.{Holds, Stands, Covers, IsOurs}
-use Rattle.bk_instance.proofs.Replays.{made-same, same-opened}
+use Rattle.bk_instance.specs.Loading.{CoversExactly}
+use Rattle.bk_instance.specs.Stands.{Holds, Covers, IsOurs}
 
 -- Names.
 
@@ -81,30 +80,9 @@ blobs-on {a = a} {b = b} nothing = blobs_same a.files b.files (nothing.files row
 
 -- Worlds.
 
--- a run begins in a sound world
-abbrev pub BeginSound : Type 0
-BeginSound = (w : World) → IsSound w → IsSound (opened w)
-
--- files that stand for a world stand for the one in which a run begins
-pub stands-covers : BeginSound → (number : ℕ) (files : Files) (w : World) → Stands number files w → Covers number files (opened w)
-unfolding opened
-stands-covers begins number files w stands = record {
-  sound = begins w stands.sound;
-  idle = stands.idle;
-  «record» = stands.«record»;
-  blobs = stands.blobs;
-  holds = stands.holds;
-  instance = stands.instance;
-  no_less = omega (arith, stands.counter);
-  no_more = omega (arith, stands.counter);
-  made = made-same stands.blobs w (opened w) (same-opened w) stands.made;
-  media = media-opened w stands.«record».making files stands.media;
-}
-
-pub covers-same : (number : ℕ) (f g : Files) (w : World) → ((name : List ℕ) → IsOurs name → g name ≡ f name) → Covers number f w → Covers number g w
+abbrev pub covers-same : (number : ℕ) (f g : Files) (w : World) → ((name : List ℕ) → IsOurs name → g name ≡ f name) → Covers number f w → Covers number g w
 covers-same number f g w same covers = record {
   sound = covers.sound;
-  idle = covers.idle;
   «record» = covers.«record»;
   blobs = covers.blobs;
   holds = holds-same number f g covers.«record» covers.blobs (λ name own. same name (inl own)) covers.holds;
@@ -115,7 +93,9 @@ covers-same number f g w same covers = record {
   media = media-in w covers.«record».making f g (λ path bytes. same (medium_file path) (inr (path, bytes, refl))) covers.media;
 }
 
+pub exactly-same : (number : ℕ) (f g : Files) (w : World) → ((name : List ℕ) → IsOurs name → g name ≡ f name) → CoversExactly number f w → CoversExactly number g w
+exactly-same number f g w same (covers, exact) = (covers-same number f g w same covers, exact)
+
 -- where nothing is pending, a crash leaves the world
-pub settled-covers : BeginSound → (number : ℕ) (disk : Disk) (w : World) (image : Files) → IsSettled disk → MayLeaveOwn IsOurs disk image → Stands number disk.files w → Covers number image (opened w)
-settled-covers begins number disk w image settled left stands =
-    covers-same number disk.files image (opened w) (λ name ours. settled name (image name) (left name ours)) (stands-covers begins number disk.files w stands)
+pub settled-exactly : (number : ℕ) (disk : Disk) (w : World) (image : Files) → IsSettled disk → MayLeaveOwn IsOurs disk image → CoversExactly number disk.files w → CoversExactly number image w
+settled-exactly number disk w image settled left held = exactly-same number disk.files image w (λ name ours. settled name (image name) (left name ours)) held

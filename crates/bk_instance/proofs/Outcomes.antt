@@ -4,14 +4,14 @@ use Rattle.std.specs.List.{AllByRecursion}
 use Rattle.bk_acts.specs.declared.act.StoredAct.{StoredAct}
 use Rattle.bk_acts.specs.declared.act.StoredAct.TheVariants as kind
 use Rattle.bk_acts.specs.Meaning.{Means}
-use Rattle.bk_machine.specs.Acts.{Act, turned, created, dropped, logged, medium_made, set_sealed, based, replaced, restored, recovered, done}
+use Rattle.bk_machine.specs.Acts.{Act, done}
 use Rattle.bk_machine.specs.Outcome.{Outcome}
 use Rattle.bk_machine.specs.World.{World}
 use Rattle.bk_machine.specs.Writes.{ActWrites, ActsWrite, IsStill, IsTurn}
 use Rattle.bk_plans.specs.declared.parts.Part.{Part}
 use Rattle.bk_plans.specs.declared.parts.Part.TheVariants.{Stored, MediumMade, SetSealed}
 use Rattle.bk_plans.specs.declared.parts.Plan.{Plan}
-use Rattle.bk_plans.specs.declared.parts.Plan.TheVariants.{Refused, Answered, Turned, Parts}
+use Rattle.bk_plans.specs.declared.parts.Plan.TheVariants.{Refused, Answered, Turned, Seated, Parts}
 use Rattle.bk_plans.specs.Planning.{AreActsOf, AreParts, IsPart}
 use Rattle.bk_instance.specs.Steps.{HasNoParts}
 use Rattle.bk_instance.specs.Touched.{PartWrites, PartsWrite, PlanWrites}
@@ -34,46 +34,36 @@ pub plan-writes : (w : World) (plan : Plan) (acts : List Act) → AreActsOf w pl
 plan-writes w (Refused rule) acts are path writes = absurd writes
 plan-writes w (Answered answer) acts are path writes = absurd writes
 plan-writes w (Turned name) acts are path writes = absurd writes
+plan-writes w (Seated session) acts are path writes = absurd writes
 plan-writes w (Parts parts answer) acts are path writes = parts-write w parts.items acts are path writes
 
 -- What stores nothing.
 
-not-meant : (stored : StoredAct) (name : Option (List ℕ)) → Means stored (turned name) → ⊥
-not-meant (kind.Created creation) name means = cc means
-not-meant (kind.Dropped other) name means = cc means
-not-meant (kind.Logged other records) name means = let is = means.act_is in absurd cc
-not-meant (kind.Based other header) name means = cc means
-not-meant (kind.Replaced other body) name means = cc means
-not-meant (kind.Restored other base redo) name means = cc means
-not-meant (kind.Recovered other at branch records) name means = let is = means.act_is in absurd cc
+-- a stored act touches more than memory
+not-meant : (stored : StoredAct) (act : Act) → IsTurn act → Means stored act → ⊥
+not-meant (kind.Created creation) act is means = subst IsTurn means is
+not-meant (kind.Dropped other) act is means = subst IsTurn means is
+not-meant (kind.Logged other transactions records) act is means = subst IsTurn means.act_is is
+not-meant (kind.Based other header) act is means = subst IsTurn means is
+not-meant (kind.Replaced other body) act is means = subst IsTurn means is
+not-meant (kind.Restored other base redo) act is means = subst IsTurn means is
+not-meant (kind.Recovered other at branch records) act is means = subst IsTurn means.act_is is
 
-not-turned : (w : World) (part : Part) (name : Option (List ℕ)) → IsPart w part (turned name) → ⊥
-not-turned w (Stored stored) name is = not-meant stored name is.means
-not-turned w (MediumMade at) name is = let made = is.is in absurd cc
-not-turned w (SetSealed at body) name is = let sealed = is.is in absurd cc
-
-turned-as : (act : Act) → IsTurn act → (name : Option (List ℕ)) × (act ≡ turned name)
-turned-as (turned name) is = (name, refl)
-turned-as (created c) is = absurd is
-turned-as (dropped name) is = absurd is
-turned-as (logged name said transactions) is = absurd is
-turned-as (medium_made path) is = absurd is
-turned-as (set_sealed path header) is = absurd is
-turned-as (based name header) is = absurd is
-turned-as (replaced name header) is = absurd is
-turned-as (restored name base redo) is = absurd is
-turned-as (recovered name r) is = absurd is
+-- and so does each part
+not-part : (w : World) (part : Part) (act : Act) → IsTurn act → IsPart w part act → ⊥
+not-part w (Stored stored) act turn is = not-meant stored act turn is.means
+not-part w (MediumMade at) act turn is = subst IsTurn is.is turn
+not-part w (SetSealed at body) act turn is = subst IsTurn is.is turn
 
 none-stored : (w : World) (parts : List Part) (acts : List Act) → AreParts w parts acts → AllByRecursion IsTurn acts → parts ≡ []
 none-stored w [] acts are still = refl
 none-stored w (part ∷ parts) [] are still = absurd are
-none-stored w (part ∷ parts) (act ∷ acts) are still =
-    let turn = turned-as act still.0 in
-    absurd (not-turned w part turn.0 (subst (IsPart w part) turn.1 are.0))
+none-stored w (part ∷ parts) (act ∷ acts) are still = absurd (not-part w part act still.0 are.0)
 
 -- the plan of an outcome that stores nothing has no parts
 pub still-plan : (w : World) (plan : Plan) (outcome : Outcome) → AreActsOf w plan outcome.acts → IsStill outcome → HasNoParts plan
 still-plan w (Refused rule) outcome are still = tt
 still-plan w (Answered answer) outcome are still = tt
 still-plan w (Turned name) outcome are still = tt
+still-plan w (Seated session) outcome are still = tt
 still-plan w (Parts parts answer) outcome are still = none-stored w parts.items outcome.acts are still

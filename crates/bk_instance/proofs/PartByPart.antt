@@ -4,10 +4,9 @@ use Rattle.std.specs.Prelude.{slice_get}
 use Rattle.bk_device.specs.Compose.{effect_weaken}
 use Rattle.bk_device.specs.Disk.{Files, Disk}
 use Rattle.bk_device.specs.Effects.{Effect}
-use Rattle.bk_machine.specs.Acts.{Act, done, done_all, turned}
-use Rattle.bk_machine.specs.MayDo.{MayDo}
+use Rattle.bk_machine.specs.Acts.{Act, done, done_all, seated, turned}
 use Rattle.bk_machine.specs.Same.{SameLogs}
-use Rattle.bk_machine.specs.Sound.{IsSound, AreIdle}
+use Rattle.bk_machine.specs.Sound.{IsSound}
 use Rattle.bk_machine.specs.World.{World}
 use Rattle.bk_plans.specs.declared.parts.Part.{Part}
 use Rattle.bk_plans.specs.declared.parts.Plan.{Plan}
@@ -101,24 +100,36 @@ pub plan-none : (old : Instance) (disk : Disk) (p : Plan) → IsReady old → Is
 plan-none old disk p ready stored =
     effect_weaken (λ image here durable number w acts stands are. cut-none number w acts image (here durable number w stands)) (stays-none old disk ready stored)
 
--- what is kept of the current database
+-- what is kept of sessions
 pub record TurnLaws : Type 0 where
-  pub sound : (w : World) (act : Act) → IsSound w → MayDo w act → IsSound (done w act)
-  pub idle : (old new : World) → SameLogs old new → AreIdle old → AreIdle new
   pub transitive : (a b c : World) → SameLogs a b → SameLogs b c → SameLogs a c
   pub turned : (w : World) (name : Option (List ℕ)) → SameLogs w (done w (turned name))
+  pub seated : (w : World) (session : ℕ) → SameLogs w (done w (seated session))
 
 turned-media : (w : World) (name : Option (List ℕ)) (files : Files) → KeepsMedia w None files → KeepsMedia (done w (turned name)) None files
 unfolding done
 turned-media w name files media = media-on w (done w (turned name)) None files refl (λ path header there. refl) media
 
+seated-media : (w : World) (session : ℕ) (files : Files) → KeepsMedia w None files → KeepsMedia (done w (seated session)) None files
+unfolding done
+seated-media w session files media = media-on w (done w (seated session)) None files refl (λ path header there. refl) media
+
 pub turned-does : (laws : TurnLaws) (old new : Instance) (disk : Disk) (name : Option (List ℕ)) → ((w : World) → Keeps w old.kept → Keeps (done w (turned name)) new.kept) → DoesPlan old disk (plan.Turned name) new disk
-turned-does laws old new disk name keeps w acts stands are =
+turned-does laws old new disk name keeps w acts stands are sound =
     let v : World = done w (turned name) in
     subst (λ a. StandsFor new disk (done_all w a)) (sym are) (record {
-      sound = laws.sound w (turned name) stands.sound tt;
-      idle = laws.idle w v (laws.turned w name) stands.idle;
+      sound = subst (λ a. IsSound (done_all w a)) are sound;
       keeps = keeps w stands.keeps;
       made = made-same v laws.transitive stands.made (laws.turned w name);
       media = turned-media w name disk.files stands.media;
+    })
+
+pub seated-does : (laws : TurnLaws) (old new : Instance) (disk : Disk) (session : ℕ) → ((w : World) → Keeps w old.kept → Keeps (done w (seated session)) new.kept) → DoesPlan old disk (plan.Seated session) new disk
+seated-does laws old new disk session keeps w acts stands are sound =
+    let v : World = done w (seated session) in
+    subst (λ a. StandsFor new disk (done_all w a)) (sym are) (record {
+      sound = subst (λ a. IsSound (done_all w a)) are sound;
+      keeps = keeps w stands.keeps;
+      made = made-same v laws.transitive stands.made (laws.seated w session);
+      media = seated-media w session disk.files stands.media;
     })

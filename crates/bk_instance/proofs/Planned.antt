@@ -1,5 +1,6 @@
 -- A statement that was planned, and whose plan is followed.
-use Rattle.std.proofs.Common.{◌≡◌, inl, inr, ℕ, Ok, Err, sym, subst, ◌∙◌}
+use Rattle.std.proofs.Common.{◌≡◌, inl, inr, ℕ, Ok, Err, length, take, sym, subst, ◌∙◌}
+use Rattle.std.proofs.Math.Seq.{take-length}
 use Rattle.std.specs.Prelude.{Result, IfOk, OnOk, OnErr, IsErrOf}
 use Rattle.bk_device.specs.Calls.{ChangesNothing}
 use Rattle.bk_device.specs.Compose.{effect_then, effect_weaken}
@@ -8,6 +9,10 @@ use Rattle.bk_device.specs.Effects.{Effect}
 use Rattle.bk_device.specs.Laws.{nothing_then, nothing_yet}
 use Rattle.bk_items.specs.declared.item.ScriptEntry.{ScriptEntry}
 use Rattle.bk_items.specs.declared.item.ScriptItem.{ScriptItem}
+use Rattle.bk_machine.specs.Acts.{done_all}
+use Rattle.bk_machine.specs.Machine.{May}
+use Rattle.bk_machine.specs.Outcome.{Outcome}
+use Rattle.bk_machine.specs.Sound.{IsSound}
 use Rattle.bk_machine.specs.World.{World}
 use Rattle.bk_machine.specs.Writes.{ActsWrite, IsStill}
 use Rattle.bk_plans.specs.declared.parts.Plan.{Plan}
@@ -44,6 +49,11 @@ pub on-error : {A : Type 0} (result : Result A ExecuteError) {P : Type 0} → P 
 on-error (Ok value) holds = tt
 on-error (Err error) holds = holds
 
+-- and where there is none
+pub any-ok : {A : Type 0} (result : Result A ExecuteError) {P : Type 0} → P → OnOk result P
+any-ok (Ok value) holds = holds
+any-ok (Err error) holds = tt
+
 -- media rest where they did before a read
 pub calm-through : {A : Type 0} (result : Result A ExecuteError) (a b c : Disk) → ChangesNothing a b → (MediaAreDurable b → OnOk result (MediaAreDurable c)) → MediaAreDurable a → OnOk result (MediaAreDurable c)
 calm-through result a b c call then durable = then (calm-nothing call durable)
@@ -62,37 +72,46 @@ plan-cuts : {tells : Type 0} {Known : World → Type 0} (i : Instance) (a b c : 
 plan-cuts i a b c s now plan plans knows crash told =
     effect_then (effect_weaken (λ image stays durable number w stands. record { done = 0; covers = stays durable number w stands }) (stays-nothing i a b knows.ready (knows.stored told) (knows.call told)))
     (effect_weaken (λ image cuts durable number w stands.
-    cuts (calm-nothing (knows.call told) durable) number w plans.outcome.acts (stands-nothing i a b w (knows.call told) stands) (plans.acts w stands.sound stands.idle stands.keeps (knows.known told w stands))) (crash told))
+    cuts (calm-nothing (knows.call told) durable) number w plans.outcome.acts (stands-nothing i a b w (knows.call told) stands) (plans.acts w stands.sound stands.keeps (knows.known told w stands))) (crash told))
 
 plan-may : {tells : Type 0} {Known : World → Type 0} (i : Instance) (a b : Disk) (s : ScriptEntry) (now : ℕ) (plan : Plan) (plans : Plans i.kept Known s now plan) → Knows tells i a b Known → tells → MayCome i a s now plans.outcome
-plan-may i a b s now plan plans knows told w stands = plans.may w stands.sound stands.idle stands.keeps (knows.known told w stands)
+plan-may i a b s now plan plans knows told w stands = plans.may w stands.sound stands.keeps (knows.known told w stands)
 
 -- no medium is touched but those to which the acts of its outcome write
 plan-spares : {tells : Type 0} {Known : World → Type 0} (i : Instance) (a b c : Disk) (s : ScriptEntry) (now : ℕ) (plan : Plan) (plans : Plans i.kept Known s now plan) → Knows tells i a b Known
     → (tells → TouchesOnly (PlanWrites plan) b c) → tells → (w : World) → StandsFor i a w → TouchesOnly (ActsWrite plans.outcome.acts) a c
 plan-spares i a b c s now plan plans knows spares told w stands =
     effect_then (touches-nothing (knows.call told))
-    (touches-wider (plan-writes w plan plans.outcome.acts (plans.acts w stands.sound stands.idle stands.keeps (knows.known told w stands))) (spares told))
+    (touches-wider (plan-writes w plan plans.outcome.acts (plans.acts w stands.sound stands.keeps (knows.known told w stands))) (spares told))
 
 -- nor is anything where no act stores something
 plan-still : {tells : Type 0} {Known : World → Type 0} (i new : Instance) (a b c : Disk) (s : ScriptEntry) (now : ℕ) (plan : Plan) (plans : Plans i.kept Known s now plan) → (tells → IsLawful a) → Knows tells i a b Known
     → (tells → HasNoParts plan → Rests i b new c) → tells → (w : World) → StandsFor i a w → IsStill plans.outcome → Rests i a new c
 plan-still i new a b c s now plan plans lawful knows rests told w stands still =
-    let then : Rests i b new c = rests told (still-plan w plan plans.outcome (plans.acts w stands.sound stands.idle stands.keeps (knows.known told w stands)) still) in
+    let then : Rests i b new c = rests told (still-plan w plan plans.outcome (plans.acts w stands.sound stands.keeps (knows.known told w stands)) still) in
     record { device = nothing_then (lawful told) (knows.call told) then.device; reserves = then.reserves }
 
-pub plan-executed : {tells : Type 0} {Known : World → Type 0} (i new : Instance) (a b c : Disk) (s : ScriptEntry) (now : ℕ) (plan : Plan) (result : Result Reply ExecuteError) → Plans i.kept Known s now plan → (tells → IsLawful a) → Knows tells i a b Known
+-- behind each front of what a statement comes to the world is sound
+abbrev pub FrontsSound : Type 0
+FrontsSound = (w : World) (s : ScriptEntry) (now : ℕ) (outcome : Outcome) → IsSound w → May w s now outcome → (k : ℕ) → IsSound (done_all w (take k outcome.acts))
+
+behind-sound : FrontsSound → (w : World) (s : ScriptEntry) (now : ℕ) (outcome : Outcome) → IsSound w → May w s now outcome → IsSound (done_all w outcome.acts)
+behind-sound fronts w s now outcome sound may = subst (λ acts. IsSound (done_all w acts)) (take-length outcome.acts) (fronts w s now outcome sound may (length outcome.acts))
+
+pub plan-executed : {tells : Type 0} {Known : World → Type 0} (fronts : FrontsSound) (i new : Instance) (a b c : Disk) (s : ScriptEntry) (now : ℕ) (plan : Plan) (result : Result Reply ExecuteError) → Plans i.kept Known s now plan → (tells → IsLawful a) → Knows tells i a b Known
     → Follows tells i b plan result new c → IfOk result (λ reply. Executed tells i a s now reply new c)
-plan-executed i new a b c s now plan (Ok reply) plans lawful knows follows = record {
+plan-executed fronts i new a b c s now plan (Ok reply) plans lawful knows follows = record {
   outcome = plans.outcome;
   replies = plans.replies ∙ sym follows.replies;
   may = plan-may i a b s now plan plans knows;
-  does = λ told w stands. follows.does told w plans.outcome.acts (stands-nothing i a b w (knows.call told) stands) (plans.acts w stands.sound stands.idle stands.keeps (knows.known told w stands));
+  does = λ told w stands.
+      follows.does told w plans.outcome.acts (stands-nothing i a b w (knows.call told) stands) (plans.acts w stands.sound stands.keeps (knows.known told w stands))
+      (behind-sound fronts w s now plans.outcome stands.sound (plans.may w stands.sound stands.keeps (knows.known told w stands)));
   crash = plan-cuts i a b c s now plan plans knows follows.crash;
   still = plan-still i new a b c s now plan plans lawful knows follows.still;
   spares = plan-spares i a b c s now plan plans knows follows.spares;
 }
-plan-executed i new a b c s now plan (Err error) plans lawful knows follows = tt
+plan-executed fronts i new a b c s now plan (Err error) plans lawful knows follows = tt
 
 pub plan-failed : {tells : Type 0} {Known : World → Type 0} (i new : Instance) (a b c : Disk) (s : ScriptEntry) (now : ℕ) (plan : Plan) (result : Result Reply ExecuteError) → Plans i.kept Known s now plan → Knows tells i a b Known
     → Follows tells i b plan result new c → OnErr result (Failed tells i a s now c)
@@ -108,7 +127,7 @@ plan-failed i new a b c s now plan (Err error) plans knows follows =
 pub plan-broken : {tells : Type 0} {Known : World → Type 0} (i new : Instance) (a b c : Disk) (s : ScriptEntry) (now : ℕ) (plan : Plan) (result : Result Reply ExecuteError) → Plans i.kept Known s now plan → Knows tells i a b Known
     → Follows tells i b plan result new c → tells → IsErrOf result Broken → (w : World) → StandsFor i a w → ⊥
 plan-broken i new a b c s now plan result plans knows follows told is w stands =
-    follows.broken told is w plans.outcome.acts (stands-nothing i a b w (knows.call told) stands) (plans.acts w stands.sound stands.idle stands.keeps (knows.known told w stands))
+    follows.broken told is w plans.outcome.acts (stands-nothing i a b w (knows.call told) stands) (plans.acts w stands.sound stands.keeps (knows.known told w stands))
 
 -- a statement is executed by its item
 pub executed-by : (tells : Type 0) (i new : Instance) (a c : Disk) (s : ScriptEntry) (item : ScriptItem) (now : ℕ) (result : Result Reply ExecuteError) → s.item ≡ item

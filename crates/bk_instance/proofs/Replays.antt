@@ -9,10 +9,10 @@ use Rattle.bk_acts.specs.Reading.{act_of}
 use Rattle.bk_acts.specs.Spelling.{act_bytes, IsAct}
 use Rattle.bk_machine.specs.Acts.{Act, done}
 use Rattle.bk_machine.specs.Same.{SameLogs}
-use Rattle.bk_machine.specs.Sound.{AreIdle, IsSound}
+use Rattle.bk_machine.specs.Sound.{IsSound}
 use Rattle.bk_machine.specs.World.{Database, World, empty_world, ended, log_of, opened}
 use Rattle.bk_kept.specs.declared.kept.Database.{Database as KeptDatabase}
-use Rattle.bk_kept.specs.Keeps.{KeepsDatabases, ShowsLog, database_of}
+use Rattle.bk_kept.specs.Keeps.{IsKept, KeepsDatabases, database_of}
 use Rattle.bk_kept.specs.Stored.{IsDone}
 use Rattle.bk_shown.specs.Shown.{Shows}
 use Rattle.bk_world.specs.Lines.{RecordLines, log_below}
@@ -61,7 +61,7 @@ snoc-front {A} (c ∷ bs) b (x ∷ xs) ys is =
       | inr more ↦ inr (more.0, ap (λ (d : A). d ∷ bs) first ∙ ap (λ (ds : List A). x ∷ ds) more.1)
     ]
 
-take-more : {A : Type 0} (xs : List A) (i : ℕ) (x : A) → slice_get xs i ≡ Some x → take (i + 1) xs ≡ take i xs ++ x ∷ []
+pub take-more : {A : Type 0} (xs : List A) (i : ℕ) (x : A) → slice_get xs i ≡ Some x → take (i + 1) xs ≡ take i xs ++ x ∷ []
 take-more {A} xs i x is = rw add-one (by xs i is)
   where
     by : (xs : List A) (i : ℕ) → slice_get xs i ≡ Some x → take (suc i) xs ≡ take i xs ++ x ∷ []
@@ -94,7 +94,7 @@ same-on a b c first second =
 -- what made one of them made the other
 pub made-same : (blobs : List (List ℕ)) (w v : World) → SameLogs w v → AreMade blobs w → AreMade blobs v
 made-same _ w v same (nothing _ none) = nothing v (same.databases ∙ none)
-made-same _ w v same (one_more blobs old _ stored act made sound idle is may goes) = one_more blobs old v stored act made sound idle is may (same-on (done old act) w v goes same)
+made-same _ w v same (one_more blobs old _ stored act made sound is may goes) = one_more blobs old v stored act made sound is may (same-on (done old act) w v goes same)
 
 same-lines : (history : RecordLines) (dbs : List Database) → AllByRecursion (λ (db : Database). log_of history db ≡ log_of history db) dbs
 same-lines history [] = tt
@@ -109,20 +109,22 @@ unfolding ended
 same-ended w = record { databases = refl; logs = same-lines w.history w.databases }
 
 -- the databases of one are those of the other, with what their logs show
-shown-same : (old new : RecordLines) (ds : List KeptDatabase) (dbs : List Database) → dbs ≡ map database_of ds → AllByRecursion (λ (db : Database). log_of new db ≡ log_of old db) dbs
-    → AllByRecursion (ShowsLog old) ds → AllByRecursion (ShowsLog new) ds
+kept-same : (old new : RecordLines) (ds : List KeptDatabase) (dbs : List Database) → dbs ≡ map database_of ds → AllByRecursion (λ (db : Database). log_of new db ≡ log_of old db) dbs
+    → AllByRecursion (IsKept old) ds → AllByRecursion (IsKept new) ds
 unfolding log_of
-shown-same old new [] dbs is logs shown = tt
-shown-same old new (d ∷ ds) [] is logs shown = absurd cc
-shown-same old new (d ∷ ds) (db ∷ dbs) is logs shown =
+kept-same old new [] dbs is logs kept = tt
+kept-same old new (d ∷ ds) [] is logs kept = absurd cc
+kept-same old new (d ∷ ds) (db ∷ dbs) is logs kept =
     let OfLog : Database → Type 0 = λ x. log_of new x ≡ log_of old x in
-    let log : log_below new d.path d.shown.«end» ≡ log_below old d.path d.shown.«end» = subst OfLog (head-same db (database_of d) dbs (map database_of ds) is) logs.0 in
-    (subst (λ rs. Shows d.files rs d.shown) (sym log) shown.0, shown-same old new ds dbs (tail-same db (database_of d) dbs (map database_of ds) is) logs.1 shown.1)
+    let log : log_below new d.path d.shown.«end» ≡ log_below old d.path d.shown.«end» = subst OfLog (head-same db (database_of d) dbs (map database_of ds) is) logs.0 in (
+      record { shows = subst (λ rs. Shows d.files rs d.shown) (sym log) kept.0.shows; opens = kept.0.opens },
+      kept-same old new ds dbs (tail-same db (database_of d) dbs (map database_of ds) is) logs.1 kept.1,
+    )
 
 pub keeps-same : (old new : World) (ds : List KeptDatabase) → SameLogs old new → KeepsDatabases old ds → KeepsDatabases new ds
 keeps-same old new ds same keeps = record {
   same = same.databases ∙ keeps.same;
-  shown = shown-same old.history new.history ds old.databases keeps.same same.logs keeps.shown;
+  kept = kept-same old.history new.history ds old.databases keeps.same same.logs keeps.kept;
 }
 
 -- Blobs.
@@ -134,7 +136,6 @@ record Last (blobs : List (List ℕ)) (blob : List ℕ) (w : World) : Type 0 whe
   act : Act
   made : AreMade blobs old
   sound : IsSound old
-  idle : AreIdle old
   is : IsAct stored
   may : IsDone old stored act
   same : SameLogs (done old act) w
@@ -142,7 +143,7 @@ record Last (blobs : List (List ℕ)) (blob : List ℕ) (w : World) : Type 0 whe
 
 last-of : (blobs all : List (List ℕ)) (blob : List ℕ) (w : World) → AreMade all w → all ≡ blobs ++ blob ∷ [] → Last blobs blob w
 last-of blobs _ blob w (nothing _ none) is = absurd (none-snoc blobs blob is)
-last-of blobs _ blob w (one_more before old _ stored act made sound idle is_act may goes) is =
+last-of blobs _ blob w (one_more before old _ stored act made sound is_act may goes) is =
     let parts = snoc-same before blobs (act_bytes stored) blob is in
     let Made : List (List ℕ) → Type 0 = λ bs. AreMade bs old in record {
       old = old;
@@ -150,7 +151,6 @@ last-of blobs _ blob w (one_more before old _ stored act made sound idle is_act 
       act = act;
       made = subst Made parts.0 made;
       sound = sound;
-      idle = idle;
       is = is_act;
       may = may;
       same = goes;
@@ -163,10 +163,10 @@ AreRead = (act : StoredAct) → IsAct act → act_of (act_bytes act) ≡ Some ac
 
 -- what may be made of a stored act wherever it is done
 abbrev pub TakesIn : List KeptDatabase → StoredAct → List KeptDatabase → Type 0
-TakesIn olds stored news = (w : World) (a : Act) → IsSound w → AreIdle w → KeepsDatabases w olds → IsDone w stored a → KeepsDatabases (done w a) news
+TakesIn olds stored news = (w : World) (a : Act) → IsSound w → KeepsDatabases w olds → IsDone w stored a → KeepsDatabases (done w a) news
 
 abbrev pub TakesNone : List KeptDatabase → StoredAct → Type 0
-TakesNone olds stored = (w : World) (a : Act) → IsSound w → AreIdle w → KeepsDatabases w olds → IsDone w stored a → ⊥
+TakesNone olds stored = (w : World) (a : Act) → IsSound w → KeepsDatabases w olds → IsDone w stored a → ⊥
 
 -- acts that are spelled alike are the same
 one-act : AreRead → (a b : StoredAct) → IsAct a → IsAct b → act_bytes a ≡ act_bytes b → a ≡ b
@@ -177,14 +177,14 @@ act-taken blobs stored olds news read is shows takes w made =
     let last = last-of blobs (blobs ++ act_bytes stored ∷ []) (act_bytes stored) w made refl in
     let Done : StoredAct → Type 0 = λ s. IsDone last.old s last.act in
     let same : last.stored ≡ stored = one-act read last.stored stored last.is is (sym last.spelled) in
-    keeps-same (done last.old last.act) w news last.same (takes last.old last.act last.sound last.idle (shows last.old last.made) (subst Done same last.may))
+    keeps-same (done last.old last.act) w news last.same (takes last.old last.act last.sound (shows last.old last.made) (subst Done same last.may))
 
 pub act-unfit : (blobs : List (List ℕ)) (stored : StoredAct) (olds : List KeptDatabase) → AreRead → IsAct stored → ShowMade blobs olds → TakesNone olds stored → MakeNone (blobs ++ act_bytes stored ∷ [])
 act-unfit blobs stored olds read is shows none w made =
     let last = last-of blobs (blobs ++ act_bytes stored ∷ []) (act_bytes stored) w made refl in
     let Done : StoredAct → Type 0 = λ s. IsDone last.old s last.act in
     let same : last.stored ≡ stored = one-act read last.stored stored last.is is (sym last.spelled) in
-    none last.old last.act last.sound last.idle (shows last.old last.made) (subst Done same last.may)
+    none last.old last.act last.sound (shows last.old last.made) (subst Done same last.may)
 
 -- a blob that spells no act
 pub no-act : (blobs : List (List ℕ)) (blob : List ℕ) → AreRead → act_of blob ≡ None → MakeNone (blobs ++ blob ∷ [])
@@ -198,8 +198,8 @@ none-made : ShowMade [] []
 none-made w made = by [] made refl
   where
     by : (all : List (List ℕ)) → AreMade all w → all ≡ [] → KeepsDatabases w []
-    by _ (nothing _ none) is = record { same = none; shown = tt }
-    by _ (one_more before old _ stored act made sound idle is_act may goes) is = absurd (none-snoc before (act_bytes stored) (sym is))
+    by _ (nothing _ none) is = record { same = none; kept = tt }
+    by _ (one_more before old _ stored act made sound is_act may goes) is = absurd (none-snoc before (act_bytes stored) (sym is))
 
 pub no-blobs : (ds : List KeptDatabase) → ds ≡ [] → ShowMade [] ds
 no-blobs ds none =
@@ -211,10 +211,10 @@ front-made : (xs ys all : List (List ℕ)) (w : World) → AreMade all w → all
 front-made xs ys _ w (nothing _ none) is =
     let Made : List (List ℕ) → Type 0 = λ bs. AreMade bs w in
     (w, subst Made (sym (nothing-before xs ys is)) (nothing w none))
-front-made xs ys _ w (one_more before old _ stored act made sound idle is_act may goes) is =
+front-made xs ys _ w (one_more before old _ stored act made sound is_act may goes) is =
     let Made : List (List ℕ) → Type 0 = λ bs. AreMade bs w in
     elim (snoc-front before (act_bytes stored) xs ys is) [
-      | inl none ↦ (w, subst Made (is ∙ ap (λ (zs : List (List ℕ)). xs ++ zs) none ∙ append-nil xs) (one_more before old w stored act made sound idle is_act may goes))
+      | inl none ↦ (w, subst Made (is ∙ ap (λ (zs : List (List ℕ)). xs ++ zs) none ∙ append-nil xs) (one_more before old w stored act made sound is_act may goes))
       | inr more ↦ front-made xs more.0 before old made more.1
     ]
 
@@ -240,7 +240,7 @@ whole blobs ds n all shows =
     let Shows : List (List ℕ) → Type 0 = λ bs. ShowMade bs ds in
     subst Shows (take-all blobs n all) shows
 
--- where there are none, the empty world is made
+-- no blobs make some world
 pub made-none : (blobs : List (List ℕ)) → blobs ≡ [] → MakeNone blobs → ⊥
 unfolding empty_world
 made-none blobs is none =

@@ -37,7 +37,6 @@ stored-nothing i a b call stored = home_kept (keeps_by_nothing call) stored
 pub stands-nothing : (i : Instance) (a b : Disk) (w : World) → ChangesNothing a b → StandsFor i a w → StandsFor i b w
 stands-nothing i a b w call stands = record {
   sound = stands.sound;
-  idle = stands.idle;
   keeps = stands.keeps;
   made = subst (λ blobs. AreMade blobs w) (sym (home_files_kept (keeps_by_nothing call)).1) stands.made;
   media = media-there w None a.files b.files (λ path bytes. call.files (medium_file path)) stands.media;
@@ -49,7 +48,6 @@ stands-nothing i a b w call stands = record {
 pub left-covers : (number : ℕ) (i : Instance) (disk : Disk) (w : World) (image : Files) → IsReady i → IsStored disk i → MediaAreDurable disk → MayLeaveOwn IsOurs disk image → StandsFor i disk w → Covers number image w
 left-covers number i disk w image ready stored durable left stands = record {
   sound = stands.sound;
-  idle = stands.idle;
   «record» = i.home.«record»;
   blobs = blobs_of disk.files;
   holds = inr (home_left image stored (λ name own. left name (inl own)));

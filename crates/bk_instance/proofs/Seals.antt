@@ -12,9 +12,9 @@ use Rattle.bk_device.specs.Names.{same_or_other}
 use Rattle.bk_home.specs.Home.{HomeIs, IsOwn, blobs_of, made_file, control_file, rows_file}
 use Rattle.bk_home.specs.Laws.{home_left, home_kept, home_files_kept}
 use Rattle.bk_machine.specs.Acts.{Act, done, set_sealed, with_slot}
-use Rattle.bk_machine.specs.MayDo.{MayDo, LeavesIdle}
+use Rattle.bk_machine.specs.MayDo.{MayDo}
 use Rattle.bk_machine.specs.Same.{SameLogs}
-use Rattle.bk_machine.specs.Sound.{IsSound, AreIdle}
+use Rattle.bk_machine.specs.Sound.{IsSound}
 use Rattle.bk_machine.specs.World.{World}
 use Rattle.bk_media.specs.declared.error.LoadError.{LoadError as MediumError}
 use Rattle.bk_media.specs.declared.error.LoadError.TheVariants as load
@@ -178,18 +178,17 @@ media-sealed w files image path sets body bytes keeps others has added carries =
 -- what the machine's laws say of a set that is sealed
 pub record SealLaws : Type 0 where
   pub sound : (w : World) (act : Act) → IsSound w → MayDo w act → IsSound (done w act)
-  pub idle : (w : World) (act : Act) → IsSound w → AreIdle w → MayDo w act → LeavesIdle act → AreIdle (done w act)
   pub then : (a b c : World) → SameLogs a b → SameLogs b c → SameLogs a c
   pub same : (w : World) (path : List ℕ) (header : Header) → SameLogs w (done w (set_sealed path header))
 
 made-beside : {blobs : List (List ℕ)} {w : World} (v : World) → SealLaws → AreMade blobs w → SameLogs w v → AreMade blobs v
 made-beside v laws (nothing w none) same = nothing v (same.databases ∙ none)
-made-beside v laws (one_more front old w stored act made sound idle is is_done behind) same =
-    one_more front old v stored act made sound idle is is_done (laws.then (done old act) w v behind same)
+made-beside v laws (one_more front old w stored act made sound is is_done behind) same =
+    one_more front old v stored act made sound is is_done (laws.then (done old act) w v behind same)
 
 keeps-sealed : (w : World) (k : Kept) (path : List ℕ) (header : Header) → Keeps w k → Keeps (done w (set_sealed path header)) k
 unfolding done
-keeps-sealed w k path header keeps = record { number = keeps.number; counter = keeps.counter; current = keeps.current; databases = keeps.databases; shown = keeps.shown }
+keeps-sealed w k path header keeps = record { number = keeps.number; counter = keeps.counter; session = keeps.session; sessions = keeps.sessions; databases = keeps.databases; kept = keeps.kept }
 
 -- own files with the same record and blobs, and the media of the world behind: a crash leaves that world
 covers-behind : (number : ℕ) (laws : SealLaws) (i : Instance) (disk : Disk) (w : World) (image : Files) (path : List ℕ) (body : SetBody) → IsReady i → StandsFor i disk w → HomeIs image i.home.«record» (blobs_of disk.files)
@@ -198,7 +197,6 @@ covers-behind number laws i disk w image path body ready stands home may media =
     let keeps : Keeps (done w (set_sealed path body.header)) i.kept = keeps-sealed w i.kept path body.header stands.keeps in
     record {
       sound = laws.sound w (set_sealed path body.header) stands.sound may;
-      idle = laws.idle w (set_sealed path body.header) stands.sound stands.idle may tt;
       «record» = i.home.«record»;
       blobs = blobs_of disk.files;
       holds = inr home;
@@ -213,7 +211,6 @@ covers-behind number laws i disk w image path body ready stands home may media =
 covers-before : (number : ℕ) (i : Instance) (disk : Disk) (w : World) (image : Files) → IsReady i → StandsFor i disk w → HomeIs image i.home.«record» (blobs_of disk.files) → KeepsMedia w None image → Covers number image w
 covers-before number i disk w image ready stands home media = record {
   sound = stands.sound;
-  idle = stands.idle;
   «record» = i.home.«record»;
   blobs = blobs_of disk.files;
   holds = inr home;
@@ -311,7 +308,6 @@ stands-behind laws i a c d path body w on is stands may carries =
     let now : StandsFor i c w = stands-nothing i a c w on.call stands in
     record {
       sound = laws.sound w (set_sealed path body.header) now.sound may;
-      idle = laws.idle w (set_sealed path body.header) now.sound now.idle may tt;
       keeps = keeps-sealed w i.kept path body.header now.keeps;
       made = subst (λ blobs. AreMade blobs (done w (set_sealed path body.header))) (sym (home_files_kept is.own).1) (made-beside (done w (set_sealed path body.header)) laws now.made (laws.same w path body.header));
       media = media-sealed w c.files d.files path (sets_of (c.files (medium_file path))) body on.bytes now.media is.beside on.has is.added carries;

@@ -67,8 +67,8 @@ media-left disk image durable left path bytes = durable path bytes (image (mediu
 -- a world with the same databases and logs is made by the same acts
 pub made-same : {blobs : List (List ℕ)} {w : World} (v : World) → ((a b c : World) → SameLogs a b → SameLogs b c → SameLogs a c) → AreMade blobs w → SameLogs w v → AreMade blobs v
 made-same v law (nothing w none) same = nothing v (same.databases ∙ none)
-made-same v law (one_more front old w stored act made sound idle is done_so behind) same =
-    one_more front old v stored act made sound idle is done_so (law (done old act) w v behind same)
+made-same v law (one_more front old w stored act made sound is done_so behind) same =
+    one_more front old v stored act made sound is done_so (law (done old act) w v behind same)
 
 -- A record that fits what an instance keeps, once it has drawn so many GUIDs.
 pub record Fits (i : Instance) (drawn : ℕ) (r : Record) : Type 0 where
@@ -83,7 +83,6 @@ ready-fits i ready = record { number = ready.number; no_less = omega (arith, rea
 pub covers-old : (number : ℕ) (i : Instance) (disk : Disk) (w : World) (image : Files) (r : Record) → StandsFor i disk w → Fits i 0 r → HomeIs image r (blobs_of disk.files) → KeepsMedia w r.making image → Covers number image w
 covers-old number i disk w image r stands fits home media = record {
   sound = stands.sound;
-  idle = stands.idle;
   «record» = r;
   blobs = blobs_of disk.files;
   holds = inr home;
@@ -130,7 +129,6 @@ stays-reserved i before after next ready number counter none effect =
 pub stands-on : (i j : Instance) (before after : Disk) (w : World) → j.kept ≡ i.kept → blobs_of after.files ≡ blobs_of before.files → SameMedia before.files after.files → StandsFor i before w → StandsFor j after w
 stands-on i j before after w kept blobs same stands = record {
   sound = stands.sound;
-  idle = stands.idle;
   keeps = subst (λ k. Keeps w k) (sym kept) stands.keeps;
   made = subst (λ b. AreMade b w) (sym blobs) stands.made;
   media = media-in w None before.files after.files same stands.media;

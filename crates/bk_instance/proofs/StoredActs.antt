@@ -9,13 +9,13 @@ use Rattle.bk_device.specs.Effects.{Effect}
 use Rattle.bk_device.specs.Compose.{effect_weaken}
 use Rattle.bk_home.specs.Home.{HomeIs, IsOwn, blobs_of}
 use Rattle.bk_machine.specs.Acts.{Act, done, says, goes_online, where_found, turned, created, dropped, logged, medium_made, set_sealed, based, replaced, restored, recovered}
-use Rattle.bk_machine.specs.MayDo.{LeavesIdle, MayDo}
+use Rattle.bk_machine.specs.MayDo.{MayDo}
 use Rattle.bk_machine.specs.Same.{SameLogs}
-use Rattle.bk_machine.specs.Sound.{IsSound, AreIdle, SetIn}
+use Rattle.bk_machine.specs.Sound.{IsSound, SetIn}
 use Rattle.bk_machine.specs.World.{World, Database, database_named}
 use Rattle.bk_plans.specs.declared.parts.Part.TheVariants as part
 use Rattle.bk_kept.specs.Keeps.{Keeps}
-use Rattle.bk_kept.specs.Stored.{IsDone, IsTaken, drawn_by}
+use Rattle.bk_kept.specs.Stored.{IsDone, drawn_by}
 use Rattle.bk_world.specs.declared.header.Header.{Header}
 use Rattle.bk_world.specs.Lines.{log_below}
 use Rattle.bk_instance.specs.declared.instance.Instance.{Instance}
@@ -28,23 +28,10 @@ use Rattle.bk_instance.proofs.Standing.{own-widens, covers-now}
 -- what the machine's acts keep
 pub record ActLaws : Type 0 where
   pub sound : (w : World) (act : Act) → IsSound w → MayDo w act → IsSound (done w act)
-  pub idle : (w : World) (act : Act) → IsSound w → AreIdle w → MayDo w act → LeavesIdle act → AreIdle (done w act)
   pub reflexive : (w : World) → SameLogs w w
   pub sets : (w : World) (path : List ℕ) (header : Header) → IsSound w → SetIn w path header → (act : Act) → MayDo w act → log_below (done w act).history header.path header.last ≡ log_below w.history header.path header.last
 
 -- What a stored act leaves.
-
-taken-idle : (w : World) (act : Act) → IsTaken w act → LeavesIdle act
-taken-idle w (turned name) taken = tt
-taken-idle w (created c) taken = tt
-taken-idle w (dropped name) taken = tt
-taken-idle w (logged name said transactions) taken = taken.1
-taken-idle w (medium_made path) taken = tt
-taken-idle w (set_sealed path header) taken = tt
-taken-idle w (based name header) taken = tt
-taken-idle w (replaced name header) taken = tt
-taken-idle w (restored name base redo) taken = tt
-taken-idle w (recovered name r) taken = tt
 
 where-media : (w : World) (found : Option Database) (next : Database → World) → ((db : Database) → (next db).media ≡ w.media) → (where_found w found next).media ≡ w.media
 where-media w None next same = refl
@@ -55,8 +42,8 @@ stored-media : (w : World) (stored : StoredAct) (act : Act) → Means stored act
 unfolding done says goes_online
 stored-media w (Created creation) act is = ap (λ (a : Act). (done w a).media) is
 stored-media w (Dropped name) act is = ap (λ (a : Act). (done w a).media) is
-stored-media w (Logged name records) act is =
-    ap (λ (a : Act). (done w a).media) is.act_is ∙ where-media w (database_named w.databases name) (λ db. says w db is.said is.transactions) (λ db. refl)
+stored-media w (Logged name transactions records) act is =
+    ap (λ (a : Act). (done w a).media) is.act_is ∙ where-media w (database_named w.databases name) (λ db. says w db is.said transactions) (λ db. refl)
 stored-media w (Based name header) act is = ap (λ (a : Act). (done w a).media) is
 stored-media w (Replaced name body) act is = ap (λ (a : Act). (done w a).media) is
 stored-media w (Restored name base redo) act is = ap (λ (a : Act). (done w a).media) is
@@ -71,7 +58,7 @@ stored-keeps laws w stored act files sound is media =
 pub record TakesIn (i j : Instance) (stored : StoredAct) (bytes : List ℕ) : Type 0 where
   pub spelled : bytes ≡ act_bytes stored
   pub is_act : IsAct stored
-  pub keeps : (w : World) (act : Act) → IsSound w → AreIdle w → Keeps w i.kept → IsDone w stored act → Keeps (done w act) j.kept
+  pub keeps : (w : World) (act : Act) → IsSound w → Keeps w i.kept → IsDone w stored act → Keeps (done w act) j.kept
   pub number : j.kept.number ≡ i.kept.number
   pub counter : j.kept.counter ≡ i.kept.counter + drawn_by stored
   pub reserved : i.kept.counter + drawn_by stored ≤ i.home.«record».counter
@@ -79,7 +66,7 @@ pub record TakesIn (i j : Instance) (stored : StoredAct) (bytes : List ℕ) : Ty
 stored-made : (laws : ActLaws) (i j : Instance) (disk : Disk) (w : World) (stored : StoredAct) (act : Act) (bytes : List ℕ) → TakesIn i j stored bytes → StandsFor i disk w → IsDone w stored act → AreMade (blobs_of disk.files ++ bytes ∷ []) (done w act)
 stored-made laws i j disk w stored act bytes takes stands is =
     subst (λ b. AreMade (blobs_of disk.files ++ b ∷ []) (done w act)) (sym takes.spelled)
-    (one_more (blobs_of disk.files) w (done w act) stored act stands.made stands.sound stands.idle takes.is_act is (laws.reflexive (done w act)))
+    (one_more (blobs_of disk.files) w (done w act) stored act stands.made stands.sound takes.is_act is (laws.reflexive (done w act)))
 
 pub stored-does : (laws : ActLaws) (old i j k : Instance) (first before after : Disk) (stored : StoredAct) (bytes : List ℕ) → TakesIn i j stored bytes → k.kept ≡ j.kept → ((w : World) → StandsFor old first w → StandsFor i before w)
     → blobs_of after.files ≡ blobs_of before.files ++ bytes ∷ [] → SameMedia before.files after.files → DoesPart old first (part.Stored stored) k after
@@ -87,8 +74,7 @@ stored-does laws old i j k first before after stored bytes takes kept on blobs s
     let stands : StandsFor i before w = on w stood in
     record {
       sound = laws.sound w act stands.sound is.may;
-      idle = laws.idle w act stands.sound stands.idle is.may (taken-idle w act is.taken);
-      keeps = subst (Keeps (done w act)) (sym kept) (takes.keeps w act stands.sound stands.idle stands.keeps is);
+      keeps = subst (Keeps (done w act)) (sym kept) (takes.keeps w act stands.sound stands.keeps is);
       made = subst (λ b. AreMade b (done w act)) (sym blobs) (stored-made laws i j before w stored act bytes takes stands is);
       media = media-in (done w act) None before.files after.files same (stored-keeps laws w stored act before.files stands.sound is stands.media);
     }
@@ -96,10 +82,9 @@ stored-does laws old i j k first before after stored bytes takes kept on blobs s
 stored-covers : (laws : ActLaws) (i j : Instance) (disk : Disk) (stored : StoredAct) (bytes : List ℕ) → IsReady i → TakesIn i j stored bytes → (number : ℕ) (w : World) (act : Act) (image : Files) → StandsFor i disk w → IsDone w stored act
     → HomeIs image i.home.«record» (blobs_of disk.files ++ bytes ∷ []) → SameMedia disk.files image → Covers number image (done w act)
 stored-covers laws i j disk stored bytes ready takes number w act image stands is home same =
-    let keeps : Keeps (done w act) j.kept = takes.keeps w act stands.sound stands.idle stands.keeps is in
+    let keeps : Keeps (done w act) j.kept = takes.keeps w act stands.sound stands.keeps is in
     record {
       sound = laws.sound w act stands.sound is.may;
-      idle = laws.idle w act stands.sound stands.idle is.may (taken-idle w act is.taken);
       «record» = i.home.«record»;
       blobs = blobs_of disk.files ++ bytes ∷ [];
       holds = inr home;

@@ -57,3 +57,8 @@ unread_error unread.NoMemory = load.NoMemory
 abbrev pub unfit_error : ApplyError → LoadError
 unfit_error apply.Unfit = load.Broken
 unfit_error apply.NoMemory = load.NoMemory
+
+abbrev pub settled_error : ExecuteError → LoadError
+settled_error Fault = load.Fault
+settled_error NoMemory = load.NoMemory
+settled_error Broken = load.Unsettled

@@ -7,9 +7,11 @@ use Rattle.bk_device.specs.Disk.{Files, Disk}
 use Rattle.bk_home.specs.declared.record.Record.{Record}
 use Rattle.bk_home.specs.Home.{IsNotMade, HomeIs, IsHome, IsOwn, blobs_of, fresh}
 use Rattle.bk_machine.specs.Acts.{Act, done, done_all}
+use Rattle.bk_machine.specs.Closing.{AreClosing}
 use Rattle.bk_machine.specs.Same.{SameLogs}
+use Rattle.bk_machine.specs.Settled.{IsSettledTo}
 use Rattle.bk_machine.specs.Sound.{IsSound, AreIdle}
-use Rattle.bk_machine.specs.World.{World, ended}
+use Rattle.bk_machine.specs.World.{World}
 use Rattle.bk_media.specs.Names.{medium_file}
 use Rattle.bk_kept.specs.Keeps.{Keeps}
 use Rattle.bk_kept.specs.Stored.{IsDone}
@@ -18,34 +20,19 @@ use Rattle.bk_instance.specs.Media.{KeepsMedia}
 
 -- Files.
 
--- The blobs of an instance's file are the acts, oldest first, that made the databases of a world and their logs.
+-- The blobs of an instance's file are the acts, oldest first, that made the databases of a world and their logs, with what is open in them.
 pub data AreMade : List (List ℕ) → World → Type 0 where
   nothing : (w : World) → w.databases ≡ [] → AreMade [] w
-  one_more : (blobs : List (List ℕ)) (old w : World) (stored : StoredAct) (act : Act) → AreMade blobs old → IsSound old → AreIdle old
+  one_more : (blobs : List (List ℕ)) (old w : World) (stored : StoredAct) (act : Act) → AreMade blobs old → IsSound old
       → IsAct stored → IsDone old stored act → SameLogs (done old act) w → AreMade (blobs ++ act_bytes stored ∷ []) w
 
 -- an instance's own files hold a record and these blobs; where it isn't made, there are none, and its number is the one that is asked for
 abbrev pub Holds : ℕ → Files → Record → List (List ℕ) → Type 0
 Holds number files r blobs = (IsNotMade files × (r ≡ fresh number) × (blobs ≡ [])) ⊎ HomeIs files r blobs
 
--- Files stand for a sound world in which nothing is open: they hold its databases and its counter, and its media are there.
-pub record Stands (number : ℕ) (files : Files) (w : World) : Type 0 where
-  pub sound : IsSound w
-  pub idle : AreIdle w
-  pub «record» : Record
-  pub blobs : List (List ℕ)
-  pub holds : Holds number files «record» blobs
-  pub instance : w.instance ≡ «record».number
-  pub counter : w.counter ≡ «record».counter
-  pub made : AreMade blobs w
-  pub media : KeepsMedia w «record».making files
-  -- no medium is being made where a run has ended
-  pub finished : w.closed ≡ true → «record».making ≡ None
-
--- Files hold what a crash leaves of a world: the same, but that GUIDs may have been reserved.
+-- Files hold a sound world, with what is open in it: its databases, its media, and its counter, but that GUIDs may have been reserved.
 pub record Covers (number : ℕ) (files : Files) (w : World) : Type 0 where
   pub sound : IsSound w
-  pub idle : AreIdle w
   pub «record» : Record
   pub blobs : List (List ℕ)
   pub holds : Holds number files «record» blobs
@@ -54,6 +41,26 @@ pub record Covers (number : ℕ) (files : Files) (w : World) : Type 0 where
   pub no_more : «record».counter ≤ w.counter + 1024
   pub made : AreMade blobs w
   pub media : KeepsMedia w «record».making files
+
+-- Files stand for a sound world, between two runs: the one that they hold is settled to it, and its counter is the one that was reserved.
+pub record Stands (number : ℕ) (files : Files) (w : World) : Type 0 where
+  pub sound : IsSound w
+  pub before : World
+  pub covers : Covers number files before
+  pub settled : IsSettledTo before w
+  pub counter : w.counter ≡ covers.«record».counter
+  -- where a run has ended nothing is open, and no medium is being made
+  pub idle : w.closed ≡ true → AreIdle before
+  pub finished : w.closed ≡ true → covers.«record».making ≡ None
+
+-- The same of a world in which a run begins, but that GUIDs may have been reserved.
+pub record StandsNear (number : ℕ) (files : Files) (w : World) : Type 0 where
+  pub sound : IsSound w
+  pub before : World
+  pub covers : Covers number files before
+  pub settled : IsSettledTo before w
+  pub no_less : w.counter ≤ covers.«record».counter
+  pub no_more : covers.«record».counter ≤ w.counter + 1024
 
 -- files hold what a crash leaves inside of some acts: a world behind a front of them
 pub record CutIn (number : ℕ) (w : World) (acts : List Act) (files : Files) : Type 0 where
@@ -78,10 +85,9 @@ IsStored disk i = IsHome disk i.home
 abbrev pub ReservesNone : Instance → Type 0
 ReservesNone i = i.home.«record».counter ≡ i.kept.counter
 
--- It stands for a sound world in which nothing is open, with its blobs and the media on its device.
+-- It stands for a sound world, with what is open in it, its blobs and the media on its device.
 pub record StandsFor (i : Instance) (disk : Disk) (w : World) : Type 0 where
   pub sound : IsSound w
-  pub idle : AreIdle w
   pub keeps : Keeps w i.kept
   pub made : AreMade (blobs_of disk.files) w
   pub media : KeepsMedia w None disk.files
@@ -90,10 +96,6 @@ pub record StandsFor (i : Instance) (disk : Disk) (w : World) : Type 0 where
 abbrev pub IsOurs : List ℕ → Type 0
 IsOurs name = IsOwn name ⊎ ((path : List ℕ) × AreBytes path × (name ≡ medium_file path))
 
--- at the end of a run, each crash leaves what a crash of its world may leave
+-- at the end of a run, each crash leaves a world behind a front of the rollbacks that close it
 abbrev pub CutsEnd : Instance → Disk → Files → Type 0
-CutsEnd i before image = (number : ℕ) (w : World) → StandsFor i before w → Covers number image w
-
--- and then its files stand for the world of the run that has ended
-abbrev pub StandsEnded : Instance → Disk → Files → Type 0
-StandsEnded i before files = (number : ℕ) (w : World) → StandsFor i before w → Stands number files (ended w)
+CutsEnd i before image = (number : ℕ) (w : World) → StandsFor i before w → (closing : List Act) × AreClosing w closing × CutIn number w closing image

@@ -5,9 +5,11 @@ use Rattle.bk_device.specs.Disk.{Files, Disk}
 use Rattle.bk_device.specs.Effects.{Effect}
 use Rattle.bk_items.specs.declared.item.ScriptEntry.{ScriptEntry}
 use Rattle.bk_machine.specs.Acts.{Act, done, done_all}
+use Rattle.bk_machine.specs.Closing.{AreClosing}
 use Rattle.bk_machine.specs.Machine.{May}
 use Rattle.bk_machine.specs.Outcome.{Outcome}
-use Rattle.bk_machine.specs.World.{World}
+use Rattle.bk_machine.specs.Sound.{IsSound}
+use Rattle.bk_machine.specs.World.{World, ended}
 use Rattle.bk_machine.specs.Writes.{ActsWrite, IsStill}
 use Rattle.bk_plans.specs.declared.parts.Part.{Part}
 use Rattle.bk_plans.specs.declared.parts.Plan.{Plan}
@@ -16,7 +18,7 @@ use Rattle.bk_plans.specs.Planning.{IsPart, AreParts, AreActsOf}
 use Rattle.bk_world.specs.declared.reply.Reply.{Reply}
 use Rattle.bk_instance.specs.declared.instance.Instance.{Instance}
 use Rattle.bk_instance.specs.Media.{IfDurable}
-use Rattle.bk_instance.specs.Stands.{Covers, CutIn, IsOurs, ReservesNone, StandsFor}
+use Rattle.bk_instance.specs.Stands.{Covers, CutIn, IsOurs, ReservesNone, Stands, StandsFor}
 use Rattle.bk_instance.specs.Touched.{TouchesOnly}
 
 -- One part.
@@ -47,8 +49,9 @@ AreNoParts old before parts = (w : World) (acts : List Act) → StandsFor old be
 
 -- A plan.
 
+-- it is done, where the world behind its acts is sound
 abbrev pub DoesPlan : Instance → Disk → Plan → Instance → Disk → Type 0
-DoesPlan old before plan new after = (w : World) (acts : List Act) → StandsFor old before w → AreActsOf w plan acts → StandsFor new after (done_all w acts)
+DoesPlan old before plan new after = (w : World) (acts : List Act) → StandsFor old before w → AreActsOf w plan acts → IsSound (done_all w acts) → StandsFor new after (done_all w acts)
 
 abbrev pub CutsPlan : Instance → Disk → Plan → Files → Type 0
 CutsPlan old before plan image = (number : ℕ) (w : World) (acts : List Act) → StandsFor old before w → AreActsOf w plan acts → CutIn number w acts image
@@ -111,3 +114,11 @@ pub record DidNothing (old : Instance) (before after : Disk) : Type 0 where
 -- It failed: nothing was done yet, or it was cut off.
 abbrev pub Failed : Type 0 → Instance → Disk → ScriptEntry → ℕ → Disk → Type 0
 Failed tells old before s now after = (tells → DidNothing old before after) ⊎ CutOff tells old before s now after
+
+-- The end of a run.
+
+-- A run is closed: one list of rollbacks closes each world for which the instance stood, and then its files stand for the world of the run that has ended.
+pub record Closed (tells : Type 0) (old : Instance) (before after : Disk) : Type 0 where
+  pub acts : List Act
+  pub closes : tells → (w : World) → StandsFor old before w → AreClosing w acts
+  pub stands : tells → (number : ℕ) (w : World) → StandsFor old before w → Stands number after.files (ended (done_all w acts))

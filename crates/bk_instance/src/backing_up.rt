@@ -11,6 +11,7 @@ use crate::instance::Instance;
 use bk_device::Device;
 use bk_ids::{Sequence, Text};
 use bk_items::{BackupOptions, UnitName};
+use bk_machine::acts_of_statements;
 use bk_media::medium_file;
 use bk_media_plans::plan_backup;
 use bk_world::Reply;
@@ -60,6 +61,7 @@ impl Instance {
         ensures broken { D.tells → IsErrOf result Broken → (w : World) → StandsFor self.old (D.disk dev.old) w → ⊥ }
         ensures cause { HasCause D.disk_faults D.tell_faults dev.old dev.new (IsErrOf result Fault) }
     {
+        acts_of_statements();
         let is_there = is_taken(self.alloc, dev, disk.as_str())?;
         let plan = plan_backup(
             &self.kept, self.alloc, line, database, units, disk, options, is_there, now,

@@ -32,9 +32,13 @@ pub enum LoadError {
     /// The directory is made as an instance, and its control file holds no control.
     #[error("the directory is no instance")]
     NotAnInstance,
-    /// The files hold what no instance writes.
+    /// The files hold what no instance writes. Nothing was changed.
     #[error("the instance is broken")]
     Broken,
+    /// The files hold what no instance writes, which was seen only while what was open was undone: own files may have
+    /// been changed.
+    #[error("the instance is broken in what was open")]
+    Unsettled,
     /// The device failed.
     #[error("the device has failed")]
     Fault,
@@ -163,6 +167,18 @@ impl From<ApplyError> for LoadError {
         match error {
             ApplyError::Unfit => LoadError::Broken,
             ApplyError::NoMemory => LoadError::NoMemory,
+        }
+    }
+}
+
+impl From<ExecuteError> for LoadError {
+    ghost from_gives = { λ error e. e ≡ errors.settled_error error };
+
+    fn from(error: ExecuteError) -> Self {
+        match error {
+            ExecuteError::Fault => LoadError::Fault,
+            ExecuteError::NoMemory => LoadError::NoMemory,
+            ExecuteError::Broken => LoadError::Unsettled,
         }
     }
 }

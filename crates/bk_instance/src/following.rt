@@ -3,7 +3,7 @@
 use crate::error::ExecuteError;
 use crate::instance::Instance;
 use bk_device::Device;
-use bk_machine::{acts_keep_worlds_sound, logs_that_stay};
+use bk_machine::logs_that_stay;
 use bk_plans::{Part, Plan};
 use bk_world::Reply;
 
@@ -84,14 +84,17 @@ impl Instance {
         ensures broken { D.tells → IsErrOf result Broken → IsNoPlan self.old (D.disk dev.old) plan }
         ensures cause { HasCause D.disk_faults D.tell_faults dev.old dev.new (IsErrOf result Fault) }
     {
-        acts_keep_worlds_sound();
         logs_that_stay();
         match plan {
             Plan::Refused { rule } => Ok(Reply::Refused { rule }),
             Plan::Answered { reply } => Ok(reply),
             Plan::Turned { name } => {
-                self.kept.turn(name);
+                self.kept.turn(name)?;
                 Ok(Reply::Done)
+            }
+            Plan::Seated { session } => {
+                self.kept.seat(session);
+                Ok(Reply::Nothing)
             }
             Plan::Parts { parts, reply } => {
                 let done = self.carry_out(dev, &parts);

@@ -13,7 +13,8 @@ use bk_device::Device;
 use bk_home::Home;
 use bk_items::{ScriptEntry, ScriptItem};
 use bk_kept::Kept;
-use bk_plans::plan;
+use bk_machine::acts_of_statements;
+use bk_planning::plan;
 use bk_world::Reply;
 use std::alloc::Global;
 
@@ -87,6 +88,7 @@ impl Instance {
         ensures broken { D.tells → IsErrOf result execute.Broken → (w : World) → StandsFor self.old (D.disk dev.old) w → ⊥ }
         ensures cause { HasCause D.disk_faults D.tell_faults dev.old dev.new (IsErrOf result execute.Fault) }
     {
+        acts_of_statements();
         let plan = plan(&self.kept, self.alloc, statement, now)?;
         self.follow(dev, plan)
     }

@@ -13,9 +13,10 @@ mod loading;
 mod making;
 mod replaying;
 mod restoring;
+mod settling;
 mod storing;
 mod unfinished;
 
 pub use error::{ExecuteError, LoadError};
 pub use instance::Instance;
-pub use laws::{empty_files_stand, events_keep_what_stands};
+pub use laws::{crashes_leave_files_that_stand, empty_files_stand, events_keep_what_stands};

@@ -5,11 +5,12 @@ ghost use Rattle.bk_device.specs.Counts.{HasCause};
 ghost use Rattle.bk_device.specs.Disk.{IsSettled};
 ghost use Rattle.bk_device.specs.Effects.{Effect, MayLeaveOwn};
 ghost use Rattle.bk_home.specs.Home.{AreDurable, IsHome, IsMade, IsNoInstance, IsOwn, blobs_of};
-ghost use Rattle.bk_instance.specs.Loading.{LeavesOpened};
+ghost use Rattle.bk_instance.specs.Loading.{CoversExactly, LeavesHeld, LeavesOpened};
 ghost use Rattle.bk_instance.specs.Media.{MediaAreDurable};
-ghost use Rattle.bk_instance.specs.Stands.{Stands, IsReady, IsStored, ReservesNone, StandsFor, IsOurs};
+ghost use Rattle.bk_instance.specs.Stands.{Covers, Stands, IsReady, IsStored, ReservesNone, StandsFor, IsOurs};
 ghost use Rattle.bk_instance.specs.Touched.{IsMaking, TouchesOnly, TouchesOwn};
 ghost use Rattle.bk_instance.specs.declared.error.LoadError.TheVariants as load;
+ghost use Rattle.bk_machine.specs.Sound.{AreIdle};
 ghost use Rattle.bk_machine.specs.World.{World, opened};
 
 use crate::error::LoadError;
@@ -19,7 +20,10 @@ use crate::unfinished::let_go;
 use bk_device::{Device, Failed};
 use bk_home::Home;
 use bk_kept::Kept;
-use bk_machine::runs_begin_and_end_in_sound_worlds;
+use bk_machine::{
+    logs_that_stay, media_that_stay, restarts_keep_worlds_sound,
+    runs_begin_and_end_in_sound_worlds, settled_worlds,
+};
 use std::alloc::Global;
 
 // Makes durable what a read shows of an instance's own files: a process that was stopped may have left writes there
@@ -40,49 +44,45 @@ fn sync_own<D: Device>(dev: &mut D) -> Result<(), Failed>
 fn open_home<D: Device>(alloc: Global, dev: &mut D, number: u64) -> Result<Home, LoadError>
     ensures fit { IfOk result (λ home. home.failed ≡ false) }
     ensures stands { D.tells → IfOk result (λ home. IsHome (D.disk dev.new) home) }
-    ensures same { D.tells → OnOk result ((w : World) → Stands number (D.disk dev.old).files w → Stands number (D.disk dev.new).files w) }
+    ensures same { D.tells → OnOk result ((w : World) → CoversExactly number (D.disk dev.old).files w → CoversExactly number (D.disk dev.new).files w) }
     ensures found { D.tells → OnOk result (ChangesNothing (D.disk dev.old) (D.disk dev.new) ⊎ (blobs_of (D.disk dev.new).files ≡ [])) }
     ensures still { D.tells → IsMade (D.disk dev.old).files → OnOk result (ChangesNothing (D.disk dev.old) (D.disk dev.new)) }
     ensures making { D.tells → IfOk result (λ home. (path : List ℕ) → home.record.making ≡ Some path → IsMaking (D.disk dev.old).files path) }
     ensures spares { D.tells → TouchesOwn (D.disk dev.old) (D.disk dev.new) }
     ensures media { D.tells → IsSettled (D.disk dev.old) → OnOk result (MediaAreDurable (D.disk dev.new)) }
-    ensures crash { D.tells → Effect IsOurs (LeavesOpened number (D.disk dev.old)) (D.disk dev.old) (D.disk dev.new) }
+    ensures crash { D.tells → Effect IsOurs (LeavesHeld number (D.disk dev.old)) (D.disk dev.old) (D.disk dev.new) }
     ensures not_an_instance { D.tells → IsErrOf result load.NotAnInstance → IsNoInstance (D.disk dev.old).files }
     ensures no_instance { D.tells → IsNoInstance (D.disk dev.old).files → MatchResult result (λ _. ⊥) (λ e. e ≢ load.Broken) }
     ensures untouched { D.tells → IsErrOf result load.NotAnInstance → ChangesNothing (D.disk dev.old) (D.disk dev.new) }
     ensures unbroken { D.tells → IsErrOf result load.Broken → ChangesNothing (D.disk dev.old) (D.disk dev.new) }
-    ensures broken { D.tells → IsErrOf result load.Broken → (w : World) → Stands number (D.disk dev.old).files w → ⊥ }
+    ensures broken { D.tells → IsErrOf result load.Broken → (w : World) → CoversExactly number (D.disk dev.old).files w → ⊥ }
+    ensures unsettled { IsErrOf result load.Unsettled → ⊥ }
     ensures cause { HasCause D.disk_faults D.tell_faults dev.old dev.new (IsErrOf result load.Fault) }
 {
-    runs_begin_and_end_in_sound_worlds();
     sync_own(dev)?;
     let home = Home::load(alloc, dev, number)?;
     Ok(home)
 }
 
 impl Instance {
-    /// Opens the instance on a device, or makes it with this number where it isn't made; session 1 is current, with no
-    /// current database. A medium that was begun is removed where no blob of it is sealed, and a crash meanwhile leaves
-    /// the same instance. No other medium is touched; where the instance is made and no medium was begun, nothing is.
-    ///
-    /// `NotAnInstance` is answered exactly where the instance is made and its control file holds no control, and then
-    /// nothing is changed; `Broken` only where the files stand for no world, and then nothing is changed either.
-    pub fn load<D: Device>(alloc: Global, dev: &mut D, number: u64) -> Result<Instance, LoadError>
+    // Opens the instance with what is open in its databases, and lets a medium go that was begun.
+    fn open<D: Device>(alloc: Global, dev: &mut D, number: u64) -> Result<Instance, LoadError>
         ensures ready { IfOk result IsReady }
         ensures stored { D.tells → IfOk result (IsStored (D.disk dev.new)) }
-        ensures made { D.tells → OnOk result (IsMade (D.disk dev.new).files) }
         ensures media { D.tells → IsSettled (D.disk dev.old) → OnOk result (MediaAreDurable (D.disk dev.new)) }
-        ensures stands { D.tells → IsSettled (D.disk dev.old) → IfOk result (λ i. (w : World) → Stands number (D.disk dev.old).files w → StandsFor i (D.disk dev.new) (opened w)) }
-        ensures number { D.tells → IfOk result (λ i. (w : World) → Stands number (D.disk dev.old).files w → i.kept.number ≡ w.instance) }
-        ensures crash { D.tells → Effect IsOurs (LeavesOpened number (D.disk dev.old)) (D.disk dev.old) (D.disk dev.new) }
+        ensures stands { D.tells → IfOk result (λ i. (w : World) → CoversExactly number (D.disk dev.old).files w → StandsFor i (D.disk dev.new) (opened w)) }
+        ensures number { D.tells → IfOk result (λ i. (w : World) → CoversExactly number (D.disk dev.old).files w → i.kept.number ≡ w.instance) }
+        ensures crash { D.tells → Effect IsOurs (LeavesHeld number (D.disk dev.old)) (D.disk dev.old) (D.disk dev.new) }
         ensures exact { IfOk result ReservesNone }
-        ensures still { D.tells → IsMade (D.disk dev.old).files → ((path : List ℕ) → IsMaking (D.disk dev.old).files path → ⊥) → OnOk result (ChangesNothing (D.disk dev.old) (D.disk dev.new)) }
+        ensures still { D.tells → IsMade (D.disk dev.old).files → ((path : List ℕ) → IsMaking (D.disk dev.old).files path → ⊥)
+            → OnOk result (ChangesNothing (D.disk dev.old) (D.disk dev.new)) }
         ensures spares { D.tells → TouchesOnly (IsMaking (D.disk dev.old).files) (D.disk dev.old) (D.disk dev.new) }
         ensures not_an_instance { D.tells → IsErrOf result load.NotAnInstance → IsNoInstance (D.disk dev.old).files }
         ensures no_instance { D.tells → IsNoInstance (D.disk dev.old).files → MatchResult result (λ _. ⊥) (λ e. e ≢ load.Broken) }
         ensures untouched { D.tells → IsErrOf result load.NotAnInstance → ChangesNothing (D.disk dev.old) (D.disk dev.new) }
         ensures unbroken { D.tells → IsErrOf result load.Broken → ChangesNothing (D.disk dev.old) (D.disk dev.new) }
-        ensures broken { D.tells → IsErrOf result load.Broken → (w : World) → Stands number (D.disk dev.old).files w → ⊥ }
+        ensures broken { D.tells → IsErrOf result load.Broken → (w : World) → CoversExactly number (D.disk dev.old).files w → ⊥ }
+        ensures unsettled { IsErrOf result load.Unsettled → ⊥ }
         ensures cause { HasCause D.disk_faults D.tell_faults dev.old dev.new (IsErrOf result load.Fault) }
     {
         runs_begin_and_end_in_sound_worlds();
@@ -93,9 +93,53 @@ impl Instance {
         let kept = Kept {
             number: record.number,
             counter: record.counter,
-            current: None,
+            session: 1,
+            sessions: Vec::new(alloc),
             databases,
         };
         Ok(Instance { alloc, home, kept })
+    }
+
+    /// Opens the instance on a device, or makes it with this number where it isn't made; session 1 is current, with no
+    /// current database. A medium that was begun is removed where no blob of it is sealed, and what was open is undone; a
+    /// crash meanwhile leaves the same instance. No other medium is touched; where the instance is made, no medium was begun
+    /// and nothing was open, nothing is.
+    ///
+    /// `NotAnInstance` is answered exactly where the instance is made and its control file holds no control, and then
+    /// nothing is changed; `Broken` only where the files stand for no world, and then nothing is changed either. Where that
+    /// is seen only while what was open is undone, `Unsettled` is answered: own files may then have been changed.
+    pub fn load<D: Device>(alloc: Global, dev: &mut D, number: u64) -> Result<Instance, LoadError>
+        ensures ready { IfOk result IsReady }
+        ensures stored { D.tells → IfOk result (IsStored (D.disk dev.new)) }
+        ensures made { D.tells → OnOk result (IsMade (D.disk dev.new).files) }
+        ensures media { D.tells → IsSettled (D.disk dev.old) → OnOk result (MediaAreDurable (D.disk dev.new)) }
+        ensures stands { D.tells → IsSettled (D.disk dev.old) → IfOk result (λ i. (w : World) → Stands number (D.disk dev.old).files w → StandsFor i (D.disk dev.new) (opened w)) }
+        ensures number { D.tells → IfOk result (λ i. (w : World) → Stands number (D.disk dev.old).files w → i.kept.number ≡ w.instance) }
+        ensures crash { D.tells → Effect IsOurs (LeavesOpened number (D.disk dev.old)) (D.disk dev.old) (D.disk dev.new) }
+        ensures exact { IfOk result ReservesNone }
+        ensures still { D.tells → IsMade (D.disk dev.old).files → ((path : List ℕ) → IsMaking (D.disk dev.old).files path → ⊥) → (w : World) → Covers number (D.disk dev.old).files w → AreIdle w
+            → OnOk result (ChangesNothing (D.disk dev.old) (D.disk dev.new)) }
+        ensures spares { D.tells → TouchesOnly (IsMaking (D.disk dev.old).files) (D.disk dev.old) (D.disk dev.new) }
+        ensures not_an_instance { D.tells → IsErrOf result load.NotAnInstance → IsNoInstance (D.disk dev.old).files }
+        ensures no_instance { D.tells → IsNoInstance (D.disk dev.old).files → MatchResult result (λ _. ⊥) (λ e. (e ≢ load.Broken) × (e ≢ load.Unsettled)) }
+        ensures untouched { D.tells → IsErrOf result load.NotAnInstance → ChangesNothing (D.disk dev.old) (D.disk dev.new) }
+        ensures unbroken { D.tells → IsErrOf result load.Broken → ChangesNothing (D.disk dev.old) (D.disk dev.new) }
+        ensures broken { D.tells → IsErrOf result load.Broken → (w : World) → Stands number (D.disk dev.old).files w → ⊥ }
+        ensures unsettled { D.tells → IsErrOf result load.Unsettled → (w : World) → Stands number (D.disk dev.old).files w → ⊥ }
+        ensures cause { HasCause D.disk_faults D.tell_faults dev.old dev.new (IsErrOf result load.Fault) }
+    {
+        logs_that_stay();
+        media_that_stay();
+        restarts_keep_worlds_sound();
+        runs_begin_and_end_in_sound_worlds();
+        settled_worlds();
+        let mut instance = Instance::open(alloc, dev, number)?;
+        match instance.settle(dev) {
+            Ok(()) => Ok(instance),
+            Err(error) => {
+                drop(instance);
+                Err(LoadError::from(error))
+            }
+        }
     }
 }

@@ -6,7 +6,7 @@ use crate::instance::Instance;
 use bk_device::Device;
 use bk_home::Record;
 use bk_ids::Text;
-use bk_machine::{acts_keep_worlds_sound, acts_of_statements, logs_that_stay};
+use bk_machine::{acts_keep_worlds_sound, logs_that_stay};
 use bk_media::{Medium, medium_file};
 use bk_set::SetBody;
 
@@ -89,7 +89,6 @@ impl Instance {
         ensures cause { HasCause D.disk_faults D.tell_faults dev.old dev.new (IsErrOf result Fault) }
     {
         acts_keep_worlds_sound();
-        acts_of_statements();
         logs_that_stay();
         let alloc = self.alloc;
         let file = medium_file(alloc, path.as_str())?;

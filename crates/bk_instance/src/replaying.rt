@@ -6,7 +6,7 @@ ghost use Rattle.bk_device.specs.Counts.{HasCause};
 ghost use Rattle.bk_home.specs.Home.{IsHome, blobs_of, count_of};
 ghost use Rattle.bk_kept.specs.declared.error.ApplyError.TheVariants.{Unfit};
 ghost use Rattle.bk_instance.specs.Loading.{MakeNone, ShowMade};
-ghost use Rattle.bk_instance.specs.declared.error.LoadError.TheVariants.{Broken, Fault, NotAnInstance};
+ghost use Rattle.bk_instance.specs.declared.error.LoadError.TheVariants.{Broken, Fault, NotAnInstance, Unsettled};
 
 use crate::error::LoadError;
 use bk_acts::{StoredAct, acts_law, read_act};
@@ -32,6 +32,7 @@ fn turn(alloc: Global, databases: &mut Vec<Database>, bytes: &[u8]) -> Result<()
     ensures ok { (blobs : List (List ℕ)) → ShowMade blobs databases.old.items → OnOk result (ShowMade (blobs ++ bytes.now ∷ []) databases.new.items) }
     ensures broken { (blobs : List (List ℕ)) → ShowMade blobs databases.old.items → IsErrOf result Broken → MakeNone (blobs ++ bytes.now ∷ []) }
     ensures not_an_instance { IsErrOf result NotAnInstance → ⊥ }
+    ensures unsettled { IsErrOf result Unsettled → ⊥ }
     ensures fault { IsErrOf result Fault → ⊥ }
 {
     acts_law();
@@ -57,6 +58,7 @@ fn step<D: Device>(
     ensures broken { D.tells → (blobs : List (List ℕ)) → ShowMade blobs databases.old.items → IsErrOf result Broken
         → (blob : List ℕ) × (slice_get (blobs_of (D.disk dev.old).files) i ≡ Some blob) × MakeNone (blobs ++ blob ∷ []) }
     ensures not_an_instance { IsErrOf result NotAnInstance → ⊥ }
+    ensures unsettled { IsErrOf result Unsettled → ⊥ }
     ensures effect { D.tells → ChangesNothing (D.disk dev.old) (D.disk dev.new) }
     ensures cause { HasCause D.disk_faults D.tell_faults dev.old dev.new (IsErrOf result Fault) }
 {
@@ -77,6 +79,7 @@ pub(crate) fn replay<D: Device>(
     ensures made { D.tells → IfOk result (λ databases. ShowMade (blobs_of (D.disk dev.old).files) databases.items) }
     ensures broken { D.tells → IsErrOf result Broken → MakeNone (blobs_of (D.disk dev.old).files) }
     ensures not_an_instance { IsErrOf result NotAnInstance → ⊥ }
+    ensures unsettled { IsErrOf result Unsettled → ⊥ }
     ensures effect { D.tells → ChangesNothing (D.disk dev.old) (D.disk dev.new) }
     ensures cause { HasCause D.disk_faults D.tell_faults dev.old dev.new (IsErrOf result Fault) }
 {

@@ -9,6 +9,7 @@ use crate::instance::Instance;
 use bk_device::Device;
 use bk_ids::Text;
 use bk_items::{RestoreOptions, RestoredUnits};
+use bk_machine::acts_of_statements;
 use bk_media_plans::{plan_restore, unbuilt_restore};
 use bk_world::Reply;
 
@@ -54,6 +55,7 @@ impl Instance {
         ensures broken { D.tells → IsErrOf result Broken → (w : World) → StandsFor self.old (D.disk dev.old) w → ⊥ }
         ensures cause { HasCause D.disk_faults D.tell_faults dev.old dev.new (IsErrOf result Fault) }
     {
+        acts_of_statements();
         if let Some(plan) = unbuilt_restore(line, database, units, disk, options) {
             return self.follow(dev, plan);
         }

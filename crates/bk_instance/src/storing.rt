@@ -6,7 +6,7 @@ use bk_acts::{StoredAct, encode_act};
 use bk_device::Device;
 use bk_home::Record;
 use bk_kept::draws;
-use bk_machine::{acts_keep_worlds_sound, acts_of_statements, logs_that_stay, sets_that_stay};
+use bk_machine::{acts_keep_worlds_sound, logs_that_stay, sets_that_stay};
 
 // GUIDs from here on, 2^62 - 2^32, are kept for what is never refused.
 const KEPT_NUMBERS: u64 = 4_611_686_014_132_420_608;
@@ -18,7 +18,8 @@ impl Instance {
     ghost use Rattle.bk_device.specs.Effects.{Effect};
     ghost use Rattle.bk_plans.specs.declared.parts.Part.TheVariants as part;
     ghost use Rattle.bk_instance.specs.Media.{MediaAreDurable, IfDurable};
-    ghost use Rattle.bk_instance.specs.Stands.{IsReady, IsStored, IsOurs, StandsFor};
+    ghost use Rattle.bk_instance.specs.Stands.{IsReady, IsStored, IsOurs, ReservesNone, StandsFor};
+    ghost use Rattle.bk_kept.specs.Stored.{drawn_by};
     ghost use Rattle.bk_instance.specs.Steps.{CutsPart, DoesPart, IsNoPart, Stays};
     ghost use Rattle.bk_instance.specs.Touched.{PartWrites, TouchesOnly, TouchesOwn};
     ghost use Rattle.bk_instance.specs.declared.error.ExecuteError.TheVariants.{Broken, Fault};
@@ -35,6 +36,7 @@ impl Instance {
         ensures stored { D.tells → OnOk result (IsStored (D.disk dev.new) self.new) }
         ensures media { D.tells → MediaAreDurable (D.disk dev.old) → OnOk result (MediaAreDurable (D.disk dev.new)) }
         ensures kept { self.new.kept ≡ self.old.kept }
+        ensures none { n ≡ 0 → OnOk result (self.new.home ≡ self.old.home) }
         ensures reserved { OnOk result (self.old.kept.counter + n ≤ self.new.home.record.counter) }
         ensures stands { D.tells → OnOk result ((w : World) → StandsFor self.old (D.disk dev.old) w → StandsFor self.new (D.disk dev.new) w) }
         ensures crash { D.tells → Effect IsOurs (IfDurable (D.disk dev.old) (Stays self.old (D.disk dev.old))) (D.disk dev.old) (D.disk dev.new) }
@@ -75,6 +77,7 @@ impl Instance {
         ensures stored { D.tells → OnOk result (IsStored (D.disk dev.new) self.new) }
         ensures media { D.tells → MediaAreDurable (D.disk dev.old) → OnOk result (MediaAreDurable (D.disk dev.new)) }
         ensures number { OnOk result (self.new.kept.number ≡ self.old.kept.number) }
+        ensures exact { drawn_by act.now ≡ 0 → OnOk result (ReservesNone self.old → ReservesNone self.new) }
         ensures does { D.tells → OnOk result (DoesPart self.old (D.disk dev.old) (part.Stored act.now) self.new (D.disk dev.new)) }
         ensures crash { D.tells → Effect IsOurs (IfDurable (D.disk dev.old) (CutsPart self.old (D.disk dev.old) (part.Stored act.now))) (D.disk dev.old) (D.disk dev.new) }
         ensures spares { D.tells → TouchesOnly (PartWrites (part.Stored act.now)) (D.disk dev.old) (D.disk dev.new) }
@@ -82,7 +85,6 @@ impl Instance {
         ensures cause { HasCause D.disk_faults D.tell_faults dev.old dev.new (IsErrOf result Fault) }
     {
         acts_keep_worlds_sound();
-        acts_of_statements();
         logs_that_stay();
         sets_that_stay();
         self.reserve(dev, draws(act))?;

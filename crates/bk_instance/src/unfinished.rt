@@ -13,7 +13,7 @@ ghost use Rattle.bk_instance.specs.Media as media;
 ghost use Rattle.bk_instance.specs.Media.{MediaAreDurable, IfDurable};
 ghost use Rattle.bk_instance.specs.Stands.{IsOurs};
 ghost use Rattle.bk_instance.specs.Touched.{TouchesOnly};
-ghost use Rattle.bk_instance.specs.declared.error.LoadError.TheVariants.{Broken, Fault, NotAnInstance};
+ghost use Rattle.bk_instance.specs.declared.error.LoadError.TheVariants.{Broken, Fault, NotAnInstance, Unsettled};
 
 use crate::error::LoadError;
 use bk_device::Device;
@@ -28,6 +28,7 @@ fn is_begun<D: Device>(alloc: Global, dev: &mut D, file: &str) -> Result<bool, L
     ensures effect { D.tells → ChangesNothing (D.disk dev.old) (D.disk dev.new) }
     ensures not_an_instance { IsErrOf result NotAnInstance → ⊥ }
     ensures broken { IsErrOf result Broken → ⊥ }
+    ensures unsettled { IsErrOf result Unsettled → ⊥ }
     ensures cause { HasCause D.disk_faults D.tell_faults dev.old dev.new (IsErrOf result Fault) }
 {
     match Gate::load(alloc, dev, file) {
@@ -46,6 +47,7 @@ fn clear<D: Device>(alloc: Global, dev: &mut D, path: &str) -> Result<(), LoadEr
     ensures crash { D.tells → Effect (IsName (names.medium_file path.now)) (λ image. LeavesCleared ((D.disk dev.old).may (names.medium_file path.now)) ((D.disk dev.old).files (names.medium_file path.now)) (image (names.medium_file path.now))) (D.disk dev.old) (D.disk dev.new) }
     ensures not_an_instance { IsErrOf result NotAnInstance → ⊥ }
     ensures broken { IsErrOf result Broken → ⊥ }
+    ensures unsettled { IsErrOf result Unsettled → ⊥ }
     ensures cause { HasCause D.disk_faults D.tell_faults dev.old dev.new (IsErrOf result Fault) }
 {
     let file = medium_file(alloc, path)?;
@@ -71,12 +73,14 @@ pub(crate) fn let_go<D: Device>(
     ensures number { OnOk result (home.new.record.number ≡ home.old.record.number) }
     ensures none { OnOk result (home.new.record.making ≡ None) }
     ensures blobs { D.tells → OnOk result (blobs_of (D.disk dev.new).files ≡ blobs_of (D.disk dev.old).files) }
+    ensures lets { D.tells → OnOk result (LetsGo home.old.record (D.disk dev.old).files (D.disk dev.new).files) }
     ensures media { D.tells → MediaAreDurable (D.disk dev.old) → OnOk result (MediaAreDurable (D.disk dev.new)) }
     ensures crash { D.tells → Effect IsOurs (IfDurable (D.disk dev.old) (LetsGo home.old.record (D.disk dev.old).files)) (D.disk dev.old) (D.disk dev.new) }
     ensures still { D.tells → home.old.record.making ≡ None → ChangesNothing (D.disk dev.old) (D.disk dev.new) }
     ensures spares { D.tells → TouchesOnly (λ path. home.old.record.making ≡ Some path) (D.disk dev.old) (D.disk dev.new) }
     ensures not_an_instance { IsErrOf result NotAnInstance → ⊥ }
     ensures broken { IsErrOf result Broken → ⊥ }
+    ensures unsettled { IsErrOf result Unsettled → ⊥ }
     ensures cause { HasCause D.disk_faults D.tell_faults dev.old dev.new (IsErrOf result Fault) }
 {
     name_law();

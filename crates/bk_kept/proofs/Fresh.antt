@@ -6,6 +6,7 @@ use Rattle.std.proofs.lemmas.Bool.{and_from, and_parts, eq-eqb, eqb-true, le-leb
 use Rattle.std.proofs.lemmas.Bool.Decides.{nat_tests}
 use Rattle.std.proofs.lemmas.List.{map-append}
 use Rattle.std.proofs.lemmas.List.Sums.{sum_by-cons}
+use Rattle.bk_acts.specs.Transactions.{IsTransaction}
 use Rattle.bk_groups.specs.Groups.{AreFiles}
 use Rattle.bk_ids.specs.declared.guid.Guid.{Guid}
 use Rattle.bk_ids.specs.declared.path.Branch.{Branch}
@@ -19,7 +20,7 @@ use Rattle.bk_world.specs.History.{is_guid}
 use Rattle.bk_world.specs.Lines.{RecordLines, log_below}
 use Rattle.bk_world.specs.Records.{Counts, Logged, database_made}
 use Rattle.bk_kept.specs.declared.kept.Database.{Database as KeptDatabase}
-use Rattle.bk_kept.specs.Keeps.{KeepsDatabases, ShowsLog, database_of}
+use Rattle.bk_kept.specs.Keeps.{IsKept, KeepsDatabases, ShowsLog, database_of}
 use Rattle.bk_kept.specs.Made.{IsMade, are_counted, first_log}
 
 -- Its files.
@@ -106,15 +107,22 @@ own-log lines c d made =
     ∙ new-log lines c in
     subst (λ rs. Shows d.files rs d.shown) (sym is) made.shows
 
+-- nothing is open in it
+none-open : (c : Creation) (d : KeptDatabase) → IsMade c d → AllByRecursion IsTransaction d.transactions
+unfolding new_database
+none-open c d made = subst (AllByRecursion IsTransaction) (sym (ap (λ (x : Database). x.transactions) made.same)) tt
+
 -- All databases.
 
 -- what is read of a path that has each number once is read behind an act, too
 abbrev pub ReadsOn : RecordLines → RecordLines → Type 0
 ReadsOn old new = (path : List Branch) (n : ℕ) → Counts 1 (log_below old path n) n → log_below new path n ≡ log_below old path n
 
-pub shown-stay : (old new : RecordLines) (ks : List KeptDatabase) → ReadsOn old new → AllByRecursion (ShowsLog old) ks → AllByRecursion (ShowsLog new) ks
-shown-stay old new [] stays all = tt
-shown-stay old new (d ∷ ks) stays all = (subst (λ rs. Shows d.files rs d.shown) (sym (stays d.path d.shown.«end» all.0.log.counts)) all.0, shown-stay old new ks stays all.1)
+pub kept-stay : (old new : RecordLines) (ks : List KeptDatabase) → ReadsOn old new → AllByRecursion (IsKept old) ks → AllByRecursion (IsKept new) ks
+kept-stay old new [] stays all = tt
+kept-stay old new (d ∷ ks) stays all =
+    let first : IsKept old d = all.0 in
+    (record { shows = subst (λ rs. Shows d.files rs d.shown) (sym (stays d.path d.shown.«end» first.shows.log.counts)) first.shows; opens = first.opens }, kept-stay old new ks stays all.1)
 
 all-more : (P : KeptDatabase → Type 0) (ks : List KeptDatabase) (d : KeptDatabase) → AllByRecursion P ks → P d → AllByRecursion P (ks ++ d ∷ [])
 all-more P [] d all here = (here, tt)
@@ -129,7 +137,7 @@ keeps-created w ds new c d items made stays keeps = record {
       ∙ ap (λ db. map database_of ds ++ db ∷ []) (sym made.same)
       ∙ sym (map-append database_of ds (d ∷ []))
       ∙ ap (map database_of) (sym items);
-  shown = subst (AllByRecursion (ShowsLog (new_line c.branch 1 (creation_said c) ∷ w.history))) (sym items)
-      (all-more (ShowsLog (new_line c.branch 1 (creation_said c) ∷ w.history)) ds d
-      (shown-stay w.history (new_line c.branch 1 (creation_said c) ∷ w.history) ds stays keeps.shown) (own-log w.history c d made));
+  kept = subst (AllByRecursion (IsKept (new_line c.branch 1 (creation_said c) ∷ w.history))) (sym items)
+      (all-more (IsKept (new_line c.branch 1 (creation_said c) ∷ w.history)) ds d
+      (kept-stay w.history (new_line c.branch 1 (creation_said c) ∷ w.history) ds stays keeps.kept) (record { shows = own-log w.history c d made; opens = none-open c d made }));
 }

@@ -5,19 +5,21 @@ use Rattle.std.specs.List.{AllByRecursion, position}
 use Rattle.std.specs.Str.{bytes_eq}
 use Rattle.std.proofs.lemmas.List.Quantifiers.{position-Some}
 use Rattle.std.proofs.lemmas.Slice.Eq.{bytes_eq-Decides}
+use Rattle.bk_acts.specs.Transactions.{IsTransaction}
 use Rattle.bk_ids.specs.Name.{lowered, same_name}
 use Rattle.bk_machine.specs.Acts.{Recovery, logged, recovered, done, gone_on, gone_online, goes_online, says, pointed, where_found}
 use Rattle.bk_machine.specs.MayDo.{HoldsOf}
 use Rattle.bk_machine.specs.World.{World, Database, database_named, log_of, log_to, with_database}
 use Rattle.bk_shown.specs.Shown.{Shows}
 use Rattle.bk_world.specs.declared.database.FileSpec.{FileSpec}
+use Rattle.bk_world.specs.declared.transaction.Open.{Open}
 use Rattle.bk_world.specs.Lines.{RecordLines, log_below}
 use Rattle.bk_world.specs.Records.{Counts, Logged, Said, more, numbered}
 use Rattle.bk_world.specs.Telling.{model}
 use Rattle.bk_kept.specs.declared.kept.Database.{Database as KeptDatabase}
-use Rattle.bk_kept.specs.Keeps.{KeepsDatabases, ShowsLog, database_of}
-use Rattle.bk_kept.specs.Saying.{CanSay, HasSaid, HasRecovered, SaysNamed, RecoversNamed}
-use Rattle.bk_kept.proofs.Fresh.{ReadsOn, shown-stay}
+use Rattle.bk_kept.specs.Keeps.{IsKept, KeepsDatabases, ShowsLog, database_of}
+use Rattle.bk_kept.specs.Saying.{CanSay, HasLogged, HasRecovered, SaysNamed, RecoversNamed}
+use Rattle.bk_kept.proofs.Fresh.{ReadsOn, kept-stay}
 use Rattle.bk_kept.proofs.Places.{names, with-at, all-set, position-none-here, position-none-rest}
 use Rattle.bk_kept.proofs.SaidSoFar.{pointed-only}
 
@@ -60,6 +62,9 @@ own-position name ds i x is at =
     let low : lowered x.name ≡ lowered name = (bytes_eq-Decides (lowered x.name) (lowered name)).0 same in
     ap (λ l. position (λ (d : KeptDatabase). bytes_eq (lowered d.name) l) ds) low ∙ is
 
+kept-at : (w : World) (name : List ℕ) (ds : List KeptDatabase) (i : ℕ) (x : KeptDatabase) → position (names name) ds ≡ Some i → x ≡ get_or ds i x → KeepsDatabases w ds → IsKept w.history x
+kept-at w name ds i x is at keeps = subst (IsKept w.history) (sym at) (all-at (IsKept w.history) ds i x (position-Some (names name) ds i x is).0 keeps.kept)
+
 -- what is kept at the place of a name is the world's
 pub record IsThere (w : World) (name : List ℕ) (x : KeptDatabase) : Type 0 where
   pub named : database_named w.databases name ≡ Some (database_of x)
@@ -68,7 +73,7 @@ pub record IsThere (w : World) (name : List ℕ) (x : KeptDatabase) : Type 0 whe
 pub is-there : (w : World) (name : List ℕ) (ds : List KeptDatabase) (i : ℕ) (x : KeptDatabase) → position (names name) ds ≡ Some i → x ≡ get_or ds i x → KeepsDatabases w ds → IsThere w name x
 is-there w name ds i x is at keeps = record {
   named = ap (λ dbs. database_named dbs name) keeps.same ∙ named-at name ds i x is at;
-  shows = subst (ShowsLog w.history) (sym at) (all-at (ShowsLog w.history) ds i x (position-Some (names name) ds i x is).0 keeps.shown);
+  shows = (kept-at w name ds i x is at keeps).shows;
 }
 
 pub held : (P : Database → Type 0) (found : Option Database) (db : Database) → found ≡ Some db → HoldsOf found P → P db
@@ -81,10 +86,10 @@ holds-not w name ds P none keeps holds = subst (λ f. HoldsOf f P) (ap (λ dbs. 
 -- one database is changed
 keeps-set : (w v : World) (name : List ℕ) (ds : List KeptDatabase) (i : ℕ) (x new : KeptDatabase) (change : Database → Database)
     → position (names name) ds ≡ Some i → x ≡ get_or ds i x → v.databases ≡ with_database w.databases x.name change → ReadsOn w.history v.history
-    → database_of new ≡ change (database_of x) → ShowsLog v.history new → KeepsDatabases w ds → KeepsDatabases v (set ds i new)
-keeps-set w v name ds i x new change is at databases reads changed shows keeps = record {
+    → database_of new ≡ change (database_of x) → IsKept v.history new → KeepsDatabases w ds → KeepsDatabases v (set ds i new)
+keeps-set w v name ds i x new change is at databases reads changed kept keeps = record {
   same = databases ∙ ap (λ dbs. with_database dbs x.name change) keeps.same ∙ sym (with-at x.name change ds i x new (own-position name ds i x is at) at changed);
-  shown = all-set (ShowsLog v.history) ds i x new (position-Some (names name) ds i x is).0 (λ _. shows) (shown-stay w.history v.history ds reads keeps.shown);
+  kept = all-set (IsKept v.history) ds i x new (position-Some (names name) ds i x is).0 (λ _. kept) (kept-stay w.history v.history ds reads keeps.kept);
 }
 
 -- Ends.
@@ -103,30 +108,27 @@ end-behind rs said at end before behind =
 
 -- A database says something.
 
-pub can-say : (w : World) (name bytes : List ℕ) (said : List Said) (x : KeptDatabase) → IsThere w name x → SaysNamed w name bytes said → CanSay x.files (log_of w.history (database_of x)) (numbered x.shown.«end» said) bytes x
+pub can-say : (w : World) (name bytes : List ℕ) (said : List Said) (transactions : List Open) (x : KeptDatabase) → IsThere w name x → SaysNamed w name bytes said transactions → CanSay x.files (log_of w.history (database_of x)) (numbered x.shown.«end» said) bytes x
 unfolding log_of
-can-say w name bytes said x there can = record {
+can-say w name bytes said transactions x there can = record {
   shows = there.shows;
   may = held _ (database_named w.databases name) (database_of x) there.named can.can;
   spelled_is = held _ (database_named w.databases name) (database_of x) there.named can.spelled_is;
 }
 
-logged-is : (w : World) (name : List ℕ) (db : Database) (said : List Said) → database_named w.databases name ≡ Some db → done w (logged name said []) ≡ says w db said []
+logged-is : (w : World) (name : List ℕ) (db : Database) (said : List Said) (ts : List Open) → database_named w.databases name ≡ Some db → done w (logged name said ts) ≡ says w db said ts
 unfolding done
-logged-is w name db said is = ap (λ found. where_found w found (λ d. says w d said [])) is
+logged-is w name db said ts is = ap (λ found. where_found w found (λ d. says w d said ts)) is
 
-says-databases : (w : World) (db : Database) (said : List Said) → (says w db said []).databases ≡ with_database w.databases db.name (gone_on (model (log_of w.history db)) said [])
+says-databases : (w : World) (db : Database) (said : List Said) (ts : List Open) → (says w db said ts).databases ≡ with_database w.databases db.name (gone_on (model (log_of w.history db)) said ts)
 unfolding says
-says-databases w db said = refl
+says-databases w db said ts = refl
 
-gone-on-is : (files : List FileSpec) (rs : List Logged) (said : List Said) (x new : KeptDatabase) → Counts 1 rs x.shown.«end» → HasSaid files rs (numbered x.shown.«end» said) x new
-    → database_of new ≡ gone_on (model rs) said [] (database_of x)
-gone-on-is files rs said x new counts has =
+gone-on-is : (files : List FileSpec) (rs : List Logged) (said : List Said) (ts : List Open) (x new : KeptDatabase) → Counts 1 rs x.shown.«end» → HasLogged files rs (numbered x.shown.«end» said) ts x new
+    → database_of new ≡ gone_on (model rs) said ts (database_of x)
+gone-on-is files rs said ts x new counts has =
     let ends : new.shown.«end» ≡ x.shown.«end» + length said = end-behind rs said x.shown.«end» new.shown.«end» counts has.shows.log.counts in
-    has.points
-    ∙ ap (λ e. record (pointed (model rs) (database_of x) (numbered x.shown.«end» said)) { end = e }) ends
-    ∙ ap (λ ts. record (pointed (model rs) (database_of x) (numbered x.shown.«end» said)) { end = x.shown.«end» + length said; transactions = ts })
-    (ap (λ (db : Database). db.transactions) (pointed-only (model rs) (database_of x) (numbered x.shown.«end» said)))
+    has.points ∙ ap (λ e. record (pointed (model rs) (database_of x) (numbered x.shown.«end» said)) { end = e; transactions = ts }) ends
 
 -- what is kept shows its log in a history
 shows-in : (history : RecordLines) (files : List FileSpec) (log : List Logged) (new : KeptDatabase) (db : Database) → Shows files log new.shown → database_of new ≡ db → db.files ≡ files → log_of history db ≡ log → ShowsLog history new
@@ -136,24 +138,26 @@ shows-in history files log new db shows is files-are log-is =
     let own-log : log_below history new.path new.shown.«end» ≡ log = ap (λ (d : Database). log_below history d.path d.end) is ∙ log-is in
     subst (λ fs. Shows fs (log_below history new.path new.shown.«end») new.shown) (sym own-files) (subst (λ rs. Shows files rs new.shown) (sym own-log) shows)
 
-pub keeps-logged : (w : World) (name : List ℕ) (ds : List KeptDatabase) (i : ℕ) (x new : KeptDatabase) (said : List Said)
-    → position (names name) ds ≡ Some i → x ≡ get_or ds i x → KeepsDatabases w ds → ReadsOn w.history (done w (logged name said [])).history
-    → log_of (says w (database_of x) said []).history (gone_on (model (log_of w.history (database_of x))) said [] (database_of x)) ≡ more (log_of w.history (database_of x)) x.shown.«end» said
-    → HasSaid x.files (log_of w.history (database_of x)) (numbered x.shown.«end» said) x new
-    → KeepsDatabases (done w (logged name said [])) (set ds i new)
+pub keeps-logged : (w : World) (name : List ℕ) (ds : List KeptDatabase) (i : ℕ) (x new : KeptDatabase) (said : List Said) (ts : List Open)
+    → position (names name) ds ≡ Some i → x ≡ get_or ds i x → KeepsDatabases w ds → AllByRecursion IsTransaction ts → ReadsOn w.history (done w (logged name said ts)).history
+    → log_of (says w (database_of x) said ts).history (gone_on (model (log_of w.history (database_of x))) said ts (database_of x)) ≡ more (log_of w.history (database_of x)) x.shown.«end» said
+    → HasLogged x.files (log_of w.history (database_of x)) (numbered x.shown.«end» said) ts x new
+    → KeepsDatabases (done w (logged name said ts)) (set ds i new)
 unfolding log_of
-keeps-logged w name ds i x new said is at keeps reads log has =
+keeps-logged w name ds i x new said ts is at keeps spelled reads log has =
     let there = is-there w name ds i x is at keeps in
-    let same : done w (logged name said []) ≡ says w (database_of x) said [] = logged-is w name (database_of x) said there.named in
-    let changed : database_of new ≡ gone_on (model (log_of w.history (database_of x))) said [] (database_of x) =
-    gone-on-is x.files (log_of w.history (database_of x)) said x new there.shows.log.counts has in
-    let files-are : (gone_on (model (log_of w.history (database_of x))) said [] (database_of x)).files ≡ x.files =
+    let same : done w (logged name said ts) ≡ says w (database_of x) said ts = logged-is w name (database_of x) said ts there.named in
+    let changed : database_of new ≡ gone_on (model (log_of w.history (database_of x))) said ts (database_of x) =
+    gone-on-is x.files (log_of w.history (database_of x)) said ts x new there.shows.log.counts has in
+    let files-are : (gone_on (model (log_of w.history (database_of x))) said ts (database_of x)).files ≡ x.files =
     ap (λ (db : Database). db.files) (pointed-only (model (log_of w.history (database_of x))) (database_of x) (numbered x.shown.«end» said)) in
-    let shows : ShowsLog (says w (database_of x) said []).history new =
-    shows-in (says w (database_of x) said []).history x.files (more (log_of w.history (database_of x)) x.shown.«end» said) new (gone_on (model (log_of w.history (database_of x))) said [] (database_of x)) has.shows changed files-are log in
-    let reads' : ReadsOn w.history (says w (database_of x) said []).history = subst (λ (v : World). ReadsOn w.history v.history) same reads in
+    let shows : ShowsLog (says w (database_of x) said ts).history new =
+    shows-in (says w (database_of x) said ts).history x.files (more (log_of w.history (database_of x)) x.shown.«end» said) new (gone_on (model (log_of w.history (database_of x))) said ts (database_of x)) has.shows changed files-are log in
+    let opens : AllByRecursion IsTransaction new.transactions = subst (AllByRecursion IsTransaction) (sym (ap (λ (db : Database). db.transactions) changed)) spelled in
+    let reads' : ReadsOn w.history (says w (database_of x) said ts).history = subst (λ (v : World). ReadsOn w.history v.history) same reads in
     subst (λ v. KeepsDatabases v (set ds i new)) (sym same)
-    (keeps-set w (says w (database_of x) said []) name ds i x new (gone_on (model (log_of w.history (database_of x))) said []) is at (says-databases w (database_of x) said) reads' changed shows keeps)
+    (keeps-set w (says w (database_of x) said ts) name ds i x new (gone_on (model (log_of w.history (database_of x))) said ts) is at (says-databases w (database_of x) said ts) reads' changed
+    (record { shows = shows; opens = opens }) keeps)
 
 -- A database is recovered.
 
@@ -206,6 +210,9 @@ keeps-recovered w name ds i x new r is at keeps ends reads log has =
     log ∙ ap (λ rs. more rs r.at r.said) whole in
     let shows : ShowsLog (goes_online w (database_of x) r).history new =
     shows-in (goes_online w (database_of x) r).history x.files (more (log_of w.history (database_of x)) r.at r.said) new (gone_online (model (log_to w.history (database_of x) r.at)) r (database_of x)) has.shows changed refl log' in
+    let own : IsKept w.history x = kept-at w name ds i x is at keeps in
+    let opens : AllByRecursion IsTransaction new.transactions = subst (AllByRecursion IsTransaction) (sym (ap (λ (db : Database). db.transactions) changed)) own.opens in
     let reads' : ReadsOn w.history (goes_online w (database_of x) r).history = subst (λ (v : World). ReadsOn w.history v.history) same reads in
     subst (λ v. KeepsDatabases v (set ds i new)) (sym same)
-    (keeps-set w (goes_online w (database_of x) r) name ds i x new (gone_online (model (log_to w.history (database_of x) r.at)) r) is at (online-databases w (database_of x) r) reads' changed shows keeps)
+    (keeps-set w (goes_online w (database_of x) r) name ds i x new (gone_online (model (log_to w.history (database_of x) r.at)) r) is at (online-databases w (database_of x) r) reads' changed
+    (record { shows = shows; opens = opens }) keeps)

@@ -2,6 +2,8 @@ pub mod Named
 pub mod Tells
 pub mod Places
 pub mod Acted
+pub mod Seated
+pub mod Least
 pub mod Fresh
 pub mod SaidSoFar
 pub mod Bases

@@ -7,7 +7,7 @@ use Rattle.bk_ids.specs.Name.{same_name}
 use Rattle.bk_machine.specs.World.{World, database_named}
 use Rattle.bk_kept.specs.declared.kept.Database.{Database as KeptDatabase}
 use Rattle.bk_kept.specs.declared.kept.Kept.{Kept}
-use Rattle.bk_kept.specs.Keeps.{Keeps, ShowsLog, database_of}
+use Rattle.bk_kept.specs.Keeps.{IsKept, Keeps, database_of}
 
 -- the first of a name
 abbrev pub first : List ℕ → List KeptDatabase → Option KeptDatabase
@@ -41,7 +41,7 @@ pub found-named : (w : World) (k : Kept) (name : List ℕ) (found : Option (Bor 
 found-named w k name found is keeps =
     seen-behind found ∙ ap (option_map database_of) is ∙ first-named name k.databases.items ∙ ap (λ dbs. database_named dbs name) (sym keeps.databases)
 
-pub found-shows : (w : World) (k : Kept) (name : List ℕ) (found : Option (Bor KeptDatabase)) → option_map (λ d. d.now) found ≡ first name k.databases.items → Keeps w k
-    → IfSome found (λ d. ShowsLog w.history d.now)
-found-shows w k name None is keeps = tt
-found-shows w k name (Some d) is keeps = first-has (ShowsLog w.history) name k.databases.items d.now keeps.shown (sym is)
+pub found-kept : (w : World) (k : Kept) (name : List ℕ) (found : Option (Bor KeptDatabase)) → option_map (λ d. d.now) found ≡ first name k.databases.items → Keeps w k
+    → IfSome found (λ d. IsKept w.history d.now)
+found-kept w k name None is keeps = tt
+found-kept w k name (Some d) is keeps = first-has (IsKept w.history) name k.databases.items d.now keeps.kept (sym is)

@@ -22,7 +22,7 @@ use Rattle.bk_world.specs.declared.row.PlacedRow.{PlacedRow}
 use Rattle.bk_world.specs.Lines.{log_below}
 use Rattle.bk_world.specs.PlacedRows.{ComesBefore, RowsRise}
 use Rattle.bk_kept.specs.declared.kept.Database.{Database as KeptDatabase}
-use Rattle.bk_kept.specs.Keeps.{KeepsDatabases, ShowsLog, database_of}
+use Rattle.bk_kept.specs.Keeps.{IsKept, KeepsDatabases, database_of}
 use Rattle.bk_kept.specs.SetLaws.{spec_of, specs-are}
 use Rattle.bk_kept.specs.Stored.{Carries, IsDone}
 use Rattle.bk_kept.proofs.Places.{names, position-none-here, position-none-rest}
@@ -122,10 +122,10 @@ pub sound-set : (w : World) (name : List ℕ) (body : SetBody) (a : Act) → IsD
 sound-set w name body a is = subst (Rattle.bk_machine.specs.MayDo.MayDo w) is.means is.may
 
 pub keeps-replaced : (w : World) (name : List ℕ) (body : SetBody) (a : Act) (old new : List KeptDatabase) (d : KeptDatabase) → IsDone w (Replaced name body) a → KeepsDatabases w old
-    → database_of d ≡ taken_over name body.header → map database_of new ≡ with_new_database (map database_of old) (database_of d) → AllByRecursion (ShowsLog w.history) new → KeepsDatabases (done w a) new
-keeps-replaced w name body a old new d is keeps same put shown =
+    → database_of d ≡ taken_over name body.header → map database_of new ≡ with_new_database (map database_of old) (database_of d) → AllByRecursion (IsKept w.history) new → KeepsDatabases (done w a) new
+keeps-replaced w name body a old new d is keeps same put kept =
     subst (λ act. KeepsDatabases (done w act) new) (sym is.means)
     (record {
       same = replaced-databases w name body.header ∙ ap (λ dbs. with_new_database dbs (taken_over name body.header)) keeps.same ∙ ap (with_new_database (map database_of old)) (sym same) ∙ sym put;
-      shown = subst (λ history. AllByRecursion (ShowsLog history) new) (sym (replaced-history w name body.header)) shown;
+      kept = subst (λ history. AllByRecursion (IsKept history) new) (sym (replaced-history w name body.header)) kept;
     })

@@ -1,12 +1,12 @@
 -- Records that a database in memory says, one after the other.
-use Rattle.std.proofs.Common.{◌≡◌, ℕ, Bool, cond, min, List, [], ◌∷◌, ◌++◌, map, length, Some, None, Result, Ok, Err, refl, sym, ◌∙◌, ap, subst, append_assoc, arith}
+use Rattle.std.proofs.Common.{◌≡◌, ◌≤◌, ℕ, Bool, cond, min, List, [], ◌∷◌, ◌++◌, map, length, Some, None, Result, Ok, Err, refl, sym, ◌∙◌, ap, subst, append_assoc, arith}
 use Rattle.std.specs.Prelude.{◌||◌, not, max, IsErrAnd, IsErrOf}
 use Rattle.std.proofs.lemmas.List.{append-nil}
 use Rattle.std.specs.List.{flat_map}
 use Rattle.bk_ids.specs.declared.record.Rec.{Rec}
 use Rattle.bk_ids.specs.declared.record.RecoveryModel.{RecoveryModel}
 use Rattle.bk_machine.specs.Acts.{is_simple, pointed, pointed_by}
-use Rattle.bk_machine.specs.World.{Database}
+use Rattle.bk_machine.specs.World.{Database, least_begin}
 use Rattle.bk_record.specs.Laws.{one_record}
 use Rattle.bk_record.specs.Log.{IsLog, Left, Reads, BreaksOff}
 use Rattle.bk_record.specs.Spelling.{spelling}
@@ -29,6 +29,7 @@ use Rattle.bk_kept.specs.declared.error.ApplyError.TheVariants as apply
 use Rattle.bk_kept.specs.Errors.{error_of}
 use Rattle.bk_kept.specs.Keeps.{database_of}
 use Rattle.bk_kept.specs.Saying.{CanSay, HasSaid, moved_by}
+use Rattle.bk_kept.proofs.Least.{least-below}
 
 -- What is read.
 
@@ -109,8 +110,9 @@ point-end m db n (model_set time new) end = refl
 point-end m db n (loaded load) end = refl
 point-end m db n (recovered branch) end = refl
 
-min-self : (n : ℕ) → min n (min n n) ≡ n
-min-self n = omega arith
+-- of a number, the least begin up to it, and itself the least is that begin
+min-least : (least n : ℕ) → least ≤ n → min n (min least n) ≡ least
+min-least least n le = omega (arith, le)
 
 point-kept : (drops : Bool) (m : RecoveryModel) (n : ℕ) (deed : Deed) (d : KeptDatabase) → drops ≡ (is_simple m || not d.chain)
     → database_of (moved_by drops n (deed_body deed) d) ≡ pointed_by m (database_of d) n deed
@@ -123,7 +125,8 @@ point-kept drops m n rolled_back d is = refl
 point-kept drops m n (undone at c number) d is = refl
 point-kept drops m n (checkpointed time) d is =
     ap (λ (k : ℕ). record (database_of d) { checkpoint = n; kept = k })
-    (ap (λ t. cond t (max d.kept n) d.kept) is ∙ ap (λ k. cond (is_simple m || not d.chain) (max d.kept k) d.kept) (sym (min-self n)))
+    (ap (λ t. cond t (max d.kept (least_begin d.transactions n)) d.kept) is
+    ∙ ap (λ k. cond (is_simple m || not d.chain) (max d.kept k) d.kept) (sym (min-least (least_begin d.transactions n) n (least-below d.transactions n))))
 point-kept drops m n (stamped time set) d is = refl
 point-kept drops m n (model_set time new) d is = refl
 point-kept drops m n (loaded load) d is = refl

@@ -1,15 +1,16 @@
 -- What a stored act tells of the act that it is.
-use Rattle.std.proofs.Common.{◌≡◌, ◌<◌, ℕ, ◌+◌, List, [], ◌∷◌, length, Option, Some, None, refl, sym, ◌∙◌, ap, subst, arith}
+use Rattle.std.proofs.Common.{◌≡◌, ◌<◌, ℕ, ◌+◌, List, [], ◌∷◌, length, Option, Some, None, refl, sym, subst, arith}
 use Rattle.bk_acts.specs.declared.act.StoredAct.{StoredAct}
 use Rattle.bk_acts.specs.declared.act.StoredAct.TheVariants.{Created, Dropped, Logged as LoggedAct, Based, Replaced, Restored, Recovered}
 use Rattle.bk_acts.specs.Meaning.{Means, Spell}
 use Rattle.bk_ids.specs.declared.guid.Guid.{Guid}
 use Rattle.bk_machine.specs.Acts.{Act, Recovery, created, dropped, logged, based, replaced, restored, recovered, done, goes_online, says, where_found}
 use Rattle.bk_machine.specs.MayDo.{HoldsOf, MayDo}
-use Rattle.bk_machine.specs.World.{World, Database, Open, current_name, database_named}
+use Rattle.bk_machine.specs.World.{World, Database, database_named}
 use Rattle.bk_world.specs.declared.database.Base.{Base}
 use Rattle.bk_world.specs.declared.database.Creation.{Creation}
 use Rattle.bk_world.specs.declared.header.Header.{Header}
+use Rattle.bk_world.specs.declared.transaction.Open.{Open}
 use Rattle.bk_world.specs.Records.{Said}
 use Rattle.bk_kept.specs.Saying.{SaysNamed, RecoversNamed}
 use Rattle.bk_kept.specs.Stored.{IsDone, IsNumbered, IsTaken, drawn_by}
@@ -30,28 +31,26 @@ spell-from tell bytes n m (s ∷ said) others spell other =
     let same : n ≡ m = tell bytes n m (s ∷ said) others spell other (omega arith) in
     subst (λ k. Spell bytes k (s ∷ said)) same spell
 
--- it says this, and nothing is open behind it
-pub record SaysSo (w : World) (name bytes : List ℕ) (a : Act) : Type 0 where
+-- it says this, and then these transactions are open
+pub record SaysSo (w : World) (name : List ℕ) (transactions : List Open) (bytes : List ℕ) (a : Act) : Type 0 where
   pub said : List Said
-  pub act_is : a ≡ logged name said []
-  pub can : SaysNamed w name bytes said
+  pub act_is : a ≡ logged name said transactions
+  pub can : SaysNamed w name bytes said transactions
 
 holds-more : (found : Option Database) (P Q : Database → Type 0) → ((db : Database) → P db → Q db) → HoldsOf found P → HoldsOf found Q
 holds-more None P Q more holds = holds
 holds-more (Some db) P Q more holds = more db holds
 
-pub says-so : TellNumber → (w : World) (act : StoredAct) (a : Act) (name bytes : List ℕ) → act ≡ LoggedAct name bytes → IsDone w act a → SaysSo w name bytes a
-says-so tell w act a name bytes is doing =
-    let means = meant w act (LoggedAct name bytes) a is doing in
+pub says-so : TellNumber → (w : World) (act : StoredAct) (a : Act) (name : List ℕ) (transactions : List Open) (bytes : List ℕ) → act ≡ LoggedAct name transactions bytes → IsDone w act a → SaysSo w name transactions bytes a
+says-so tell w act a name transactions bytes is doing =
+    let means = meant w act (LoggedAct name transactions bytes) a is doing in
     let from = subst (IsNumbered w) is doing.from_end in
-    let taken = subst (IsTaken w) means.act_is doing.taken in
-    let act-is : a ≡ logged name means.said [] = means.act_is ∙ ap (λ ts. logged name means.said ts) taken.1 in
     record {
       said = means.said;
-      act_is = act-is;
+      act_is = means.act_is;
       can = record {
-        may = subst (MayDo w) act-is doing.may;
-        can = taken.0;
+        may = subst (MayDo w) means.act_is doing.may;
+        can = subst (IsTaken w) means.act_is doing.taken;
         spelled_is = holds-more (database_named w.databases name) (λ (db : Database). (said : List Said) × Spell bytes db.end said) (λ (db : Database). Spell bytes db.end means.said)
             (λ db other. spell-from tell bytes means.n db.end means.said other.0 means.spell other.1) from;
       };
@@ -83,37 +82,38 @@ recovers-so w act a name at branch bytes is doing =
 pub record Rest (w v : World) (drawn : ℕ) : Type 0 where
   pub number : v.instance ≡ w.instance
   pub counter : v.counter ≡ w.counter + drawn
-  pub current : current_name v ≡ current_name w
+  pub session : v.session ≡ w.session
+  pub sessions : v.sessions ≡ w.sessions
 
 none-drawn : (n : ℕ) → n ≡ n + 0
 none-drawn n = omega arith
 
 same-rest : (w : World) → Rest w w 0
-same-rest w = record { number = refl; counter = none-drawn w.counter; current = refl }
+same-rest w = record { number = refl; counter = none-drawn w.counter; session = refl; sessions = refl }
 
 created-rest : (w : World) (c : Creation) → Rest w (done w (created c)) 2
 unfolding done
-created-rest w c = record { number = refl; counter = refl; current = refl }
+created-rest w c = record { number = refl; counter = refl; session = refl; sessions = refl }
 
 dropped-rest : (w : World) (name : List ℕ) → Rest w (done w (dropped name)) 0
 unfolding done
-dropped-rest w name = record { number = refl; counter = none-drawn w.counter; current = refl }
+dropped-rest w name = record { number = refl; counter = none-drawn w.counter; session = refl; sessions = refl }
 
 based-rest : (w : World) (name : List ℕ) (header : Header) → Rest w (done w (based name header)) 0
 unfolding done
-based-rest w name header = record { number = refl; counter = none-drawn w.counter; current = refl }
+based-rest w name header = record { number = refl; counter = none-drawn w.counter; session = refl; sessions = refl }
 
 replaced-rest : (w : World) (name : List ℕ) (header : Header) → Rest w (done w (replaced name header)) 0
 unfolding done
-replaced-rest w name header = record { number = refl; counter = none-drawn w.counter; current = refl }
+replaced-rest w name header = record { number = refl; counter = none-drawn w.counter; session = refl; sessions = refl }
 
 restored-rest : (w : World) (name : List ℕ) (base : Option Base) (redo : ℕ) → Rest w (done w (restored name base redo)) 0
 unfolding done
-restored-rest w name base redo = record { number = refl; counter = none-drawn w.counter; current = refl }
+restored-rest w name base redo = record { number = refl; counter = none-drawn w.counter; session = refl; sessions = refl }
 
 says-rest : (w : World) (db : Database) (said : List Said) (transactions : List Open) → Rest w (says w db said transactions) 0
 unfolding says
-says-rest w db said transactions = record { number = refl; counter = none-drawn w.counter; current = refl }
+says-rest w db said transactions = record { number = refl; counter = none-drawn w.counter; session = refl; sessions = refl }
 
 logged-rest : (w : World) (name : List ℕ) (said : List Said) (transactions : List Open) → Rest w (done w (logged name said transactions)) 0
 unfolding done
@@ -125,7 +125,7 @@ logged-rest w name said transactions = by (database_named w.databases name)
 
 online-rest : (w : World) (db : Database) (r : Recovery) → Rest w (goes_online w db r) 1
 unfolding goes_online
-online-rest w db r = record { number = refl; counter = refl; current = refl }
+online-rest w db r = record { number = refl; counter = refl; session = refl; sessions = refl }
 
 recovered-rest : (w : World) (name : List ℕ) (r : Recovery) (P : Database → Type 0) → HoldsOf (database_named w.databases name) P → Rest w (done w (recovered name r)) 1
 unfolding done
@@ -142,7 +142,7 @@ by-meaning w a b drawn is rest = subst (λ x. Rest w (done w x) drawn) (sym is) 
 pub rest-of : (w : World) (act : StoredAct) (a : Act) → IsDone w act a → Rest w (done w a) (drawn_by act)
 rest-of w (Created c) a doing = by-meaning w a (created c) 2 doing.means (created-rest w c)
 rest-of w (Dropped name) a doing = by-meaning w a (dropped name) 0 doing.means (dropped-rest w name)
-rest-of w (LoggedAct name bytes) a doing = by-meaning w a (logged name doing.means.said doing.means.transactions) 0 doing.means.act_is (logged-rest w name doing.means.said doing.means.transactions)
+rest-of w (LoggedAct name transactions bytes) a doing = by-meaning w a (logged name doing.means.said transactions) 0 doing.means.act_is (logged-rest w name doing.means.said transactions)
 rest-of w (Based name header) a doing = by-meaning w a (based name header) 0 doing.means (based-rest w name header)
 rest-of w (Replaced name body) a doing = by-meaning w a (replaced name body.header) 0 doing.means (replaced-rest w name body.header)
 rest-of w (Restored name base redo) a doing = by-meaning w a (restored name base redo) 0 doing.means (restored-rest w name base redo)

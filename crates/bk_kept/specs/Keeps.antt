@@ -1,13 +1,15 @@
 -- Which worlds the databases that are kept stand for.
-use Rattle.std.specs.Prelude.{◌≡◌, List, [], map, None}
+use Rattle.std.specs.Prelude.{◌≡◌, false, List, map, None}
 use Rattle.std.specs.List.{AllByRecursion}
-use Rattle.bk_machine.specs.World.{World, Database, current_name}
+use Rattle.bk_acts.specs.Transactions.{IsTransaction}
+use Rattle.bk_machine.specs.World.{World, Database, Session}
 use Rattle.bk_shown.specs.Shown.{Shows}
 use Rattle.bk_world.specs.Lines.{RecordLines, log_below}
 use Rattle.bk_kept.specs.declared.kept.Database.{Database as KeptDatabase}
 use Rattle.bk_kept.specs.declared.kept.Kept.{Kept}
+use Rattle.bk_kept.specs.declared.kept.Session.{Session as KeptSession}
 
--- the database of the world that one in memory is: no job runs in it and nothing is open
+-- the database of the world that one in memory is: no job runs in it
 abbrev pub database_of : KeptDatabase → Database
 database_of d = record {
   name = d.name;
@@ -27,22 +29,32 @@ database_of d = record {
   status = d.status;
   units = d.units;
   job = None;
-  transactions = [];
+  transactions = d.transactions;
 }
+
+-- the session of the world that one in memory is: its backups don't only start
+abbrev pub session_of : KeptSession → Session
+session_of s = record { number = s.number; current = s.current; starts = false }
 
 -- what is kept of a database's log is what the log shows
 abbrev pub ShowsLog : RecordLines → KeptDatabase → Type 0
 ShowsLog history d = Shows d.files (log_below history d.path d.shown.«end») d.shown
 
+-- a database in memory shows its log, and its open transactions have a spelling
+pub record IsKept (history : RecordLines) (d : KeptDatabase) : Type 0 where
+  pub shows : ShowsLog history d
+  pub opens : AllByRecursion IsTransaction d.transactions
+
 -- databases in memory are those of this world, with what their logs show
 pub record KeepsDatabases (w : World) (databases : List KeptDatabase) : Type 0 where
   pub same : w.databases ≡ map database_of databases
-  pub shown : AllByRecursion (ShowsLog w.history) databases
+  pub kept : AllByRecursion (IsKept w.history) databases
 
 -- what is kept in memory stands for this world, but for its media
 pub record Keeps (w : World) (k : Kept) : Type 0 where
   pub number : w.instance ≡ k.number
   pub counter : w.counter ≡ k.counter
-  pub current : current_name w ≡ k.current
+  pub session : w.session ≡ k.session
+  pub sessions : w.sessions ≡ map session_of k.sessions.items
   pub databases : w.databases ≡ map database_of k.databases.items
-  pub shown : AllByRecursion (ShowsLog w.history) k.databases.items
+  pub kept : AllByRecursion (IsKept w.history) k.databases.items

@@ -6,19 +6,21 @@ use Rattle.bk_acts.specs.Meaning.{Spell}
 use Rattle.bk_ids.specs.declared.guid.Guid.{Guid}
 use Rattle.bk_machine.specs.Acts.{Recovery, logged, recovered, gone_online, pointed}
 use Rattle.bk_machine.specs.MayDo.{HoldsOf, MayDo}
-use Rattle.bk_machine.specs.World.{World, Database, database_named, log_of}
+use Rattle.bk_machine.specs.World.{World, Database, database_named, least_begin, log_of}
 use Rattle.bk_record.specs.Log.{IsLog}
 use Rattle.bk_shown.specs.Shown.{Shows, AreNext}
 use Rattle.bk_undo.specs.Spelled.{spelled}
 use Rattle.bk_world.specs.declared.database.FileSpec.{FileSpec}
+use Rattle.bk_world.specs.declared.transaction.Open.{Open}
 use Rattle.bk_world.specs.Records.{Logged, Said, numbered}
 use Rattle.bk_world.specs.Telling.{model}
 use Rattle.bk_kept.specs.declared.kept.Database.{Database as KeptDatabase}
 use Rattle.bk_kept.specs.Keeps.{database_of}
 
--- a database behind a record of this number, but for what its log shows: a checkpoint moves its points, and the log may be dropped before it
+-- a database behind a record of this number, but for what its log shows: a checkpoint moves its points, and the log may be dropped before it and
+-- before what is open
 abbrev pub moved_by : Bool → ℕ → Body → KeptDatabase → KeptDatabase
-moved_by drops lsn (Checkpoint time) d = record d { checkpoint = lsn; kept = if drops then max d.kept lsn else d.kept }
+moved_by drops lsn (Checkpoint time) d = record d { checkpoint = lsn; kept = if drops then max d.kept (least_begin d.transactions lsn) else d.kept }
 moved_by drops lsn _ d = d
 
 -- These bytes spell records that may come behind the log in these files that a database shows.
@@ -32,14 +34,19 @@ pub record HasSaid (files : List FileSpec) (rs next : List Logged) (old new : Ke
   pub shows : Shows files (rs ++ next) new.shown
   pub points : database_of new ≡ record (pointed (model rs) (database_of old) next) { end = new.shown.«end» }
 
+-- And then these transactions are open.
+pub record HasLogged (files : List FileSpec) (rs next : List Logged) (transactions : List Open) (old new : KeptDatabase) : Type 0 where
+  pub shows : Shows files (rs ++ next) new.shown
+  pub points : database_of new ≡ record (pointed (model rs) (database_of old) next) { end = new.shown.«end»; transactions = transactions }
+
 -- A database went online on a new branch at this number, and has said these records there, behind its log in these files.
 pub record HasRecovered (files : List FileSpec) (rs next : List Logged) (at : ℕ) (branch : Guid) (old new : KeptDatabase) : Type 0 where
   pub shows : Shows files (rs ++ next) new.shown
   pub points : database_of new ≡ record (gone_online (model rs) (record { at = at; branch = branch; said = [] }) (database_of old)) { end = new.shown.«end» }
 
--- The database of a name may say this, and these bytes spell it from the database's end on.
-pub record SaysNamed (w : World) (name bytes : List ℕ) (said : List Said) : Type 0 where
-  pub may : MayDo w (logged name said [])
+-- The database of a name may say this, behind which these transactions are open, and these bytes spell it from the database's end on.
+pub record SaysNamed (w : World) (name bytes : List ℕ) (said : List Said) (transactions : List Open) : Type 0 where
+  pub may : MayDo w (logged name said transactions)
   pub can : HoldsOf (database_named w.databases name) (λ (db : Database). AreNext db.files (log_of w.history db) (numbered db.end said))
   pub spelled_is : HoldsOf (database_named w.databases name) (λ (db : Database). Spell bytes db.end said)
 

@@ -3,7 +3,7 @@ use Rattle.std.specs.Prelude.{◌≡◌, ℕ, ◌+◌, false, List, [], ◌++◌
 use Rattle.bk_acts.specs.declared.act.StoredAct.{StoredAct}
 use Rattle.bk_acts.specs.declared.act.StoredAct.TheVariants.{Created, Logged as LoggedAct, Replaced, Recovered}
 use Rattle.bk_acts.specs.Meaning.{Means, Spell}
-use Rattle.bk_machine.specs.Acts.{Act, turned, created, dropped, logged, medium_made, set_sealed, based, replaced, restored, recovered}
+use Rattle.bk_machine.specs.Acts.{Act, turned, seated, created, dropped, logged, medium_made, set_sealed, based, replaced, restored, recovered}
 use Rattle.bk_machine.specs.Checks.{used_up}
 use Rattle.bk_machine.specs.MayDo.{HoldsOf, MayDo}
 use Rattle.bk_machine.specs.Sound.{files_of_set}
@@ -33,11 +33,12 @@ pub record Carries (lines : RecordLines) (body : SetBody) : Type 0 where
   pub log_is : SpellsEnd (log_below lines body.header.path body.header.last) body.header.first body.log
   pub placed : ArePlaced (files_of_set body.header) [] (log_below lines body.header.path body.header.last)
 
--- what is taken in of an act that says something: each record may come next, and nothing is open behind them; a recovery goes on from the end
+-- what is taken in of an act that says something: each record may come next; a recovery goes on from the end
 abbrev pub IsTaken : World → Act → Type 0
-IsTaken w (logged name said transactions) = HoldsOf (database_named w.databases name) (λ (db : Database). AreNext db.files (log_of w.history db) (numbered db.end said)) × (transactions ≡ [])
+IsTaken w (logged name said transactions) = HoldsOf (database_named w.databases name) (λ (db : Database). AreNext db.files (log_of w.history db) (numbered db.end said))
 IsTaken w (recovered name r) = HoldsOf (database_named w.databases name) (λ (db : Database). (r.at ≡ db.end) × AreNext db.files (log_of w.history db) (numbered r.at r.said))
 IsTaken w (turned name) = Unit {0}
+IsTaken w (seated session) = Unit {0}
 IsTaken w (created c) = Unit {0}
 IsTaken w (dropped name) = Unit {0}
 IsTaken w (medium_made path) = Unit {0}
@@ -53,7 +54,7 @@ IsCarried w _ = Unit {0}
 
 -- what a database says is numbered from its end on
 abbrev pub IsNumbered : World → StoredAct → Type 0
-IsNumbered w (LoggedAct name records) = HoldsOf (database_named w.databases name) (λ (db : Database). (said : List Said) × Spell records db.end said)
+IsNumbered w (LoggedAct name transactions records) = HoldsOf (database_named w.databases name) (λ (db : Database). (said : List Said) × Spell records db.end said)
 IsNumbered w _ = Unit {0}
 
 -- GUIDs are drawn where some are left

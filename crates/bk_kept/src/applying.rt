@@ -3,16 +3,18 @@
 ghost use Rattle.std.specs.Prelude.{◌≡◌, ◌+◌, ◌<◌, ◌≤◌, [], false, length, map, position, List, IfOk, IfSome, OnOk, IsErrOf};
 ghost use Rattle.std.specs.List.{AllByRecursion};
 ghost use Rattle.bk_acts.specs.Spelling.{IsAct};
+ghost use Rattle.bk_acts.specs.Transactions.{IsTransaction};
 ghost use Rattle.bk_ids.specs.Name.{same_name};
 ghost use Rattle.bk_machine.specs.Acts.{Act, based_on, created, done, logged, recovered, restored, units_in};
 ghost use Rattle.bk_machine.specs.MayDo.{MayCreate};
-ghost use Rattle.bk_machine.specs.Sound.{AreIdle, IsSound};
+ghost use Rattle.bk_machine.specs.Sound.{IsSound};
 ghost use Rattle.bk_machine.specs.World.{World, with_database, without_database};
 ghost use Rattle.bk_world.specs.Lines.{RecordLines};
 ghost use Rattle.bk_world.specs.declared.database.State.TheVariants.{Restoring};
-ghost use Rattle.bk_world.specs.Records.{Said};
-ghost use Rattle.bk_kept.specs.Keeps.{KeepsDatabases, ShowsLog, database_of};
-ghost use Rattle.bk_kept.specs.Saying.{RecoversNamed, SaysNamed};
+ghost use Rattle.bk_world.specs.declared.database.FileSpec.{FileSpec};
+ghost use Rattle.bk_world.specs.Records.{Logged, Said};
+ghost use Rattle.bk_kept.specs.Keeps.{IsKept, KeepsDatabases, database_of};
+ghost use Rattle.bk_kept.specs.Saying.{CanSay, HasLogged, RecoversNamed, SaysNamed};
 ghost use Rattle.bk_kept.specs.Stored as stored;
 ghost use Rattle.bk_kept.specs.Stored.{IsDone, MayDraw};
 ghost use Rattle.bk_kept.specs.declared.error.ApplyError.TheVariants.{Unfit};
@@ -25,11 +27,12 @@ use crate::recovering::recover;
 use crate::replacing::replace;
 use crate::saying::say;
 use crate::telling::is_simple;
+use crate::transactions::copy_transactions;
 use bk_acts::{StoredAct, said_law};
-use bk_ids::{Guid, Lsn, Name, Sequence, Text};
+use bk_ids::{Guid, Lsn, Name, Sequence};
 use bk_machine::{a_recovery_is_said_last, acts_keep_what_is_read, what_is_said_comes_last};
 use bk_record::Records;
-use bk_world::{Base, Creation, Header, State, Unit};
+use bk_world::{Base, Creation, Header, Open, State, Unit};
 use std::alloc::{AllocError, Global};
 
 // The place of the first database of a name.
@@ -43,7 +46,7 @@ pub(crate) fn place(databases: &[Database], name: &Name) -> Option<usize>
 // Leaves the database of a name out, if it is there.
 fn drop_named(databases: &mut Vec<Database>, name: &Name)
     ensures left { map database_of databases.new.items ≡ without_database (map database_of databases.old.items) name.now }
-    ensures shown { (history : RecordLines) → AllByRecursion (ShowsLog history) databases.old.items → AllByRecursion (ShowsLog history) databases.new.items }
+    ensures kept { (history : RecordLines) → AllByRecursion (IsKept history) databases.old.items → AllByRecursion (IsKept history) databases.new.items }
 {
     match place(databases, name) {
         Some(at) => {
@@ -56,7 +59,7 @@ fn drop_named(databases: &mut Vec<Database>, name: &Name)
 // A database is based on a set: where no log backup could come before, the log chain begins with it.
 fn base_on(database: &mut Database, header: &Header)
     ensures based { database_of database.new ≡ based_on header.now (database_of database.old) }
-    ensures shown { (history : RecordLines) → ShowsLog history database.old → ShowsLog history database.new }
+    ensures kept { (history : RecordLines) → IsKept history database.old → IsKept history database.new }
 {
     let simple = is_simple(header.model);
     if !database.chain && !simple {
@@ -73,7 +76,7 @@ fn base_on(database: &mut Database, header: &Header)
 // Bases the database of a name on a set, if it is there.
 fn base_named(databases: &mut Vec<Database>, name: &Name, header: &Header)
     ensures based { map database_of databases.new.items ≡ with_database (map database_of databases.old.items) name.now (based_on header.now) }
-    ensures shown { (history : RecordLines) → AllByRecursion (ShowsLog history) databases.old.items → AllByRecursion (ShowsLog history) databases.new.items }
+    ensures kept { (history : RecordLines) → AllByRecursion (IsKept history) databases.old.items → AllByRecursion (IsKept history) databases.new.items }
 {
     match place(databases, name) {
         Some(at) => {
@@ -99,22 +102,41 @@ fn create_named(
     Ok(())
 }
 
-// The database of a name says these records at its end.
-fn log_named(
-    databases: &mut Vec<Database>,
-    name: &Name,
+// A database says these records at its end, and then these transactions are open. After an error nothing is promised of it.
+fn log(
+    alloc: Global,
+    database: &mut Database,
+    transactions: &[Open],
     records: &Records,
 ) -> Result<(), ApplyError>
-    ensures ok { OnOk result ((w : World) (said : List Said) → IsSound w → KeepsDatabases w databases.old.items → SaysNamed w name.now records.now said
-        → KeepsDatabases (done w (logged name.now said [])) databases.new.items) }
-    ensures unfit { IsErrOf result Unfit → (w : World) (said : List Said) → KeepsDatabases w databases.old.items → SaysNamed w name.now records.now said → ⊥ }
+    ensures ok { OnOk result ((files : List FileSpec) (rs next : List Logged) → CanSay files rs next records.now database.old → HasLogged files rs next transactions.now database.old database.new) }
+    ensures unfit { IsErrOf result Unfit → (files : List FileSpec) (rs next : List Logged) → CanSay files rs next records.now database.old → ⊥ }
+{
+    let transactions = copy_transactions(alloc, transactions)?;
+    say(database, records)?;
+    database.transactions = transactions;
+    Ok(())
+}
+
+// The database of a name says these records at its end, and then these transactions are open.
+fn log_named(
+    alloc: Global,
+    databases: &mut Vec<Database>,
+    name: &Name,
+    transactions: &[Open],
+    records: &Records,
+) -> Result<(), ApplyError>
+    requires { AllByRecursion IsTransaction transactions.now }
+    ensures ok { OnOk result ((w : World) (said : List Said) → IsSound w → KeepsDatabases w databases.old.items → SaysNamed w name.now records.now said transactions.now
+        → KeepsDatabases (done w (logged name.now said transactions.now)) databases.new.items) }
+    ensures unfit { IsErrOf result Unfit → (w : World) (said : List Said) → KeepsDatabases w databases.old.items → SaysNamed w name.now records.now said transactions.now → ⊥ }
 {
     acts_keep_what_is_read();
     what_is_said_comes_last();
     match place(databases, name) {
         Some(at) => {
             let database = &mut databases[at];
-            say(database, records)
+            log(alloc, database, transactions, records)
         }
         None => Err(ApplyError::Unfit),
     }
@@ -200,8 +222,8 @@ pub fn apply(
     act: &StoredAct,
 ) -> Result<(), ApplyError>
     requires { IsAct act.now }
-    ensures ok { OnOk result ((w : World) (a : Act) → IsSound w → AreIdle w → KeepsDatabases w databases.old.items → IsDone w act.now a → KeepsDatabases (done w a) databases.new.items) }
-    ensures unfit { IsErrOf result Unfit → (w : World) (a : Act) → IsSound w → AreIdle w → KeepsDatabases w databases.old.items → IsDone w act.now a → ⊥ }
+    ensures ok { OnOk result ((w : World) (a : Act) → IsSound w → KeepsDatabases w databases.old.items → IsDone w act.now a → KeepsDatabases (done w a) databases.new.items) }
+    ensures unfit { IsErrOf result Unfit → (w : World) (a : Act) → IsSound w → KeepsDatabases w databases.old.items → IsDone w act.now a → ⊥ }
 {
     said_law();
     match act {
@@ -210,7 +232,11 @@ pub fn apply(
             drop_named(databases, name);
             Ok(())
         }
-        StoredAct::Logged { name, records } => log_named(databases, name, records),
+        StoredAct::Logged {
+            name,
+            transactions,
+            records,
+        } => log_named(alloc, databases, name, transactions.as_slice(), records),
         StoredAct::Based { name, header } => {
             base_named(databases, name, header);
             Ok(())
@@ -259,28 +285,19 @@ fn counter_behind(counter: u64, act: &StoredAct) -> Result<u64, ApplyError>
 impl Kept {
     ghost use Rattle.std.specs.Prelude.{◌≡◌, ◌+◌, OnOk, IsErrOf};
     ghost use Rattle.bk_acts.specs.Spelling.{IsAct};
-    ghost use Rattle.bk_machine.specs.Acts.{Act, turned, done};
-    ghost use Rattle.bk_machine.specs.Sound.{AreIdle, IsSound};
+    ghost use Rattle.bk_machine.specs.Acts.{Act, done};
+    ghost use Rattle.bk_machine.specs.Sound.{IsSound};
     ghost use Rattle.bk_machine.specs.World.{World};
     ghost use Rattle.bk_kept.specs.Keeps.{Keeps};
     ghost use Rattle.bk_kept.specs.Stored.{drawn_by, IsDone};
     ghost use Rattle.bk_kept.specs.declared.error.ApplyError.TheVariants.{Unfit};
 
-    /// The current database is the one of this name, or there is none.
-    pub fn turn(&mut self, name: Option<Text>)
-        ensures turned { (w : World) → Keeps w self.old → Keeps (done w (turned name)) self.new }
-        ensures number { self.new.number ≡ self.old.number }
-        ensures counter { self.new.counter ≡ self.old.counter }
-    {
-        self.current = name;
-    }
-
     /// What a stored act makes of what is kept; it is one that has a spelling. `Unfit` comes only where it is no act that is taken in there; after an error
     /// nothing is promised of the databases.
     pub fn apply(&mut self, alloc: Global, act: &StoredAct) -> Result<(), ApplyError>
         requires { IsAct act.now }
-        ensures ok { OnOk result ((w : World) (a : Act) → IsSound w → AreIdle w → Keeps w self.old → IsDone w act.now a → Keeps (done w a) self.new) }
-        ensures unfit { IsErrOf result Unfit → (w : World) (a : Act) → IsSound w → AreIdle w → Keeps w self.old → IsDone w act.now a → ⊥ }
+        ensures ok { OnOk result ((w : World) (a : Act) → IsSound w → Keeps w self.old → IsDone w act.now a → Keeps (done w a) self.new) }
+        ensures unfit { IsErrOf result Unfit → (w : World) (a : Act) → IsSound w → Keeps w self.old → IsDone w act.now a → ⊥ }
         ensures number { OnOk result (self.new.number ≡ self.old.number) }
         ensures counter { OnOk result (self.new.counter ≡ self.old.counter + drawn_by act.now) }
     {

@@ -20,22 +20,22 @@ impl Kept {
     ghost use Rattle.std.specs.Prelude.{◌≡◌, IfSome};
     ghost use Rattle.std.specs.Option.{option_map};
     ghost use Rattle.bk_machine.specs.World.{World, database_named, current_database};
-    ghost use Rattle.bk_kept.specs.Keeps.{Keeps, ShowsLog, database_of};
+    ghost use Rattle.bk_kept.specs.Keeps.{IsKept, Keeps, database_of};
 
     /// The database of this name, in any case of ASCII letters.
     pub fn named(&self, name: &str) -> Option<&Database>
         ensures found { (w : World) → Keeps w self.now → option_map (λ d. database_of d.now) result ≡ database_named w.databases name.now }
-        ensures shows { (w : World) → Keeps w self.now → IfSome result (λ d. ShowsLog w.history d.now) }
+        ensures kept { (w : World) → Keeps w self.now → IfSome result (λ d. IsKept w.history d.now) }
     {
         first_named(&self.databases, name)
     }
 
-    /// The current database.
+    /// The current session's current database.
     pub fn current_database(&self) -> Option<&Database>
         ensures found { (w : World) → Keeps w self.now → option_map (λ d. database_of d.now) result ≡ current_database w }
-        ensures shows { (w : World) → Keeps w self.now → IfSome result (λ d. ShowsLog w.history d.now) }
+        ensures kept { (w : World) → Keeps w self.now → IfSome result (λ d. IsKept w.history d.now) }
     {
-        let name = self.current.as_ref()?;
+        let name = self.current()?;
         self.named(name.as_str())
     }
 }

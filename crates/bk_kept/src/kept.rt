@@ -2,7 +2,7 @@
 
 use bk_ids::{Guid, Lsn, Name, Path, Sequence, Text};
 use bk_shown::Shown;
-use bk_world::{Base, FileSpec, Status, Unit};
+use bk_world::{Base, FileSpec, Open, Status, Unit};
 
 /// A database, with what its log shows.
 #[derive(Drop)]
@@ -30,8 +30,19 @@ pub struct Database {
     pub base: Option<Base>,
     pub status: Status,
     pub units: Sequence<Unit>,
+    /// What is open in it, in the order in which it began.
+    pub transactions: Sequence<Open>,
     /// What its log shows, up to its end.
     pub shown: Shown,
+}
+
+/// A session of which there is something to say.
+#[derive(Drop)]
+pub struct Session {
+    /// Its number, from 1.
+    pub number: u8,
+    /// The name of its current database, as it was asked for.
+    pub current: Option<Text>,
 }
 
 /// What an instance keeps in memory.
@@ -41,8 +52,10 @@ pub struct Kept {
     pub number: u64,
     /// The low number of the GUID that it draws next.
     pub counter: u64,
-    /// The name of the current database, as it was asked for.
-    pub current: Option<Text>,
+    /// The current session, from 1.
+    pub session: u8,
+    /// The sessions in which a database was named, or none is any more.
+    pub sessions: Vec<Session>,
     /// Its databases, in the order in which they were made.
     pub databases: Vec<Database>,
 }

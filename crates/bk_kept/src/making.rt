@@ -118,6 +118,12 @@ pub(crate) fn made(alloc: Global, creation: &Creation) -> Result<Database, Apply
         return Err(ApplyError::Unfit);
     }
     let files = copy_files(alloc, storage.files.as_slice())?;
+    let groups = copy_groups(alloc, storage.groups.as_slice())?;
+    let path = first_path(alloc, creation.branch)?;
+    let units = file_units(alloc, files.as_slice())?;
+    let name = creation.name.copy(alloc)?;
+    let log_name = storage.log_name.copy(alloc)?;
+    let log_path = storage.log_path.copy(alloc)?;
     let shown = first_shown(
         alloc,
         files.as_slice(),
@@ -125,16 +131,13 @@ pub(crate) fn made(alloc: Global, creation: &Creation) -> Result<Database, Apply
         creation.branch,
         creation.time,
     )?;
-    let groups = copy_groups(alloc, storage.groups.as_slice())?;
-    let path = first_path(alloc, creation.branch)?;
-    let units = file_units(alloc, files.as_slice())?;
     Ok(Database {
-        name: creation.name.copy(alloc)?,
+        name,
         family: creation.family,
         groups,
         files,
-        log_name: storage.log_name.copy(alloc)?,
-        log_path: storage.log_path.copy(alloc)?,
+        log_name,
+        log_path,
         path,
         archive: 1,
         kept: 1,
@@ -144,6 +147,7 @@ pub(crate) fn made(alloc: Global, creation: &Creation) -> Result<Database, Apply
         base: None,
         status: Status::Online,
         units,
+        transactions: Sequence::new(Vec::new(alloc)),
         shown,
     })
 }

@@ -5,14 +5,14 @@ ghost use Rattle.std.specs.List.{AllByRecursion};
 ghost use Rattle.bk_acts.specs.declared.act.StoredAct.TheVariants.{Replaced};
 ghost use Rattle.bk_groups.specs.Groups.{AreFiles};
 ghost use Rattle.bk_machine.specs.Acts.{Act, done, file_units, taken_over};
-ghost use Rattle.bk_machine.specs.Sound.{AreIdle, IsSound, IsSoundSet};
+ghost use Rattle.bk_machine.specs.Sound.{IsSound, IsSoundSet};
 ghost use Rattle.bk_machine.specs.World.{World, with_new_database};
 ghost use Rattle.bk_set.specs.Conditions.{IsBody};
 ghost use Rattle.bk_shown.specs.Shown.{IsOf, Shows};
 ghost use Rattle.bk_world.specs.Lines.{RecordLines};
 ghost use Rattle.bk_world.specs.Records.{Logged};
 ghost use Rattle.bk_world.specs.declared.database.State.TheVariants as state;
-ghost use Rattle.bk_kept.specs.Keeps.{KeepsDatabases, ShowsLog, database_of};
+ghost use Rattle.bk_kept.specs.Keeps.{IsKept, KeepsDatabases, database_of};
 ghost use Rattle.bk_kept.specs.Stored.{Carries, IsDone};
 ghost use Rattle.bk_kept.specs.declared.error.ApplyError.TheVariants.{Unfit};
 
@@ -105,7 +105,7 @@ fn shown_by(alloc: Global, files: &[FileSpec], body: &SetBody) -> Result<Shown, 
 pub(crate) fn taken(alloc: Global, name: &Name, body: &SetBody) -> Result<Database, ApplyError>
     requires { IsBody body.now }
     ensures same { IfOk result (λ d. database_of d ≡ taken_over name.now body.now.header) }
-    ensures shows { IfOk result (λ d. (w : World) → IsSoundSet w body.now.header → Carries w.history body.now → ShowsLog w.history d) }
+    ensures kept { IfOk result (λ d. (w : World) → IsSoundSet w body.now.header → Carries w.history body.now → IsKept w.history d) }
     ensures unfit { IsErrOf result Unfit → (w : World) → IsSoundSet w body.now.header → Carries w.history body.now → ⊥ }
 {
     let header = &body.header;
@@ -129,6 +129,7 @@ pub(crate) fn taken(alloc: Global, name: &Name, body: &SetBody) -> Result<Databa
         base: None,
         status: Status::Down,
         units,
+        transactions: Sequence::new(Vec::new(alloc)),
         shown,
     })
 }
@@ -141,7 +142,7 @@ fn put_named(
 ) -> Result<(), ApplyError>
     requires { database.name ≡ name.now }
     ensures put { OnOk result (map database_of databases.new.items ≡ with_new_database (map database_of databases.old.items) (database_of database)) }
-    ensures shown { OnOk result ((history : RecordLines) → AllByRecursion (ShowsLog history) databases.old.items → ShowsLog history database → AllByRecursion (ShowsLog history) databases.new.items) }
+    ensures kept { OnOk result ((history : RecordLines) → AllByRecursion (IsKept history) databases.old.items → IsKept history database → AllByRecursion (IsKept history) databases.new.items) }
     ensures fits { IsErrOf result Unfit → ⊥ }
 {
     match place(databases, name) {
@@ -159,7 +160,7 @@ pub(crate) fn replace(
     body: &SetBody,
 ) -> Result<(), ApplyError>
     requires { IsBody body.now }
-    ensures ok { OnOk result ((w : World) (a : Act) → IsSound w → AreIdle w → KeepsDatabases w databases.old.items → IsDone w (Replaced name.now body.now) a → KeepsDatabases (done w a) databases.new.items) }
+    ensures ok { OnOk result ((w : World) (a : Act) → IsSound w → KeepsDatabases w databases.old.items → IsDone w (Replaced name.now body.now) a → KeepsDatabases (done w a) databases.new.items) }
     ensures unfit { IsErrOf result Unfit → (w : World) (a : Act) → IsSound w → IsDone w (Replaced name.now body.now) a → ⊥ }
 {
     let database = taken(alloc, name, body)?;

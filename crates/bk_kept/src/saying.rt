@@ -30,7 +30,8 @@ fn move_points(database: &mut Database, drops: bool, lsn: Lsn, body: BodyRef<'_>
     if let BodyRef::Checkpoint { .. } = body {
         database.checkpoint = lsn;
         if drops {
-            database.kept = database.kept.max(lsn);
+            let least = database.least_begin(lsn);
+            database.kept = database.kept.max(least);
         }
     }
 }

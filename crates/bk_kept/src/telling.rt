@@ -50,13 +50,6 @@ impl Database {
         first_table(self.tables(), name)
     }
 
-    /// Whether a table has a row with this key.
-    pub fn has_key(&self, table: &TableSpec, key: u64) -> bool
-        ensures { (w : World) → ShowsLog w.history self.now → result ≡ seen.has_key (seen.visible w (database_of self.now) table.now) key }
-    {
-        self.shown.has(table.number, key)
-    }
-
     /// Whether its log isn't kept for backups.
     pub fn is_simple(&self) -> bool
         ensures { (w : World) → ShowsLog w.history self.now → result ≡ acts.is_simple (telling.model (log_of w.history (database_of self.now))) }

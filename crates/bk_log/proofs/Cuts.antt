@@ -5,6 +5,7 @@ use Rattle.std.proofs.lemmas.List.{drop_at, drop-drop, length-drop}
 use Rattle.std.proofs.lemmas.Option.{slice_get_within}
 use Rattle.bk_control.specs.Control.{IsControl, control_kept, Kept as KeptControl}
 use Rattle.bk_control.specs.Slots.{control_of}
+use Rattle.bk_device.specs.Calls.{ChangesNothing}
 use Rattle.bk_device.specs.Compose.{effect_then, effect_weaken, effect_widen, keeps_by_effect, durable_kept}
 use Rattle.bk_device.specs.Disk.{Files, Disk}
 use Rattle.bk_device.specs.Effects.{Effect, IsName}
@@ -17,12 +18,12 @@ use Rattle.bk_log.specs.declared.segments.Segment.{Segment}
 use Rattle.bk_log.specs.Control.{read_control, IsSound}
 use Rattle.bk_log.specs.Records.{records_of, IsRun}
 use Rattle.bk_log.specs.RunLaws.{records_append, run_split}
-use Rattle.bk_log.specs.Log.{control_file, segment_file, IsOwn, IsBeside, IsNamed, BeginsAt, IsFirstAt, blobs_at, blobs_from, blobs_of, shown, value_of, cut_at, AreSegments, Holds, IsTidy, Logged, LogIs, Kept, IsLog}
-use Rattle.bk_log.specs.FileLaws.{control_not_segment, one_segment, blobs_same, log_is, shown_same, shown_cut}
+use Rattle.bk_log.specs.Log.{control_file, segment_file, IsOwn, IsBeside, IsNamed, BeginsAt, IsFirstAt, blobs_at, blobs_from, blobs_of, shown, value_of, cut_at, AreBegun, Holds, IsTidy, Logged, LogIs, Kept, IsLog, AreDurable}
+use Rattle.bk_log.specs.FileLaws.{control_not_segment, one_segment, blobs_same, begun_same, log_is, shown_same, shown_cut}
 use Rattle.bk_log.specs.SegmentLaws.{Below, get_dropped, blobs_split, segments_same, segments_dropped}
 use Rattle.bk_log.specs.Laws.{control_there, control_is, still, segment_left}
 use Rattle.bk_bytes.specs.Codec.{◌>>=◌}
-use Rattle.bk_log.proofs.Makes.{Same}
+use Rattle.bk_log.proofs.Makes.{Same, load_nothing, opened_value}
 use Rattle.bk_log.proofs.Steps.{put_crash, put_log, put_blobs}
 
 -- ---- segments that do not count were removed
@@ -64,6 +65,7 @@ swept_log log b c is below effect =
       segments = segments_same (blobs_at b.files log.db) (blobs_at c.files log.db) log.db log.head.front log.head.first log.segments is.segments (λ n low high. swept_blobs log b c is below effect n low (omega (arith, high, is.count)));
       count = is.count;
       durable = λ n low high. durable_kept {names = IsName (segment_file log.db n)} (segment_file log.db n) refl (keeps_by_effect (λ m at there. let Below : List ℕ → Type 0 = IsBeside log.db log.head in not_beside log n is low high (subst Below at (below m there))) effect) (is.durable n low high);
+      begun = begun_same b.files c.files log.db log.head (swept_blobs log b c is below effect) is.begun;
       run = subst (λ (bs : List (List ℕ)). IsRun log.head.first bs log.stored) (sym blobs) is.run;
       inside = is.inside;
       small = is.small;
@@ -119,8 +121,9 @@ moved_is log a image to k s bytes is move control reads same =
     let sound = moved_sound log to k s is move in
     let blobs : blobs_of image log.db head ≡ blobs_of a.files log.db head = blobs_same a.files image log.db head sound.front (λ n low high. same n (omega (arith, low)) high) in
     let run : IsRun s.first (blobs_of image log.db head) log.stored = subst (λ (bs : List (List ℕ)). IsRun s.first bs log.stored) (sym blobs) (moved_run log a to k s is move) in
+    let begun : AreBegun (blobs_at image log.db) head = λ n low high none. is.begun n (omega (arith, low)) high (sym (same n (omega (arith, low)) high) ∙ none) in
     subst (λ (l : Logged). LogIs image log.db l) (shown_same a.files image log.db head log.note blobs ∙ moved_shown log a to k s is move)
-    (log_is image log.db head log.note bytes log.stored control reads sound run move.inside is.small)
+    (log_is image log.db head log.note bytes log.stored control reads sound begun run move.inside is.small)
 
 -- the record was put, or not
 pub moved_crash : (log : Kept) (a b : Disk) (to k : ℕ) (s : Segment) (bytes : List ℕ) → IsLog a log → IsMove log to k s → read_control bytes ≡ Some (moved log.head to k s.first, log.note)
@@ -156,6 +159,7 @@ moved_log log a b to k s bytes control is move reads name content controls effec
           (λ n low high. ap sealed (effect.others (segment_file log.db n) (apart n)));
       count = omega (arith, is.count, length-drop k log.segments, slice_get_within log.segments k s move.there);
       durable = λ n low high. durable_kept {names = IsName (segment_file log.db n)} (segment_file log.db n) refl (keeps_by_effect (λ m at same. apart n (sym at ∙ same)) effect) (is.durable n (omega (arith, low)) high);
+      begun = λ n low high none. is.begun n (omega (arith, low)) high (sym (ap sealed (effect.others (segment_file log.db n) (apart n))) ∙ none);
       run = subst (λ (bs : List (List ℕ)). IsRun s.first bs log.stored) (sym (put_blobs log head a b is sound.front effect)) (moved_run log a to k s is move);
       inside = move.inside;
       small = is.small;
@@ -230,7 +234,7 @@ pub cleared_log : {P : Files → Type 0} (log : Kept) (bytes : List ℕ) (c d : 
     → control.name ≡ log.control.name → control.content ≡ bytes → IsControl d control → Effect (IsName log.control.name) P c d
     → IsLog d (record log { control = control; head = cleared log.head; end = end; waiting = waiting; failed = failed })
 cleared_log log bytes c d control end waiting failed is reads name content controls effect =
-    put_log log (cleared log.head) log.note bytes c d control end waiting failed is refl refl refl is.inside (cleared_sound is.sound) name content reads controls effect
+    put_log log (cleared log.head) log.note bytes c d control end waiting log.spare_bytes log.spare_flushes failed is refl refl refl is.inside (cleared_sound is.sound) name content reads controls effect
 
 pub cut_third : {P : Files → Type 0} (log : Kept) (a b c d : Disk) (to k : ℕ) (s : Segment) (first : List Segment) (bytes again : List ℕ) (control : KeptControl) → IsLog a log → IsMove log to k s → read_control bytes ≡ Some (moved log.head to k s.first, log.note)
     → control.name ≡ log.control.name → control.content ≡ bytes → IsControl b control → first ≡ take k log.segments
@@ -282,6 +286,7 @@ log_as {f = f} {g = g} {db = db} one two first second is =
       end = is.end;
       reads = subst Reads note is.reads;
       sound = subst (IsSound is.head) note is.sound;
+      begun = is.begun;
       run = is.run;
       inside = is.inside;
       small = is.small;
@@ -290,19 +295,20 @@ log_as {f = f} {g = g} {db = db} one two first second is =
     }
 
 -- segments that don't count were removed behind the opening
-pub load_then : {P : Files → Type 0} (db : ℕ) (log : Kept) (a b c : Disk) → log.db ≡ db → IsLog b log → LogIs a.files db (value_of a.files log) → value_of b.files log ≡ value_of a.files log → Effect (IsOwn db) (Same db a) a b → Effect (IsBeside db log.head) P b c
+pub load_then : {P : Files → Type 0} (db : ℕ) (log : Kept) (a b c : Disk) → log.db ≡ db → IsLog b log → LogIs a.files db (value_of a.files log) → AreDurable db a → ChangesNothing a b → Effect (IsBeside db log.head) P b c
     → Effect (IsOwn db) (Same db a) a c
-load_then {P = P} db log a b c same_db is loaded value first second =
+load_then {P = P} db log a b c same_db is loaded durable call second =
+    let value : value_of b.files log ≡ value_of a.files log = opened_value log a b is call in
     let Of : ℕ → Type 0 = λ d. Effect (IsBeside d log.head) P b c in
     let Own : ℕ → Type 0 = λ d. Effect (IsOwn d) (λ image. LogIs image d (value_of b.files log)) b c in
     let swept : Effect (IsOwn db) (λ image. LogIs image db (value_of b.files log)) b c = subst Own same_db (swept_crash log b c is (λ name at. at) (subst Of (sym same_db) second)) in
-    effect_then first (effect_weaken (λ image here l each. log_as (value_of a.files log) l loaded each (subst (λ (x : Logged). LogIs image db x) value here)) swept)
+    effect_then (load_nothing db a b durable call) (effect_weaken (λ image here l each. log_as (value_of a.files log) l loaded each (subst (λ (x : Logged). LogIs image db x) value here)) swept)
 
-pub load_stands : {P : Files → Type 0} (db : ℕ) (log : Kept) (b c : Disk) → log.db ≡ db → IsLog b log → Effect (IsBeside db log.head) P b c → IsLog c log × (value_of c.files log ≡ value_of b.files log)
-load_stands {P = P} db log b c same_db is second =
+pub load_stands : {P : Files → Type 0} (db : ℕ) (log : Kept) (a b c : Disk) → log.db ≡ db → IsLog b log → ChangesNothing a b → Effect (IsBeside db log.head) P b c → IsLog c log × (value_of c.files log ≡ value_of a.files log)
+load_stands {P = P} db log a b c same_db is call second =
     let Of : ℕ → Type 0 = λ d. Effect (IsBeside d log.head) P b c in
     let here = subst Of (sym same_db) second in
-    (swept_log log b c is (λ name at. at) here, swept_value log b c is (λ name at. at) here)
+    (swept_log log b c is (λ name at. at) here, swept_value log b c is (λ name at. at) here ∙ opened_value log a b is call)
 
 -- of what the control record names
 pub load_tidy : (db : ℕ) (head : Head) (a b : Files) → Holds a db head → ((n : ℕ) → head.gone ≤ n → n ≤ head.back + 1 → (n < head.front) ⊎ (head.back < n) → b (segment_file db n) ≡ None) → IsTidy a b db head

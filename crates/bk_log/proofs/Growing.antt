@@ -1,6 +1,5 @@
 -- What beginning a new segment did to the device, and then sealing a blob in it.
 use Rattle.std.proofs.Common.{◌≡◌, ◌⊎◌, ◌≤◌, ◌<◌, ◌^◌, ℕ, Bool, ◌+◌, ◌-◌, List, [], ◌∷◌, ◌++◌, length, drop, Some, refl, inl, inr, sym, ap, subst, ◌∙◌, arith, length-append}
-use Rattle.std.proofs.lemmas.List.{append-nil}
 use Rattle.bk_control.specs.Control.{IsControl, control_kept, Kept as KeptControl}
 use Rattle.bk_control.specs.Slots.{control_of}
 use Rattle.bk_device.specs.Compose.{effect_then, effect_weaken, effect_widen, keeps_by_effect, durable_kept}
@@ -15,8 +14,9 @@ use Rattle.bk_log.specs.declared.head.Head.{Head}
 use Rattle.bk_log.specs.declared.segments.Segment.{Segment}
 use Rattle.bk_log.specs.Control.{read_control, IsSound}
 use Rattle.bk_log.specs.Records.{records_of, IsRun}
-use Rattle.bk_log.specs.Log.{control_file, segment_file, IsOwn, blobs_at, blobs_from, blobs_of, shown, value_of, with_more, AreSegments, IsAdded, Logged, LogIs, Kept, IsLog}
-use Rattle.bk_log.specs.FileLaws.{control_not_segment, one_segment, blobs_same, all_blobs, log_is, shown_same}
+use Rattle.bk_log.specs.Log.{control_file, segment_file, IsOwn, blobs_at, blobs_from, blobs_of, shown, value_of, with_more, AreBegun, AreSegments, IsAdded, Logged, LogIs, Kept, IsLog}
+use Rattle.bk_log.specs.FileLaws.{control_not_segment, one_segment, blobs_same, begun_same, all_blobs, log_is, shown_same}
+use Rattle.bk_log.specs.RunLaws.{run_begun, records_begun, one_blob}
 use Rattle.bk_log.specs.Laws.{control_there, control_is, still, segment_left}
 use Rattle.bk_log.specs.SegmentLaws.{segments_same, segments_added}
 
@@ -34,8 +34,15 @@ blobs_next files db head order =
     ap (λ (n : ℕ). blobs_from (blobs_at files db) head.front n ++ blobs_at files db (head.back + 1)) count
     ∙ ap (λ (bs : List (List ℕ)). bs ++ blobs_at files db (head.back + 1)) (all_blobs files db head order)
 
-pub blobs_unchanged : (files : Files) (db : ℕ) (head : Head) → head.front ≤ head.back → blobs_at files db (head.back + 1) ≡ [] → blobs_of files db (next head) ≡ blobs_of files db head
-blobs_unchanged files db head order none = blobs_next files db head order ∙ ap (λ (bs : List (List ℕ)). blobs_of files db head ++ bs) none ∙ append-nil (blobs_of files db head)
+-- and in the new segment there is one without a byte
+blobs_begun : (files : Files) (db : ℕ) (head : Head) → head.front ≤ head.back → blobs_at files db (head.back + 1) ≡ [] ∷ [] → blobs_of files db (next head) ≡ blobs_of files db head ++ [] ∷ []
+blobs_begun files db head order begun = blobs_next files db head order ∙ ap (λ (bs : List (List ℕ)). blobs_of files db head ++ bs) begun
+
+next_begun : (files : Files) (db : ℕ) (head : Head) → AreBegun (blobs_at files db) head → blobs_at files db (head.back + 1) ≡ [] ∷ [] → AreBegun (blobs_at files db) (next head)
+next_begun files db head begun last n low high none = elim (equal_or_not n (head.back + 1)) [
+  | inl same ↦ one_blob (blobs_at files db (head.back + 1)) [] last (ap (blobs_at files db) (sym same) ∙ none)
+  | inr before ↦ begun n low (omega (arith, high, before)) none
+]
 
 -- the same segments, and whether it is failed is no matter of the disk
 pub log_again : {disk : Disk} {log : Kept} (segments : List Segment) (failed : Bool) → segments ≡ log.segments → IsLog disk log → IsLog disk (record log { segments = segments; failed = failed })
@@ -49,6 +56,7 @@ log_again {disk = disk} {log = log} segments failed same is = record {
   segments = subst (AreSegments (blobs_at disk.files log.db) log.db log.head.front log.head.first) (sym same) is.segments;
   count = omega (arith, is.count, ap length same);
   durable = is.durable;
+  begun = is.begun;
   run = is.run;
   inside = is.inside;
   small = is.small;
@@ -83,6 +91,7 @@ begun_log log a b is effect =
       segments = segments_same (blobs_at a.files log.db) (blobs_at b.files log.db) log.db log.head.front log.head.first log.segments is.segments (λ n low high. ap sealed (effect.others (segment_file log.db n) (other n (omega (arith, high, is.count)))));
       count = is.count;
       durable = λ n low high. durable_kept {names = IsName (segment_file log.db n)} (segment_file log.db n) refl (keeps_by_effect (λ m at same. other n high (sym at ∙ same)) effect) (is.durable n low high);
+      begun = begun_same a.files b.files log.db log.head (λ n low high. ap sealed (effect.others (segment_file log.db n) (other n high))) is.begun;
       run = subst (λ (bs : List (List ℕ)). IsRun log.head.first bs log.stored) (sym blobs) is.run;
       inside = is.inside;
       small = is.small;
@@ -96,58 +105,62 @@ begun_value log a b is effect =
 
 -- an image in which the control names it
 named_is : (log : Kept) (b : Disk) (image : Files) (bytes : List ℕ) → IsLog b log → IsSound (next log.head) log.note → read_control bytes ≡ Some (next log.head, log.note) → control_of (image (control_file log.db)) ≡ Some bytes
-    → ((n : ℕ) → log.head.front ≤ n → n ≤ log.head.back → blobs_at image log.db n ≡ blobs_at b.files log.db n) → blobs_at image log.db (log.head.back + 1) ≡ [] → LogIs image log.db (value_of b.files log)
-named_is log b image bytes is sound reads control same none =
-    let blobs : blobs_of image log.db (next log.head) ≡ blobs_of b.files log.db log.head = blobs_unchanged image log.db log.head is.sound.front none ∙ blobs_same b.files image log.db log.head is.sound.front same in
-    let run : IsRun log.head.first (blobs_of image log.db (next log.head)) log.stored = subst (λ (bs : List (List ℕ)). IsRun log.head.first bs log.stored) (sym blobs) is.run in
-    subst (λ (l : Logged). LogIs image log.db l) (ap (λ (bs : List (List ℕ)). record { kept = log.head.kept; records = drop (log.head.kept - log.head.first) (records_of bs); note = log.note }) blobs)
-    (log_is image log.db (next log.head) log.note bytes log.stored control reads sound run is.inside is.small)
+    → ((n : ℕ) → log.head.front ≤ n → n ≤ log.head.back → blobs_at image log.db n ≡ blobs_at b.files log.db n) → blobs_at image log.db (log.head.back + 1) ≡ [] ∷ [] → LogIs image log.db (value_of b.files log)
+named_is log b image bytes is sound reads control same one =
+    let blobs : blobs_of image log.db (next log.head) ≡ blobs_of b.files log.db log.head ++ [] ∷ [] =
+    blobs_begun image log.db log.head is.sound.front one ∙ ap (λ (bs : List (List ℕ)). bs ++ [] ∷ []) (blobs_same b.files image log.db log.head is.sound.front same) in
+    let run : IsRun log.head.first (blobs_of image log.db (next log.head)) log.stored = subst (λ (bs : List (List ℕ)). IsRun log.head.first bs log.stored) (sym blobs) (run_begun log.head.first log.stored (blobs_of b.files log.db log.head) is.run) in
+    let begun : AreBegun (blobs_at image log.db) (next log.head) = next_begun image log.db log.head (begun_same b.files image log.db log.head same is.begun) one in
+    subst (λ (l : Logged). LogIs image log.db l)
+    (ap (λ (rs : List Rec). record { kept = log.head.kept; records = drop (log.head.kept - log.head.first) rs; note = log.note }) (ap records_of blobs ∙ records_begun (blobs_of b.files log.db log.head)))
+    (log_is image log.db (next log.head) log.note bytes log.stored control reads sound begun run is.inside is.small)
 
-pub named_crash : (log : Kept) (bytes : List ℕ) (b c : Disk) → IsLog b log → IsSound (next log.head) log.note → read_control bytes ≡ Some (next log.head, log.note) → IsDurable b (segment_file log.db (log.head.back + 1)) → sealed (b.files (segment_file log.db (log.head.back + 1))) ≡ []
+pub named_crash : (log : Kept) (bytes : List ℕ) (b c : Disk) → IsLog b log → IsSound (next log.head) log.note → read_control bytes ≡ Some (next log.head, log.note) → IsDurable b (segment_file log.db (log.head.back + 1)) → sealed (b.files (segment_file log.db (log.head.back + 1))) ≡ [] ∷ []
     → Effect (IsName log.control.name) (λ image. (control_of (image log.control.name) ≡ Some log.control.content) ⊎ (control_of (image log.control.name) ≡ Some bytes)) b c
     → Effect (IsOwn log.db) (λ image. LogIs image log.db (value_of b.files log)) b c
-named_crash log bytes b c is sound reads durable none effect =
+named_crash log bytes b c is sound reads durable one effect =
     let At : List ℕ → Type 0 = λ n. Effect (IsName n) (λ image. (control_of (image n) ≡ Some log.control.content) ⊎ (control_of (image n) ≡ Some bytes)) b c in
     let segments : (image : Files) → ((name : List ℕ) → (IsName (control_file log.db) name → ⊥) → IsOwn log.db name → b.may name (image name)) → (n : ℕ) → log.head.front ≤ n → n ≤ log.head.back → blobs_at image log.db n ≡ blobs_at b.files log.db n =
     λ image left n low high. segment_left log b image n is low high (left (segment_file log.db n) (λ same. control_not_segment log.db n (sym same)) (inr (n, refl))) in
     effect_widen (λ name at. inl at) (λ image here left. elim here [
       | inl old ↦ still log b image log.head log.note log.control.content is refl refl refl is.inside is.sound old is.reads (segments image left)
       | inr new ↦ named_is log b image bytes is sound reads new (segments image left)
-          (ap sealed (durable (image (segment_file log.db (log.head.back + 1))) (left (segment_file log.db (log.head.back + 1)) (λ same. control_not_segment log.db (log.head.back + 1) (sym same)) (inr (log.head.back + 1, refl)))) ∙ none)
+          (ap sealed (durable (image (segment_file log.db (log.head.back + 1))) (left (segment_file log.db (log.head.back + 1)) (λ same. control_not_segment log.db (log.head.back + 1) (sym same)) (inr (log.head.back + 1, refl)))) ∙ one)
     ]) (subst At is.control_name effect)
 
 -- both steps
-pub grown_crash : {P : Files → Type 0} (log : Kept) (bytes : List ℕ) (a b c : Disk) → IsLog a log → IsSound (next log.head) log.note → read_control bytes ≡ Some (next log.head, log.note) → IsDurable b (segment_file log.db (log.head.back + 1)) → sealed (b.files (segment_file log.db (log.head.back + 1))) ≡ []
+pub grown_crash : {P : Files → Type 0} (log : Kept) (bytes : List ℕ) (a b c : Disk) → IsLog a log → IsSound (next log.head) log.note → read_control bytes ≡ Some (next log.head, log.note) → IsDurable b (segment_file log.db (log.head.back + 1)) → sealed (b.files (segment_file log.db (log.head.back + 1))) ≡ [] ∷ []
     → Effect (IsName (segment_file log.db (log.head.back + 1))) P a b
     → Effect (IsName log.control.name) (λ image. (control_of (image log.control.name) ≡ Some log.control.content) ⊎ (control_of (image log.control.name) ≡ Some bytes)) b c
     → Effect (IsOwn log.db) (λ image. LogIs image log.db (value_of a.files log)) a c
-grown_crash log bytes a b c is sound reads durable none first second =
+grown_crash log bytes a b c is sound reads durable one first second =
     effect_then (begun_crash log a b is first)
-    (effect_weaken (λ image here. subst (λ (l : Logged). LogIs image log.db l) (begun_value log a b is first) here) (named_crash log bytes b c (begun_log log a b is first) sound reads durable none second))
+    (effect_weaken (λ image here. subst (λ (l : Logged). LogIs image log.db l) (begun_value log a b is first) here) (named_crash log bytes b c (begun_log log a b is first) sound reads durable one second))
 
-grown_blobs : {P Q : Files → Type 0} (log : Kept) (a b c : Disk) → IsLog a log → sealed (b.files (segment_file log.db (log.head.back + 1))) ≡ [] → Effect (IsName (segment_file log.db (log.head.back + 1))) P a b → Effect (IsName log.control.name) Q b c
-    → blobs_of c.files log.db (next log.head) ≡ blobs_of a.files log.db log.head
-grown_blobs log a b c is none first second =
+grown_blobs : {P Q : Files → Type 0} (log : Kept) (a b c : Disk) → IsLog a log → sealed (b.files (segment_file log.db (log.head.back + 1))) ≡ [] ∷ [] → Effect (IsName (segment_file log.db (log.head.back + 1))) P a b → Effect (IsName log.control.name) Q b c
+    → blobs_of c.files log.db (next log.head) ≡ blobs_of a.files log.db log.head ++ [] ∷ []
+grown_blobs log a b c is one first second =
     let apart : (n : ℕ) → segment_file log.db n ≡ log.control.name → ⊥ = λ n same. control_not_segment log.db n (sym (same ∙ is.control_name)) in
-    blobs_unchanged c.files log.db log.head is.sound.front (ap sealed (second.others (segment_file log.db (log.head.back + 1)) (apart (log.head.back + 1))) ∙ none)
-    ∙ blobs_same a.files c.files log.db log.head is.sound.front (λ n low high. ap sealed (second.others (segment_file log.db n) (apart n) ∙ first.others (segment_file log.db n) (beside log n is high)))
+    blobs_begun c.files log.db log.head is.sound.front (ap sealed (second.others (segment_file log.db (log.head.back + 1)) (apart (log.head.back + 1))) ∙ one)
+    ∙ ap (λ (bs : List (List ℕ)). bs ++ [] ∷ []) (blobs_same a.files c.files log.db log.head is.sound.front (λ n low high. ap sealed (second.others (segment_file log.db n) (apart n) ∙ first.others (segment_file log.db n) (beside log n is high))))
 
-pub grown_value : {P Q : Files → Type 0} (log : Kept) (a b c : Disk) → IsLog a log → sealed (b.files (segment_file log.db (log.head.back + 1))) ≡ [] → Effect (IsName (segment_file log.db (log.head.back + 1))) P a b → Effect (IsName log.control.name) Q b c
+pub grown_value : {P Q : Files → Type 0} (log : Kept) (a b c : Disk) → IsLog a log → sealed (b.files (segment_file log.db (log.head.back + 1))) ≡ [] ∷ [] → Effect (IsName (segment_file log.db (log.head.back + 1))) P a b → Effect (IsName log.control.name) Q b c
     → shown c.files log.db (next log.head) log.note ≡ value_of a.files log
-grown_value log a b c is none first second =
-    ap (λ (bs : List (List ℕ)). record { kept = log.head.kept; records = drop (log.head.kept - log.head.first) (records_of bs); note = log.note }) (grown_blobs log a b c is none first second)
+grown_value log a b c is one first second =
+    ap (λ (rs : List Rec). record { kept = log.head.kept; records = drop (log.head.kept - log.head.first) rs; note = log.note }) (ap records_of (grown_blobs log a b c is one first second) ∙ records_begun (blobs_of a.files log.db log.head))
 
 -- and the log stands with it
-pub grown_log : {P Q : Files → Type 0} (log : Kept) (bytes : List ℕ) (a b c : Disk) (control : KeptControl) (gate : KeptGate) (segments : List Segment) (end : ℕ) (waiting : List Rec) (failed : Bool) → IsLog a log → IsAdded log.segments segments log.db (log.head.back + 1) log.stored → IsSound (next log.head) log.note → read_control bytes ≡ Some (next log.head, log.note)
+pub grown_log : {P Q : Files → Type 0} (log : Kept) (bytes : List ℕ) (a b c : Disk) (control : KeptControl) (gate : KeptGate) (segments : List Segment) (end : ℕ) (waiting : List Rec) (spare_bytes spare_flushes : ℕ) (failed : Bool) → IsLog a log → IsAdded log.segments segments log.db (log.head.back + 1) log.stored → IsSound (next log.head) log.note → read_control bytes ≡ Some (next log.head, log.note)
     → control.name ≡ log.control.name → control.content ≡ bytes → IsControl c control → gate.name ≡ segment_file log.db (log.head.back + 1) → IsGate b gate
-    → IsDurable b (segment_file log.db (log.head.back + 1)) → sealed (b.files (segment_file log.db (log.head.back + 1))) ≡ []
+    → IsDurable b (segment_file log.db (log.head.back + 1)) → sealed (b.files (segment_file log.db (log.head.back + 1))) ≡ [] ∷ []
     → Effect (IsName (segment_file log.db (log.head.back + 1))) P a b → Effect (IsName log.control.name) Q b c
-    → IsLog c (record { db = log.db; control = control; gate = gate; head = next log.head; segments = segments; note = log.note; stored = log.stored; end = end; waiting = waiting; failed = failed })
-grown_log log bytes a b c control gate segments end waiting failed is added sound reads control_name content controls gate_name gates durable none first second =
+    → IsLog c (record { db = log.db; control = control; gate = gate; head = next log.head; segments = segments; note = log.note; stored = log.stored; end = end; waiting = waiting; spare_bytes = spare_bytes; spare_flushes = spare_flushes; failed = failed })
+grown_log log bytes a b c control gate segments end waiting spare_bytes spare_flushes failed is added sound reads control_name content controls gate_name gates durable one first second =
     let mid = begun_log log a b is first in
     let apart : (n : ℕ) → segment_file log.db n ≡ log.control.name → ⊥ = λ n same. control_not_segment log.db n (sym (same ∙ is.control_name)) in
-    let all : blobs_of c.files log.db log.head ≡ blobs_of a.files log.db log.head =
-    blobs_same a.files c.files log.db log.head is.sound.front (λ n low high. ap sealed (second.others (segment_file log.db n) (apart n) ∙ first.others (segment_file log.db n) (beside log n is high))) in
+    let same : (n : ℕ) → log.head.front ≤ n → n ≤ log.head.back → blobs_at c.files log.db n ≡ blobs_at a.files log.db n =
+    λ n low high. ap sealed (second.others (segment_file log.db n) (apart n) ∙ first.others (segment_file log.db n) (beside log n is high)) in
+    let all : blobs_of c.files log.db log.head ≡ blobs_of a.files log.db log.head = blobs_same a.files c.files log.db log.head is.sound.front same in
     let count : length log.segments ≡ log.head.back - log.head.front + 1 = omega (arith, is.count, is.sound.front) in
     let last_begins : IsRun log.head.first (blobs_from (blobs_at c.files log.db) log.head.front (length log.segments)) log.stored =
     subst (λ (bs : List (List ℕ)). IsRun log.head.first bs log.stored) (sym (ap (blobs_from (blobs_at c.files log.db) log.head.front) count ∙ all_blobs c.files log.db log.head is.sound.front ∙ all)) is.run in
@@ -167,7 +180,8 @@ grown_log log bytes a b c control gate segments end waiting failed is added soun
         | inl last ↦ moved n (subst (λ (m : ℕ). IsDurable b (segment_file log.db m)) (sym last) durable)
         | inr before ↦ moved n (mid.durable n low (omega (arith, high, before)))
       ];
-      run = subst (λ (bs : List (List ℕ)). IsRun log.head.first bs log.stored) (sym (grown_blobs log a b c is none first second)) is.run;
+      begun = next_begun c.files log.db log.head (begun_same a.files c.files log.db log.head same is.begun) (ap sealed (second.others (segment_file log.db (log.head.back + 1)) (apart (log.head.back + 1))) ∙ one);
+      run = subst (λ (bs : List (List ℕ)). IsRun log.head.first bs log.stored) (sym (grown_blobs log a b c is one first second)) (run_begun log.head.first log.stored (blobs_of a.files log.db log.head) is.run);
       inside = is.inside;
       small = is.small;
     }

@@ -6,4 +6,5 @@ pub mod Makes
 pub mod Parts
 pub mod Removals
 pub mod Resets
+pub mod First
 pub mod Steps

@@ -1,13 +1,11 @@
--- What making the files of a log did to the device, and opening its last segment.
-use Rattle.std.proofs.Common.{◌≡◌, ◌⊎◌, ◌≤◌, ◌<◌, ◌^◌, ℕ, Bool, ◌+◌, ◌-◌, List, [], map, length, drop, Some, None, refl, inl, inr, sym, ap, subst, ◌∙◌, arith}
-use Rattle.std.proofs.lemmas.List.{drop_all}
+-- What making the files of a log did to the device, and opening a log.
+use Rattle.std.proofs.Common.{◌≡◌, ◌⊎◌, ◌≤◌, ◌<◌, ◌^◌, ℕ, Bool, ◌+◌, ◌-◌, List, [], ◌∷◌, ◌++◌, map, length, Some, None, refl, inl, inr, sym, ap, subst, ◌∙◌, arith}
 use Rattle.bk_control.specs.Control.{IsControl, control_value, control_durable, control_kept, Kept as KeptControl}
 use Rattle.bk_control.specs.Slots.{control_of}
 use Rattle.bk_device.specs.Calls.{contents, ChangesNothing}
-use Rattle.bk_device.specs.Compose.{effect_then, effect_weaken, effect_widen, effect_of_nothing, keeps_by_effect, keeps_by_nothing, durable_kept}
+use Rattle.bk_device.specs.Compose.{effect_then, effect_weaken, effect_widen, effect_none, effect_of_nothing, keeps_by_effect, keeps_by_nothing, durable_kept}
 use Rattle.bk_device.specs.Disk.{Files, Disk, IsDurable}
 use Rattle.bk_device.specs.Effects.{Effect, IsName}
-use Rattle.bk_device.specs.Names.{same_or_other}
 use Rattle.bk_gate.specs.Blobs.{sealed, part_of}
 use Rattle.bk_gate.specs.BlobLaws.{foreign_blobs}
 use Rattle.bk_gate.specs.Gate.{IsGate, Kept as KeptGate}
@@ -16,11 +14,11 @@ use Rattle.bk_ids.specs.declared.record.Rec.{Rec}
 use Rattle.bk_log.specs.declared.head.Head.{Head}
 use Rattle.bk_log.specs.declared.segments.Segment.{Segment}
 use Rattle.bk_log.specs.Control.{read_control, IsSound}
-use Rattle.bk_log.specs.Records.{records_of, IsRun}
-use Rattle.bk_log.specs.RunLaws.{run_none}
+use Rattle.bk_log.specs.Records.{IsRun}
+use Rattle.bk_log.specs.RunLaws.{run_none, run_begun, none_begun, one_blob}
 use Rattle.bk_log.specs.SegmentLaws.{segments_same, segments_none, segments_added}
-use Rattle.bk_log.specs.FileLaws.{control_not_segment, log_is, log_same, blobs_same, shown_same}
-use Rattle.bk_log.specs.Log.{control_file, segment_file, IsOwn, blobs_of, blobs_at, shown, fresh, AreSegments, IsAdded, Logged, LogIs, IsLog, AreDurable}
+use Rattle.bk_log.specs.FileLaws.{control_not_segment, one_head, foreign_control, log_is, log_same, blobs_same, begun_same, blobs_moved, shown_same}
+use Rattle.bk_log.specs.Log.{control_file, segment_file, IsOwn, blobs_of, blobs_at, shown, value_of, fresh, AreBegun, AreSegments, IsAdded, Logged, LogIs, IsForeign, Kept, IsLog, AreDurable}
 
 -- an absent file has no blob
 pub none_sealed : sealed None ≡ []
@@ -33,11 +31,40 @@ no_spans a gate is none = gate_sealed is ∙ ap (map (part_of (contents (a.files
 pub empty_at : (at : List ℕ) (a : Disk) (gate : KeptGate) → gate.name ≡ at → IsGate a gate → gate.spans ≡ [] → sealed (a.files at) ≡ []
 empty_at at a gate is stands none = let Empty : List ℕ → Type 0 = λ n. sealed (a.files n) ≡ [] in subst Empty is (no_spans a gate stands none)
 
+-- ---- a new segment
+
+-- nothing was done yet
+pub segment_untouched : (at : List ℕ) (a : Disk) → Effect (IsName at) (λ image. a.may at (image at) ⊎ (sealed (image at) ≡ []) ⊎ (sealed (image at) ≡ [] ∷ [])) a a
+segment_untouched at a = effect_none a (λ image mine. inl (mine at refl))
+
+-- it was made, and then a blob without a byte was sealed in it
+pub segment_made : (at name : List ℕ) (a b : Disk) → name ≡ at → Effect (IsName name) (λ image. a.may name (image name) ⊎ (sealed (image name) ≡ [])) a b
+    → Effect (IsName at) (λ image. a.may at (image at) ⊎ (sealed (image at) ≡ []) ⊎ (sealed (image at) ≡ [] ∷ [])) a b
+segment_made at name a b is making =
+    let At : List ℕ → Type 0 = λ n. Effect (IsName n) (λ image. a.may n (image n) ⊎ (sealed (image n) ≡ [])) a b in
+    effect_weaken (λ image here. elim here [ inl old ↦ inl old | inr none ↦ inr (inl none) ]) (subst At is making)
+
+pub segment_begun : (at name gate_name : List ℕ) (a b c : Disk) → name ≡ at → gate_name ≡ at → Effect (IsName name) (λ image. a.may name (image name) ⊎ (sealed (image name) ≡ [])) a b → sealed (b.files at) ≡ []
+    → Effect (IsName gate_name) (λ image. (sealed (image gate_name) ≡ sealed (b.files gate_name)) ⊎ (sealed (image gate_name) ≡ sealed (b.files gate_name) ++ [] ∷ [])) b c
+    → Effect (IsName at) (λ image. a.may at (image at) ⊎ (sealed (image at) ≡ []) ⊎ (sealed (image at) ≡ [] ∷ [])) a c
+segment_begun at name gate_name a b c is gate_is making none sealing =
+    let At : List ℕ → Type 0 = λ n. Effect (IsName n) (λ image. (sealed (image n) ≡ sealed (b.files n)) ⊎ (sealed (image n) ≡ sealed (b.files n) ++ [] ∷ [])) b c in
+    effect_then (segment_made at name a b is making) (effect_weaken (λ image here. elim here [
+      | inl old ↦ inr (inl (old ∙ none))
+      | inr new ↦ inr (inr (new ∙ ap (λ (bs : List (List ℕ)). bs ++ [] ∷ []) none))
+    ]) (subst At gate_is sealing))
+
+-- and that is its only one
+pub begun_sealed : (at gate_name : List ℕ) (b c : Disk) → gate_name ≡ at → sealed (b.files at) ≡ [] → sealed (c.files gate_name) ≡ sealed (b.files gate_name) ++ [] ∷ [] → sealed (c.files at) ≡ [] ∷ []
+begun_sealed at gate_name b c is none more =
+    let More : List ℕ → Type 0 = λ n. sealed (c.files n) ≡ sealed (b.files n) ++ [] ∷ [] in
+    subst More is more ∙ ap (λ (bs : List (List ℕ)). bs ++ [] ∷ []) none
+
 -- ---- making the files
 
--- no log, or one of these bytes without a blob
+-- no log, or a control record of these bytes and a segment that is begun or not
 abbrev pub Made : ℕ → List ℕ → Files → Type 0
-Made db bytes image = (control_of (image (control_file db)) ≡ None) ⊎ (control_of (image (control_file db)) ≡ Some bytes) × (sealed (image (segment_file db 1)) ≡ [])
+Made db bytes image = (control_of (image (control_file db)) ≡ None) ⊎ (control_of (image (control_file db)) ≡ Some bytes) × ((sealed (image (segment_file db 1)) ≡ []) ⊎ (sealed (image (segment_file db 1)) ≡ [] ∷ []))
 
 -- the first segment was removed
 pub make_first : {P : Files → Type 0} (db : ℕ) (bytes name : List ℕ) (a b : Disk) → name ≡ segment_file db 1 → IsDurable a (control_file db) → control_of (a.files (control_file db)) ≡ None → Effect (IsName name) P a b → Effect (IsOwn db) (Made db bytes) a b
@@ -68,17 +95,16 @@ make_second db bytes name first a b c named is durable none removing removed gon
       | inl old ↦ inl (ap control_of (settled (image (control_file db)) old ∙ before) ∙ none)
       | inr other ↦ elim other [
         | inl nothing ↦ inl nothing
-        | inr made ↦ inr (made, ap sealed (there (image (segment_file db 1)) (left (segment_file db 1) (λ same. control_not_segment db 1 (sym same)) (inr (1, refl))) ∙ absent) ∙ none_sealed)
+        | inr made ↦ inr (made, inl (ap sealed (there (image (segment_file db 1)) (left (segment_file db 1) (λ same. control_not_segment db 1 (sym same)) (inr (1, refl))) ∙ absent) ∙ none_sealed))
       ]
     ]) (subst At is making))
 
 -- then the first segment
-pub make_third : {Q : Files → Type 0} (db : ℕ) (bytes first name last_name : List ℕ) (a b c d : Disk) (control : KeptControl) → first ≡ segment_file db 1 → name ≡ control_file db → last_name ≡ segment_file db 1 → control.name ≡ control_file db → control.content ≡ bytes → IsControl c control → b.files first ≡ None → IsDurable b first
+pub make_third : {Q : Files → Type 0} (db : ℕ) (bytes first name : List ℕ) (a b c d : Disk) (control : KeptControl) → first ≡ segment_file db 1 → name ≡ control_file db → control.name ≡ control_file db → control.content ≡ bytes → IsControl c control → b.files first ≡ None → IsDurable b first
     → Effect (IsOwn db) (Made db bytes) a c → Effect (IsName name) Q b c
-    → Effect (IsName last_name) (λ image. c.may last_name (image last_name) ⊎ (sealed (image last_name) ≡ [])) c d
+    → Effect (IsName (segment_file db 1)) (λ image. c.may (segment_file db 1) (image (segment_file db 1)) ⊎ (sealed (image (segment_file db 1)) ≡ []) ⊎ (sealed (image (segment_file db 1)) ≡ [] ∷ [])) c d
     → Effect (IsOwn db) (Made db bytes) a d
-make_third db bytes first name last_name a b c d control named called again is content controls removed gone so_far making last =
-    let At : List ℕ → Type 0 = λ n. Effect (IsName n) (λ image. c.may n (image n) ⊎ (sealed (image n) ≡ [])) c d in
+make_third db bytes first name a b c d control named called is content controls removed gone so_far making last =
     let off : (n : List ℕ) → IsName first n → IsName name n → ⊥ = λ n at same. control_not_segment db 1 (sym called ∙ (sym same ∙ (at ∙ named))) in
     let keeps = keeps_by_effect {names = IsName first} off making in
     let Durable : List ℕ → Type 0 = λ n. IsDurable c n in
@@ -91,13 +117,9 @@ make_third db bytes first name last_name a b c d control named called again is c
     (effect_widen (λ n at. inr (1, at)) (λ image here left.
     let same : control_of (image (control_file db)) ≡ Some bytes = ap control_of (settled (image (control_file db)) (left (control_file db) (control_not_segment db 1) (inl refl))) ∙ held in
     elim here [
-      | inl old ↦ inr (same, ap sealed (there (image (segment_file db 1)) old ∙ absent) ∙ none_sealed)
-      | inr none ↦ inr (same, none)
-    ]) (subst At again last))
-
--- no blob is in it
-pub made_none : (db : ℕ) (a : Disk) (gate : KeptGate) → gate.name ≡ segment_file db 1 → IsGate a gate → gate.spans ≡ [] → sealed (a.files (segment_file db 1)) ≡ []
-made_none db a gate is stands none = let Empty : List ℕ → Type 0 = λ n. sealed (a.files n) ≡ [] in subst Empty is (no_spans a gate stands none)
+      | inl old ↦ inr (same, inl (ap sealed (there (image (segment_file db 1)) old ∙ absent) ∙ none_sealed))
+      | inr new ↦ inr (same, new)
+    ]) last)
 
 -- ---- a log that was made
 
@@ -110,29 +132,55 @@ made_sound at note empty =
     let Sound : List ℕ → Type 0 = λ n. IsSound (first_head at) n in
     subst Sound (sym empty) (record { gone = omega arith; front = omega arith; back = omega arith; few = omega arith; kept = omega arith; short = omega arith })
 
-pub made_is : (image : Files) (db at : ℕ) (bytes : List ℕ) → at < 2 ^ 64 → read_control bytes ≡ Some (first_head at, []) → control_of (image (control_file db)) ≡ Some bytes → sealed (image (segment_file db 1)) ≡ [] → LogIs image db (fresh at)
-made_is image db at bytes small reads control none =
+-- which shows no record
+pub made_value : (files : Files) (db at : ℕ) (note : List ℕ) → note ≡ [] → sealed (files (segment_file db 1)) ≡ [] ∷ [] → shown files db (first_head at) note ≡ fresh at
+made_value files db at note empty one =
+    ap (λ (n : List ℕ). shown files db (first_head at) n) empty
+    ∙ ap (λ (rs : List Rec). record { kept = at; records = rs; note = [] }) (none_begun (at - at) (sealed (files (segment_file db 1))) one)
+
+made_run : (files : Files) (db at : ℕ) → sealed (files (segment_file db 1)) ≡ [] ∷ [] → IsRun at (blobs_of files db (first_head at)) at
+made_run files db at one = subst (λ (bs : List (List ℕ)). IsRun at bs at) (sym one) (run_begun at at [] (run_none at))
+
+made_begun : (files : Files) (db at : ℕ) → sealed (files (segment_file db 1)) ≡ [] ∷ [] → AreBegun (blobs_at files db) (first_head at)
+made_begun files db at one n low high none =
+    let same : n ≡ 1 = omega (arith, low, high) in
+    one_blob (blobs_at files db 1) [] one (ap (blobs_at files db) (sym same) ∙ none)
+
+made_is : (image : Files) (db at : ℕ) (bytes : List ℕ) → at < 2 ^ 64 → read_control bytes ≡ Some (first_head at, []) → control_of (image (control_file db)) ≡ Some bytes → sealed (image (segment_file db 1)) ≡ [] ∷ [] → LogIs image db (fresh at)
+made_is image db at bytes small reads control one =
     let sound : IsSound (first_head at) [] = record { gone = omega arith; front = omega arith; back = omega arith; few = omega arith; kept = omega arith; short = omega arith } in
-    let run : IsRun at (blobs_of image db (first_head at)) at = subst (λ (bs : List (List ℕ)). IsRun at bs at) (sym none) (run_none at) in
-    let is = log_is image db (first_head at) [] bytes at control reads sound run (omega arith) small in
-    subst (λ (l : Logged). LogIs image db l) (made_shown image db at none) is
-  where
-    made_shown : (image : Files) (db at : ℕ) → sealed (image (segment_file db 1)) ≡ [] → shown image db (first_head at) [] ≡ fresh at
-    made_shown image db at none =
-        ap (λ (bs : List (List ℕ)). record { kept = at; records = drop (at - at) (records_of bs); note = [] }) none
-        ∙ ap (λ (rs : List Rec). record { kept = at; records = rs; note = [] }) (drop_all (at - at) [] (omega arith))
+    subst (λ (l : Logged). LogIs image db l) (made_value image db at [] refl one)
+    (log_is image db (first_head at) [] bytes at control reads sound (made_begun image db at one) (made_run image db at one) (omega arith) small)
+
+-- without a blob in the segment there is no log
+made_foreign : (image : Files) (db at : ℕ) (bytes : List ℕ) → read_control bytes ≡ Some (first_head at, []) → control_of (image (control_file db)) ≡ Some bytes → sealed (image (segment_file db 1)) ≡ [] → IsForeign image db
+made_foreign image db at bytes reads control none log is =
+    let same = (one_head image db bytes (first_head at) [] log control reads is).0 in
+    let Begun : Head → Type 0 = AreBegun (blobs_at image db) in
+    let begun : AreBegun (blobs_at image db) (first_head at) = subst Begun same is.begun in
+    begun 1 (omega arith) (omega arith) none
+
+-- nothing was done yet
+pub made_untouched : (db at : ℕ) (a : Disk) → IsDurable a (control_file db) → control_of (a.files (control_file db)) ≡ None → Effect (IsOwn db) (λ image. IsForeign image db ⊎ LogIs image db (fresh at)) a a
+made_untouched db at a durable none = effect_none a (λ image mine. inl (foreign_control image db (ap control_of (durable (image (control_file db)) (mine (control_file db) (inl refl))) ∙ none)))
 
 -- each crash leaves no log, or this one
 pub made_crash : (db at : ℕ) (bytes : List ℕ) (a b : Disk) → at < 2 ^ 64 → read_control bytes ≡ Some (first_head at, []) → Effect (IsOwn db) (Made db bytes) a b
-    → Effect (IsOwn db) (λ image. (control_of (image (control_file db)) ≡ None) ⊎ LogIs image db (fresh at)) a b
+    → Effect (IsOwn db) (λ image. IsForeign image db ⊎ LogIs image db (fresh at)) a b
 made_crash db at bytes a b small reads effect =
-    effect_weaken (λ image here. elim here [ inl none ↦ inl none | inr made ↦ inr (made_is image db at bytes small reads made.0 made.1) ]) effect
+    effect_weaken (λ image here. elim here [
+      | inl none ↦ inl (foreign_control image db none)
+      | inr made ↦ elim made.1 [
+        | inl none ↦ inl (made_foreign image db at bytes reads made.0 none)
+        | inr one ↦ inr (made_is image db at bytes small reads made.0 one)
+      ]
+    ]) effect
 
 -- and it stands
-pub made_log : (db at : ℕ) (bytes note : List ℕ) (a : Disk) (control : KeptControl) (gate : KeptGate) (segments : List Segment) (end : ℕ) (waiting : List Rec) (failed : Bool) → at < 2 ^ 64 → IsAdded [] segments db 1 at → note ≡ [] → read_control bytes ≡ Some (first_head at, []) → control.name ≡ control_file db → control.content ≡ bytes → gate.name ≡ segment_file db 1
-    → IsControl a control → IsGate a gate → IsDurable a (segment_file db 1) → sealed (a.files (segment_file db 1)) ≡ []
-    → IsLog a (record { db = db; control = control; gate = gate; head = first_head at; segments = segments; note = note; stored = at; end = end; waiting = waiting; failed = failed })
-made_log db at bytes note a control gate segments end waiting failed small added empty reads control_name content gate_name controls gates durable none =
+pub made_log : (db at : ℕ) (bytes note : List ℕ) (a : Disk) (control : KeptControl) (gate : KeptGate) (segments : List Segment) (end : ℕ) (waiting : List Rec) (spare_bytes spare_flushes : ℕ) (failed : Bool) → at < 2 ^ 64 → IsAdded [] segments db 1 at → note ≡ [] → read_control bytes ≡ Some (first_head at, []) → control.name ≡ control_file db → control.content ≡ bytes → gate.name ≡ segment_file db 1
+    → IsControl a control → IsGate a gate → IsDurable a (segment_file db 1) → sealed (a.files (segment_file db 1)) ≡ [] ∷ []
+    → IsLog a (record { db = db; control = control; gate = gate; head = first_head at; segments = segments; note = note; stored = at; end = end; waiting = waiting; spare_bytes = spare_bytes; spare_flushes = spare_flushes; failed = failed })
+made_log db at bytes note a control gate segments end waiting spare_bytes spare_flushes failed small added empty reads control_name content gate_name controls gates durable one =
     let Sound : List ℕ → Type 0 = λ n. IsSound (first_head at) n in
     record {
       control_name = control_name;
@@ -143,37 +191,12 @@ made_log db at bytes note a control gate segments end waiting failed small added
       sound = subst Sound (sym empty) (record { gone = omega arith; front = omega arith; back = omega arith; few = omega arith; kept = omega arith; short = omega arith });
       segments = segments_added (blobs_at a.files db) db 1 at 1 at [] segments (segments_none (blobs_at a.files db) db 1 at) refl (run_none at) added;
       count = omega (arith, ap length added.1);
-      durable = λ n low high. let one : n ≡ 1 = omega (arith, low, high) in subst (λ (m : ℕ). IsDurable a (segment_file db m)) (sym one) durable;
-      run = subst (λ (bs : List (List ℕ)). IsRun at bs at) (sym none) (run_none at);
+      durable = λ n low high. let same : n ≡ 1 = omega (arith, low, high) in subst (λ (m : ℕ). IsDurable a (segment_file db m)) (sym same) durable;
+      begun = made_begun a.files db at one;
+      run = made_run a.files db at one;
       inside = omega arith;
       small = small;
     }
-
--- which shows no record
-pub made_value : (files : Files) (db at : ℕ) (note : List ℕ) → note ≡ [] → sealed (files (segment_file db 1)) ≡ [] → shown files db (first_head at) note ≡ fresh at
-made_value files db at note empty none =
-    ap (λ (n : List ℕ). shown files db (first_head at) n) empty
-    ∙ ap (λ (bs : List (List ℕ)). record { kept = at; records = drop (at - at) (records_of bs); note = [] }) none
-    ∙ ap (λ (rs : List Rec). record { kept = at; records = rs; note = [] }) (drop_all (at - at) [] (omega arith))
-
--- ---- opening the last segment
-
--- it was made anew where there was none
-pub open_sealed : (at name : List ℕ) (a c : Disk) (gate : KeptGate) → name ≡ at → gate.name ≡ name → IsGate c gate → gate.spans ≡ [] → sealed (a.files at) ≡ [] → sealed (c.files at) ≡ sealed (a.files at)
-open_sealed at name a c gate is same stands none was =
-    let Empty : List ℕ → Type 0 = λ n. sealed (c.files n) ≡ [] in
-    subst Empty (same ∙ is) (no_spans c gate stands none) ∙ sym was
-
-pub open_crash : (at name : List ℕ) (a b c : Disk) → name ≡ at → IsDurable a at → ChangesNothing a b → sealed (a.files at) ≡ []
-    → Effect (IsName name) (λ image. b.may name (image name) ⊎ (sealed (image name) ≡ [])) b c
-    → Effect (IsName at) (λ image. sealed (image at) ≡ sealed (a.files at)) a c
-open_crash at name a b c is durable call was making =
-    let At : List ℕ → Type 0 = λ n. Effect (IsName n) (λ image. b.may n (image n) ⊎ (sealed (image n) ≡ [])) b c in
-    effect_then (effect_of_nothing (λ image mine. ap sealed (durable (image at) (mine at refl))) call)
-    (effect_weaken (λ image here. elim here [
-      | inl old ↦ ap sealed (durable (image at) (call.nothing_more at (image at) old))
-      | inr none ↦ none ∙ sym was
-    ]) (subst At is making))
 
 -- ---- opening a log
 
@@ -191,53 +214,36 @@ load_nothing db a b durable call =
 pub settled : (db n : ℕ) {a b : Disk} → AreDurable db a → ChangesNothing a b → IsDurable b (segment_file db n)
 settled db n durable call = durable_kept {names = IsName (segment_file db n)} (segment_file db n) refl (keeps_by_nothing call) (durable (segment_file db n) (inr (n, refl)))
 
--- the last segment was opened
-pub load_last : (db n : ℕ) (a b c : Disk) → AreDurable db a → ChangesNothing a b → Effect (IsName (segment_file db n)) (λ image. sealed (image (segment_file db n)) ≡ sealed (b.files (segment_file db n))) b c → Effect (IsOwn db) (Same db a) a c
-load_last db n a b c durable call effect =
-    effect_then (load_nothing db a b durable call)
-    (effect_widen (λ m at. inr (n, at)) (λ image here left log is.
-    log_same db log
-    (ap control_of (durable (control_file db) (inl refl) (image (control_file db)) (call.nothing_more (control_file db) (image (control_file db)) (left (control_file db) (control_not_segment db n) (inl refl)))))
-    (λ m. elim (same_or_other (segment_file db n) (segment_file db m)) [
-      | inl same ↦ ap (λ (name : List ℕ). sealed (image name)) same ∙ here ∙ ap sealed (call.files (segment_file db n)) ∙ ap (λ (name : List ℕ). sealed (a.files name)) (sym same)
-      | inr other ↦ ap sealed (durable (segment_file db m) (inr (m, refl)) (image (segment_file db m)) (call.nothing_more (segment_file db m) (image (segment_file db m)) (left (segment_file db m) other (inr (m, refl)))))
-    ]) is) effect)
+-- the log is what it was
+pub opened_value : (log : Kept) (a b : Disk) → IsLog b log → ChangesNothing a b → value_of b.files log ≡ value_of a.files log
+opened_value log a b is call = shown_same a.files b.files log.db log.head log.note (blobs_same a.files b.files log.db log.head is.sound.front (λ n low high. blobs_moved log.db n call))
 
--- all blobs are as they were
-pub load_blobs : {P : Files → Type 0} (db n m : ℕ) (a b c : Disk) → ChangesNothing a b → sealed (c.files (segment_file db n)) ≡ sealed (b.files (segment_file db n)) → Effect (IsName (segment_file db n)) P b c → blobs_at c.files db m ≡ blobs_at a.files db m
-load_blobs db n m a b c call same_last effect = elim (same_or_other (segment_file db n) (segment_file db m)) [
-  | inl same ↦ ap (λ (name : List ℕ). sealed (c.files name)) same ∙ same_last ∙ ap sealed (call.files (segment_file db n)) ∙ ap (λ (name : List ℕ). sealed (a.files name)) (sym same)
-  | inr other ↦ ap sealed (effect.others (segment_file db m) other ∙ call.files (segment_file db m))
-]
-
-pub load_value : {P : Files → Type 0} (db : ℕ) (head : Head) (note : List ℕ) (a b c : Disk) → head.front ≤ head.back → ChangesNothing a b → sealed (c.files (segment_file db head.back)) ≡ sealed (b.files (segment_file db head.back)) → Effect (IsName (segment_file db head.back)) P b c
-    → shown c.files db head note ≡ shown a.files db head note
-load_value db head note a b c order call same effect = shown_same a.files c.files db head note (blobs_same a.files c.files db head order (λ m low high. load_blobs db head.back m a b c call same effect))
-
--- and the log stands
-pub load_log : {P : Files → Type 0} (db : ℕ) (head : Head) (note : List ℕ) (stored : ℕ) (a b c : Disk) (control : KeptControl) (gate : KeptGate) (segments : List Segment) (end : ℕ) (waiting : List Rec) (failed : Bool) → AreSegments (blobs_at a.files db) db head.front head.first segments → head.front + length segments ≡ head.back + 1 → AreDurable db a → ChangesNothing a b → control.name ≡ control_file db → gate.name ≡ segment_file db head.back
-    → (IsDurable a (control_file db) → IsControl b control) → (IsDurable b (segment_file db head.back) → IsGate c gate) → (IsDurable b (segment_file db head.back) → IsDurable c (segment_file db head.back))
-    → read_control control.content ≡ Some (head, note) → IsSound head note → IsRun head.first (blobs_of a.files db head) stored → head.kept ≤ stored → stored < 2 ^ 64
-    → sealed (c.files (segment_file db head.back)) ≡ sealed (b.files (segment_file db head.back)) → Effect (IsName (segment_file db head.back)) P b c
-    → IsLog c (record { db = db; control = control; gate = gate; head = head; segments = segments; note = note; stored = stored; end = end; waiting = waiting; failed = failed })
-load_log db head note stored a b c control gate segments end waiting failed are count durable call control_name gate_name controls gates last reads sound run inside small same effect =
-    let still : (m : ℕ) → IsDurable b (segment_file db m) = λ m. settled db m durable call in
-    let blobs : blobs_of c.files db head ≡ blobs_of a.files db head = blobs_same a.files c.files db head sound.front (λ m low high. load_blobs db head.back m a b c call same effect) in
-    let Durable : List ℕ → Type 0 = λ n. IsDurable c n in
+-- and it stands
+pub load_log : (db : ℕ) (head : Head) (note : List ℕ) (stored : ℕ) (a b : Disk) (control : KeptControl) (gate : KeptGate) (segments : List Segment) (end : ℕ) (waiting : List Rec) (spare_bytes spare_flushes : ℕ) (failed : Bool) → AreSegments (blobs_at a.files db) db head.front head.first segments → head.front + length segments ≡ head.back + 1 → AreDurable db a → ChangesNothing a b → control.name ≡ control_file db → gate.name ≡ segment_file db head.back
+    → IsControl b control → IsGate b gate → read_control control.content ≡ Some (head, note) → IsSound head note → AreBegun (blobs_at a.files db) head → IsRun head.first (blobs_of a.files db head) stored → head.kept ≤ stored → stored < 2 ^ 64
+    → IsLog b (record { db = db; control = control; gate = gate; head = head; segments = segments; note = note; stored = stored; end = end; waiting = waiting; spare_bytes = spare_bytes; spare_flushes = spare_flushes; failed = failed })
+load_log db head note stored a b control gate segments end waiting spare_bytes spare_flushes failed are count durable call control_name gate_name controls gates reads sound begun run inside small =
+    let same : (n : ℕ) → blobs_at b.files db n ≡ blobs_at a.files db n = λ n. blobs_moved db n call in
     record {
       control_name = control_name;
       gate_name = gate_name;
-      controls = control_kept (keeps_by_effect (λ n at other. control_not_segment db head.back (sym control_name ∙ (sym at ∙ other))) effect) (controls (durable (control_file db) (inl refl)));
-      gates = gates (still head.back);
+      controls = controls;
+      gates = gates;
       reads = reads;
       sound = sound;
-      segments = segments_same (blobs_at a.files db) (blobs_at c.files db) db head.front head.first segments are (λ m low high. load_blobs db head.back m a b c call same effect);
+      segments = segments_same (blobs_at a.files db) (blobs_at b.files db) db head.front head.first segments are (λ n low high. same n);
       count = count;
-      durable = λ m low high. elim (same_or_other (segment_file db head.back) (segment_file db m)) [
-        | inl one ↦ subst Durable (sym one) (last (still head.back))
-        | inr other ↦ durable_kept {names = IsName (segment_file db m)} (segment_file db m) refl (keeps_by_effect (λ n at one. other (sym at ∙ one)) effect) (still m)
-      ];
-      run = subst (λ (bs : List (List ℕ)). IsRun head.first bs stored) (sym blobs) run;
+      durable = λ n low high. settled db n durable call;
+      begun = begun_same a.files b.files db head (λ n low high. same n) begun;
+      run = subst (λ (bs : List (List ℕ)). IsRun head.first bs stored) (sym (blobs_same a.files b.files db head sound.front (λ n low high. same n))) run;
       inside = inside;
       small = small;
     }
+
+-- the control and the gate stand behind what changes nothing
+pub control_settled : {b c : Disk} {control : KeptControl} (a : Disk) (db : ℕ) → AreDurable db a → (IsDurable a (control_file db) → IsControl b control) → ChangesNothing b c → IsControl c control
+control_settled a db durable stands call = control_kept (keeps_by_nothing call) (stands (durable (control_file db) (inl refl)))
+
+-- a segment that was found begun has a blob still
+pub last_foreign : {a b : Disk} (db : ℕ) (head : Head) → head.front ≤ head.back → AreBegun (blobs_at a.files db) head → ChangesNothing a b → blobs_at b.files db head.back ≡ [] → ⊥
+last_foreign db head order begun call none = begun head.back order (omega arith) (sym (blobs_moved db head.back call) ∙ none)

@@ -8,20 +8,17 @@ use Rattle.bk_bytes.specs.FieldLaws.{length-bytes_of, number_of-bytes_of}
 use Rattle.bk_ids.specs.declared.record.Rec.{Rec}
 use Rattle.bk_record.specs.Spelling.{spelling, inside, IsRecord}
 use Rattle.bk_log.specs.Log.{blobs_from}
-use Rattle.bk_log.specs.Records.{records_in, records_of, joined, IsBatch, BlobThere}
-use Rattle.bk_log.specs.RunLaws.{take_next}
+use Rattle.bk_log.specs.Records.{records_in, records_of, joined, IsBatch}
 
 -- ---- bytes that were gathered
 
 pub joined_append : (a b : List (List ℕ)) → joined (a ++ b) ≡ joined a ++ joined b
 joined_append a b = flat_map-append (λ (blob : List ℕ). blob) a b
 
-pub joined_next : (blobs : List (List ℕ)) (i : ℕ) (start old new : List ℕ) → old ≡ start ++ joined (take i blobs) → BlobThere blobs i old new → new ≡ start ++ joined (take (i + 1) blobs)
-joined_next blobs i start old new so_far there =
-    let one : joined (there.0 ∷ []) ≡ there.0 = append-nil there.0 in
-    let more : joined (take (i + 1) blobs) ≡ joined (take i blobs) ++ there.0 =
-    ap (λ (n : ℕ). joined (take n blobs)) (add-one i) ∙ ap joined (take_next blobs i there.0 there.1).0 ∙ joined_append (take i blobs) (there.0 ∷ []) ∙ ap (λ (x : List ℕ). joined (take i blobs) ++ x) one in
-    there.2 ∙ ap (λ (x : List ℕ). x ++ there.0) so_far ∙ append_assoc start (joined (take i blobs)) there.0 ∙ ap (λ (x : List ℕ). start ++ x) (sym more)
+pub joined_more : (blobs : List (List ℕ)) (start old blob new : List ℕ) → old ≡ start ++ joined blobs → new ≡ old ++ blob → new ≡ start ++ joined (blobs ++ blob ∷ [])
+joined_more blobs start old blob new so_far added =
+    let more : joined (blobs ++ blob ∷ []) ≡ joined blobs ++ blob = joined_append blobs (blob ∷ []) ∙ ap (λ (x : List ℕ). joined blobs ++ x) (append-nil blob) in
+    added ∙ ap (λ (x : List ℕ). x ++ blob) so_far ∙ append_assoc start (joined blobs) blob ∙ ap (λ (x : List ℕ). start ++ x) (sym more)
 
 pub joined_segment : (blobs : ℕ → List (List ℕ)) (front i : ℕ) (old new : List ℕ) → old ≡ joined (blobs_from blobs front i) → new ≡ old ++ joined (blobs (front + i)) → new ≡ joined (blobs_from blobs front (i + 1))
 joined_segment blobs front i old new so_far added =

@@ -1,5 +1,6 @@
 -- What opening a log, adding to it and putting its control record did to the device.
 use Rattle.std.proofs.Common.{◌≡◌, ◌⊎◌, ◌≤◌, ◌<◌, ◌^◌, ℕ, Bool, List, [], ◌∷◌, ◌++◌, length, Some, refl, inl, inr, sym, ap, subst, ◌∙◌, arith}
+use Rattle.std.proofs.lemmas.List.{append-nil}
 use Rattle.bk_control.specs.Control.{IsControl, control_kept, Kept as KeptControl}
 use Rattle.bk_control.specs.Slots.{control_of}
 use Rattle.bk_device.specs.Compose.{effect_widen, effect_none, keeps_by_effect, durable_kept}
@@ -14,9 +15,9 @@ use Rattle.bk_ids.specs.declared.record.Rec.{Rec}
 use Rattle.bk_log.specs.declared.head.Head.{Head}
 use Rattle.bk_log.specs.Control.{read_control, IsSound}
 use Rattle.bk_log.specs.Records.{records_in, IsRun, IsPart}
-use Rattle.bk_log.specs.Log.{control_file, segment_file, IsOwn, blobs_at, blobs_of, shown, value_of, with_more, AreSegments, Logged, LogIs, Kept, IsLog}
+use Rattle.bk_log.specs.Log.{control_file, segment_file, IsOwn, blobs_at, blobs_of, shown, value_of, with_more, AreBegun, AreSegments, Logged, LogIs, Kept, IsLog}
 use Rattle.bk_log.specs.FileLaws.{control_not_segment, one_segment, blobs_same, blobs_more, log_is, shown_more}
-use Rattle.bk_log.specs.RunLaws.{run_more}
+use Rattle.bk_log.specs.RunLaws.{run_more, last_blob}
 use Rattle.bk_log.specs.SegmentLaws.{segments_same}
 use Rattle.bk_log.specs.Laws.{control_there, control_is, still, segment_left, log_left}
 
@@ -41,10 +42,10 @@ put_blobs log head a b is order effect =
     blobs_same a.files b.files log.db head order (λ n low high. ap sealed (effect.others (segment_file log.db n) (λ same. control_not_segment log.db n (sym (same ∙ is.control_name)))))
 
 -- and the log stands with the record
-pub put_log : {P : Files → Type 0} (log : Kept) (head : Head) (note bytes : List ℕ) (a b : Disk) (control : KeptControl) (end : ℕ) (waiting : List Rec) (failed : Bool) → IsLog a log → head.front ≡ log.head.front → head.back ≡ log.head.back → head.first ≡ log.head.first → head.kept ≤ log.stored → IsSound head note
+pub put_log : {P : Files → Type 0} (log : Kept) (head : Head) (note bytes : List ℕ) (a b : Disk) (control : KeptControl) (end : ℕ) (waiting : List Rec) (spare_bytes spare_flushes : ℕ) (failed : Bool) → IsLog a log → head.front ≡ log.head.front → head.back ≡ log.head.back → head.first ≡ log.head.first → head.kept ≤ log.stored → IsSound head note
     → control.name ≡ log.control.name → control.content ≡ bytes → read_control bytes ≡ Some (head, note) → IsControl b control → Effect (IsName log.control.name) P a b
-    → IsLog b (record { db = log.db; control = control; gate = log.gate; head = head; segments = log.segments; note = note; stored = log.stored; end = end; waiting = waiting; failed = failed })
-put_log log head note bytes a b control end waiting failed is front back first inside sound name content reads controls effect =
+    → IsLog b (record { db = log.db; control = control; gate = log.gate; head = head; segments = log.segments; note = note; stored = log.stored; end = end; waiting = waiting; spare_bytes = spare_bytes; spare_flushes = spare_flushes; failed = failed })
+put_log log head note bytes a b control end waiting spare_bytes spare_flushes failed is front back first inside sound name content reads controls effect =
     let apart : (n : ℕ) → segment_file log.db n ≡ log.control.name → ⊥ = λ n same. control_not_segment log.db n (sym (same ∙ is.control_name)) in
     let Run : ℕ → ℕ → ℕ → Type 0 = λ f r k. IsRun k (blobs_of b.files log.db (record { kept = head.kept; gone = head.gone; front = f; back = r; first = k })) log.stored in
     let there : Run log.head.front log.head.back log.head.first = subst (λ (bs : List (List ℕ)). IsRun log.head.first bs log.stored) (sym (put_blobs log log.head a b is is.sound.front effect)) is.run in
@@ -58,6 +59,7 @@ put_log log head note bytes a b control end waiting failed is front back first i
       segments = segments_as log head is front first (segments_same (blobs_at a.files log.db) (blobs_at b.files log.db) log.db log.head.front log.head.first log.segments is.segments (λ n low high. ap sealed (effect.others (segment_file log.db n) (apart n))));
       count = omega (arith, is.count, front, back);
       durable = λ n low high. durable_kept {names = IsName (segment_file log.db n)} (segment_file log.db n) refl (keeps_by_effect (λ m at same. apart n (sym at ∙ same)) effect) (is.durable n (omega (arith, low, front)) (omega (arith, high, back)));
+      begun = λ n low high none. is.begun n (omega (arith, low, front)) (omega (arith, high, back)) (sym (ap sealed (effect.others (segment_file log.db n) (apart n))) ∙ none);
       run = subst (λ (k : ℕ). Run head.front head.back k) (sym first) (subst (λ (r : ℕ). Run head.front r log.head.first) (sym back) (subst (λ (f : ℕ). Run f log.head.back log.head.first) (sym front) there));
       inside = inside;
       small = is.small;
@@ -77,6 +79,16 @@ cut_sound is from = record { gone = is.gone; front = is.front; back = is.back; f
 
 -- ---- adding a blob
 
+last_or_before : (n back : ℕ) → n ≤ back → (n ≡ back) ⊎ (n < back)
+last_or_before n back within = elim (equal_or_not n back) [ inl same ↦ inl same | inr differ ↦ inr (omega (arith, within, differ)) ]
+
+-- the segments are begun still
+added_begun : (a b : Files) (db : ℕ) (head : Head) (blob : List ℕ) → AreBegun (blobs_at a db) head → ((n : ℕ) → head.front ≤ n → n < head.back → blobs_at b db n ≡ blobs_at a db n) → blobs_at b db head.back ≡ blobs_at a db head.back ++ blob ∷ [] → AreBegun (blobs_at b db) head
+added_begun a b db head blob begun before last n low high none = elim (last_or_before n head.back high) [
+  | inl at ↦ last_blob (blobs_at a db head.back) (blobs_at b db head.back) blob last (ap (blobs_at b db) (sym at) ∙ none)
+  | inr less ↦ begun n low high (sym (before n low less) ∙ none)
+]
+
 -- the blob was added, or not
 pub add_crash : (log : Kept) (name blob : List ℕ) (end : ℕ) (a b : Disk) → IsLog a log → IsPart log.stored blob end → end < 2 ^ 64 → name ≡ log.gate.name
     → Effect (IsName name) (λ image. (sealed (image name) ≡ sealed (a.files name)) ⊎ (sealed (image name) ≡ sealed (a.files name) ++ blob ∷ [])) a b
@@ -91,7 +103,7 @@ add_crash log name blob end a b is part small named effect =
     effect_widen (λ n at. inr (log.head.back, at)) (λ image here left. elim here [
       | inl old ↦ inl (still log a image log.head log.note log.control.content is refl refl refl is.inside is.sound (control image left) is.reads
           (λ n low high. elim (last_or_before n log.head.back high) [ inl at ↦ subst (λ (m : ℕ). blobs_at image log.db m ≡ blobs_at a.files log.db m) (sym at) old | inr less ↦ before image left n low less ]))
-      | inr new ↦ inr (grown log a image blob end is part small (control image left) (blobs_more a.files image log.db log.head blob is.sound.front (before image left) new))
+      | inr new ↦ inr (grown log a image blob end is part small (control image left) (added_begun a.files image log.db log.head blob is.begun (before image left) new) (blobs_more a.files image log.db log.head blob is.sound.front (before image left) new))
     ]) (subst At (named ∙ is.gate_name) effect)
   where
     below : {disk : Disk} (log : Kept) (n : ℕ) → IsLog disk log → n < log.head.back → segment_file log.db n ≡ segment_file log.db log.head.back → ⊥
@@ -99,15 +111,12 @@ add_crash log name blob end a b is part small named effect =
         let one : n ≡ log.head.back = one_segment log.db n log.head.back (omega (arith, less, is.sound.back)) (omega (arith, is.sound.back)) same in
         absurd (omega (arith, less, one))
 
-    last_or_before : (n back : ℕ) → n ≤ back → (n ≡ back) ⊎ (n < back)
-    last_or_before n back within = elim (equal_or_not n back) [ inl same ↦ inl same | inr differ ↦ inr (omega (arith, within, differ)) ]
-
-    grown : (log : Kept) (a : Disk) (image : Files) (blob : List ℕ) (end : ℕ) → IsLog a log → IsPart log.stored blob end → end < 2 ^ 64 → control_of (image (control_file log.db)) ≡ Some log.control.content → blobs_of image log.db log.head ≡ blobs_of a.files log.db log.head ++ blob ∷ []
+    grown : (log : Kept) (a : Disk) (image : Files) (blob : List ℕ) (end : ℕ) → IsLog a log → IsPart log.stored blob end → end < 2 ^ 64 → control_of (image (control_file log.db)) ≡ Some log.control.content → AreBegun (blobs_at image log.db) log.head → blobs_of image log.db log.head ≡ blobs_of a.files log.db log.head ++ blob ∷ []
         → LogIs image log.db (with_more (value_of a.files log) (records_in blob))
-    grown log a image blob end is part small control more =
+    grown log a image blob end is part small control begun more =
         let run : IsRun log.head.first (blobs_of image log.db log.head) end = subst (λ (bs : List (List ℕ)). IsRun log.head.first bs end) (sym more) (run_more log.head.first log.stored end (blobs_of a.files log.db log.head) blob is.run part) in
         subst (λ (l : Logged). LogIs image log.db l) (shown_more a.files image log.db log.head log.note blob log.stored more is.run is.inside)
-        (log_is image log.db log.head log.note log.control.content end control is.reads is.sound run (omega (arith, is.inside, part.ends)) small)
+        (log_is image log.db log.head log.note log.control.content end control is.reads is.sound begun run (omega (arith, is.inside, part.ends)) small)
 
 -- all blobs, and one more
 pub add_blobs : {P : Files → Type 0} (log : Kept) (name blob : List ℕ) (a b : Disk) → IsLog a log → name ≡ log.gate.name → sealed (b.files name) ≡ sealed (a.files name) ++ blob ∷ [] → Effect (IsName name) P a b
@@ -129,10 +138,10 @@ add_value log name blob a b is named grown effect =
     shown_more a.files b.files log.db log.head log.note blob log.stored (add_blobs log name blob a b is named grown effect) is.run is.inside
 
 -- and the log stands with it
-pub add_log : {P : Files → Type 0} (log : Kept) (name blob : List ℕ) (end : ℕ) (a b : Disk) (gate : KeptGate) (later : ℕ) (waiting : List Rec) (failed : Bool) → IsLog a log → IsPart log.stored blob end → end < 2 ^ 64 → name ≡ log.gate.name → gate.name ≡ name
+pub add_log : {P : Files → Type 0} (log : Kept) (name blob : List ℕ) (end : ℕ) (a b : Disk) (gate : KeptGate) (later : ℕ) (waiting : List Rec) (spare_bytes spare_flushes : ℕ) (failed : Bool) → IsLog a log → IsPart log.stored blob end → end < 2 ^ 64 → name ≡ log.gate.name → gate.name ≡ name
     → sealed (b.files name) ≡ sealed (a.files name) ++ blob ∷ [] → IsGate b gate → IsDurable b name → Effect (IsName name) P a b
-    → IsLog b (record { db = log.db; control = log.control; gate = gate; head = log.head; segments = log.segments; note = log.note; stored = end; end = later; waiting = waiting; failed = failed })
-add_log log name blob end a b gate later waiting failed is part small named new_name grown gates durable effect =
+    → IsLog b (record { db = log.db; control = log.control; gate = gate; head = log.head; segments = log.segments; note = log.note; stored = end; end = later; waiting = waiting; spare_bytes = spare_bytes; spare_flushes = spare_flushes; failed = failed })
+add_log log name blob end a b gate later waiting spare_bytes spare_flushes failed is part small named new_name grown gates durable effect =
     let at_last : name ≡ segment_file log.db log.head.back = named ∙ is.gate_name in
     let Durable : List ℕ → Type 0 = λ n. IsDurable b n in
     let before : (n : ℕ) → n < log.head.back → segment_file log.db n ≡ name → ⊥ = λ n less same.
@@ -152,12 +161,16 @@ add_log log name blob end a b gate later waiting failed is part small named new_
       segments = segments_same (blobs_at a.files log.db) (blobs_at b.files log.db) log.db log.head.front log.head.first log.segments is.segments (λ n low high. ap sealed (effect.others (segment_file log.db n) (before n (omega (arith, high, is.count)))));
       count = is.count;
       durable = each;
+      begun = added_begun a.files b.files log.db log.head blob is.begun (λ n low high. ap sealed (effect.others (segment_file log.db n) (before n high))) (subst (λ (m : List ℕ). sealed (b.files m) ≡ sealed (a.files m) ++ blob ∷ []) at_last grown);
       run = subst (λ (bs : List (List ℕ)). IsRun log.head.first bs end) (sym (add_blobs log name blob a b is named grown effect)) (run_more log.head.first log.stored end (blobs_of a.files log.db log.head) blob is.run part);
       inside = omega (arith, is.inside, part.ends);
       small = small;
     }
 
 -- nothing waits, so nothing is added
+pub nothing_added : (log : Logged) (waiting : List Rec) → waiting ≡ [] → log ≡ with_more log waiting
+nothing_added log waiting none = ap (λ (rs : List Rec). record log { records = rs }) (sym (append-nil log.records)) ∙ ap (with_more log) (sym none)
+
 pub none_added : (from to : ℕ) (blob : List ℕ) → IsPart from blob to → to ≡ from → records_in blob ≡ []
 none_added from to blob part same = empty (records_in blob) (omega (arith, part.ends, same))
   where

@@ -13,7 +13,7 @@ use Rattle.bk_ids.specs.declared.record.Rec.{Rec}
 use Rattle.bk_log.specs.declared.head.Head.{Head}
 use Rattle.bk_log.specs.Control.{read_control, IsSound}
 use Rattle.bk_log.specs.Records.{records_in, records_of, IsRun}
-use Rattle.bk_log.specs.Log.{control_file, segment_file, blobs_at, blobs_from, blobs_of, shown, cut_at, with_more, Logged, LogIs, IsForeign}
+use Rattle.bk_log.specs.Log.{control_file, segment_file, blobs_at, blobs_from, blobs_of, shown, cut_at, with_more, AreBegun, Logged, LogIs, IsForeign}
 use Rattle.bk_log.specs.RunLaws.{records_append, records_one}
 
 -- ---- names
@@ -59,15 +59,20 @@ all_blobs files db head order =
     let last : head.front + (head.back - head.front) ≡ head.back = omega (arith, order) in
     ap (blobs_from (blobs_at files db) head.front) (add-one (head.back - head.front)) ∙ ap (λ (n : ℕ). blobs_from (blobs_at files db) head.front (head.back - head.front) ++ blobs_at files db n) last
 
+-- segments with the same blobs are begun
+pub begun_same : (f g : Files) (db : ℕ) (head : Head) → ((n : ℕ) → head.front ≤ n → n ≤ head.back → blobs_at g db n ≡ blobs_at f db n) → AreBegun (blobs_at f db) head → AreBegun (blobs_at g db) head
+begun_same f g db head same begun = λ n low high none. begun n low high (sym (same n low high) ∙ none)
+
 -- ---- what the files are
 
 pub log_is : (files : Files) (db : ℕ) (head : Head) (note content : List ℕ) (end : ℕ) → control_of (files (control_file db)) ≡ Some content → read_control content ≡ Some (head, note) → IsSound head note
-    → IsRun head.first (blobs_of files db head) end → head.kept ≤ end → end < 2 ^ 64 → LogIs files db (shown files db head note)
-log_is files db head note content end control reads sound run inside small = record {
+    → AreBegun (blobs_at files db) head → IsRun head.first (blobs_of files db head) end → head.kept ≤ end → end < 2 ^ 64 → LogIs files db (shown files db head note)
+log_is files db head note content end control reads sound begun run inside small = record {
   head = head;
   end = end;
   reads = ap (λ (o : Option (List ℕ)). o >>= read_control) control ∙ reads;
   sound = sound;
+  begun = begun;
   run = run;
   inside = inside;
   small = small;
@@ -84,6 +89,7 @@ log_same {f = f} {g = g} db log control same is =
       end = is.end;
       reads = ap (λ (o : Option (List ℕ)). o >>= read_control) control ∙ is.reads;
       sound = is.sound;
+      begun = begun_same f g db is.head (λ n low high. same n) is.begun;
       run = subst (λ (bs : List (List ℕ)). IsRun is.head.first bs is.end) (sym blobs) is.run;
       inside = is.inside;
       small = is.small;
@@ -136,14 +142,15 @@ one_head files db content head note log control reads is =
     let pair : (is.head, log.note) ≡ (head, note) = cc in
     (ap (λ (p : Head × List ℕ). p.0) pair, ap (λ (p : Head × List ℕ). p.1) pair)
 
--- the segments hold no run
+-- the segments hold no run, or one of them no blob
 pub foreign_run : (files : Files) (db : ℕ) (content : List ℕ) (head : Head) (note : List ℕ) → control_of (files (control_file db)) ≡ Some content → read_control content ≡ Some (head, note)
-    → ((end : ℕ) → IsRun head.first (blobs_of files db head) end → head.kept ≤ end → end < 2 ^ 64 → ⊥) → IsForeign files db
+    → ((end : ℕ) → AreBegun (blobs_at files db) head → IsRun head.first (blobs_of files db head) end → head.kept ≤ end → end < 2 ^ 64 → ⊥) → IsForeign files db
 foreign_run files db content head note control reads none log is =
     let same = (one_head files db content head note log control reads is).0 in
     let Run : Head → Type 0 = λ h. IsRun h.first (blobs_of files db h) is.end in
     let Inside : Head → Type 0 = λ h. h.kept ≤ is.end in
-    none is.end (subst Run same is.run) (subst Inside same is.inside) is.small
+    let Begun : Head → Type 0 = AreBegun (blobs_at files db) in
+    none is.end (subst Begun same is.begun) (subst Run same is.run) (subst Inside same is.inside) is.small
 
 -- a run ends at one number
 pub one_end : (from one two : ℕ) (blobs : List (List ℕ)) → IsRun from blobs one → IsRun from blobs two → one ≡ two

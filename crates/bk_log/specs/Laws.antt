@@ -6,13 +6,13 @@ use Rattle.bk_device.specs.Compose.{durable_kept}
 use Rattle.bk_device.specs.Disk.{Files, Disk, IsDurable}
 use Rattle.bk_device.specs.Effects.{IsName, KeepsFiles, MayLeaveOwn}
 use Rattle.bk_gate.specs.Blobs.{sealed}
-use Rattle.bk_gate.specs.Laws.{gate_kept}
+use Rattle.bk_gate.specs.Laws.{gate_kept, gate_reserved}
 use Rattle.bk_ids.specs.declared.record.Rec.{Rec}
 use Rattle.bk_log.specs.declared.head.Head.{Head}
 use Rattle.bk_log.specs.Control.{read_control, IsSound}
 use Rattle.bk_log.specs.Records.{IsRun}
-use Rattle.bk_log.specs.Log.{control_file, segment_file, IsOwn, blobs_at, blobs_of, shown, value_of, Logged, LogIs, Kept, IsLog}
-use Rattle.bk_log.specs.FileLaws.{blobs_same, log_is, shown_same}
+use Rattle.bk_log.specs.Log.{control_file, segment_file, IsOwn, blobs_at, blobs_of, shown, value_of, AreBegun, Logged, LogIs, Kept, IsLog}
+use Rattle.bk_log.specs.FileLaws.{blobs_same, begun_same, log_is, shown_same}
 use Rattle.bk_log.specs.SegmentLaws.{segments_same}
 
 -- ---- the files of a log that stands
@@ -31,9 +31,10 @@ still log a image head note content is front back first inside sound control rea
     let Order : ℕ → ℕ → Type 0 = λ f b. ((n : ℕ) → f ≤ n → n ≤ b → blobs_at image log.db n ≡ blobs_at a.files log.db n) in
     let same_here : (n : ℕ) → head.front ≤ n → n ≤ head.back → blobs_at image log.db n ≡ blobs_at a.files log.db n = λ n low high. same n (omega (arith, low, front)) (omega (arith, high, back)) in
     let blobs : blobs_of image log.db head ≡ blobs_of a.files log.db head = blobs_same a.files image log.db head sound.front same_here in
+    let begun : AreBegun (blobs_at image log.db) head = λ n low high none. is.begun n (omega (arith, low, front)) (omega (arith, high, back)) (sym (same_here n low high) ∙ none) in
     let run_here : IsRun head.first (blobs_of a.files log.db head) log.stored = run_as log a head is front back first in
     let run : IsRun head.first (blobs_of image log.db head) log.stored = subst (λ (bs : List (List ℕ)). IsRun head.first bs log.stored) (sym blobs) run_here in
-    subst (λ (l : Logged). LogIs image log.db l) (shown_same a.files image log.db head note blobs) (log_is image log.db head note content log.stored control reads sound run inside is.small)
+    subst (λ (l : Logged). LogIs image log.db l) (shown_same a.files image log.db head note blobs) (log_is image log.db head note content log.stored control reads sound begun run inside is.small)
   where
     run_as : (log : Kept) (a : Disk) (head : Head) → IsLog a log → head.front ≡ log.head.front → head.back ≡ log.head.back → head.first ≡ log.head.first → IsRun head.first (blobs_of a.files log.db head) log.stored
     run_as log a head is front back first =
@@ -55,11 +56,11 @@ log_left {disk = disk} {log = log} image is mine =
 -- the files are the log
 pub log_files : {disk : Disk} {log : Kept} → IsLog disk log → LogIs disk.files log.db (value_of disk.files log)
 log_files {disk = disk} {log = log} is =
-    log_is disk.files log.db log.head log.note log.control.content log.stored (control_is is) is.reads is.sound is.run is.inside is.small
+    log_is disk.files log.db log.head log.note log.control.content log.stored (control_is is) is.reads is.sound is.begun is.run is.inside is.small
 
 -- records may wait
-pub log_waits : {disk : Disk} {log : Kept} (waiting : List Rec) (end : ℕ) → IsLog disk log → IsLog disk (record log { waiting = waiting; end = end })
-log_waits waiting end is = record {
+pub log_waits : {disk : Disk} {log : Kept} (waiting : List Rec) (end bytes flushes : ℕ) → IsLog disk log → IsLog disk (record log { waiting = waiting; end = end; spare_bytes = bytes; spare_flushes = flushes })
+log_waits waiting end bytes flushes is = record {
   control_name = is.control_name;
   gate_name = is.gate_name;
   controls = is.controls;
@@ -69,6 +70,25 @@ log_waits waiting end is = record {
   segments = is.segments;
   count = is.count;
   durable = is.durable;
+  begun = is.begun;
+  run = is.run;
+  inside = is.inside;
+  small = is.small;
+}
+
+-- room may be made
+pub log_reserved : {disk : Disk} {log : Kept} (bytes flushes spare : ℕ) → IsLog disk log → IsLog disk (record log { gate = record log.gate { spare = spare }; spare_bytes = bytes; spare_flushes = flushes })
+log_reserved bytes flushes spare is = record {
+  control_name = is.control_name;
+  gate_name = is.gate_name;
+  controls = is.controls;
+  gates = gate_reserved spare is.gates;
+  reads = is.reads;
+  sound = is.sound;
+  segments = is.segments;
+  count = is.count;
+  durable = is.durable;
+  begun = is.begun;
   run = is.run;
   inside = is.inside;
   small = is.small;
@@ -86,6 +106,7 @@ log_marked failed is = record {
   segments = is.segments;
   count = is.count;
   durable = is.durable;
+  begun = is.begun;
   run = is.run;
   inside = is.inside;
   small = is.small;
@@ -114,6 +135,7 @@ log_kept {a = a} {b = b} {log = log} keeps is =
       segments = segments_same (blobs_at a.files log.db) (blobs_at b.files log.db) log.db log.head.front log.head.first log.segments is.segments (λ n low high. ap sealed (keeps.same (segment_file log.db n) (inr (n, refl))));
       count = is.count;
       durable = λ n low high. durable_kept (segment_file log.db n) (inr (n, refl)) keeps (is.durable n low high);
+      begun = begun_same a.files b.files log.db log.head (λ n low high. ap sealed (keeps.same (segment_file log.db n) (inr (n, refl)))) is.begun;
       run = subst (λ (bs : List (List ℕ)). IsRun log.head.first bs log.stored) (sym (blobs_kept log.db log.head keeps is.sound.front)) is.run;
       inside = is.inside;
       small = is.small;

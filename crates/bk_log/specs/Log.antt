@@ -1,5 +1,5 @@
 -- The log of one database over its files.
-use Rattle.std.specs.Prelude.{◌≡◌, ◌⊎◌, ◌≤◌, ◌<◌, ◌+◌, ◌-◌, ◌^◌, ℕ, zero, suc, Bool, List, [], ◌∷◌, ◌++◌, length, drop, slice_get, Some, None, codes, string_bytes}
+use Rattle.std.specs.Prelude.{◌≡◌, ◌≢◌, ◌⊎◌, ◌≤◌, ◌<◌, ◌+◌, ◌-◌, ◌^◌, ℕ, zero, suc, Bool, List, [], ◌∷◌, ◌++◌, length, drop, slice_get, Some, None, codes, string_bytes}
 use Rattle.std.specs.Fmt.{decimal}
 use Rattle.bk_bytes.specs.Codec.{◌>>=◌}
 use Rattle.bk_control.specs.Control.{IsControl, Kept as KeptControl}
@@ -37,6 +37,10 @@ blobs_from blobs front (suc more) = blobs_from blobs front more ++ blobs (front 
 -- the blobs of the segments that count
 abbrev pub blobs_of : Files → ℕ → Head → List (List ℕ)
 blobs_of files db head = blobs_from (blobs_at files db) head.front (head.back - head.front) ++ blobs_at files db head.back
+
+-- each segment that counts has a sealed blob: one without a byte is sealed before the segment counts
+abbrev pub AreBegun : (ℕ → List (List ℕ)) → Head → Type 0
+AreBegun blobs head = (n : ℕ) → head.front ≤ n → n ≤ head.back → blobs n ≢ []
 
 -- these segments follow each other from a number on, and each begins where the records of those before it end
 pub record AreSegments (blobs : ℕ → List (List ℕ)) (db front first : ℕ) (segments : List Segment) : Type 0 where
@@ -95,6 +99,7 @@ pub record LogIs (files : Files) (db : ℕ) (log : Logged) : Type 0 where
   pub end : ℕ
   pub reads : (control_of (files (control_file db)) >>= read_control) ≡ Some (head, log.note)
   pub sound : IsSound head log.note
+  pub begun : AreBegun (blobs_at files db) head
   pub run : IsRun head.first (blobs_of files db head) end
   pub inside : head.kept ≤ end
   pub small : end < 2 ^ 64
@@ -121,6 +126,9 @@ pub record Kept : Type 0 where
   pub end : ℕ
   -- the records that aren't sealed yet
   pub waiting : List Rec
+  -- how many bytes of records may be added without memory, and how often they may be made durable
+  pub spare_bytes : ℕ
+  pub spare_flushes : ℕ
   pub failed : Bool
 
 -- what the log is, by its files
@@ -138,6 +146,7 @@ pub record IsLog (disk : Disk) (log : Kept) : Type 0 where
   pub segments : AreSegments (blobs_at disk.files log.db) log.db log.head.front log.head.first log.segments
   pub count : log.head.front + length log.segments ≡ log.head.back + 1
   pub durable : (n : ℕ) → log.head.front ≤ n → n ≤ log.head.back → IsDurable disk (segment_file log.db n)
+  pub begun : AreBegun (blobs_at disk.files log.db) log.head
   pub run : IsRun log.head.first (blobs_of disk.files log.db log.head) log.stored
   pub inside : log.head.kept ≤ log.stored
   pub small : log.stored < 2 ^ 64
@@ -152,6 +161,11 @@ pub record IsSame (old new : Kept) : Type 0 where
   pub stored : new.stored ≡ old.stored
   pub end : new.end ≡ old.end
   pub waiting : new.waiting ≡ old.waiting
+
+-- as much may be done without memory
+pub record KeepsSpare (old new : Kept) : Type 0 where
+  pub bytes : new.spare_bytes ≡ old.spare_bytes
+  pub flushes : new.spare_flushes ≡ old.spare_flushes
 
 -- the name is that of a segment from one number to below another
 abbrev pub IsBetween : ℕ → ℕ → ℕ → List ℕ → Type 0

@@ -1,5 +1,5 @@
 -- Log records in the blobs of a gate file.
-use Rattle.std.specs.Prelude.{◌≡◌, ◌<◌, ◌^◌, ℕ, zero, suc, ◌+◌, List, [], ◌∷◌, ◌++◌, length, slice_get, Some}
+use Rattle.std.specs.Prelude.{◌≡◌, ℕ, zero, suc, ◌+◌, List, [], ◌∷◌, length}
 use Rattle.std.specs.List.{flat_map, AllByRecursion}
 use Rattle.std.specs.Option.{option_map_or}
 use Rattle.bk_ids.specs.declared.record.Rec.{Rec}
@@ -41,18 +41,6 @@ pub record IsPart (from : ℕ) (blob : List ℕ) (to : ℕ) : Type 0 where
   pub numbered : Numbered from (records_in blob)
   pub ends : to ≡ from + length (records_in blob)
 
--- the blob of this number is such a part from one number to another
-abbrev pub PartAt : List (List ℕ) → ℕ → ℕ → ℕ → Type 0
-PartAt blobs i from to = (blob : List ℕ) × (slice_get blobs i ≡ Some blob) × IsPart from blob to
-
--- the blob of this number is no such part from that number on
-abbrev pub StuckAt : List (List ℕ) → ℕ → ℕ → Type 0
-StuckAt blobs i from = (blob : List ℕ) × (slice_get blobs i ≡ Some blob) × ((to : ℕ) → IsPart from blob to → to < 2 ^ 64 → ⊥)
-
 -- the bytes of blobs, one behind the other
 abbrev pub joined : List (List ℕ) → List ℕ
 joined blobs = flat_map (λ blob. blob) blobs
-
--- the blob of this number was added to these bytes
-abbrev pub BlobThere : List (List ℕ) → ℕ → List ℕ → List ℕ → Type 0
-BlobThere blobs i old new = (blob : List ℕ) × (slice_get blobs i ≡ Some blob) × (new ≡ old ++ blob)

@@ -1,13 +1,12 @@
 -- Blobs that are whole records with numbers that follow each other.
-use Rattle.std.proofs.Common.{◌≡◌, ◌≤◌, ◌<◌, ◌^◌, ℕ, zero, suc, ◌+◌, ◌-◌, List, [], ◌∷◌, ◌++◌, length, take, Some, refl, sym, ap, subst, ◌∙◌, arith, append_assoc, length-append, add-one}
+use Rattle.std.proofs.Common.{◌≡◌, ◌≤◌, ◌<◌, ◌^◌, ℕ, zero, suc, ◌+◌, ◌-◌, List, [], ◌∷◌, ◌++◌, length, drop, refl, sym, ap, subst, ◌∙◌, arith, append_assoc, length-append, add-one}
 use Rattle.std.specs.List.{AllByRecursion}
-use Rattle.std.specs.Prelude.{slice_get}
-use Rattle.std.proofs.lemmas.List.{append-nil}
+use Rattle.std.proofs.lemmas.List.{append-nil, drop_all}
 use Rattle.std.proofs.lemmas.List.Concat.{flat_map-append}
 use Rattle.bk_ids.specs.declared.record.Rec.{Rec}
 use Rattle.bk_log.specs.Log.{blobs_from}
-use Rattle.bk_log.specs.Records.{records_in, records_of, IsBatch, Numbered, IsPart, IsRun, PartAt, StuckAt}
-use Rattle.bk_log.specs.BatchLaws.{numbered_append, numbered_split}
+use Rattle.bk_log.specs.Records.{records_in, records_of, IsBatch, Numbered, IsPart, IsRun}
+use Rattle.bk_log.specs.BatchLaws.{numbered_append, numbered_split, part_none, records_none}
 
 -- ---- parts of lists
 
@@ -78,24 +77,33 @@ part_of_run from to blob run = record {
   ends = run.ends ∙ ap (λ (rs : List Rec). from + length rs) (records_one blob);
 }
 
--- ---- the blobs of a file, one by one
+-- ---- a blob without a byte
 
-pub take_next : {A : Type 0} (xs : List A) (i : ℕ) (x : A) → slice_get xs i ≡ Some x → (take (suc i) xs ≡ take i xs ++ x ∷ []) × ((rest : List A) × (xs ≡ (take i xs ++ x ∷ []) ++ rest))
-take_next [] i x there = absurd cc
-take_next (y ∷ xs) zero x there = let same : y ≡ x = cc in (ap (λ (z : _). z ∷ []) same, (xs, ap (λ (z : _). z ∷ xs) same))
-take_next (y ∷ xs) (suc i) x there =
-    let rest = take_next xs i x there in
-    (ap (λ (zs : List _). y ∷ zs) rest.0, (rest.1.0, ap (λ (zs : List _). y ∷ zs) rest.1.1))
+-- it adds no record
+pub run_begun : (from to : ℕ) (blobs : List (List ℕ)) → IsRun from blobs to → IsRun from (blobs ++ [] ∷ []) to
+run_begun from to blobs run = run_more from to to blobs [] run (part_none to)
 
-pub run_next : (from mid to : ℕ) (blobs : List (List ℕ)) (i : ℕ) → IsRun from (take i blobs) mid → PartAt blobs i mid to → IsRun from (take (i + 1) blobs) to
-run_next from mid to blobs i run there =
-    subst (λ (bs : List (List ℕ)). IsRun from bs to) (sym (ap (λ (n : ℕ). take n blobs) (add-one i) ∙ (take_next blobs i there.0 there.1).0)) (run_more from mid to (take i blobs) there.0 run there.2)
+pub records_begun : (blobs : List (List ℕ)) → records_of (blobs ++ [] ∷ []) ≡ records_of blobs
+records_begun blobs =
+    records_append blobs ([] ∷ []) ∙ ap (λ (rs : List Rec). records_of blobs ++ rs) (records_one [] ∙ records_none) ∙ append-nil (records_of blobs)
 
-pub run_stuck : (from mid to : ℕ) (blobs : List (List ℕ)) (i : ℕ) → IsRun from (take i blobs) mid → StuckAt blobs i mid → IsRun from blobs to → to < 2 ^ 64 → ⊥
-run_stuck from mid to blobs i run stuck whole small =
-    let split = (take_next blobs i stuck.0 stuck.1).1 in
-    let front = run_front from to (take i blobs ++ stuck.0 ∷ []) split.0 (subst (λ (bs : List (List ℕ)). IsRun from bs to) split.1 whole) in
-    stuck.2 front.0 (part_of_run mid front.0 stuck.0 (run_split from mid front.0 (take i blobs) (stuck.0 ∷ []) run front.1)) (omega (arith, front.2, small))
+-- alone it has none
+pub none_begun : (n : ℕ) (blobs : List (List ℕ)) → blobs ≡ [] ∷ [] → drop n (records_of blobs) ≡ []
+none_begun n blobs one = ap (λ (bs : List (List ℕ)). drop n (records_of bs)) one ∙ ap (drop n) (records_begun []) ∙ drop_all n [] (omega arith)
+
+-- a list with one blob isn't empty, nor is one that has grown
+pub one_blob : (blobs : List (List ℕ)) (blob : List ℕ) → blobs ≡ blob ∷ [] → blobs ≡ [] → ⊥
+one_blob blobs blob one none = absurd (omega (arith, ap (λ (bs : List (List ℕ)). length bs) (sym one ∙ none)))
+
+pub last_blob : (old new : List (List ℕ)) (blob : List ℕ) → new ≡ old ++ blob ∷ [] → new ≡ [] → ⊥
+last_blob old new blob grown none = absurd (omega (arith, ap (λ (bs : List (List ℕ)). length bs) (sym grown ∙ none), length-append old (blob ∷ [])))
+
+-- a blob that doesn't go on with a run ends it
+pub run_stuck : (from mid to : ℕ) (blobs : List (List ℕ)) (blob : List ℕ) (rest : List (List ℕ)) → IsRun from blobs mid → ((end : ℕ) → IsPart mid blob end → end < 2 ^ 64 → ⊥) → IsRun from (blobs ++ blob ∷ rest) to → to < 2 ^ 64 → ⊥
+run_stuck from mid to blobs blob rest run stuck whole small =
+    let split : blobs ++ blob ∷ rest ≡ (blobs ++ blob ∷ []) ++ rest = sym (append_assoc blobs (blob ∷ []) rest) in
+    let front = run_front from to (blobs ++ blob ∷ []) rest (subst (λ (bs : List (List ℕ)). IsRun from bs to) split whole) in
+    stuck front.0 (part_of_run mid front.0 blob (run_split from mid front.0 blobs (blob ∷ []) run front.1)) (omega (arith, front.2, small))
 
 -- ---- the blobs of segments, one segment after the other
 

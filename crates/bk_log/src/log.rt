@@ -8,7 +8,7 @@ ghost use Rattle.bk_device.specs.Disk.{Files, IsDurable};
 ghost use Rattle.bk_device.specs.Effects.{Effect};
 ghost use Rattle.bk_log.specs.Control.{IsSound};
 ghost use Rattle.bk_gate.specs.Gate.{IsGate};
-ghost use Rattle.bk_log.specs.Log.{control_file, segment_file, blobs_at, AreGone, BeginsAt, Holds, IsAdded, IsFirstAt, IsOwn, IsTidy, Kept, LogIs, IsLog, IsForeign, IsSame, AreDurable, Logged, cut_at, emptied, fresh, value_of, with_more};
+ghost use Rattle.bk_log.specs.Log.{control_file, segment_file, blobs_at, AreGone, BeginsAt, Holds, IsAdded, IsFirstAt, IsOwn, IsTidy, Kept, LogIs, IsLog, IsForeign, IsSame, KeepsSpare, AreDurable, Logged, cut_at, emptied, fresh, value_of, with_more};
 ghost use Rattle.bk_log.specs.Records.{IsPart, records_in};
 ghost use Rattle.bk_record.specs.Spelling.{KeepsLimits, spelling};
 
@@ -26,7 +26,7 @@ use bk_control::Control;
 use bk_device::{Device, Failed, remove_durably};
 use bk_gate::Gate;
 use bk_ids::{Lsn, Rec};
-use bk_record::encode;
+use bk_record::{encode_reserved, spelled_len};
 use std::alloc::{AllocError, Global};
 use std::marker::Model;
 
@@ -49,8 +49,11 @@ pub struct Log {
     spelled: Vec<u8>,
     stored: Lsn,
     end: Lsn,
-    // the bytes of the records that aren't sealed yet
+    // the bytes of the records that aren't sealed yet, with room for the spare ones
     waiting: Vec<u8>,
+    spare_bytes: usize,
+    // the last segment's spare is at least this
+    spare_flushes: usize,
     failed: bool,
 }
 
@@ -67,18 +70,21 @@ impl Model for Log {
       stored = l.stored;
       end = l.end;
       waiting = records_in l.waiting.items;
+      spare_bytes = l.spare_bytes;
+      spare_flushes = l.spare_flushes;
       failed = l.failed || l.control.failed || l.gate.failed;
     } };
 
-    ghost invariant = { λ l. (l.gate.failed ≡ false → l.gate.begun ≡ None) × (32768 ≤ vec_capacity l.note) × (vec_len l.note ≤ 32768) × (32808 ≤ vec_capacity l.spelled) × IsPart l.stored l.waiting.items l.end × (l.end < 2 ^ 64) × IsSound l.head l.note.items × (l.head.front + vec_len l.segments ≡ l.head.back + 1) };
+    ghost invariant = { λ l. (l.gate.failed ≡ false → l.gate.begun ≡ None) × (32768 ≤ vec_capacity l.note) × (vec_len l.note ≤ 32768) × (32808 ≤ vec_capacity l.spelled) × IsPart l.stored l.waiting.items l.end × (l.end < 2 ^ 64) × IsSound l.head l.note.items × (l.head.front + vec_len l.segments ≡ l.head.back + 1) × (vec_len l.waiting + l.spare_bytes ≤ vec_capacity l.waiting) × (l.gate.failed ≡ false → l.spare_flushes ≤ l.gate.spare) };
 }
 
 impl Log {
-    /// Opens the log of a database. Where the making of its last segment was cut short that is done anew. Segments that no
-    /// longer count, and one that was begun behind the last, are removed. Nothing else is changed.
+    /// Opens the log of a database. Segments that no longer count, and one that was begun behind the last, are removed. Nothing
+    /// else is changed.
     ///
-    /// `Foreign` is answered exactly where the files are no log: where the control file holds no control record, or the
-    /// segments that it names hold anything but records whose numbers follow each other. Then nothing is changed.
+    /// `Foreign` is answered exactly where the files are no log: where the control file holds no control record, where one of
+    /// the segments that it names holds no blob, or where they hold anything but records whose numbers follow each other. Then
+    /// nothing is changed.
     pub fn load<D: Device>(alloc: Global, dev: &mut D, db: u32) -> Result<Log, LogError>
         ensures db { IfOk result (λ l. l.db ≡ db) }
         ensures failed { IfOk result (λ l. l.failed ≡ false) }
@@ -96,7 +102,7 @@ impl Log {
         Ok(log)
     }
 
-    // Opens the log. Where the making of its last segment was cut short that is done anew.
+    // Opens the log, and changes nothing.
     fn open<D: Device>(alloc: Global, dev: &mut D, db: u32) -> Result<Log, LogError>
         ensures db { IfOk result (λ l. l.db ≡ db) }
         ensures failed { IfOk result (λ l. l.failed ≡ false) }
@@ -105,10 +111,9 @@ impl Log {
         ensures holds { D.tells → IfOk result (λ l. Holds (D.disk dev.old).files db l.head) }
         ensures order { IfOk result (λ l. l.head.front ≤ l.head.back) }
         ensures small { IfOk result (λ l. l.head.back < 2 ^ 62) }
-        ensures value { D.tells → AreDurable db (D.disk dev.old) → IfOk result (λ l. value_of (D.disk dev.new).files l ≡ value_of (D.disk dev.old).files l) }
         ensures stands { D.tells → AreDurable db (D.disk dev.old) → IfOk result (λ l. IsLog (D.disk dev.new) l) }
         ensures foreign { D.tells → IsErrOf result LogError.Foreign → IsForeign (D.disk dev.old).files db }
-        ensures crash { D.tells → AreDurable db (D.disk dev.old) → Effect (IsOwn db) (λ image. (log : Logged) → LogIs (D.disk dev.old).files db log → LogIs image db log) (D.disk dev.old) (D.disk dev.new) }
+        ensures effect { D.tells → ChangesNothing (D.disk dev.old) (D.disk dev.new) }
         ensures cause { HasCause D.disk_faults D.tell_faults dev.old dev.new (IsErrOf result LogError.Fault) }
     {
         let found = find(alloc, dev, db)?;
@@ -125,6 +130,8 @@ impl Log {
             stored: found.stored,
             end: found.stored,
             waiting: Vec::new(alloc),
+            spare_bytes: 0,
+            spare_flushes: 0,
             failed: false,
         })
     }
@@ -140,7 +147,7 @@ impl Log {
         ensures end { IfOk result (λ l. (l.stored ≡ at) × (l.end ≡ at)) }
         ensures value { D.tells → IfOk result (λ l. value_of (D.disk dev.new).files l ≡ fresh at) }
         ensures stands { D.tells → IfOk result (λ l. IsLog (D.disk dev.new) l) }
-        ensures crash { D.tells → IsDurable (D.disk dev.old) (control_file db) → control_of ((D.disk dev.old).files (control_file db)) ≡ None → Effect (IsOwn db) (λ image. (control_of (image (control_file db)) ≡ None) ⊎ LogIs image db (fresh at)) (D.disk dev.old) (D.disk dev.new) }
+        ensures crash { D.tells → IsDurable (D.disk dev.old) (control_file db) → control_of ((D.disk dev.old).files (control_file db)) ≡ None → Effect (IsOwn db) (λ image. IsForeign image db ⊎ LogIs image db (fresh at)) (D.disk dev.old) (D.disk dev.new) }
         ensures foreign { IsErrOf result LogError.Foreign → ⊥ }
         ensures cause { HasCause D.disk_faults D.tell_faults dev.old dev.new (IsErrOf result LogError.Fault) }
     {
@@ -168,6 +175,8 @@ impl Log {
             stored: at,
             end: at,
             waiting: Vec::new(alloc),
+            spare_bytes: 0,
+            spare_flushes: 0,
             failed: false,
         })
     }
@@ -213,6 +222,20 @@ impl Log {
         self.end
     }
 
+    /// How many bytes of records may be added without memory.
+    pub fn spare_bytes(&self) -> usize
+        ensures { result ≡ self.now.spare_bytes }
+    {
+        self.spare_bytes
+    }
+
+    /// How often the records that wait may be made durable without memory.
+    pub fn spare_flushes(&self) -> usize
+        ensures { result ≡ self.now.spare_flushes }
+    {
+        self.spare_flushes
+    }
+
     /// The note of the layer above, at most 32,768 bytes.
     pub fn note(&self) -> &[u8]
         ensures { result.now ≡ self.now.note }
@@ -220,22 +243,59 @@ impl Log {
         &self.note
     }
 
-    /// Adds a record behind the others, in memory alone. Its number is the end, which is below 2^64 - 1. Where there is no
-    /// memory the value stays as it was.
-    pub fn append(&mut self, alloc: Global, r: &Rec) -> Result<(), AllocError>
+    /// Makes room: from then on at least so many spare bytes, and at least so many spare flushes. Neither falls. `AllocError`
+    /// leaves the value as it was.
+    pub fn reserve(&mut self, bytes: usize, flushes: usize) -> Result<(), AllocError>
+        requires { self.old.failed ≡ false }
+        ensures bytes { OnOk result (bytes ≤ self.new.spare_bytes) }
+        ensures flushes { OnOk result (flushes ≤ self.new.spare_flushes) }
+        ensures never_lowered { (self.old.spare_bytes ≤ self.new.spare_bytes) × (self.old.spare_flushes ≤ self.new.spare_flushes) }
+        ensures same { self.new ≡ record self.old { gate = record self.old.gate { spare = self.new.gate.spare }; spare_bytes = self.new.spare_bytes; spare_flushes = self.new.spare_flushes } }
+        ensures err { OnErr result (self.new ≡ self.old) }
+    {
+        self.waiting.reserve(bytes)?;
+        self.gate.reserve(flushes)?;
+        self.spare_bytes = self.spare_bytes.max(bytes);
+        self.spare_flushes = self.spare_flushes.max(flushes);
+        Ok(())
+    }
+
+    /// Adds a record behind the others, in memory alone. Its number is the end, which is below 2^64 - 1. The spare bytes don't
+    /// fall. Where there is no memory the value stays as it was.
+    pub fn append(&mut self, r: &Rec) -> Result<(), AllocError>
         requires limits { KeepsLimits r.now.body }
         requires number { r.now.lsn ≡ self.old.end }
         requires small { self.old.end < 2 ^ 64 - 1 }
         ensures more { OnOk result (self.new ≡ record self.old { waiting = self.old.waiting ++ r.now ∷ []; end = self.old.end + 1 }) }
         ensures err { OnErr result (self.new ≡ self.old) }
     {
-        encode(alloc, r, &mut self.waiting)?;
+        let len = spelled_len(r);
+        let Some(room) = self.spare_bytes.checked_add(len) else {
+            return Err(AllocError);
+        };
+        self.waiting.reserve(room)?;
+        encode_reserved(r, &mut self.waiting);
         self.end += 1;
         Ok(())
     }
 
-    /// Makes the records that wait durable. Where the last segment has 1 MiB or more a new one is begun first. A crash leaves
-    /// the log as it was, or with all of them.
+    /// Adds a record behind the others, in memory alone, by as many of the spare bytes as its spelling has. Its number is the
+    /// end, which is below 2^64 - 1. Takes no memory.
+    pub fn append_reserved(&mut self, r: &Rec)
+        requires limits { KeepsLimits r.now.body }
+        requires number { r.now.lsn ≡ self.old.end }
+        requires small { self.old.end < 2 ^ 64 - 1 }
+        requires spare { length (spelling r.now) ≤ self.old.spare_bytes }
+        ensures { self.new ≡ record self.old { waiting = self.old.waiting ++ r.now ∷ []; end = self.old.end + 1; spare_bytes = self.old.spare_bytes - length (spelling r.now) } }
+    {
+        let len = spelled_len(r);
+        encode_reserved(r, &mut self.waiting);
+        self.spare_bytes -= len;
+        self.end += 1;
+    }
+
+    /// Makes the records that wait durable. Where the last segment has 1 MiB or more a new one is begun first. The spare flushes
+    /// don't fall. A crash leaves the log as it was, or with all of them.
     ///
     /// `NoMemory` leaves the log as it was; a segment may have been begun. `Foreign` isn't answered.
     pub fn flush<D: Device>(&mut self, alloc: Global, dev: &mut D) -> Result<(), LogError>
@@ -245,6 +305,7 @@ impl Log {
         ensures value { D.tells → OnOk result (value_of (D.disk dev.new).files self.new ≡ with_more (value_of (D.disk dev.old).files self.old) self.old.waiting) }
         ensures same { OnOk result ((self.new.db ≡ self.old.db) × (self.new.end ≡ self.old.end)) }
         ensures none { OnOk result ((self.new.waiting ≡ []) × (self.new.stored ≡ self.old.end)) }
+        ensures spare { OnOk result (KeepsSpare self.old self.new) }
         ensures fit { OnOk result (self.new.failed ≡ false) }
         ensures failed { IsErrOf result LogError.Fault → self.new.failed ≡ true }
         ensures no_memory { IsErrOf result LogError.NoMemory → self.new ≡ self.old }
@@ -257,17 +318,44 @@ impl Log {
             return Ok(());
         }
         self.make_room(alloc, dev)?;
-        self.seal(dev)?;
+        let flushes = self.spare_flushes;
+        self.seal(dev, flushes)?;
         Ok(())
     }
 
-    // Makes room for one more blob, in a new segment where the last is full.
+    /// Makes the records that wait durable, by one of the spare flushes, of which there is at least one. Begins no segment, and
+    /// takes no memory. A crash leaves the log as it was, or with all of them.
+    pub fn flush_reserved<D: Device>(&mut self, dev: &mut D) -> Result<(), Failed>
+        requires fit { self.old.failed ≡ false }
+        requires spare { 1 ≤ self.old.spare_flushes }
+        requires stands { D.tells → IsLog (D.disk dev.old) self.old }
+        ensures stands { D.tells → OnOk result (IsLog (D.disk dev.new) self.new) }
+        ensures value { D.tells → OnOk result (value_of (D.disk dev.new).files self.new ≡ with_more (value_of (D.disk dev.old).files self.old) self.old.waiting) }
+        ensures same { OnOk result ((self.new.db ≡ self.old.db) × (self.new.end ≡ self.old.end) × (self.new.head ≡ self.old.head)) }
+        ensures none { OnOk result ((self.new.waiting ≡ []) × (self.new.stored ≡ self.old.end)) }
+        ensures spare { OnOk result ((self.new.spare_bytes ≡ self.old.spare_bytes) × (self.new.spare_flushes + 1 ≡ self.old.spare_flushes)) }
+        ensures fit { OnOk result (self.new.failed ≡ false) }
+        ensures failed { OnErr result (self.new.failed ≡ true) }
+        ensures crash { D.tells → Effect (IsOwn self.old.db) (λ image. LogIs image self.old.db (value_of (D.disk dev.old).files self.old) ⊎ LogIs image self.old.db (with_more (value_of (D.disk dev.old).files self.old) self.old.waiting)) (D.disk dev.old) (D.disk dev.new) }
+        ensures cause { HasCause D.disk_faults D.tell_faults dev.old dev.new (IsErr result) }
+    {
+        let flushes = self.spare_flushes - 1;
+        if self.end == self.stored {
+            self.spare_flushes = flushes;
+            return Ok(());
+        }
+        self.seal(dev, flushes)?;
+        Ok(())
+    }
+
+    // Makes room for one more blob than the spare flushes need, in a new segment where the last is full.
     fn make_room<D: Device>(&mut self, alloc: Global, dev: &mut D) -> Result<(), LogError>
         requires fit { self.old.failed ≡ false }
         requires stands { D.tells → IsLog (D.disk dev.old) self.old }
         ensures stands { D.tells → OnOk result (IsLog (D.disk dev.new) self.new) }
         ensures value { D.tells → OnOk result (value_of (D.disk dev.new).files self.new ≡ value_of (D.disk dev.old).files self.old) }
-        ensures spare { OnOk result (1 ≤ self.new.gate.spare) }
+        ensures spare { OnOk result (KeepsSpare self.old self.new) }
+        ensures room { OnOk result (self.new.spare_flushes + 1 ≤ self.new.gate.spare) }
         ensures same { OnOk result (IsSame self.old self.new) }
         ensures fit { OnOk result (self.new.failed ≡ false) }
         ensures failed { IsErrOf result LogError.Fault → self.new.failed ≡ true }
@@ -277,11 +365,12 @@ impl Log {
         ensures crash { D.tells → Effect (IsOwn self.old.db) (λ image. LogIs image self.old.db (value_of (D.disk dev.old).files self.old)) (D.disk dev.old) (D.disk dev.new) }
         ensures cause { HasCause D.disk_faults D.tell_faults dev.old dev.new (IsErrOf result LogError.Fault) }
     {
+        let room = self.spare_flushes.checked_add(1).ok_or(AllocError)?;
         if self.is_full() {
-            self.grow(alloc, dev)?;
+            self.grow(alloc, dev, room)?;
             return Ok(());
         }
-        self.gate.reserve(1)?;
+        self.gate.reserve(room)?;
         Ok(())
     }
 
@@ -302,15 +391,17 @@ impl Log {
         1 << 20 <= at + len
     }
 
-    // Begins a new segment.
-    fn grow<D: Device>(&mut self, alloc: Global, dev: &mut D) -> Result<(), LogError>
+    // Begins a new segment, with room for so many blobs.
+    fn grow<D: Device>(&mut self, alloc: Global, dev: &mut D, room: usize) -> Result<(), LogError>
         requires fit { self.old.failed ≡ false }
+        requires room { self.old.spare_flushes ≤ room }
         requires few { self.old.head.back + 1 ≤ self.old.head.gone + 65535 }
         requires small { self.old.head.back + 1 < 2 ^ 62 }
         requires stands { D.tells → IsLog (D.disk dev.old) self.old }
         ensures stands { D.tells → OnOk result (IsLog (D.disk dev.new) self.new) }
         ensures value { D.tells → OnOk result (value_of (D.disk dev.new).files self.new ≡ value_of (D.disk dev.old).files self.old) }
-        ensures spare { OnOk result (1 ≤ self.new.gate.spare) }
+        ensures spare { OnOk result (KeepsSpare self.old self.new) }
+        ensures room { OnOk result (room ≤ self.new.gate.spare) }
         ensures same { OnOk result (IsSame self.old self.new) }
         ensures fit { OnOk result (self.new.failed ≡ false) }
         ensures failed { IsErrOf result LogError.Fault → self.new.failed ≡ true }
@@ -326,7 +417,7 @@ impl Log {
         };
         self.segments.reserve(1)?;
         let segment = new_segment(alloc, self.db, head.back, self.stored)?;
-        let gate = match begin_segment(alloc, dev, self.db, head.back) {
+        let gate = match begin_segment(alloc, dev, self.db, head.back, room) {
             Ok(gate) => gate,
             Err(error) => {
                 self.failed = matches!(error, LogError::Fault);
@@ -341,15 +432,16 @@ impl Log {
         Ok(())
     }
 
-    // Seals the records that wait, by one place of the gate's spare.
-    fn seal<D: Device>(&mut self, dev: &mut D) -> Result<(), Failed>
+    // Seals the records that wait, by one place of the gate's spare, which leaves so many spare flushes.
+    fn seal<D: Device>(&mut self, dev: &mut D, flushes: usize) -> Result<(), Failed>
         requires fit { self.old.failed ≡ false }
-        requires spare { 1 ≤ self.old.gate.spare }
+        requires spare { flushes + 1 ≤ self.old.gate.spare }
         requires stands { D.tells → IsLog (D.disk dev.old) self.old }
         ensures stands { D.tells → OnOk result (IsLog (D.disk dev.new) self.new) }
         ensures value { D.tells → OnOk result (value_of (D.disk dev.new).files self.new ≡ with_more (value_of (D.disk dev.old).files self.old) self.old.waiting) }
-        ensures same { OnOk result ((self.new.db ≡ self.old.db) × (self.new.end ≡ self.old.end)) }
+        ensures same { OnOk result ((self.new.db ≡ self.old.db) × (self.new.end ≡ self.old.end) × (self.new.head ≡ self.old.head)) }
         ensures none { OnOk result ((self.new.waiting ≡ []) × (self.new.stored ≡ self.old.end)) }
+        ensures spare { OnOk result ((self.new.spare_bytes ≡ self.old.spare_bytes) × (self.new.spare_flushes ≡ flushes)) }
         ensures fit { OnOk result (self.new.failed ≡ false) }
         ensures failed { OnErr result (self.new.failed ≡ true) }
         ensures crash { D.tells → Effect (IsOwn self.old.db) (λ image. LogIs image self.old.db (value_of (D.disk dev.old).files self.old) ⊎ LogIs image self.old.db (with_more (value_of (D.disk dev.old).files self.old) self.old.waiting)) (D.disk dev.old) (D.disk dev.new) }
@@ -358,6 +450,7 @@ impl Log {
         self.gate.append_reserved(dev, &self.waiting)?;
         self.stored = self.end;
         self.waiting.clear();
+        self.spare_flushes = flushes;
         Ok(())
     }
 
@@ -395,6 +488,7 @@ impl Log {
         ensures stands { D.tells → OnOk result (IsLog (D.disk dev.new) self.new) }
         ensures value { D.tells → OnOk result (value_of (D.disk dev.new).files self.new ≡ record (value_of (D.disk dev.old).files self.old) { note = bytes.now }) }
         ensures same { OnOk result ((self.new.db ≡ self.old.db) × (self.new.stored ≡ self.old.stored) × (self.new.end ≡ self.old.end) × (self.new.waiting ≡ self.old.waiting)) }
+        ensures spare { OnOk result (KeepsSpare self.old self.new) }
         ensures fit { OnOk result (self.new.failed ≡ false) }
         ensures failed { OnErr result (self.new.failed ≡ true) }
         ensures crash { D.tells → Effect (IsOwn self.old.db) (λ image. LogIs image self.old.db (value_of (D.disk dev.old).files self.old) ⊎ LogIs image self.old.db (record (value_of (D.disk dev.old).files self.old) { note = bytes.now })) (D.disk dev.old) (D.disk dev.new) }
@@ -418,6 +512,7 @@ impl Log {
         ensures stands { D.tells → OnOk result (IsLog (D.disk dev.new) self.new) }
         ensures value { D.tells → OnOk result (value_of (D.disk dev.new).files self.new ≡ cut_at to (value_of (D.disk dev.old).files self.old)) }
         ensures same { OnOk result ((self.new.db ≡ self.old.db) × (self.new.stored ≡ self.old.stored) × (self.new.end ≡ self.old.end) × (self.new.waiting ≡ self.old.waiting)) }
+        ensures spare { OnOk result (KeepsSpare self.old self.new) }
         ensures fit { OnOk result (self.new.failed ≡ false) }
         ensures failed { OnErr result (self.new.failed ≡ true) }
         ensures least { OnOk result (IsFirstAt self.new.segments to) }
@@ -443,6 +538,7 @@ impl Log {
         ensures stands { D.tells → OnOk result (IsLog (D.disk dev.new) self.new) }
         ensures value { D.tells → OnOk result (value_of (D.disk dev.new).files self.new ≡ cut_at to (value_of (D.disk dev.old).files self.old)) }
         ensures same { OnOk result (IsSame self.old self.new) }
+        ensures spare { OnOk result (KeepsSpare self.old self.new) }
         ensures segments { OnOk result ((self.new.segments ≡ self.old.segments) × (self.new.head.front ≡ self.old.head.front)) }
         ensures fit { OnOk result (self.new.failed ≡ false) }
         ensures failed { OnErr result (self.new.failed ≡ true) }
@@ -470,6 +566,7 @@ impl Log {
         ensures stands { D.tells → OnOk result (IsLog (D.disk dev.new) self.new) }
         ensures value { D.tells → OnOk result (value_of (D.disk dev.new).files self.new ≡ cut_at to (value_of (D.disk dev.old).files self.old)) }
         ensures same { OnOk result (IsSame self.old self.new) }
+        ensures spare { OnOk result (KeepsSpare self.old self.new) }
         ensures segments { OnOk result (self.new.segments ≡ drop count self.old.segments) }
         ensures front { OnOk result (self.new.head.front ≡ self.old.head.front + count) }
         ensures fit { OnOk result (self.new.failed ≡ false) }
@@ -518,6 +615,7 @@ impl Log {
         ensures stands { D.tells → OnOk result (IsLog (D.disk dev.new) self.new) }
         ensures value { D.tells → OnOk result (value_of (D.disk dev.new).files self.new ≡ emptied at note.now) }
         ensures end { OnOk result ((self.new.db ≡ self.old.db) × (self.new.stored ≡ at) × (self.new.end ≡ at) × (self.new.waiting ≡ [])) }
+        ensures spare { OnOk result (KeepsSpare self.old self.new) }
         ensures fit { OnOk result (self.new.failed ≡ false) }
         ensures failed { IsErrOf result LogError.Fault → self.new.failed ≡ true }
         ensures no_memory { IsErrOf result LogError.NoMemory → self.new ≡ self.old }
@@ -531,7 +629,13 @@ impl Log {
         }
         let mut segments = Vec::new(alloc);
         add_segment(alloc, self.db, self.head.back + 1, at, &mut segments)?;
-        let gate = match begin_segment(alloc, dev, self.db, self.head.back + 1) {
+        let gate = match begin_segment(
+            alloc,
+            dev,
+            self.db,
+            self.head.back + 1,
+            self.spare_flushes,
+        ) {
             Ok(gate) => gate,
             Err(error) => {
                 self.failed = matches!(error, LogError::Fault);
@@ -550,7 +654,7 @@ impl Log {
         self.head.back - self.head.gone <= 65_535 && self.head.back + 1 < 1 << 62
     }
 
-    // Makes a segment without a blob the only one, and removes the others.
+    // Makes a segment with a blob without a byte the only one, and removes the others.
     fn empty<D: Device>(
         &mut self,
         dev: &mut D,
@@ -566,15 +670,17 @@ impl Log {
         requires gate_name { gate.name ≡ segment_file self.old.db (self.old.head.back + 1) }
         requires gate_none { gate.begun ≡ None }
         requires gate_fit { gate.failed ≡ false }
+        requires gate_spare { self.old.spare_flushes ≤ gate.spare }
         requires gate_stands { D.tells → IsGate (D.disk dev.old) gate }
         requires added { IsAdded [] segments.items self.old.db (self.old.head.back + 1) at }
         requires count { vec_len segments ≡ 1 }
         requires durable { D.tells → IsDurable (D.disk dev.old) (segment_file self.old.db (self.old.head.back + 1)) }
-        requires sealed { D.tells → blobs_at (D.disk dev.old).files self.old.db (self.old.head.back + 1) ≡ [] }
+        requires sealed { D.tells → blobs_at (D.disk dev.old).files self.old.db (self.old.head.back + 1) ≡ [] ∷ [] }
         requires stands { D.tells → IsLog (D.disk dev.old) self.old }
         ensures stands { D.tells → OnOk result (IsLog (D.disk dev.new) self.new) }
         ensures value { D.tells → OnOk result (value_of (D.disk dev.new).files self.new ≡ emptied at note.now) }
         ensures end { OnOk result ((self.new.db ≡ self.old.db) × (self.new.stored ≡ at) × (self.new.end ≡ at) × (self.new.waiting ≡ [])) }
+        ensures spare { OnOk result (KeepsSpare self.old self.new) }
         ensures fit { OnOk result (self.new.failed ≡ false) }
         ensures failed { OnErr result (self.new.failed ≡ true) }
         ensures crash { D.tells → Effect (IsOwn self.old.db) (λ image. LogIs image self.old.db (value_of (D.disk dev.old).files self.old) ⊎ LogIs image self.old.db (emptied at note.now)) (D.disk dev.old) (D.disk dev.new) }

@@ -1,5 +1,5 @@
 // Making the files of a log.
-ghost use Rattle.std.specs.Prelude.{◌≡◌, ◌≤◌, ◌⊎◌, [], None, Some, length, false, IfOk, OnOk, IsErrOf};
+ghost use Rattle.std.specs.Prelude.{◌≡◌, ◌≤◌, ◌⊎◌, ◌∷◌, [], None, Some, length, false, IfOk, OnOk, IsErrOf};
 ghost use Rattle.bk_control.specs.Control.{IsControl};
 ghost use Rattle.bk_control.specs.Slots.{control_of};
 ghost use Rattle.bk_device.specs.Counts.{HasCause};
@@ -14,7 +14,7 @@ use crate::names::{control_name, segment_name};
 use bk_control::{Control, ControlError};
 use bk_device::{Device, remove_durably};
 use bk_gate::{Gate, GateError};
-use std::alloc::Global;
+use std::alloc::{AllocError, Global};
 
 // Makes the control file of these bytes, in place of what was under the name.
 pub fn make_control<D: Device>(
@@ -40,14 +40,13 @@ pub fn make_control<D: Device>(
     }
 }
 
-// Makes a segment without a blob, in place of what was under the name.
-pub fn make_gate<D: Device>(alloc: Global, dev: &mut D, name: &str) -> Result<Gate, LogError>
+// Makes a gate file without a blob, in place of what was under the name.
+fn make_gate<D: Device>(alloc: Global, dev: &mut D, name: &str) -> Result<Gate, LogError>
     ensures name { IfOk result (λ g. g.name ≡ name.now) }
     ensures spans { IfOk result (λ g. g.spans ≡ []) }
     ensures none { IfOk result (λ g. g.begun ≡ None) }
     ensures failed { IfOk result (λ g. g.failed ≡ false) }
     ensures stands { D.tells → IfOk result (λ g. IsGate (D.disk dev.new) g) }
-    ensures durable { D.tells → OnOk result (IsDurable (D.disk dev.new) name.now) }
     ensures crash { D.tells → Effect (IsName name.now) (λ image. (D.disk dev.old).may name.now (image name.now) ⊎ (sealed (image name.now) ≡ [])) (D.disk dev.old) (D.disk dev.new) }
     ensures foreign { IsErrOf result LogError.Foreign → ⊥ }
     ensures cause { HasCause D.disk_faults D.tell_faults dev.old dev.new (IsErrOf result LogError.Fault) }
@@ -60,7 +59,7 @@ pub fn make_gate<D: Device>(alloc: Global, dev: &mut D, name: &str) -> Result<Ga
     }
 }
 
-// Makes the first segment without a blob and the control file of these bytes, which decides that there is a log.
+// Makes the control file of these bytes, and then the first segment, whose blob decides that there is a log.
 pub fn make_files<D: Device>(
     alloc: Global,
     dev: &mut D,
@@ -74,8 +73,8 @@ pub fn make_files<D: Device>(
     ensures failed { IfOk result (λ x. (x.0.failed ≡ false) × (x.1.failed ≡ false)) }
     ensures stands { D.tells → IfOk result (λ x. IsControl (D.disk dev.new) x.0 × IsGate (D.disk dev.new) x.1) }
     ensures durable { D.tells → OnOk result (IsDurable (D.disk dev.new) (segment_file db 1)) }
-    ensures sealed { D.tells → OnOk result (sealed ((D.disk dev.new).files (segment_file db 1)) ≡ []) }
-    ensures crash { D.tells → IsDurable (D.disk dev.old) (control_file db) → control_of ((D.disk dev.old).files (control_file db)) ≡ None → Effect (IsOwn db) (λ image. (control_of (image (control_file db)) ≡ None) ⊎ (control_of (image (control_file db)) ≡ Some bytes.now) × (sealed (image (segment_file db 1)) ≡ [])) (D.disk dev.old) (D.disk dev.new) }
+    ensures sealed { D.tells → OnOk result (sealed ((D.disk dev.new).files (segment_file db 1)) ≡ [] ∷ []) }
+    ensures crash { D.tells → IsDurable (D.disk dev.old) (control_file db) → control_of ((D.disk dev.old).files (control_file db)) ≡ None → Effect (IsOwn db) (λ image. (control_of (image (control_file db)) ≡ None) ⊎ (control_of (image (control_file db)) ≡ Some bytes.now) × ((sealed (image (segment_file db 1)) ≡ []) ⊎ (sealed (image (segment_file db 1)) ≡ [] ∷ []))) (D.disk dev.old) (D.disk dev.new) }
     ensures foreign { IsErrOf result LogError.Foreign → ⊥ }
     ensures cause { HasCause D.disk_faults D.tell_faults dev.old dev.new (IsErrOf result LogError.Fault) }
 {
@@ -83,30 +82,34 @@ pub fn make_files<D: Device>(
     let segment = segment_name(alloc, db, 1)?;
     remove_durably(dev, &segment)?;
     let control = make_control(alloc, dev, &name, bytes)?;
-    let gate = make_gate(alloc, dev, &segment)?;
+    let gate = begin_segment(alloc, dev, db, 1, 0)?;
     Ok((control, gate))
 }
 
-// Makes the segment of this number without a blob, in place of what was under its name.
+// Makes the segment of this number, in place of what was under its name, with room for so many blobs. A blob without a byte is
+// sealed in it: without one a segment doesn't count.
 pub fn begin_segment<D: Device>(
     alloc: Global,
     dev: &mut D,
     db: u32,
     n: u64,
+    room: usize,
 ) -> Result<Gate, LogError>
     ensures name { IfOk result (λ g. g.name ≡ segment_file db n) }
     ensures none { IfOk result (λ g. g.begun ≡ None) }
     ensures failed { IfOk result (λ g. g.failed ≡ false) }
-    ensures spare { IfOk result (λ g. 1 ≤ g.spare) }
+    ensures room { IfOk result (λ g. room ≤ g.spare) }
     ensures stands { D.tells → IfOk result (λ g. IsGate (D.disk dev.new) g) }
     ensures durable { D.tells → OnOk result (IsDurable (D.disk dev.new) (segment_file db n)) }
-    ensures sealed { D.tells → OnOk result (sealed ((D.disk dev.new).files (segment_file db n)) ≡ []) }
-    ensures crash { D.tells → Effect (IsName (segment_file db n)) (λ _. Unit {0}) (D.disk dev.old) (D.disk dev.new) }
+    ensures sealed { D.tells → OnOk result (sealed ((D.disk dev.new).files (segment_file db n)) ≡ [] ∷ []) }
+    ensures crash { D.tells → Effect (IsName (segment_file db n)) (λ image. (D.disk dev.old).may (segment_file db n) (image (segment_file db n)) ⊎ (sealed (image (segment_file db n)) ≡ []) ⊎ (sealed (image (segment_file db n)) ≡ [] ∷ [])) (D.disk dev.old) (D.disk dev.new) }
     ensures foreign { IsErrOf result LogError.Foreign → ⊥ }
     ensures cause { HasCause D.disk_faults D.tell_faults dev.old dev.new (IsErrOf result LogError.Fault) }
 {
     let name = segment_name(alloc, db, n)?;
+    let room = room.checked_add(1).ok_or(AllocError)?;
     let mut gate = make_gate(alloc, dev, &name)?;
-    gate.reserve(1)?;
+    gate.reserve(room)?;
+    gate.append_reserved(dev, &[])?;
     Ok(gate)
 }

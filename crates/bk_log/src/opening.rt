@@ -1,20 +1,17 @@
 // Opening the files of a log.
-ghost use Rattle.std.specs.Prelude.{◌≡◌, ◌≤◌, ◌<◌, ◌⊎◌, ◌^◌, ◌+◌, [], List, ℕ, None, Some, length, vec_len, vec_capacity, false, true, IfOk, OnOk, IsErrOf};
+ghost use Rattle.std.specs.Prelude.{◌≡◌, ◌≤◌, ◌<◌, ◌^◌, ◌+◌, [], List, ℕ, None, Some, length, vec_len, vec_capacity, false, true, IfOk, OnOk, IsErrOf};
 ghost use Rattle.bk_control.specs.Control.{IsControl};
 ghost use Rattle.bk_control.specs.Slots.{control_of};
 ghost use Rattle.bk_device.specs.Calls.{ChangesNothing};
 ghost use Rattle.bk_device.specs.Counts.{HasCause};
 ghost use Rattle.bk_device.specs.Disk.{IsDurable};
-ghost use Rattle.bk_device.specs.Effects.{Effect, IsName};
-ghost use Rattle.bk_gate.specs.Blobs.{sealed};
 ghost use Rattle.bk_gate.specs.Gate.{IsGate};
 ghost use Rattle.bk_log.specs.Control.{IsSound, read_control};
-ghost use Rattle.bk_log.specs.Log.{control_file, segment_file, blobs_at, blobs_of, AreSegments, IsForeign};
+ghost use Rattle.bk_log.specs.Log.{control_file, segment_file, blobs_at, blobs_of, AreBegun, AreSegments, IsForeign};
 ghost use Rattle.bk_log.specs.Records.{IsRun};
 
 use crate::error::LogError;
 use crate::head::{Head, add, is_sound, read_head};
-use crate::making::make_gate;
 use crate::names::{control_name, segment_name};
 use crate::segments::Segment;
 use crate::walk::{open_gate, walk_all};
@@ -83,6 +80,7 @@ pub fn find<D: Device>(alloc: Global, dev: &mut D, db: u32) -> Result<Found, Log
     ensures sound { IfOk result (λ f. IsSound f.head f.note.items) }
     ensures room { IfOk result (λ f. (32768 ≤ vec_capacity f.note) × (vec_len f.note ≤ 32768)) }
     ensures run { D.tells → IfOk result (λ f. IsRun f.head.first (blobs_of (D.disk dev.old).files db f.head) f.stored) }
+    ensures begun { D.tells → IfOk result (λ f. AreBegun (blobs_at (D.disk dev.old).files db) f.head) }
     ensures segments { D.tells → IfOk result (λ f. AreSegments (blobs_at (D.disk dev.old).files db) db f.head.front f.head.first f.segments.items) }
     ensures count { IfOk result (λ f. f.head.front + vec_len f.segments ≡ f.head.back + 1) }
     ensures inside { IfOk result (λ f. f.head.kept ≤ f.stored) }
@@ -106,22 +104,17 @@ pub fn find<D: Device>(alloc: Global, dev: &mut D, db: u32) -> Result<Found, Log
     })
 }
 
-// Opens the last segment. Where its making was cut short it is made anew.
+// Opens the last segment, and changes nothing.
 pub fn open_last<D: Device>(alloc: Global, dev: &mut D, db: u32, n: u64) -> Result<Gate, LogError>
     ensures name { IfOk result (λ g. g.name ≡ segment_file db n) }
     ensures none { IfOk result (λ g. g.begun ≡ None) }
     ensures failed { IfOk result (λ g. g.failed ≡ false) }
     ensures stands { D.tells → IsDurable (D.disk dev.old) (segment_file db n) → IfOk result (λ g. IsGate (D.disk dev.new) g) }
-    ensures durable { D.tells → IsDurable (D.disk dev.old) (segment_file db n) → OnOk result (IsDurable (D.disk dev.new) (segment_file db n)) }
-    ensures sealed { D.tells → OnOk result (sealed ((D.disk dev.new).files (segment_file db n)) ≡ sealed ((D.disk dev.old).files (segment_file db n))) }
-    ensures crash { D.tells → IsDurable (D.disk dev.old) (segment_file db n) → Effect (IsName (segment_file db n)) (λ image. sealed (image (segment_file db n)) ≡ sealed ((D.disk dev.old).files (segment_file db n))) (D.disk dev.old) (D.disk dev.new) }
-    ensures foreign { IsErrOf result LogError.Foreign → ⊥ }
+    ensures foreign { D.tells → IsErrOf result LogError.Foreign → blobs_at (D.disk dev.old).files db n ≡ [] }
+    ensures effect { D.tells → ChangesNothing (D.disk dev.old) (D.disk dev.new) }
     ensures cause { HasCause D.disk_faults D.tell_faults dev.old dev.new (IsErrOf result LogError.Fault) }
 {
     let name = segment_name(alloc, db, n)?;
-    if let Some(gate) = open_gate(alloc, dev, &name)? {
-        return Ok(gate);
-    }
-    let gate = make_gate(alloc, dev, &name)?;
+    let gate = open_gate(alloc, dev, &name)?;
     Ok(gate)
 }

@@ -2,68 +2,37 @@
 ghost use Rattle.std.specs.Prelude.{◌≡◌, ◌≤◌, ◌<◌, ◌+◌, ◌-◌, ◌^◌, ◌++◌, List, length, drop, take, IfOk, OnOk, IsErrOf, false};
 ghost use Rattle.std.specs.List.{flat_map, AllByRecursion};
 ghost use Rattle.bk_bytes.specs.Field.{number_of};
-ghost use Rattle.bk_device.specs.Calls.{contents, ChangesNothing};
+ghost use Rattle.bk_device.specs.Calls.{ChangesNothing};
 ghost use Rattle.bk_device.specs.Counts.{HasCause};
-ghost use Rattle.bk_gate.specs.Blobs.{sealed, spans_of, IsGateFile};
+ghost use Rattle.bk_gate.specs.Blobs.{blobs_in, IsGateFile};
 ghost use Rattle.bk_ids.specs.declared.record.Rec.{Rec};
 ghost use Rattle.bk_log.specs.Log.{blobs_at, blobs_from};
-ghost use Rattle.bk_log.specs.Records.{BlobThere, joined};
+ghost use Rattle.bk_log.specs.Records.{joined};
 ghost use Rattle.bk_record.specs.Spelling.{spelling, IsRecord};
 
 use crate::error::LogError;
 use crate::head::Head;
 use crate::names::segment_name;
-use crate::walk::{open_gate, read_blob};
+use crate::walk::read_gate;
 use bk_bytes::get_u32;
 use bk_device::Device;
-use bk_gate::Gate;
-use std::alloc::Global;
+use bk_gate::blob_behind;
+use std::alloc::{AllocError, Global};
 
-// Adds the bytes of a sealed blob.
-fn add_blob<D: Device>(
-    alloc: Global,
-    dev: &mut D,
-    gate: &Gate,
-    i: usize,
-    out: &mut Vec<u8>,
-) -> Result<(), LogError>
-    requires fit { gate.now.failed ≡ false }
-    requires there { i < length gate.now.spans }
-    requires spans { D.tells → gate.now.spans ≡ spans_of (contents ((D.disk dev.old).files gate.now.name)) }
-    requires gate_file { D.tells → IsGateFile (contents ((D.disk dev.old).files gate.now.name)) }
-    ensures added { D.tells → OnOk result (BlobThere (sealed ((D.disk dev.old).files gate.now.name)) i out.old.items out.new.items) }
-    ensures foreign { IsErrOf result LogError.Foreign → ⊥ }
-    ensures effect { D.tells → ChangesNothing (D.disk dev.old) (D.disk dev.new) }
-    ensures cause { HasCause D.disk_faults D.tell_faults dev.old dev.new (IsErrOf result LogError.Fault) }
+// Adds the bytes of all blobs of a gate file.
+fn add_blobs(file: &[u8], out: &mut Vec<u8>) -> Result<(), AllocError>
+    requires { 16 ≤ length file.now }
+    ensures { IsGateFile file.now → OnOk result (out.new.items ≡ out.old.items ++ joined (blobs_in file.now)) }
 {
-    let blob = read_blob(alloc, dev, gate, i)?;
-    out.extend_from_slice(&blob)?;
-    Ok(())
-}
-
-// Adds the bytes of all sealed blobs of a gate file.
-fn add_gate<D: Device>(
-    alloc: Global,
-    dev: &mut D,
-    gate: &Gate,
-    out: &mut Vec<u8>,
-) -> Result<(), LogError>
-    requires fit { gate.now.failed ≡ false }
-    requires spans { D.tells → gate.now.spans ≡ spans_of (contents ((D.disk dev.old).files gate.now.name)) }
-    requires gate_file { D.tells → IsGateFile (contents ((D.disk dev.old).files gate.now.name)) }
-    ensures added { D.tells → OnOk result (out.new.items ≡ out.old.items ++ joined (sealed ((D.disk dev.old).files gate.now.name))) }
-    ensures foreign { IsErrOf result LogError.Foreign → ⊥ }
-    ensures effect { D.tells → ChangesNothing (D.disk dev.old) (D.disk dev.new) }
-    ensures cause { HasCause D.disk_faults D.tell_faults dev.old dev.new (IsErrOf result LogError.Fault) }
-{
-    let count = gate.count();
-    for i in 0..count {
-        add_blob(alloc, dev, gate, i, out)?;
+    let mut gate = 16;
+    'blobs: while let Some(blob) = blob_behind(file, gate) {
+        out.extend_from_slice(blob)?;
+        gate += 9 + blob.len();
     }
     Ok(())
 }
 
-// Adds the bytes of all blobs of the segment of this number.
+// Adds the bytes of all blobs of the segment of this number, which has none where it is no gate file.
 fn add_segment<D: Device>(
     alloc: Global,
     dev: &mut D,
@@ -77,10 +46,12 @@ fn add_segment<D: Device>(
     ensures cause { HasCause D.disk_faults D.tell_faults dev.old dev.new (IsErrOf result LogError.Fault) }
 {
     let name = segment_name(alloc, db, n)?;
-    let Some(gate) = open_gate(alloc, dev, &name)? else {
-        return Ok(());
+    let file = match read_gate(alloc, dev, &name) {
+        Ok(file) => file,
+        Err(LogError::Foreign) => return Ok(()),
+        Err(error) => return Err(error),
     };
-    add_gate(alloc, dev, &gate, out)?;
+    add_blobs(&file, out)?;
     Ok(())
 }
 

@@ -1,19 +1,20 @@
 // Walking over the records of segments, to find where they end.
-ghost use Rattle.std.specs.Prelude.{◌≡◌, ◌≤◌, ◌<◌, ◌+◌, ◌-◌, ◌^◌, [], ℕ, None, Some, length, vec_len, slice_get, IfOk, IfSome, OnOk, IsErrOf, IsNone, false};
+ghost use Rattle.std.specs.Prelude.{◌≡◌, ◌≢◌, ◌≤◌, ◌<◌, ◌+◌, ◌-◌, ◌^◌, [], ℕ, None, Some, length, vec_len, IfOk, IfSome, OnOk, IsErrOf, IsNone, false};
+ghost use Rattle.std.specs.Bool.{MatchBool};
 ghost use Rattle.bk_device.specs.Calls.{contents, ChangesNothing};
 ghost use Rattle.bk_device.specs.Counts.{HasCause};
 ghost use Rattle.bk_device.specs.Disk.{IsDurable};
-ghost use Rattle.bk_gate.specs.Blobs.{sealed, spans_of, IsGateFile};
+ghost use Rattle.bk_gate.specs.Blobs.{blobs_in, sealed, spans_of, IsGateFile};
 ghost use Rattle.bk_gate.specs.Gate.{IsGate};
-ghost use Rattle.bk_log.specs.Log.{blobs_at, blobs_from, segment_file, AreSegments};
-ghost use Rattle.bk_log.specs.Records.{IsPart, IsRun, PartAt, StuckAt};
+ghost use Rattle.bk_log.specs.Log.{blobs_at, blobs_from, AreBegun, AreSegments};
+ghost use Rattle.bk_log.specs.Records.{IsPart, IsRun};
 
 use crate::error::LogError;
 use crate::head::Head;
 use crate::names::segment_name;
 use crate::segments::{Segment, add_segment};
 use bk_device::Device;
-use bk_gate::{Gate, GateError};
+use bk_gate::{Gate, GateError, blob_behind, read_file};
 use bk_record::cursor;
 use std::alloc::Global;
 
@@ -35,98 +36,67 @@ fn walk_blob(bytes: &[u8], from: u64) -> Option<u64>
     Some(at)
 }
 
-// The gate file of this name, if it is one.
-pub fn open_gate<D: Device>(
-    alloc: Global,
-    dev: &mut D,
-    name: &str,
-) -> Result<Option<Gate>, LogError>
-    ensures none { D.tells → IfOk result (λ found. IsNone found → sealed ((D.disk dev.old).files name.now) ≡ []) }
-    ensures name { IfOk result (λ found. IfSome found (λ g. g.name ≡ name.now)) }
-    ensures gate_file { D.tells → IfOk result (λ found. IfSome found (λ g. IsGateFile (contents ((D.disk dev.old).files name.now)))) }
-    ensures spans { D.tells → IfOk result (λ found. IfSome found (λ g. g.spans ≡ spans_of (contents ((D.disk dev.old).files name.now)))) }
-    ensures begun { IfOk result (λ found. IfSome found (λ g. g.begun ≡ None)) }
-    ensures failed { IfOk result (λ found. IfSome found (λ g. g.failed ≡ false)) }
-    ensures stands { D.tells → IsDurable (D.disk dev.old) name.now → IfOk result (λ found. IfSome found (λ g. IsGate (D.disk dev.new) g)) }
-    ensures foreign { IsErrOf result LogError.Foreign → ⊥ }
+// Opens a gate file, and changes nothing.
+pub fn open_gate<D: Device>(alloc: Global, dev: &mut D, name: &str) -> Result<Gate, LogError>
+    ensures name { IfOk result (λ g. g.name ≡ name.now) }
+    ensures gate_file { D.tells → OnOk result (IsGateFile (contents ((D.disk dev.old).files name.now))) }
+    ensures spans { D.tells → IfOk result (λ g. g.spans ≡ spans_of (contents ((D.disk dev.old).files name.now))) }
+    ensures begun { IfOk result (λ g. g.begun ≡ None) }
+    ensures failed { IfOk result (λ g. g.failed ≡ false) }
+    ensures stands { D.tells → IsDurable (D.disk dev.old) name.now → IfOk result (λ g. IsGate (D.disk dev.new) g) }
+    ensures foreign { D.tells → IsErrOf result LogError.Foreign → sealed ((D.disk dev.old).files name.now) ≡ [] }
     ensures effect { D.tells → ChangesNothing (D.disk dev.old) (D.disk dev.new) }
     ensures cause { HasCause D.disk_faults D.tell_faults dev.old dev.new (IsErrOf result LogError.Fault) }
 {
     match Gate::load(alloc, dev, name) {
-        Ok(gate) => Ok(Some(gate)),
-        Err(GateError::Foreign) => Ok(None),
+        Ok(gate) => Ok(gate),
+        Err(GateError::Foreign) => Err(LogError::Foreign),
         Err(GateError::Fault) => Err(LogError::Fault),
         Err(GateError::NoMemory) => Err(LogError::NoMemory),
     }
 }
 
-// The bytes of a sealed blob.
-pub fn read_blob<D: Device>(
-    alloc: Global,
-    dev: &mut D,
-    gate: &Gate,
-    i: usize,
-) -> Result<Vec<u8>, LogError>
-    requires fit { gate.now.failed ≡ false }
-    requires there { i < length gate.now.spans }
-    requires spans { D.tells → gate.now.spans ≡ spans_of (contents ((D.disk dev.old).files gate.now.name)) }
-    requires gate_file { D.tells → IsGateFile (contents ((D.disk dev.old).files gate.now.name)) }
-    ensures bytes { D.tells → IfOk result (λ bytes. slice_get (sealed ((D.disk dev.old).files gate.now.name)) i ≡ Some bytes.items) }
-    ensures foreign { IsErrOf result LogError.Foreign → ⊥ }
+// The bytes of a gate file, in one read.
+pub fn read_gate<D: Device>(alloc: Global, dev: &mut D, name: &str) -> Result<Vec<u8>, LogError>
+    ensures gate_file { D.tells → OnOk result (IsGateFile (contents ((D.disk dev.old).files name.now))) }
+    ensures bytes { D.tells → IfOk result (λ file. file.items ≡ contents ((D.disk dev.old).files name.now)) }
+    ensures room { IfOk result (λ file. 16 ≤ vec_len file) }
+    ensures foreign { D.tells → IsErrOf result LogError.Foreign → sealed ((D.disk dev.old).files name.now) ≡ [] }
     ensures effect { D.tells → ChangesNothing (D.disk dev.old) (D.disk dev.new) }
     ensures cause { HasCause D.disk_faults D.tell_faults dev.old dev.new (IsErrOf result LogError.Fault) }
 {
-    match gate.read(alloc, dev, i) {
-        Ok(bytes) => Ok(bytes),
-        Err(GateError::Foreign) => unreachable!(),
+    match read_file(alloc, dev, name) {
+        Ok(file) => Ok(file),
+        Err(GateError::Foreign) => Err(LogError::Foreign),
         Err(GateError::Fault) => Err(LogError::Fault),
         Err(GateError::NoMemory) => Err(LogError::NoMemory),
     }
 }
 
-// The number behind that of the last record of a segment's blob.
-fn walk_next<D: Device>(
-    alloc: Global,
-    dev: &mut D,
-    gate: &Gate,
-    i: usize,
-    from: u64,
-) -> Result<u64, LogError>
-    requires fit { gate.now.failed ≡ false }
-    requires there { i < length gate.now.spans }
-    requires spans { D.tells → gate.now.spans ≡ spans_of (contents ((D.disk dev.old).files gate.now.name)) }
-    requires gate_file { D.tells → IsGateFile (contents ((D.disk dev.old).files gate.now.name)) }
-    ensures walked { D.tells → IfOk result (λ to. PartAt (sealed ((D.disk dev.old).files gate.now.name)) i from to) }
-    ensures foreign { D.tells → IsErrOf result LogError.Foreign → StuckAt (sealed ((D.disk dev.old).files gate.now.name)) i from }
-    ensures effect { D.tells → ChangesNothing (D.disk dev.old) (D.disk dev.new) }
-    ensures cause { HasCause D.disk_faults D.tell_faults dev.old dev.new (IsErrOf result LogError.Fault) }
-{
-    let bytes = read_blob(alloc, dev, gate, i)?;
-    match walk_blob(&bytes, from) {
-        Some(to) => Ok(to),
-        None => Err(LogError::Foreign),
-    }
-}
-
-// The number behind that of the last record of a segment.
-fn walk_gate<D: Device>(alloc: Global, dev: &mut D, gate: &Gate, from: u64) -> Result<u64, LogError>
-    requires fit { gate.now.failed ≡ false }
-    requires spans { D.tells → gate.now.spans ≡ spans_of (contents ((D.disk dev.old).files gate.now.name)) }
-    requires gate_file { D.tells → IsGateFile (contents ((D.disk dev.old).files gate.now.name)) }
-    ensures run { D.tells → IfOk result (λ to. IsRun from (sealed ((D.disk dev.old).files gate.now.name)) to) }
-    ensures foreign { D.tells → IsErrOf result LogError.Foreign → (to : ℕ) → IsRun from (sealed ((D.disk dev.old).files gate.now.name)) to → to < 2 ^ 64 → ⊥ }
-    ensures effect { D.tells → ChangesNothing (D.disk dev.old) (D.disk dev.new) }
-    ensures cause { HasCause D.disk_faults D.tell_faults dev.old dev.new (IsErrOf result LogError.Fault) }
+// The number behind that of the last record in the blobs of a gate file.
+fn walk_file(file: &[u8], from: u64) -> Option<u64>
+    requires { 16 ≤ length file.now }
+    ensures run { IsGateFile file.now → IfSome result (λ to. IsRun from (blobs_in file.now) to) }
+    ensures none { IsGateFile file.now → IsNone result → (to : ℕ) → IsRun from (blobs_in file.now) to → to < 2 ^ 64 → ⊥ }
 {
     let mut at = from;
-    let count = gate.count();
-    for i in 0..count {
-        at = walk_next(alloc, dev, gate, i, at)?;
+    let mut gate = 16;
+    'blobs: while let Some(blob) = blob_behind(file, gate) {
+        at = walk_blob(blob, at)?;
+        gate += 9 + blob.len();
     }
-    Ok(at)
+    Some(at)
 }
 
-// The number behind that of the last record of the segment of this number, which has no record where it is no gate file.
+// Whether a gate file has a blob.
+fn has_blob(file: &[u8]) -> bool
+    requires { 16 ≤ length file.now }
+    ensures { IsGateFile file.now → MatchBool result (blobs_in file.now ≢ []) (blobs_in file.now ≡ []) }
+{
+    blob_behind(file, 16).is_some()
+}
+
+// The number behind that of the last record of the segment of this number, which has a blob.
 fn walk_segment<D: Device>(
     alloc: Global,
     dev: &mut D,
@@ -135,14 +105,19 @@ fn walk_segment<D: Device>(
     from: u64,
 ) -> Result<u64, LogError>
     ensures run { D.tells → IfOk result (λ to. IsRun from (blobs_at (D.disk dev.old).files db n) to) }
-    ensures foreign { D.tells → IsErrOf result LogError.Foreign → (to : ℕ) → IsRun from (blobs_at (D.disk dev.old).files db n) to → to < 2 ^ 64 → ⊥ }
+    ensures begun { D.tells → OnOk result (blobs_at (D.disk dev.old).files db n ≢ []) }
+    ensures foreign { D.tells → IsErrOf result LogError.Foreign → (to : ℕ) → IsRun from (blobs_at (D.disk dev.old).files db n) to → to < 2 ^ 64 → blobs_at (D.disk dev.old).files db n ≢ [] → ⊥ }
     ensures effect { D.tells → ChangesNothing (D.disk dev.old) (D.disk dev.new) }
     ensures cause { HasCause D.disk_faults D.tell_faults dev.old dev.new (IsErrOf result LogError.Fault) }
 {
     let name = segment_name(alloc, db, n)?;
-    match open_gate(alloc, dev, &name)? {
-        Some(gate) => walk_gate(alloc, dev, &gate, from),
-        None => Ok(from),
+    let file = read_gate(alloc, dev, &name)?;
+    if !has_blob(&file) {
+        return Err(LogError::Foreign);
+    }
+    match walk_file(&file, from) {
+        Some(to) => Ok(to),
+        None => Err(LogError::Foreign),
     }
 }
 
@@ -163,9 +138,10 @@ pub fn walk_all<D: Device>(
     requires order { head.front ≤ head.back }
     requires small { head.back < 2 ^ 62 }
     ensures run { D.tells → IfOk result (λ w. IsRun head.first (blobs_from (blobs_at (D.disk dev.old).files db) head.front (head.back - head.front + 1)) w.end) }
+    ensures begun { D.tells → OnOk result (AreBegun (blobs_at (D.disk dev.old).files db) head) }
     ensures segments { D.tells → IfOk result (λ w. AreSegments (blobs_at (D.disk dev.old).files db) db head.front head.first w.segments.items) }
     ensures count { IfOk result (λ w. head.front + vec_len w.segments ≡ head.back + 1) }
-    ensures foreign { D.tells → IsErrOf result LogError.Foreign → (to : ℕ) → IsRun head.first (blobs_from (blobs_at (D.disk dev.old).files db) head.front (head.back - head.front + 1)) to → to < 2 ^ 64 → ⊥ }
+    ensures foreign { D.tells → IsErrOf result LogError.Foreign → (to : ℕ) → IsRun head.first (blobs_from (blobs_at (D.disk dev.old).files db) head.front (head.back - head.front + 1)) to → to < 2 ^ 64 → AreBegun (blobs_at (D.disk dev.old).files db) head → ⊥ }
     ensures effect { D.tells → ChangesNothing (D.disk dev.old) (D.disk dev.new) }
     ensures cause { HasCause D.disk_faults D.tell_faults dev.old dev.new (IsErrOf result LogError.Fault) }
 {

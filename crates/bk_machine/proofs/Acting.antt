@@ -4,12 +4,13 @@ use Rattle.bk_ids.specs.declared.path.Branch.{Branch}
 use Rattle.bk_world.specs.Lines.{log_below}
 use Rattle.bk_world.specs.Records.{Counts, Said}
 use Rattle.bk_world.specs.GrowthLaws.{records-grown}
-use Rattle.bk_machine.specs.Acts.{Act, Recovery, turned, created, dropped, logged, medium_made, set_sealed, based, replaced, restored, recovered, done, done_all, goes_online, says, where_found}
+use Rattle.bk_machine.specs.Acts.{Act, Recovery, turned, seated, created, dropped, logged, medium_made, set_sealed, based, replaced, restored, recovered, done, done_all, goes_online, says, where_found}
 use Rattle.bk_machine.specs.MayDo.{HoldsOf, MayDo, MayDoAll, MayLog, MayRecover}
 use Rattle.bk_machine.specs.Sound.{IsSound}
-use Rattle.bk_machine.specs.World.{World, Database, Open, database_named}
+use Rattle.bk_world.specs.declared.transaction.Open.{Open}
+use Rattle.bk_machine.specs.World.{World, Database, database_named}
 use Rattle.bk_machine.proofs.ActsBegin.{created-follows, created-sound, recovered-follows, recovered-sound}
-use Rattle.bk_machine.proofs.ActsPlain.{based-follows, based-sound, dropped-follows, dropped-sound, medium_made-follows, medium_made-sound, replaced-follows, replaced-sound, restored-follows, restored-sound, sealed-follows, sealed-sound, turned-follows, turned-sound}
+use Rattle.bk_machine.proofs.ActsPlain.{based-follows, based-sound, dropped-follows, dropped-sound, medium_made-follows, medium_made-sound, replaced-follows, replaced-sound, restored-follows, restored-sound, sealed-follows, sealed-sound, seated-follows, seated-sound, turned-follows, turned-sound}
 use Rattle.bk_machine.proofs.ActsSays.{says-follows, says-opens, says-whole}
 use Rattle.bk_machine.proofs.ActsStay.{Follows}
 use Rattle.bk_machine.specs.NamedLaws.{named-own}
@@ -20,7 +21,7 @@ record Keeps (old new : World) : Type 0 where
   pub sound : IsSound new
 
 logged-keeps : (w : World) (name : List ℕ) (said : List Said) (transactions : List Open) → IsSound w → MayDo w (logged name said transactions) → Keeps w (done w (logged name said transactions))
-unfolding done
+unfolding done says
 logged-keeps w name said transactions is may = by (database_named w.databases name) refl may
   where
     by : (o : Option Database) → database_named w.databases name ≡ o → HoldsOf o (λ db. MayLog w db said transactions) → Keeps w (where_found w o (λ db. says w db said transactions))
@@ -28,7 +29,7 @@ logged-keeps w name said transactions is may = by (database_named w.databases na
     by (Some db) there holds =
         let own : database_named w.databases db.name ≡ Some db = named-own w.databases name db there in record {
           follows = says-follows w db said transactions is.whole own holds.says;
-          sound = record { whole = says-whole w db said transactions is.whole own holds.says; opens = says-opens w db said transactions is.whole own holds.says is.opens holds.opens };
+          sound = record { whole = says-whole w db said transactions is.whole own holds.says; opens = says-opens w db said transactions is.whole own holds.says is.opens holds.opens; seat = is.seat };
         }
 
 recovered-keeps : (w : World) (name : List ℕ) (r : Recovery) → IsSound w → MayDo w (recovered name r) → Keeps w (done w (recovered name r))
@@ -43,6 +44,7 @@ recovered-keeps w name r is may = by (database_named w.databases name) refl may
 
 act-keeps : (w : World) (act : Act) → IsSound w → MayDo w act → Keeps w (done w act)
 act-keeps w (turned name) is may = record { follows = turned-follows w is name; sound = turned-sound w is name }
+act-keeps w (seated session) is may = record { follows = seated-follows w is session may; sound = seated-sound w is session may }
 act-keeps w (created c) is may = record { follows = created-follows w c is may; sound = created-sound w c is may }
 act-keeps w (dropped name) is may = record { follows = dropped-follows w is name; sound = dropped-sound w is name }
 act-keeps w (logged name said transactions) is may = logged-keeps w name said transactions is may

@@ -21,9 +21,10 @@ use Rattle.bk_world.specs.Telling.{entries, entries_from, entry_of, model, table
 use Rattle.bk_world.specs.BranchLaws.{branch_at-last}
 use Rattle.bk_machine.specs.Acts.{Recovery, created, creation_said, done, drawn, forked, goes_online, gone_online, new_database, new_line}
 use Rattle.bk_machine.specs.MayDo.{MayCreate, MayRecover}
-use Rattle.bk_machine.specs.Sound.{AreApart, AreNumbered, AreOpen, ArePlaced, Differ, IsIdle, IsLog, IsNotToCome, IsPassed, IsPlaced, IsSound, IsSoundLine, IsWholeDatabase, OpenBy, has_begin}
+use Rattle.bk_machine.specs.Sound.{AreApart, HasFew, KeepsAll, AreNumbered, AreOpen, ArePlaced, Differ, IsIdle, IsLog, IsNotToCome, IsPassed, IsPlaced, IsSound, IsSoundLine, IsWholeDatabase, OpenBy, has_begin}
 use Rattle.bk_machine.specs.statements.Restore.{IsOfRecovery, Recovers, is_recovery_deed}
-use Rattle.bk_machine.specs.World.{World, Database, Open, database_named, log_of, log_to}
+use Rattle.bk_world.specs.declared.transaction.Open.{Open}
+use Rattle.bk_machine.specs.World.{World, Database, database_named, log_of, log_to, most_sessions}
 use Rattle.bk_machine.proofs.ActsLogs.{log-of-front, log-of-more, tables-quiet}
 use Rattle.bk_machine.proofs.ActsStay.{Follows, database-stays, lines-stay, media-stay, open-stays}
 use Rattle.bk_machine.proofs.Forking.{all-forked, branch_at-forked, goes_on-forked, last-forked, log-forked, path-forked, starts-forked}
@@ -125,7 +126,7 @@ module _ (w : World) (c : Creation) (is : IsSound w) (may : MayCreate w c) where
   created-open : OpenBy (done w (created c)).history (new_database c)
   unfolding done new_database log_below pending
   created-open =
-      on_branch-open w (done w (created c)) created-follows [] 1 c.branch (creation_said c) refl tt (omega arith) (new_database c) (record { pending = tt; loads = tt; apart = tt; begins = tt })
+      on_branch-open w (done w (created c)) created-follows [] 1 c.branch (creation_said c) refl tt (omega arith) (new_database c) (record { pending = tt; loads = tt; apart = tt; begins = tt; few = tt; seats = tt; kept = tt })
 
   created-others : (dbs : List Database) → AllByRecursion (IsWholeDatabase w) dbs → AllByRecursion (IsWholeDatabase (done w (created c))) dbs
   unfolding done
@@ -154,6 +155,7 @@ module _ (w : World) (c : Creation) (is : IsSound w) (may : MayCreate w c) where
     };
     opens = all-one_more (OpenBy (done w (created c)).history) w.databases (new_database c)
         (all_both (IsWholeDatabase w) (OpenBy w.history) (OpenBy (done w (created c)).history) (open-stays w (done w (created c)) created-follows) w.databases is.whole.databases is.opens) created-open;
+    seat = is.seat;
   }
 
 -- RESTORE, its last part: what the recovery says.
@@ -234,6 +236,9 @@ none-open rs end transactions nothing none = record {
   loads = subst (λ ws. AllByRecursion (λ (w : Pending). w.extents ≡ []) ws) (sym nothing) tt;
   apart = subst AreApart (sym none) tt;
   begins = subst (λ ts. AllByRecursion (λ (t : Open). (0 < t.begin) × (t.begin < end)) ts) (sym none) tt;
+  few = subst (λ ts. AllByRecursion (HasFew rs) ts) (sym none) tt;
+  seats = subst (λ ts. AllByRecursion (λ (t : Open). t.session ≤ most_sessions) ts) (sym none) tt;
+  kept = subst (λ ts. AllByRecursion (KeepsAll rs) ts) (sym none) tt;
 }
 
 module _ (w : World) (db : Database) (r : Recovery) (is : IsSound w) (there : database_named w.databases db.name ≡ Some db) (may : MayRecover w db r) where
@@ -340,4 +345,5 @@ module _ (w : World) (db : Database) (r : Recovery) (is : IsSound w) (there : da
     };
     opens = all-changed (λ o. IsWholeDatabase w o × OpenBy w.history o) (OpenBy (goes_online w db r).history) w.databases db.name db online-there both is.whole.different there (λ one. open-there)
         (λ o one differ. open-stays w (goes_online w db r) recovered-follows o one.0 one.1);
+    seat = is.seat;
   }

@@ -10,9 +10,9 @@ use Rattle.bk_world.specs.declared.header.Header.{Header}
 use Rattle.bk_world.specs.Lines.{Grew, MayGoOn}
 use Rattle.bk_world.specs.ListLaws.{all_filter, all_joined}
 use Rattle.bk_world.specs.Medium.{Reading, readable, not_media, medium, medium_at, without_medium}
-use Rattle.bk_machine.specs.Acts.{based, based_on, done, dropped, medium_made, replaced, restored, set_sealed, taken_over, turned, units_in, with_slot}
+use Rattle.bk_machine.specs.Acts.{based, based_on, done, dropped, medium_made, replaced, restored, seated, set_sealed, taken_over, turned, units_in, with_slot}
 use Rattle.bk_machine.specs.Sound.{AreDifferent, IsOnce, IsSound, IsSoundLine, IsSoundReading, IsSoundSet, IsSoundSlot, IsWhole, IsWholeDatabase, OpenBy}
-use Rattle.bk_machine.specs.World.{World, Database, log_of}
+use Rattle.bk_machine.specs.World.{World, Database, log_of, most_sessions}
 use Rattle.bk_machine.proofs.ActsStay.{Follows, database-stays, lines-stay, media-stay, open-retouched, whole-retouched}
 use Rattle.bk_machine.proofs.Histories.{grew-same}
 use Rattle.bk_machine.specs.NamedLaws.{all-placed, all-with, all-without, different-placed, different-with, different-without}
@@ -26,6 +26,7 @@ record Plain (old new : World) : Type 0 where
   pub different : AreDifferent new.databases
   pub opens : AllByRecursion (OpenBy old.history) new.databases
   pub media : AllByRecursion (λ (m : List ℕ × Reading). IsSoundReading old m.1) new.media
+  pub seat : new.session ≤ most_sessions
 
 plain-follows : (old new : World) → Plain old new → Follows old new
 plain-follows old new plain = record { instance = plain.instance; counter = plain.counter; grew = subst (λ h. Grew old.history h) (sym plain.history) (grew-same old.history) }
@@ -41,6 +42,7 @@ plain-sound old new plain whole =
         media = media-stay old new on new.media plain.media;
       };
       opens = subst (λ h. AllByRecursion (OpenBy h) new.databases) (sym plain.history) plain.opens;
+      seat = plain.seat;
     }
   where
     goes : (db : Database) → IsWholeDatabase old db → db.status ≡ Online → MayGoOn new.history db.path db.end
@@ -55,13 +57,25 @@ module _ (w : World) (is : IsSound w) where
 
   turned-plain : (name : Option (List ℕ)) → Plain w (done w (turned name))
   unfolding done
-  turned-plain name = record { instance = refl; counter = omega arith; history = refl; databases = is.whole.databases; different = is.whole.different; opens = is.opens; media = is.whole.media }
+  turned-plain name = record { instance = refl; counter = omega arith; history = refl; databases = is.whole.databases; different = is.whole.different; opens = is.opens; media = is.whole.media; seat = is.seat }
 
   pub turned-sound : (name : Option (List ℕ)) → IsSound (done w (turned name))
   turned-sound name = plain-sound w (done w (turned name)) (turned-plain name) is.whole
 
   pub turned-follows : (name : Option (List ℕ)) → Follows w (done w (turned name))
   turned-follows name = plain-follows w (done w (turned name)) (turned-plain name)
+
+  -- another session
+
+  seated-plain : (session : ℕ) → session ≤ most_sessions → Plain w (done w (seated session))
+  unfolding done
+  seated-plain session seat = record { instance = refl; counter = omega arith; history = refl; databases = is.whole.databases; different = is.whole.different; opens = is.opens; media = is.whole.media; seat = seat }
+
+  pub seated-sound : (session : ℕ) → session ≤ most_sessions → IsSound (done w (seated session))
+  seated-sound session seat = plain-sound w (done w (seated session)) (seated-plain session seat) is.whole
+
+  pub seated-follows : (session : ℕ) → session ≤ most_sessions → Follows w (done w (seated session))
+  seated-follows session seat = plain-follows w (done w (seated session)) (seated-plain session seat)
 
   -- DROP DATABASE
 
@@ -75,6 +89,7 @@ module _ (w : World) (is : IsSound w) where
     different = different-without w.databases name is.whole.different;
     opens = all-without (OpenBy w.history) w.databases name is.opens;
     media = is.whole.media;
+    seat = is.seat;
   }
 
   pub dropped-sound : (name : List ℕ) → IsSound (done w (dropped name))
@@ -98,6 +113,7 @@ module _ (w : World) (is : IsSound w) where
     different = is.whole.different;
     opens = is.opens;
     media = (tt, without path);
+    seat = is.seat;
   }
 
   pub medium_made-sound : (path : List ℕ) → IsSound (done w (medium_made path))
@@ -130,6 +146,7 @@ module _ (w : World) (is : IsSound w) where
     different = is.whole.different;
     opens = is.opens;
     media = (slotted header set path w.media is.whole.media, without path);
+    seat = is.seat;
   }
 
   pub sealed-sound : (path : List ℕ) (header : Header) → IsSoundSet w header → IsSound (done w (set_sealed path header))
@@ -151,6 +168,7 @@ module _ (w : World) (is : IsSound w) where
         opens = all-with (OpenBy w.history) (OpenBy w.history) w.databases name (based_on header) is.opens
             (λ o one. open-retouched w o (next o).archive o.kept o.checkpoint (next o).chain (next o).began (next o).base o.units one) (λ o one. one);
         media = is.whole.media;
+        seat = is.seat;
       }
 
   pub based-sound : (name : List ℕ) (header : Header) → IsSound (done w (based name header))
@@ -173,6 +191,7 @@ module _ (w : World) (is : IsSound w) where
     opens = all-with (OpenBy w.history) (OpenBy w.history) w.databases name _ is.opens
         (λ o one. open-retouched w o o.archive o.kept o.checkpoint o.chain o.began o.base (units_in (state.Restoring base redo) o.units) one) (λ o one. one);
     media = is.whole.media;
+    seat = is.seat;
   }
 
   pub restored-sound : (name : List ℕ) (base : Option Base) (redo : ℕ) → IsSound (done w (restored name base redo))
@@ -211,6 +230,7 @@ module _ (w : World) (is : IsSound w) where
     different = different-placed w.databases (taken_over name header) is.whole.different (λ o apart. record { names = λ same. apart (sym same); branches = λ up. none-online up });
     opens = all-placed (OpenBy w.history) (OpenBy w.history) w.databases (taken_over name header) is.opens (taken_over-open name header) (λ o one. one);
     media = is.whole.media;
+    seat = is.seat;
   }
 
   pub replaced-sound : (name : List ℕ) (header : Header) → IsSoundSet w header → IsSound (done w (replaced name header))

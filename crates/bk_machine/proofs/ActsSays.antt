@@ -16,7 +16,8 @@ use Rattle.bk_world.specs.SaidLaws.{GoesOn-said, records-said}
 use Rattle.bk_machine.specs.Acts.{gone_on, kept_after, pointed, pointed_by, says}
 use Rattle.bk_machine.specs.MayDo.{MaySay}
 use Rattle.bk_machine.specs.Sound.{AreDifferent, AreOpen, Differ, IsLog, IsOnce, IsOnline, IsSound, IsSoundLine, IsWhole, IsWholeDatabase, OpenBy, RiseFrom}
-use Rattle.bk_machine.specs.World.{World, Database, Open, database_named, log_of, with_database}
+use Rattle.bk_world.specs.declared.transaction.Open.{Open}
+use Rattle.bk_machine.specs.World.{World, Database, database_named, log_of, with_database}
 use Rattle.bk_machine.proofs.ActsLogs.{log-of-more}
 use Rattle.bk_machine.proofs.ActsStay.{Follows, database-stays, line-stays, media-stay, open-stays}
 use Rattle.bk_machine.proofs.Histories.{before-or-not, counts-positive, goes_on-elsewhere, grew-said, lines-said, not_to_come-later, once-said, passed-grew, path-later, rise-said}

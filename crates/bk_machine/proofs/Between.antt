@@ -1,41 +1,36 @@
 -- Between two acts of a statement or a run, in a sound world in which nothing is open.
-use Rattle.std.proofs.Common.{◌≡◌, ◌≤◌, ℕ, ◌+◌, List, [], ◌∷◌, ◌++◌, take, drop, length, None, refl, sym, ◌∙◌, ap, subst, arith}
+use Rattle.std.proofs.Common.{◌≡◌, ◌≤◌, ℕ, ◌+◌, List, [], ◌∷◌, take, drop, length, refl, sym, ap, subst, arith}
 use Rattle.std.specs.List.{AllByRecursion, AllZip}
 use Rattle.std.proofs.lemmas.List.{append-nil}
 use Rattle.bk_items.specs.declared.item.ScriptEntry.{ScriptEntry}
-use Rattle.bk_world.specs.Cut.{end_behind, settled}
+use Rattle.bk_world.specs.Cut.{settled}
 use Rattle.bk_world.specs.Pending.{pending}
-use Rattle.bk_world.specs.Records.{Logged, numbered}
+use Rattle.bk_world.specs.Records.{Logged}
 use Rattle.bk_world.specs.Lines.{RecordLine, RecordLines}
-use Rattle.bk_world.specs.Says.{settle_said}
 use Rattle.bk_world.specs.declared.database.Status.{Status}
 use Rattle.bk_world.specs.declared.database.Status.TheVariants.{Online, Standby, Down}
 use Rattle.bk_machine.specs.Acts.{done_all}
 use Rattle.bk_machine.specs.Crash.{CutsRun, DatabaseLeft, Leaves, LineLeft, StatusLeft, WorldLeft, cut_between, greatest_end, next_acts, open_begins}
 use Rattle.bk_machine.specs.Machine.{May}
-use Rattle.bk_machine.specs.MayDo.{LeavesIdle}
 use Rattle.bk_machine.specs.Outcome.{Outcome}
-use Rattle.bk_machine.specs.Run.{IsRun, behind_all}
+use Rattle.bk_machine.specs.Run.{behind_all}
 use Rattle.bk_machine.specs.Sound.{AreIdle, AreOpen, IsIdle, IsSound, IsSoundLine, IsWholeDatabase, OpenBy}
-use Rattle.bk_machine.specs.Stays.{IsCutOf}
+use Rattle.bk_machine.specs.Stays.{IsCutOf, IsFront}
 use Rattle.bk_machine.specs.World.{Database, World, log_of, restarted}
 use Rattle.bk_machine.proofs.Acting.{acts-sound}
-use Rattle.bk_machine.proofs.CutRuns.{acts-open, run-cut, run-opens}
-use Rattle.bk_machine.proofs.Left.{counts-end}
+use Rattle.bk_machine.proofs.CutRuns.{run-cut, run-leaves, run-stays}
+use Rattle.bk_machine.proofs.Settled.{crash-settles, whole-front}
+use Rattle.bk_machine.specs.Settled.{IsSettledTo}
+use Rattle.bk_machine.specs.SettledLaws.{counts-end, idle-is, settled-same}
 use Rattle.bk_machine.proofs.statements.Each.{statement-does}
-use Rattle.bk_machine.proofs.statements.Facts.{all-take}
-use Rattle.bk_machine.proofs.statements.Idling.{idle-done-all}
 use Rattle.bk_machine.specs.ReadyLaws.{nothing-pends}
-use Rattle.bk_machine.proofs.statements.Running.{Within, may-front, within-run}
+use Rattle.bk_machine.proofs.statements.Running.{RunsWell, Within, may-front, within-well}
 
 -- ---- statements
 
-module _ (w : World) (s : ScriptEntry) (now : ℕ) (outcome : Outcome) (sound : IsSound w) (idle : AreIdle w) (may : May w s now outcome) (k : ℕ) where
+module _ (w : World) (s : ScriptEntry) (now : ℕ) (outcome : Outcome) (sound : IsSound w) (may : May w s now outcome) (k : ℕ) where
   pub front-sound : IsSound (done_all w (take k outcome.acts))
-  front-sound = acts-sound w (take k outcome.acts) sound (may-front w outcome.acts k (statement-does w sound idle s now outcome may))
-
-  pub front-idle : AreIdle (done_all w (take k outcome.acts))
-  front-idle = idle-done-all w (take k outcome.acts) idle (all-take LeavesIdle k outcome.acts (acts-open w sound idle s now outcome may))
+  front-sound = acts-sound w (take k outcome.acts) sound (may-front w outcome.acts k (statement-does w sound s now outcome may))
 
 -- ---- what is left where nothing is lost
 
@@ -46,13 +41,6 @@ line-same line w is = record { branch = refl; kept = line.records; lost = []; un
 lines-same : (w : World) (lines : RecordLines) → AllByRecursion (IsSoundLine w) lines → AllZip LineLeft lines lines
 lines-same w [] all = tt
 lines-same w (line ∷ lines) all = (line-same line w all.0, lines-same w lines all.1)
-
--- a log in which nothing is pending is settled
-settled-same : (rs : List Logged) → pending rs ≡ [] → rs ≡ settled rs
-unfolding settled
-settled-same rs none =
-    let nothing : rs ++ numbered (end_behind rs) (settle_said []) ≡ rs = append-nil rs in
-    sym nothing ∙ ap (λ ws. rs ++ numbered (end_behind rs) (settle_said ws)) (sym none)
 
 module _ (before whole cut : World) (counter : ℕ) (sound : IsSound cut) (idle : AreIdle cut) where
   status-same : (db : Database) → IsIdle db → IsWholeDatabase cut db → OpenBy cut.history db → (db.status ≡ Online → IsCutOf before whole cut db)
@@ -70,9 +58,6 @@ module _ (before whole cut : World) (counter : ℕ) (sound : IsSound cut) (idle 
       }
   status-same db own one opens at (Standby file) down = record { log = refl; end = refl }
   status-same db own one opens at Down down = record { log = refl; end = refl }
-
-  idle-is : (db : Database) → IsIdle db → db ≡ record db { job = None; transactions = [] }
-  idle-is db own = ap (λ j. record db { job = j }) own.job ∙ ap (λ ts. record db { job = None; transactions = ts }) own.transactions
 
   databases-same : (dbs : List Database) → AllByRecursion IsIdle dbs → AllByRecursion (IsWholeDatabase cut) dbs → AllByRecursion (OpenBy cut.history) dbs
       → AllByRecursion (λ (db : Database). db.status ≡ Online → IsCutOf before whole cut db) dbs → AllZip (DatabaseLeft before whole cut (restarted counter cut)) dbs dbs
@@ -101,16 +86,12 @@ module _ (before whole cut : World) (counter : ℕ) (sound : IsSound cut) (idle 
 
 -- ---- runs
 
-module _ (old : World) (statements : List ScriptEntry) (moments : List ℕ) (outcomes : List Outcome) (n k : ℕ) (sound : IsSound old) (idle : AreIdle old) (run : IsRun old statements moments outcomes) where
+module _ (old : World) (outcomes : List Outcome) (n k : ℕ) (sound : IsSound old) (run : RunsWell old outcomes) where
   here : Within old outcomes n
-  here = within-run old statements moments outcomes n (record { sound = sound; idle = idle }) run
+  here = within-well old outcomes n sound run
 
   pub between-sound : IsSound (cut_between old outcomes n k)
-  between-sound = acts-sound (behind_all old (take n outcomes)) (take k (next_acts (drop n outcomes))) here.calm.sound (may-front (behind_all old (take n outcomes)) (next_acts (drop n outcomes)) k here.may)
-
-  pub between-idle : AreIdle (cut_between old outcomes n k)
-  between-idle =
-      idle-done-all (behind_all old (take n outcomes)) (take k (next_acts (drop n outcomes))) here.calm.idle (all-take LeavesIdle k (next_acts (drop n outcomes)) (run-opens old statements moments outcomes n sound idle run))
+  between-sound = acts-sound (behind_all old (take n outcomes)) (take k (next_acts (drop n outcomes))) here.sound (may-front (behind_all old (take n outcomes)) (next_acts (drop n outcomes)) k here.well.may)
 
   -- a run is cut there
   cuts : (least : ℕ) → least ≤ n → n ≤ length outcomes → CutsRun old outcomes least (behind_all old (take n outcomes)) (cut_between old outcomes n k) (done_all (behind_all old (take n outcomes)) (next_acts (drop n outcomes)))
@@ -126,14 +107,34 @@ module _ (old : World) (statements : List ScriptEntry) (moments : List ℕ) (out
     is_whole = refl;
   }
 
-  pub between-leaves : (least counter : ℕ) → least ≤ n → n ≤ length outcomes → (cut_between old outcomes n k).counter ≤ counter → counter ≤ (cut_between old outcomes n k).counter + 1024 → Leaves old outcomes least (restarted counter (cut_between old outcomes n k))
-  between-leaves least counter enough within no_less no_more =
+  pub between-leaves : (least counter : ℕ) → AreIdle (cut_between old outcomes n k) → least ≤ n → n ≤ length outcomes → (cut_between old outcomes n k).counter ≤ counter → counter ≤ (cut_between old outcomes n k).counter + 1024 → Leaves old outcomes least (restarted counter (cut_between old outcomes n k))
+  between-leaves least counter idle enough within no_less no_more =
       let before : World = behind_all old (take n outcomes) in
       let whole : World = done_all before (next_acts (drop n outcomes)) in record {
         before = before;
         cut = cut_between old outcomes n k;
         whole = whole;
         cuts = cuts least enough within;
-        world = world-same before whole (cut_between old outcomes n k) counter between-sound between-idle
-            (run-cut old statements moments outcomes least before (cut_between old outcomes n k) whole sound idle run (cuts least enough within)) no_less no_more;
+        world = world-same before whole (cut_between old outcomes n k) counter between-sound idle
+            (run-cut old outcomes least before (cut_between old outcomes n k) whole sound run (cuts least enough within)) no_less no_more;
       }
+
+  -- where nothing is lost, a crash may leave the world there, with all undone that is pending in it
+  pub between-settled : (least counter : ℕ) → least ≤ n → n ≤ length outcomes → (cut_between old outcomes n k).counter ≤ counter → counter ≤ (cut_between old outcomes n k).counter + 1024
+      → (left : World) × Leaves old outcomes least left × (left.counter ≡ counter) × IsSettledTo (cut_between old outcomes n k) left
+  between-settled least counter enough within no_less no_more =
+      let before : World = behind_all old (take n outcomes) in
+      let cut : World = cut_between old outcomes n k in
+      let whole : World = done_all before (next_acts (drop n outcomes)) in
+      let its : CutsRun old outcomes least before cut whole = cuts least enough within in
+      let rest = run-stays old outcomes least before cut whole sound run its (log_of cut.history) counter (whole-front before cut between-sound) no_less no_more in
+      (rest.0, record { before = before; cut = cut; whole = whole; cuts = its; world = rest.1 }, rest.2, crash-settles before whole cut rest.0 between-sound.whole rest.1 rest.3)
+
+  -- for any fronts of its logs there, behind which only what was open is lost, a crash may leave a world in which they are settled
+  pub between-fronts : (least counter : ℕ) (kept : Database → List Logged) → least ≤ n → n ≤ length outcomes
+      → AllByRecursion (λ (db : Database). db.status ≡ Online → IsFront (behind_all old (take n outcomes)) (cut_between old outcomes n k) db (kept db)) (cut_between old outcomes n k).databases
+      → (cut_between old outcomes n k).counter ≤ counter → counter ≤ (cut_between old outcomes n k).counter + 1024
+      → (left : World) × Leaves old outcomes least left × (left.counter ≡ counter)
+      × AllZip (λ (now new : Database). now.status ≡ Online → log_of left.history new ≡ settled (kept now)) (cut_between old outcomes n k).databases left.databases
+  between-fronts least counter kept enough within fronts =
+      run-leaves old outcomes least (behind_all old (take n outcomes)) (cut_between old outcomes n k) (done_all (behind_all old (take n outcomes)) (next_acts (drop n outcomes))) sound run (cuts least enough within) kept counter fronts

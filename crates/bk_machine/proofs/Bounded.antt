@@ -2,7 +2,7 @@
 use Rattle.std.proofs.Common.{◌≡◌, ◌<◌, ◌≤◌, ℕ, zero, suc, ◌+◌, ◌-◌, Bool, true, false, cond, not, ◌&&◌, ◌||◌, List, [], ◌∷◌, ◌++◌, length, reverse, Option, None, Some, refl, sym, ◌∙◌, ap, subst, arith, append_assoc}
 use Rattle.std.specs.Prelude.{◌==◌, min}
 use Rattle.std.specs.List.{AllByRecursion, filter}
-use Rattle.std.proofs.Math.Nat.{min-le_right}
+use Rattle.std.proofs.Math.Nat.{min-le_left, min-le_right}
 use Rattle.std.proofs.lemmas.Bool.Decides.{nat_tests}
 use Rattle.std.proofs.lemmas.List.{append-nil, length-append, length-reverse}
 use Rattle.bk_world.specs.Cut.{end_behind, is_among, settled}
@@ -14,11 +14,12 @@ use Rattle.bk_world.specs.Says.{settle_said}
 use Rattle.bk_world.specs.SoundLogs.{IsSound, MayCome, MayFollow, NoLoadPends}
 use Rattle.bk_world.specs.SettledLaws.{end-more, length-undoing}
 use Rattle.bk_world.specs.SoundLaws.{follow-front, sound-lying, sound-rise}
-use Rattle.bk_machine.specs.Crash.{begin_in, begins_of, greatest_end, most_end, open_begins, own_begin}
+use Rattle.bk_machine.specs.Crash.{begin_in, begins_in, begins_of, greatest_end, most_end, open_begins}
 use Rattle.bk_machine.specs.Sound.{IsWholeDatabase}
 use Rattle.bk_machine.specs.Stays.{IsCutOf, IsFront}
-use Rattle.bk_machine.specs.World.{Database, Open, World, database_named, least_begin, log_of}
-use Rattle.bk_machine.proofs.Left.{counts-end}
+use Rattle.bk_world.specs.declared.transaction.Open.{Open}
+use Rattle.bk_machine.specs.World.{Database, World, database_named, least_begin, log_of}
+use Rattle.bk_machine.specs.SettledLaws.{counts-end}
 use Rattle.bk_machine.proofs.Settling.{counts-start}
 
 -- ---- pending writes lie behind their begins
@@ -150,13 +151,16 @@ least-below : (ts : List Open) (end : ℕ) → least_begin ts end ≤ end
 least-below [] end = omega arith
 least-below (t ∷ ts) end = let one : min t.begin (least_begin ts end) ≤ least_begin ts end = min-le_right t.begin (least_begin ts end) in let two : least_begin ts end ≤ end = least-below ts end in omega (arith, one, two)
 
-own-from : (o : Option Database) (end : ℕ) → AllByRecursion (λ b. begin_in o end ≤ b) (own_begin o)
-own-from None end = tt
-own-from (Some db) end = (least-below db.transactions db.end, tt)
+least-each : (least end : ℕ) (ts : List Open) → least ≤ least_begin ts end → AllByRecursion (λ b. least ≤ b) (begins_of ts)
+least-each least end [] le = tt
+least-each least end (t ∷ ts) le =
+    let one : min t.begin (least_begin ts end) ≤ t.begin = min-le_left t.begin (least_begin ts end) in
+    let two : min t.begin (least_begin ts end) ≤ least_begin ts end = min-le_right t.begin (least_begin ts end) in
+    (omega (arith, one, le), least-each least end ts (omega (arith, two, le)))
 
-open-from : (least : ℕ) (ts : List Open) → AllByRecursion (λ (t : Open). least ≤ t.begin) ts → AllByRecursion (λ b. least ≤ b) (begins_of ts)
-open-from least [] all = tt
-open-from least (t ∷ ts) all = (all.0, open-from least ts all.1)
+begins-from : (o : Option Database) (end : ℕ) → AllByRecursion (λ b. begin_in o end ≤ b) (begins_in o)
+begins-from None end = tt
+begins-from (Some db) end = (least-below db.transactions db.end, least-each (least_begin db.transactions db.end) db.end db.transactions (omega arith))
 
 -- the front, settled, lies within the bound
 pub front-bound : (before whole cut : World) (db : Database) (kept : List Logged) → IsWholeDatabase cut db → IsCutOf before whole cut db → IsFront before cut db kept → end_behind (settled kept) ≤ most_end before whole db
@@ -170,8 +174,7 @@ front-bound before whole cut db kept is at front =
     let parts : length rs ≡ length kept + length front.lost = ap length front.splits ∙ length-append kept front.lost in
     let OfPending : List Pending → Type 0 = AllByRecursion (Among begins) in
     let among : OfPending (pending kept) = before-lost begins (pending kept) front.lost front.of_open (subst OfPending (ap pending front.splits ∙ pending-more kept front.lost) at.of_open) in
-    let froms : AllByRecursion (λ b. least ≤ b) begins =
-    all_joined (λ b. least ≤ b) (own_begin (database_named before.databases db.name)) (begins_of db.transactions) (own-from (database_named before.databases db.name) (greatest_end before whole db)) (open-from least db.transactions at.from) in
+    let froms : AllByRecursion (λ b. least ≤ b) begins = begins-from (database_named before.databases db.name) (greatest_end before whole db) in
     let low : AllByRecursion (λ (w : Pending). least ≤ w.begin) (pending kept) = all_mapped (Among begins) (λ (w : Pending). least ≤ w.begin) (λ w one. among-from begins least w.begin begins froms one) (pending kept) among in
     let within : end_behind kept ≤ greatest_end before whole db = omega (arith, all, parts, at.end) in
     let bound : end_behind (settled kept) ≤ greatest_end before whole db + (greatest_end before whole db - least) = settled-bound kept least (greatest_end before whole db) sound counts front.loads low within in

@@ -1,5 +1,5 @@
 -- A crash leaves sound worlds.
-use Rattle.std.proofs.Common.{◌≡◌, ◌≢◌, ℕ, List, [], ◌∷◌, Option, refl, sym, ◌∙◌, ap, subst}
+use Rattle.std.proofs.Common.{◌≡◌, ◌≢◌, ℕ, List, [], ◌∷◌, Option, refl, sym, ◌∙◌, ap, subst, arith}
 use Rattle.std.specs.List.{AllByRecursion, AllZip}
 use Rattle.bk_ids.specs.declared.guid.Guid.{Guid}
 use Rattle.bk_ids.specs.declared.path.Branch.{Branch}
@@ -142,4 +142,5 @@ module _ (before whole cut left : World) (l : WorldLeft before whole cut left) w
             media = subst OfMedia (sym l.media) (media-there cut left set-left cut.media is.media);
           };
           opens = all_mapped (λ (db : Database). IsWholeDatabase left db × OpenBy left.history db) (OpenBy left.history) (λ db both. both.1) left.databases each-left;
+          seat = omega (arith, l.session);
         }

@@ -1,31 +1,28 @@
--- Where a run is cut that begins in a sound world in which nothing is open.
+-- Where a run is cut that begins in a sound world.
 use Rattle.std.proofs.Common.{◌≡◌, ◌≤◌, inl, inr, ℕ, zero, suc, ◌+◌, List, [], ◌∷◌, ◌++◌, take, drop, refl, sym, ◌∙◌, ap, subst}
 use Rattle.std.specs.List.{AllByRecursion, AllZip}
 use Rattle.std.proofs.lemmas.List.{take-append-drop}
-use Rattle.bk_items.specs.declared.item.ScriptEntry.{ScriptEntry}
 use Rattle.bk_world.specs.Cut.{settled}
 use Rattle.bk_world.specs.ListLaws.{all_both}
 use Rattle.bk_world.specs.Records.{Logged}
 use Rattle.bk_world.specs.declared.database.Status.TheVariants.{Online}
-use Rattle.bk_machine.specs.Acts.{Act, turned, created, dropped, logged, medium_made, set_sealed, based, replaced, restored, recovered, done, done_all}
-use Rattle.bk_machine.specs.Crash.{CutsRun, IsQuiet, Leaves, begin_in, front_of, greatest_end, next_acts}
-use Rattle.bk_machine.specs.Machine.{May, behind}
-use Rattle.bk_machine.specs.MayDo.{LeavesIdle, MayDoAll}
+use Rattle.bk_machine.specs.Acts.{Act, turned, seated, created, dropped, logged, medium_made, set_sealed, based, replaced, restored, recovered, done, done_all}
+use Rattle.bk_machine.specs.Crash.{CutsRun, IsQuiet, Leaves, WorldLeft, front_of, next_acts}
+use Rattle.bk_machine.specs.MayDo.{MayDoAll}
 use Rattle.bk_machine.specs.Outcome.{Outcome}
-use Rattle.bk_machine.specs.Run.{IsRun, behind_all}
-use Rattle.bk_machine.specs.Sound.{AreIdle, IsIdle, IsSound, IsWhole, IsWholeDatabase}
+use Rattle.bk_machine.specs.Run.{behind_all}
+use Rattle.bk_machine.specs.Sound.{IsSound, IsWhole, IsWholeDatabase}
 use Rattle.bk_machine.specs.Stays.{IsCutOf, IsFront, MayStay}
-use Rattle.bk_machine.specs.World.{Database, Open, World, database_named, log_of}
+use Rattle.bk_machine.specs.World.{Database, World, log_of}
 use Rattle.bk_machine.proofs.Acting.{acts-sound}
 use Rattle.bk_machine.proofs.Bounded.{front-bound}
-use Rattle.bk_machine.proofs.Cutting.{IsOwn, PendsOwn, cut-pends}
+use Rattle.bk_machine.proofs.Cutting.{IsOwn, OpenOwn, OpensOwn, PendsOwn, cut-pends, open-before, open-done-all}
 use Rattle.bk_machine.proofs.Ends.{IsSteady, IsWithin, Rose, rose-cut, within-before, within-replaced, within-restored, within-rose, within-whole}
 use Rattle.bk_machine.proofs.Remaining.{what-stays}
-use Rattle.bk_machine.proofs.statements.Each.{statement-goes}
-use Rattle.bk_machine.proofs.statements.Facts.{EndWell, GoWell, NotLogged, all-take}
+use Rattle.bk_machine.proofs.statements.Facts.{EndWell, NotLogged, all-take}
 use Rattle.bk_machine.proofs.statements.Fronts.{cut-whole}
-use Rattle.bk_machine.proofs.statements.Idling.{idle-done-all}
-use Rattle.bk_machine.proofs.statements.Running.{IsCalm, Within, calm-behind, done-joined, may-front, may-rest, within-run}
+use Rattle.bk_machine.specs.ClosingLaws.{done-joined}
+use Rattle.bk_machine.proofs.statements.Running.{RunsWell, Within, may-front, may-rest, within-well}
 
 -- ---- lists
 
@@ -49,7 +46,7 @@ front-none (suc n) = refl
 -- ---- what a statement does, as far as it can be cut
 
 record CutWell (w : World) (acts : List Act) : Type 0 where
-  opens : AllByRecursion LeavesIdle acts
+  opens : AllByRecursion (OpensOwn w) acts
   own : AllByRecursion (IsOwn w) acts
   ends : EndWell acts
 
@@ -57,6 +54,7 @@ none-said : (act : Act) (acts : List Act) (n : ℕ) → NotLogged act → front_
 none-said act acts zero not_logged = refl
 none-said (logged name said transactions) acts (suc n) not_logged = absurd not_logged
 none-said (turned name) acts (suc n) not_logged = refl
+none-said (seated session) acts (suc n) not_logged = refl
 none-said (created c) acts (suc n) not_logged = refl
 none-said (dropped name) acts (suc n) not_logged = refl
 none-said (medium_made path) acts (suc n) not_logged = refl
@@ -122,85 +120,36 @@ module _ (before : World) (sound : IsSound before) where
           subst (λ rest. AllByRecursion (IsWithin before last) (done_all (done_all last (take k [])) rest).databases) (sym nothing)
           (subst (λ rest. AllByRecursion (IsWithin before last) (done_all last rest).databases) (sym taken) (within-whole before last (acts-sound before (replaced name header ∷ restored name base redo ∷ recovered name r ∷ []) sound may).whole.different))
 
--- a front opens nothing, either
-opens-front : (acts : List Act) (n : ℕ) → AllByRecursion LeavesIdle acts → AllByRecursion LeavesIdle (front_of n acts)
-opens-front acts zero opens = tt
-opens-front [] (suc n) opens = tt
-opens-front (logged name said transactions ∷ acts) (suc n) opens = (opens.0, tt)
-opens-front (turned name ∷ acts) (suc n) opens = tt
-opens-front (created c ∷ acts) (suc n) opens = tt
-opens-front (dropped name ∷ acts) (suc n) opens = tt
-opens-front (medium_made path ∷ acts) (suc n) opens = tt
-opens-front (set_sealed path header ∷ acts) (suc n) opens = tt
-opens-front (based name header ∷ acts) (suc n) opens = tt
-opens-front (replaced name header ∷ acts) (suc n) opens = tt
-opens-front (restored name base redo ∷ acts) (suc n) opens = tt
-opens-front (recovered name r ∷ acts) (suc n) opens = tt
-
--- acts of a statement that are cut, in a sound world in which nothing is open
-module _ (before : World) (sound : IsSound before) (idle : AreIdle before) (acts : List Act) (may : MayDoAll before acts) (well : CutWell before acts) (k n : ℕ) (quiet : AllByRecursion IsQuiet (front_of n (drop k acts))) where
+-- acts of a statement that are cut, in a sound world
+module _ (before : World) (sound : IsSound before) (acts : List Act) (may : MayDoAll before acts) (well : CutWell before acts) (k n : ℕ) (quiet : AllByRecursion IsQuiet (front_of n (drop k acts))) where
   mid-sound : IsSound (done_all before (take k acts))
   mid-sound = acts-sound before (take k acts) sound (may-front before acts k may)
 
-  mid-idle : AreIdle (done_all before (take k acts))
-  mid-idle = idle-done-all before (take k acts) idle (all-take LeavesIdle k acts well.opens)
-
-  cut-idle : AreIdle (cut_at before acts k n)
-  cut-idle = idle-done-all (done_all before (take k acts)) (front_of n (drop k acts)) mid-idle (opens-front (drop k acts) n (all-drop LeavesIdle k acts well.opens))
+  mid-open : AllByRecursion (OpenOwn before) (done_all before (take k acts)).databases
+  mid-open = open-done-all before before (take k acts) sound (may-front before acts k may) (all-take (OpensOwn before) k acts well.opens) (open-before before sound.whole.different)
 
   is-whole : IsWhole (cut_at before acts k n)
   is-whole = cut-whole (done_all before (take k acts)) (drop k acts) n mid-sound.whole (may-rest before acts k may)
 
   is-cut : AllByRecursion (λ (db : Database). db.status ≡ Online → IsCutOf before (done_all before acts) (cut_at before acts k n) db) (cut_at before acts k n).databases
   is-cut =
-      all_both (IsWithin before (done_all before acts)) (λ (db : Database). IsIdle db × PendsOwn before (cut_at before acts k n) db)
-      (λ (db : Database). db.status ≡ Online → IsCutOf before (done_all before acts) (cut_at before acts k n) db) (λ db within both up.
-      let OfOpen : List Open → Type 0 = AllByRecursion (λ (t : Open). begin_in (database_named before.databases db.name) (greatest_end before (done_all before acts) db) ≤ t.begin) in
-      record { of_open = both.1 up; from = subst OfOpen (sym both.0.transactions) tt; end = within up })
+      all_both (IsWithin before (done_all before acts)) (PendsOwn before (cut_at before acts k n))
+      (λ (db : Database). db.status ≡ Online → IsCutOf before (done_all before acts) (cut_at before acts k n) db) (λ db within pends up. record { of_open = pends up; end = within up })
       (cut_at before acts k n).databases (within-cut before sound acts k n may well.ends)
-      (all_both IsIdle (PendsOwn before (cut_at before acts k n)) (λ (db : Database). IsIdle db × PendsOwn before (cut_at before acts k n) db) (λ db a b. (a, b)) (cut_at before acts k n).databases cut-idle
-      (cut-pends before (done_all before (take k acts)) mid-sound mid-idle (drop k acts) n (may-rest before acts k may) (all-drop (IsOwn before) k acts well.own) quiet))
-
--- ---- statements
-
-module _ (w : World) (sound : IsSound w) (idle : AreIdle w) where
-  statement-well : (s : ScriptEntry) (now : ℕ) (outcome : Outcome) → May w s now outcome → CutWell w outcome.acts
-  statement-well s now outcome may =
-      let facts : GoWell w outcome.acts = statement-goes w sound idle s now outcome may in
-      record { opens = facts.opens; own = facts.own; ends = facts.ends }
-
-  -- each act of a statement leaves nothing open
-  pub acts-open : (s : ScriptEntry) (now : ℕ) (outcome : Outcome) → May w s now outcome → AllByRecursion LeavesIdle outcome.acts
-  acts-open s now outcome may = (statement-goes w sound idle s now outcome may).opens
+      (cut-pends before (done_all before (take k acts)) mid-sound mid-open (drop k acts) n (may-rest before acts k may) (all-drop (IsOwn before) k acts well.own) quiet)
 
 -- ---- runs
 
-well-run : (w : World) (statements : List ScriptEntry) (moments : List ℕ) (outcomes : List Outcome) (n : ℕ) → IsCalm w → IsRun w statements moments outcomes → CutWell (behind_all w (take n outcomes)) (next_acts (drop n outcomes))
-well-run w [] [] [] zero calm run = record { opens = tt; own = tt; ends = inl tt }
-well-run w [] [] [] (suc n) calm run = record { opens = tt; own = tt; ends = inl tt }
-well-run w [] [] (o ∷ os) n calm run = absurd run
-well-run w [] (m ∷ ms) os n calm run = absurd run
-well-run w (s ∷ ss) [] os n calm run = absurd run
-well-run w (s ∷ ss) (m ∷ ms) [] n calm run = absurd run
-well-run w (s ∷ ss) (m ∷ ms) (o ∷ os) zero calm run = statement-well w calm.sound calm.idle s m o run.0
-well-run w (s ∷ ss) (m ∷ ms) (o ∷ os) (suc n) calm run =
-    let later : CutWell (behind_all (behind w o) (take n os)) (next_acts (drop n os)) = well-run (behind w o) ss ms os n (calm-behind w s m o calm run.0) run.1 in
-    record { opens = later.opens; own = later.own; ends = later.ends }
-
-pub run-opens : (old : World) (statements : List ScriptEntry) (moments : List ℕ) (outcomes : List Outcome) (n : ℕ) → IsSound old → AreIdle old → IsRun old statements moments outcomes
-    → AllByRecursion LeavesIdle (next_acts (drop n outcomes))
-run-opens old statements moments outcomes n sound idle run = (well-run old statements moments outcomes n (record { sound = sound; idle = idle }) run).opens
-
-module _ (old : World) (statements : List ScriptEntry) (moments : List ℕ) (outcomes : List Outcome) (least : ℕ) (before cut whole : World) (sound : IsSound old) (idle : AreIdle old) (run : IsRun old statements moments outcomes)
+module _ (old : World) (outcomes : List Outcome) (least : ℕ) (before cut whole : World) (sound : IsSound old) (run : RunsWell old outcomes)
     (cuts : CutsRun old outcomes least before cut whole) where
   acts : List Act
   acts = next_acts (drop cuts.done outcomes)
 
   here : Within old outcomes cuts.done
-  here = within-run old statements moments outcomes cuts.done (record { sound = sound; idle = idle }) run
+  here = within-well old outcomes cuts.done sound run
 
   well : CutWell (behind_all old (take cuts.done outcomes)) (next_acts (drop cuts.done outcomes))
-  well = well-run old statements moments outcomes cuts.done (record { sound = sound; idle = idle }) run
+  well = record { opens = here.well.opens; own = here.well.own; ends = here.well.ends }
 
   cut-is : cut ≡ cut_at (behind_all old (take cuts.done outcomes)) (next_acts (drop cuts.done outcomes)) cuts.acts cuts.records
   cut-is =
@@ -212,23 +161,28 @@ module _ (old : World) (statements : List ScriptEntry) (moments : List ℕ) (out
 
   pub run-whole : IsWhole cut
   run-whole =
-      subst IsWhole (sym cut-is) (is-whole (behind_all old (take cuts.done outcomes)) here.calm.sound here.calm.idle (next_acts (drop cuts.done outcomes)) here.may well cuts.acts cuts.records cuts.quiet)
+      subst IsWhole (sym cut-is) (is-whole (behind_all old (take cuts.done outcomes)) here.sound (next_acts (drop cuts.done outcomes)) here.well.may well cuts.acts cuts.records cuts.quiet)
 
   pub run-cut : AllByRecursion (λ (db : Database). db.status ≡ Online → IsCutOf before whole cut db) cut.databases
   run-cut =
       subst (λ w. AllByRecursion (λ (db : Database). db.status ≡ Online → IsCutOf w whole cut db) cut.databases) (sym cuts.is_before)
       (subst (λ w. AllByRecursion (λ (db : Database). db.status ≡ Online → IsCutOf (behind_all old (take cuts.done outcomes)) w cut db) cut.databases) (sym whole-is)
       (subst (λ w. AllByRecursion (λ (db : Database). db.status ≡ Online → IsCutOf (behind_all old (take cuts.done outcomes)) (done_all (behind_all old (take cuts.done outcomes)) (next_acts (drop cuts.done outcomes))) w db) w.databases) (sym cut-is)
-      (is-cut (behind_all old (take cuts.done outcomes)) here.calm.sound here.calm.idle (next_acts (drop cuts.done outcomes)) here.may well cuts.acts cuts.records cuts.quiet)))
+      (is-cut (behind_all old (take cuts.done outcomes)) here.sound (next_acts (drop cuts.done outcomes)) here.well.may well cuts.acts cuts.records cuts.quiet)))
 
   -- for any fronts of its logs a crash of the run may leave a world in which they are settled
-  pub run-leaves : (kept : Database → List Logged) (counter : ℕ) → AllByRecursion (λ (db : Database). db.status ≡ Online → IsFront before cut db (kept db)) cut.databases → cut.counter ≤ counter → counter ≤ cut.counter + 1024
-      → (left : World) × Leaves old outcomes least left × (left.counter ≡ counter) × AllZip (λ (now new : Database). now.status ≡ Online → log_of left.history new ≡ settled (kept now)) cut.databases left.databases
-  run-leaves kept counter fronts no_less no_more =
+  pub run-stays : (kept : Database → List Logged) (counter : ℕ) → AllByRecursion (λ (db : Database). db.status ≡ Online → IsFront before cut db (kept db)) cut.databases → cut.counter ≤ counter → counter ≤ cut.counter + 1024
+      → (left : World) × WorldLeft before whole cut left × (left.counter ≡ counter) × AllZip (λ (now new : Database). now.status ≡ Online → log_of left.history new ≡ settled (kept now)) cut.databases left.databases
+  run-stays kept counter fronts no_less no_more =
       let stays : AllByRecursion (λ (db : Database). db.status ≡ Online → MayStay before whole cut db (kept db)) cut.databases =
       all_both (IsWholeDatabase cut) (λ (db : Database). (db.status ≡ Online → IsCutOf before whole cut db) × (db.status ≡ Online → IsFront before cut db (kept db))) (λ (db : Database). db.status ≡ Online → MayStay before whole cut db (kept db))
       (λ db one both up. record { front = both.1 up; bound = front-bound before whole cut db (kept db) one (both.0 up) (both.1 up) }) cut.databases run-whole.databases
       (all_both (λ (db : Database). db.status ≡ Online → IsCutOf before whole cut db) (λ (db : Database). db.status ≡ Online → IsFront before cut db (kept db))
       (λ (db : Database). (db.status ≡ Online → IsCutOf before whole cut db) × (db.status ≡ Online → IsFront before cut db (kept db))) (λ db a b. (a, b)) cut.databases run-cut fronts) in
-      let rest = what-stays before whole cut kept counter run-whole stays no_less no_more in
+      what-stays before whole cut kept counter run-whole stays no_less no_more
+
+  pub run-leaves : (kept : Database → List Logged) (counter : ℕ) → AllByRecursion (λ (db : Database). db.status ≡ Online → IsFront before cut db (kept db)) cut.databases → cut.counter ≤ counter → counter ≤ cut.counter + 1024
+      → (left : World) × Leaves old outcomes least left × (left.counter ≡ counter) × AllZip (λ (now new : Database). now.status ≡ Online → log_of left.history new ≡ settled (kept now)) cut.databases left.databases
+  run-leaves kept counter fronts no_less no_more =
+      let rest = run-stays kept counter fronts no_less no_more in
       (rest.0, record { before = before; cut = cut; whole = whole; cuts = cuts; world = rest.1 }, rest.2, rest.3)

@@ -4,28 +4,18 @@ use Rattle.std.specs.List.{AllByRecursion, AllZip}
 use Rattle.std.proofs.Math.Nat.{le-max_left, le-max_right}
 use Rattle.bk_ids.specs.Name.{same_name}
 use Rattle.bk_ids.specs.declared.record.RecoveryModel.{RecoveryModel}
-use Rattle.bk_world.specs.ListLaws.{all_both, all_mapped}
+use Rattle.bk_world.specs.ListLaws.{all_mapped}
 use Rattle.bk_world.specs.Records.{Said}
 use Rattle.bk_world.specs.Telling.{model}
 use Rattle.bk_world.specs.declared.database.Status.TheVariants.{Online, Down}
 use Rattle.bk_world.specs.declared.header.Header.{Header}
-use Rattle.bk_world.specs.SameLaws.{same_name-refl}
-use Rattle.bk_machine.specs.Acts.{Act, turned, created, dropped, logged, medium_made, set_sealed, based, replaced, restored, recovered, done, done_all, gone_on, says, taken_over, where_found}
+use Rattle.bk_machine.specs.Acts.{Act, turned, seated, created, dropped, logged, medium_made, set_sealed, based, replaced, restored, recovered, done, done_all, gone_on, says, taken_over, where_found}
 use Rattle.bk_machine.specs.Crash.{end_in, front_of, greatest_end}
-use Rattle.bk_machine.specs.Sound.{AreDifferent, Differ}
-use Rattle.bk_machine.specs.World.{Database, Open, World, database_named, log_of, with_database}
+use Rattle.bk_machine.specs.Sound.{AreDifferent}
+use Rattle.bk_world.specs.declared.transaction.Open.{Open}
+use Rattle.bk_machine.specs.World.{Database, World, database_named, log_of, with_database}
 use Rattle.bk_machine.proofs.ActsSays.{gone_on-is}
-use Rattle.bk_machine.specs.NamedLaws.{all-placed, all-with, apart-named}
-
--- ---- each database is found by its name
-
-pub named-each : (dbs : List Database) → AreDifferent dbs → AllByRecursion (λ (db : Database). database_named dbs db.name ≡ Some db) dbs
-named-each [] different = tt
-named-each (d ∷ ds) different = (
-  ap (λ t. cond t (Some d) (database_named ds d.name)) (same_name-refl d.name),
-  all_both (Differ d) (λ (db : Database). database_named ds db.name ≡ Some db) (λ (db : Database). database_named (d ∷ ds) db.name ≡ Some db)
-      (λ x apart is. ap (λ t. cond t (Some d) (database_named ds x.name)) (apart-named d.name x.name apart.names) ∙ is) ds different.0 (named-each ds different.1),
-)
+use Rattle.bk_machine.specs.NamedLaws.{all-placed, all-with, named-each}
 
 -- ---- ends that rise
 
@@ -67,6 +57,7 @@ rose-changed (d ∷ ds) name g one = by (same_name d.name name) (rose-changed ds
 
 abbrev pub IsSteady : Act → Type 0
 IsSteady (turned name) = Unit {0}
+IsSteady (seated session) = Unit {0}
 IsSteady (created c) = ⊥
 IsSteady (dropped name) = ⊥
 IsSteady (logged name said transactions) = Unit {0}
@@ -88,6 +79,7 @@ shorter (suc n) (x ∷ xs) = let rest : length (take n xs) ≤ length xs = short
 rose-done : (w : World) (act : Act) → IsSteady act → AllZip Rose w.databases (done w act).databases
 unfolding done says
 rose-done w (turned name) steady = rose-itself w.databases
+rose-done w (seated session) steady = rose-itself w.databases
 rose-done w (created c) steady = absurd steady
 rose-done w (dropped name) steady = absurd steady
 rose-done w (logged name said transactions) steady = by (database_named w.databases name)
@@ -131,6 +123,7 @@ rose-cut w (logged name said transactions ∷ acts) (suc n) steady =
     rose-on (done w (logged name (take (suc n) said) transactions)).databases (done w (logged name said transactions)).databases (done_all (done w (logged name said transactions)) acts).databases
     (rose-front w name said transactions (suc n)) (rose-all (done w (logged name said transactions)) acts steady.1)
 rose-cut w (turned name ∷ acts) (suc n) steady = rose-all w (turned name ∷ acts) steady
+rose-cut w (seated session ∷ acts) (suc n) steady = rose-all w (seated session ∷ acts) steady
 rose-cut w (created c ∷ acts) (suc n) steady = absurd steady.0
 rose-cut w (dropped name ∷ acts) (suc n) steady = absurd steady.0
 rose-cut w (medium_made path ∷ acts) (suc n) steady = rose-all w (medium_made path ∷ acts) steady

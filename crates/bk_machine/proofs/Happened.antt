@@ -58,6 +58,7 @@ module _ (old : World) (name : List ℕ) (change : List RestoreUnit → List Res
           media = media-stay old new follows old.media is.whole.media;
         };
         opens = all-with (OpenBy old.history) (OpenBy old.history) old.databases name (with_units change) is.opens changed-opens (λ db one. one);
+        seat = is.seat;
       }
 
   pub units-idle : AreIdle old → AreIdle (record old { databases = with_database old.databases name (with_units change) })
@@ -78,6 +79,7 @@ module _ (old : World) (media : List (List ℕ × Reading)) (is : IsSound old) (
           media = media-stay old new follows media sound;
         };
         opens = is.opens;
+        seat = is.seat;
       }
 
 -- the medium at a path is one of all
@@ -192,6 +194,7 @@ module _ (old other : World) (history : RecordLines) (joins : Joins old.history 
           media = media-stay old new follows old.media is.whole.media;
         };
         opens = all_both (IsWholeDatabase old) (OpenBy old.history) (OpenBy history) (open-stays old new follows) old.databases is.whole.databases is.opens;
+        seat = is.seat;
       }
 
   pub added-sound : (path at : List ℕ) (reading : Reading) → medium_at other.media at ≡ Some reading → ReadingIsNotToCome old reading → IsSound (record old { media = (path, reading) ∷ old.media; history = history })
@@ -209,7 +212,7 @@ event-sound old new is event =
       | inr (inl e) ↦ subst IsSound (sym e.becomes) (units-sound old e.name (λ units. file_lost e.file (filter (λ u. not (is_page_of e.file u.id)) units)) is)
       | inr (inr (inl e)) ↦
           subst IsSound (sym e.becomes) (media-sound old (without_medium old.media e.path) is (all_filter (λ (m : List ℕ × Reading). IsSoundReading old m.1) (λ (m : List ℕ × Reading). not (bytes_eq m.0 e.path)) old.media is.whole.media))
-      | inr (inr (inr (inl e))) ↦ subst IsSound (sym e.becomes) (sound-later old (record old { standbys = filter (λ s. not (bytes_eq s e.path)) old.standbys }) (same-follows old _ refl refl refl) refl refl refl is)
+      | inr (inr (inr (inl e))) ↦ subst IsSound (sym e.becomes) (sound-later old (record old { standbys = filter (λ s. not (bytes_eq s e.path)) old.standbys }) (same-follows old _ refl refl refl) refl refl refl is.seat is)
       | inr (inr (inr (inr (inl e)))) ↦
           subst IsSound (sym e.becomes)
           (media-sound old (with_medium old.media e.path e.after) is (

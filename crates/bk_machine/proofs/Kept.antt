@@ -1,5 +1,5 @@
 -- What stays sound in a world that goes on with the same history, and in another world.
-use Rattle.std.proofs.Common.{◌≡◌, ℕ, List, sym, ◌∙◌, ap, subst}
+use Rattle.std.proofs.Common.{◌≡◌, ◌≤◌, ℕ, List, sym, ◌∙◌, ap, subst}
 use Rattle.std.specs.List.{AllByRecursion}
 use Rattle.bk_ids.specs.declared.path.Branch.{Branch}
 use Rattle.bk_world.specs.Lines.{MayGoOn, log_below}
@@ -9,7 +9,7 @@ use Rattle.bk_world.specs.Records.{Logged}
 use Rattle.bk_world.specs.Telling.{model, time}
 use Rattle.bk_world.specs.declared.header.Header.{Header}
 use Rattle.bk_machine.specs.Sound.{AreDifferent, IsHeld, IsLog, IsNotToCome, IsOnce, IsSound, IsSoundLine, IsSoundReading, IsSoundSet, IsWhole, IsWholeDatabase, OpenBy, files_of_set}
-use Rattle.bk_machine.specs.World.{Database, World}
+use Rattle.bk_machine.specs.World.{Database, World, most_sessions}
 use Rattle.bk_machine.proofs.ActsStay.{Follows, database-stays, lines-stay, media-stay, open-stays}
 
 -- a set whose GUIDs are drawn, and whose log reads the same and is held, is sound in another world
@@ -44,7 +44,7 @@ module _ (old new : World) (on : Follows old new) (history : new.history ≡ old
         media = subst OfMedia (sym media) (media-stay old new on old.media is.media);
       }
 
-  pub sound-later : IsSound old → IsSound new
-  sound-later is =
+  pub sound-later : new.session ≤ most_sessions → IsSound old → IsSound new
+  sound-later seat is =
       let OfOpens : List Database → Type 0 = AllByRecursion (OpenBy new.history) in
-      record { whole = whole-later is.whole; opens = subst OfOpens (sym databases) (all_both (IsWholeDatabase old) (OpenBy old.history) (OpenBy new.history) (open-stays old new on) old.databases is.whole.databases is.opens) }
+      record { whole = whole-later is.whole; opens = subst OfOpens (sym databases) (all_both (IsWholeDatabase old) (OpenBy old.history) (OpenBy new.history) (open-stays old new on) old.databases is.whole.databases is.opens); seat = seat }

@@ -1,5 +1,5 @@
 -- What a crash leaves of a database, and of all of them.
-use Rattle.std.proofs.Common.{◌≡◌, ◌≢◌, ◌<◌, ◌≤◌, ◌⊎◌, inl, inr, ℕ, zero, suc, ◌+◌, Bool, true, false, List, [], ◌∷◌, ◌++◌, length, Option, None, refl, sym, ◌∙◌, ap, subst, leb, arith}
+use Rattle.std.proofs.Common.{◌≡◌, ◌≢◌, ◌<◌, ◌≤◌, ◌⊎◌, inl, inr, ℕ, zero, suc, ◌+◌, Bool, true, false, List, [], ◌∷◌, ◌++◌, length, Option, None, refl, sym, ap, subst, leb, arith}
 use Rattle.std.specs.Prelude.{Contains, reverse}
 use Rattle.std.specs.List.{AllByRecursion}
 use Rattle.std.proofs.lemmas.Bool.Decides.{nat_tests}
@@ -21,13 +21,10 @@ use Rattle.bk_world.specs.CrashLaws.{left-counts, left-pends, left-sound, left-t
 use Rattle.bk_world.specs.BranchLaws.{branch_at-last}
 use Rattle.bk_machine.specs.Sound.{AreNumbered, ArePlaced, IsLog, IsNotToCome, IsOnline, IsPassed, IsWholeDatabase, OpenBy, has_begin}
 use Rattle.bk_machine.specs.World.{Database, World, log_of}
+use Rattle.bk_machine.specs.SettledLaws.{counts-end}
 use Rattle.bk_machine.proofs.ActsLogs.{placed-front, placed-join}
 
 -- ---- numbers
-
-pub counts-end : (n end : ℕ) (rs : List Logged) → Counts n rs end → end ≡ n + length rs
-counts-end n end [] counts = let none : List Logged = [] in let same : n ≡ n + length none = omega arith in sym counts ∙ same
-counts-end n end (r ∷ rs) counts = let later : end ≡ (n + 1) + length rs = counts-end (n + 1) end rs counts.1 in omega (arith, later)
 
 pub counts-below : (n end : ℕ) (rs : List Logged) → Counts n rs end → AllByRecursion (λ r. r.lsn < end) rs
 counts-below n end [] counts = tt
@@ -51,7 +48,7 @@ none-lost (s ∷ kept) lost r some none (suc k, lt, is) =
 
 -- ---- places
 
-placed-undoing : (files : List FileSpec) (before : List Logged) (n : ℕ) (ws : List Pending) → ArePlaced files before (numbered n (undoing ws))
+pub placed-undoing : (files : List FileSpec) (before : List Logged) (n : ℕ) (ws : List Pending) → ArePlaced files before (numbered n (undoing ws))
 placed-undoing files before n [] = tt
 placed-undoing files before n (w ∷ ws) = (tt, placed-undoing files (before ++ numbered n (undoing (w ∷ []))) (n + 1) ws)
 
@@ -146,7 +143,7 @@ module _ (cut left : World) (passed : (b : Option Guid) (k : ℕ) → IsPassed c
         let none : pending (log_below left.history old.path end) ≡ [] = left-pends begins (log_below cut.history old.path old.end) (log_below left.history old.path end) log in
         let OfPending : List Pending → Type 0 = AllByRecursion (λ (w : Pending). has_begin [] w.begin ≡ true) in
         let OfLoads : List Pending → Type 0 = AllByRecursion (λ (w : Pending). w.extents ≡ []) in record {
-          online = λ e. record { pending = subst OfPending (sym none) tt; loads = subst OfLoads (sym none) tt; apart = tt; begins = tt };
+          online = λ e. record { pending = subst OfPending (sym none) tt; loads = subst OfLoads (sym none) tt; apart = tt; begins = tt; few = tt; seats = tt; kept = tt };
           offline = λ e. record { job = refl; transactions = refl };
         }
 

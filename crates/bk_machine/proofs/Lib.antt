@@ -17,6 +17,9 @@ mod Lasting
 mod Same
 mod Truncated
 mod Settling
+mod Settled
+mod SameMedia
+mod SettledSteps
 mod Remaining
 mod Bounded
 mod NewFiles

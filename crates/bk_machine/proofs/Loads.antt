@@ -12,11 +12,12 @@ use Rattle.bk_world.specs.declared.database.Creation.{Creation}
 use Rattle.bk_world.specs.declared.database.FileSpec.{FileSpec}
 use Rattle.bk_world.specs.declared.header.Header.{Header}
 use Rattle.bk_world.specs.GrowthLaws.{records-grown}
-use Rattle.bk_machine.specs.Acts.{Act, Recovery, based, based_on, created, creation_said, done, done_all, dropped, gone_on, gone_online, goes_online, logged, medium_made, new_database, recovered, replaced, restored, says, set_sealed, taken_over, turned, where_found, with_slot}
+use Rattle.bk_machine.specs.Acts.{Act, Recovery, based, based_on, created, creation_said, done, done_all, dropped, gone_on, gone_online, goes_online, logged, medium_made, new_database, recovered, replaced, restored, says, seated, set_sealed, taken_over, turned, where_found, with_slot}
 use Rattle.bk_machine.specs.Built.{IsBuilt, IsBuiltLog, IsBuiltReading, IsBuiltSlot, IsNoLoad, SayNoLoad, SaysNoLoad}
 use Rattle.bk_machine.specs.MayDo.{HoldsOf, MayDo, MayDoAll, MayLog, MayRecover}
 use Rattle.bk_machine.specs.Sound.{IsSound, IsSoundReading, IsSoundSlot, IsWholeDatabase, files_of_set}
-use Rattle.bk_machine.specs.World.{Database, Open, World, database_named, log_of, log_to}
+use Rattle.bk_world.specs.declared.transaction.Open.{Open}
+use Rattle.bk_machine.specs.World.{Database, World, database_named, log_of, log_to}
 use Rattle.bk_machine.specs.statements.Restore.{IsOfRecovery}
 use Rattle.bk_machine.proofs.Acting.{act-follows, act-sound}
 use Rattle.bk_machine.proofs.ActsBegin.{made-log, recovered-follows, recovered-log}
@@ -103,6 +104,10 @@ module _ (w : World) (sound : IsSound w) (built : IsBuilt w) where
   turned-built : (name : Option (List ℕ)) → IsBuilt (done w (turned name))
   unfolding done
   turned-built name = record { databases = built.databases; media = media-as-they-were (done w (turned name)) refl }
+
+  seated-built : (session : ℕ) → IsBuilt (done w (seated session))
+  unfolding done
+  seated-built session = record { databases = built.databases; media = media-as-they-were (done w (seated session)) refl }
 
   dropped-built : (name : List ℕ) → IsBuilt (done w (dropped name))
   unfolding done
@@ -249,6 +254,7 @@ module _ (w : World) (sound : IsSound w) (built : IsBuilt w) where
 
   pub act-built : (act : Act) → MayDo w act → SaysNoLoad w act → IsBuilt (done w act)
   act-built (turned name) may none = turned-built name
+  act-built (seated session) may none = seated-built session
   act-built (created c) may none = created-built c may
   act-built (dropped name) may none = dropped-built name
   act-built (logged name said transactions) may none = logged-built name said transactions may none

@@ -7,11 +7,11 @@ use Rattle.bk_machine.proofs.Kept.{sound-later, whole-later}
 
 pub sound-opened : (w : World) → IsSound w → IsSound (opened w)
 unfolding opened
-sound-opened w is = sound-later w (opened w) (record { instance = refl; counter = omega arith; grew = grew-same w.history }) refl refl refl is
+sound-opened w is = sound-later w (opened w) (record { instance = refl; counter = omega arith; grew = grew-same w.history }) refl refl refl (omega arith) is
 
 pub sound-ended : (w : World) → IsSound w → IsSound (ended w)
 unfolding ended
-sound-ended w is = sound-later w (ended w) (record { instance = refl; counter = omega arith; grew = grew-same w.history }) refl refl refl is
+sound-ended w is = sound-later w (ended w) (record { instance = refl; counter = omega arith; grew = grew-same w.history }) refl refl refl (omega arith) is
 
 pub idle-opened : (w : World) → AreIdle w → AreIdle (opened w)
 unfolding opened
@@ -23,7 +23,7 @@ idle-ended w is = is
 
 pub sound-restarted : (counter : ℕ) (w : World) → IsSound w → w.counter ≤ counter → IsSound (restarted counter w)
 unfolding restarted
-sound-restarted counter w is le = sound-later w (restarted counter w) (record { instance = refl; counter = le; grew = grew-same w.history }) refl refl refl is
+sound-restarted counter w is le = sound-later w (restarted counter w) (record { instance = refl; counter = le; grew = grew-same w.history }) refl refl refl (omega arith) is
 
 pub whole-restarted : (counter : ℕ) (w : World) → IsWhole w → w.counter ≤ counter → IsWhole (restarted counter w)
 unfolding restarted

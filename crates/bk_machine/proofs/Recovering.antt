@@ -6,7 +6,7 @@ use Rattle.std.proofs.Math.Nat.{le-min}
 use Rattle.std.proofs.lemmas.List.{append-nil, length-append, length-reverse}
 use Rattle.std.proofs.lemmas.List.Sums.{count_by-le-length, length-filter}
 use Rattle.bk_ids.specs.declared.guid.Guid.{Guid}
-use Rattle.bk_world.specs.Cut.{end_behind, settled}
+use Rattle.bk_world.specs.Cut.{end_behind}
 use Rattle.bk_world.specs.ListLaws.{all_filter, all_joined, all_mapped}
 use Rattle.bk_world.specs.Pending.{Pending, pending, pending_after, pending_from}
 use Rattle.bk_world.specs.ReadingLaws.{numbered-append, pending-append, pending-more, pending-settled, rise-length}
@@ -14,7 +14,6 @@ use Rattle.bk_world.specs.Records.{Counts, Deed, Logged, Said, begun, checkpoint
 use Rattle.bk_world.specs.Says.{alone, settle_said, undoing}
 use Rattle.bk_world.specs.SoundLogs.{IsSound as IsSoundLog, MayCome, MayFollow, NoLoadPends, most_pending}
 use Rattle.bk_world.specs.declared.database.FileSpec.{FileSpec}
-use Rattle.bk_world.specs.CrashLaws.{sound-settled}
 use Rattle.bk_world.specs.SettledLaws.{length-undoing}
 use Rattle.bk_world.specs.SoundLaws.{follow-join, sound-lying, sound-rise}
 use Rattle.bk_machine.specs.Acts.{Recovery}
@@ -23,7 +22,8 @@ use Rattle.bk_machine.specs.Sound.{IsLog}
 use Rattle.bk_machine.specs.statements.Restore.{IsOfRecovery, Recovers, is_recovery_deed}
 use Rattle.bk_machine.proofs.Bounded.{sound-behind}
 use Rattle.bk_machine.proofs.Histories.{counts-positive}
-use Rattle.bk_machine.proofs.Left.{counts-end}
+use Rattle.bk_machine.specs.SettledLaws.{counts-end}
+use Rattle.bk_machine.proofs.SettledSteps.{settle-follows}
 
 -- ---- what is pending where no load was said
 
@@ -87,10 +87,6 @@ few-pend rs sound none = few-more [] rs sound none (omega arith)
 
 -- ---- what a recovery says
 
-follow-rest : (rs a b : List Logged) → MayFollow rs (a ++ b) → MayFollow (rs ++ a) b
-follow-rest rs [] b may = subst (λ log. MayFollow log b) (sym (append-nil rs)) may
-follow-rest rs (r ∷ a) b may = subst (λ log. MayFollow log b) (append_assoc rs (r ∷ []) a) (follow-rest (rs ++ r ∷ []) a b may.1)
-
 each-undoing : (branch : Guid) (ws : List Pending) → AllByRecursion (λ (s : Said). IsOfRecovery branch s.begin s.deed) (undoing ws)
 each-undoing branch [] = tt
 each-undoing branch (w ∷ ws) = (tt, each-undoing branch ws)
@@ -120,8 +116,7 @@ module _ (files : List FileSpec) (rs : List Logged) (end : ℕ) (branch : Guid) 
   split = numbered-append end (settle_said (pending rs)) (alone (recovered branch))
 
   undone-first : MayFollow rs (numbered end (settle_said (pending rs)))
-  unfolding settled
-  undone-first = subst (λ n. MayFollow rs (numbered n (settle_said (pending rs)))) (sym all) (follow-rest [] rs (numbered (end_behind rs) (settle_said (pending rs))) (sound-settled rs is.sound counts none))
+  undone-first = settle-follows files rs end is none
 
   settles : pending (more rs end (settle_said (pending rs) ++ alone (recovered branch))) ≡ []
   settles =

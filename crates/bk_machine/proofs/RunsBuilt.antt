@@ -21,7 +21,7 @@ use Rattle.bk_machine.specs.Events.{FileRemoved, MediumAdded, MediumChanged, Med
 use Rattle.bk_machine.specs.Machine.{May, behind}
 use Rattle.bk_machine.specs.Outcome.{Outcome}
 use Rattle.bk_machine.specs.Run.{IsRun, behind_all}
-use Rattle.bk_machine.specs.Sound.{AreIdle, IsSound, IsSoundReading, IsSoundSlot, IsWhole, files_of_set}
+use Rattle.bk_machine.specs.Sound.{IsSound, IsSoundReading, IsSoundSlot, IsWhole, files_of_set}
 use Rattle.bk_machine.specs.World.{Database, World, empty_world, ended, log_of, opened, restarted, with_database}
 use Rattle.bk_machine.proofs.Crashed.{crash-reads, zipped}
 use Rattle.bk_machine.proofs.Happened.{of-medium, with_units}
@@ -31,66 +31,66 @@ use Rattle.bk_machine.proofs.Loads.{BuiltIn, acts-built, built-same, databases-b
 use Rattle.bk_machine.proofs.Lost.{rise-line}
 use Rattle.bk_machine.specs.NamedLaws.{all-with}
 use Rattle.bk_machine.proofs.statements.Each.{statement-comes, statement-does, statement-plain}
-use Rattle.bk_machine.proofs.statements.Running.{IsCalm, Within, calm-behind, may-front, within-run}
+use Rattle.bk_machine.proofs.statements.Running.{Within, sound-behind, may-front, within-run}
 
 -- ---- statements and runs
 
 -- behind each front of what a statement comes to
-pub front-built : (w : World) (s : ScriptEntry) (now : ℕ) (outcome : Outcome) → IsSound w → AreIdle w → IsBuilt w → May w s now outcome → (k : ℕ) → IsBuilt (done_all w (take k outcome.acts))
-front-built w s now outcome sound idle built may k =
-    acts-built w (take k outcome.acts) sound built (may-front w outcome.acts k (statement-does w sound idle s now outcome may)) (no-load-front w outcome.acts k (statement-plain w sound idle built s now outcome may))
+pub front-built : (w : World) (s : ScriptEntry) (now : ℕ) (outcome : Outcome) → IsSound w → IsBuilt w → May w s now outcome → (k : ℕ) → IsBuilt (done_all w (take k outcome.acts))
+front-built w s now outcome sound built may k =
+    acts-built w (take k outcome.acts) sound built (may-front w outcome.acts k (statement-does w sound s now outcome may)) (no-load-front w outcome.acts k (statement-plain w sound built s now outcome may))
 
-behind-built : (w : World) (s : ScriptEntry) (now : ℕ) (outcome : Outcome) → IsCalm w → IsBuilt w → May w s now outcome → IsBuilt (behind w outcome)
-behind-built w s now outcome calm built may = acts-built w outcome.acts calm.sound built (statement-does w calm.sound calm.idle s now outcome may) (statement-plain w calm.sound calm.idle built s now outcome may)
+behind-built : (w : World) (s : ScriptEntry) (now : ℕ) (outcome : Outcome) → IsSound w → IsBuilt w → May w s now outcome → IsBuilt (behind w outcome)
+behind-built w s now outcome sound built may = acts-built w outcome.acts sound built (statement-does w sound s now outcome may) (statement-plain w sound built s now outcome may)
 
-calm-run-built : (w : World) (statements : List ScriptEntry) (moments : List ℕ) (outcomes : List Outcome) → IsCalm w → IsBuilt w → IsRun w statements moments outcomes → IsBuilt (behind_all w outcomes)
-calm-run-built w [] [] [] calm built run = built
-calm-run-built w [] [] (o ∷ os) calm built run = absurd run
-calm-run-built w [] (m ∷ ms) os calm built run = absurd run
-calm-run-built w (s ∷ ss) [] os calm built run = absurd run
-calm-run-built w (s ∷ ss) (m ∷ ms) [] calm built run = absurd run
-calm-run-built w (s ∷ ss) (m ∷ ms) (o ∷ os) calm built run = calm-run-built (behind w o) ss ms os (calm-behind w s m o calm run.0) (behind-built w s m o calm built run.0) run.1
+sound-run-built : (w : World) (statements : List ScriptEntry) (moments : List ℕ) (outcomes : List Outcome) → IsSound w → IsBuilt w → IsRun w statements moments outcomes → IsBuilt (behind_all w outcomes)
+sound-run-built w [] [] [] sound built run = built
+sound-run-built w [] [] (o ∷ os) sound built run = absurd run
+sound-run-built w [] (m ∷ ms) os sound built run = absurd run
+sound-run-built w (s ∷ ss) [] os sound built run = absurd run
+sound-run-built w (s ∷ ss) (m ∷ ms) [] sound built run = absurd run
+sound-run-built w (s ∷ ss) (m ∷ ms) (o ∷ os) sound built run = sound-run-built (behind w o) ss ms os (sound-behind w s m o sound run.0) (behind-built w s m o sound built run.0) run.1
 
-pub run-built : (w : World) (statements : List ScriptEntry) (moments : List ℕ) (outcomes : List Outcome) → IsSound w → AreIdle w → IsBuilt w → IsRun w statements moments outcomes → IsBuilt (behind_all w outcomes)
-run-built w statements moments outcomes sound idle built run = calm-run-built w statements moments outcomes (record { sound = sound; idle = idle }) built run
+pub run-built : (w : World) (statements : List ScriptEntry) (moments : List ℕ) (outcomes : List Outcome) → IsSound w → IsBuilt w → IsRun w statements moments outcomes → IsBuilt (behind_all w outcomes)
+run-built w statements moments outcomes sound built run = sound-run-built w statements moments outcomes sound built run
 
 -- within a run: the world behind some of its outcomes, and what the next one does
 record WithinBuilt (w : World) (outcomes : List Outcome) (n : ℕ) : Type 0 where
   built : IsBuilt (behind_all w (take n outcomes))
   none : SayNoLoad (behind_all w (take n outcomes)) (next_acts (drop n outcomes))
 
-within-built : (w : World) (statements : List ScriptEntry) (moments : List ℕ) (outcomes : List Outcome) (n : ℕ) → IsCalm w → IsBuilt w → IsRun w statements moments outcomes → WithinBuilt w outcomes n
-within-built w [] [] [] zero calm built run = record { built = built; none = tt }
-within-built w [] [] [] (suc n) calm built run = record { built = built; none = tt }
-within-built w [] [] (o ∷ os) n calm built run = absurd run
-within-built w [] (m ∷ ms) os n calm built run = absurd run
-within-built w (s ∷ ss) [] os n calm built run = absurd run
-within-built w (s ∷ ss) (m ∷ ms) [] n calm built run = absurd run
-within-built w (s ∷ ss) (m ∷ ms) (o ∷ os) zero calm built run = record { built = built; none = statement-plain w calm.sound calm.idle built s m o run.0 }
-within-built w (s ∷ ss) (m ∷ ms) (o ∷ os) (suc n) calm built run =
-    let later : WithinBuilt (behind w o) os n = within-built (behind w o) ss ms os n (calm-behind w s m o calm run.0) (behind-built w s m o calm built run.0) run.1 in
+within-built : (w : World) (statements : List ScriptEntry) (moments : List ℕ) (outcomes : List Outcome) (n : ℕ) → IsSound w → IsBuilt w → IsRun w statements moments outcomes → WithinBuilt w outcomes n
+within-built w [] [] [] zero sound built run = record { built = built; none = tt }
+within-built w [] [] [] (suc n) sound built run = record { built = built; none = tt }
+within-built w [] [] (o ∷ os) n sound built run = absurd run
+within-built w [] (m ∷ ms) os n sound built run = absurd run
+within-built w (s ∷ ss) [] os n sound built run = absurd run
+within-built w (s ∷ ss) (m ∷ ms) [] n sound built run = absurd run
+within-built w (s ∷ ss) (m ∷ ms) (o ∷ os) zero sound built run = record { built = built; none = statement-plain w sound built s m o run.0 }
+within-built w (s ∷ ss) (m ∷ ms) (o ∷ os) (suc n) sound built run =
+    let later : WithinBuilt (behind w o) os n = within-built (behind w o) ss ms os n (sound-behind w s m o sound run.0) (behind-built w s m o sound built run.0) run.1 in
     record { built = later.built; none = later.none }
 
 -- where a run is cut between two acts
-pub between-built : (old : World) (statements : List ScriptEntry) (moments : List ℕ) (outcomes : List Outcome) (n k : ℕ) → IsSound old → AreIdle old → IsBuilt old → IsRun old statements moments outcomes → IsBuilt (cut_between old outcomes n k)
-between-built old statements moments outcomes n k sound idle built run =
-    let here : Within old outcomes n = within-run old statements moments outcomes n (record { sound = sound; idle = idle }) run in
-    let its : WithinBuilt old outcomes n = within-built old statements moments outcomes n (record { sound = sound; idle = idle }) built run in
-    acts-built (behind_all old (take n outcomes)) (take k (next_acts (drop n outcomes))) here.calm.sound its.built (may-front (behind_all old (take n outcomes)) (next_acts (drop n outcomes)) k here.may)
+pub between-built : (old : World) (statements : List ScriptEntry) (moments : List ℕ) (outcomes : List Outcome) (n k : ℕ) → IsSound old → IsBuilt old → IsRun old statements moments outcomes → IsBuilt (cut_between old outcomes n k)
+between-built old statements moments outcomes n k sound built run =
+    let here : Within old outcomes n = within-run old statements moments outcomes n sound run in
+    let its : WithinBuilt old outcomes n = within-built old statements moments outcomes n sound built run in
+    acts-built (behind_all old (take n outcomes)) (take k (next_acts (drop n outcomes))) here.sound its.built (may-front (behind_all old (take n outcomes)) (next_acts (drop n outcomes)) k here.well.may)
     (no-load-front (behind_all old (take n outcomes)) (next_acts (drop n outcomes)) k its.none)
 
 -- statements at moments come to outcomes, one after another
-calm-run-comes : (w : World) (statements : List ScriptEntry) (moments : List ℕ) → IsCalm w → IsBuilt w → length moments ≡ length statements → (outcomes : List Outcome) × IsRun w statements moments outcomes
-calm-run-comes w [] [] calm built same = ([], tt)
-calm-run-comes w [] (m ∷ ms) calm built same = absurd (omega (arith, same))
-calm-run-comes w (s ∷ ss) [] calm built same = absurd (omega (arith, same))
-calm-run-comes w (s ∷ ss) (m ∷ ms) calm built same =
-    let one : (outcome : Outcome) × May w s m outcome = statement-comes w calm.sound calm.idle built s m in
-    let rest : (outcomes : List Outcome) × IsRun (behind w one.0) ss ms outcomes = calm-run-comes (behind w one.0) ss ms (calm-behind w s m one.0 calm one.1) (behind-built w s m one.0 calm built one.1) (omega (arith, same)) in
+sound-run-comes : (w : World) (statements : List ScriptEntry) (moments : List ℕ) → IsSound w → IsBuilt w → length moments ≡ length statements → (outcomes : List Outcome) × IsRun w statements moments outcomes
+sound-run-comes w [] [] sound built same = ([], tt)
+sound-run-comes w [] (m ∷ ms) sound built same = absurd (omega (arith, same))
+sound-run-comes w (s ∷ ss) [] sound built same = absurd (omega (arith, same))
+sound-run-comes w (s ∷ ss) (m ∷ ms) sound built same =
+    let one : (outcome : Outcome) × May w s m outcome = statement-comes w sound built s m in
+    let rest : (outcomes : List Outcome) × IsRun (behind w one.0) ss ms outcomes = sound-run-comes (behind w one.0) ss ms (sound-behind w s m one.0 sound one.1) (behind-built w s m one.0 sound built one.1) (omega (arith, same)) in
     (one.0 ∷ rest.0, (one.1, rest.1))
 
-pub run-comes : (w : World) (statements : List ScriptEntry) (moments : List ℕ) → IsSound w → AreIdle w → IsBuilt w → length moments ≡ length statements → (outcomes : List Outcome) × IsRun w statements moments outcomes
-run-comes w statements moments sound idle built same = calm-run-comes w statements moments (record { sound = sound; idle = idle }) built same
+pub run-comes : (w : World) (statements : List ScriptEntry) (moments : List ℕ) → IsSound w → IsBuilt w → length moments ≡ length statements → (outcomes : List Outcome) × IsRun w statements moments outcomes
+run-comes w statements moments sound built same = sound-run-comes w statements moments sound built same
 
 -- ---- where a run begins and ends
 

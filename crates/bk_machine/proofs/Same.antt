@@ -1,26 +1,19 @@
 -- Worlds with the same databases, whose logs are the same.
-use Rattle.std.proofs.Common.{◌≡◌, inr, ℕ, List, [], ◌∷◌, Option, refl, sym, ◌∙◌, ap, subst}
+use Rattle.std.proofs.Common.{◌≡◌, inr, ℕ, List, Option, refl, sym, ◌∙◌, ap, subst}
 use Rattle.std.specs.List.{AllByRecursion}
 use Rattle.bk_world.specs.Lines.{Grew}
 use Rattle.bk_world.specs.ListLaws.{all_both, all_mapped}
 use Rattle.bk_world.specs.declared.header.Header.{Header}
 use Rattle.bk_world.specs.GrowthLaws.{records-grown}
-use Rattle.bk_machine.specs.Acts.{done, medium_made, set_sealed, turned}
+use Rattle.bk_machine.specs.Acts.{done, medium_made, seated, set_sealed, turned}
 use Rattle.bk_machine.specs.Events.{MediumAdded, MediumChanged, MediumRemoved, StandbyRemoved}
 use Rattle.bk_machine.specs.Same.{SameLogs}
+use Rattle.bk_machine.specs.SettledLaws.{logs-same}
 use Rattle.bk_machine.specs.Sound.{AreIdle, IsIdle, IsSound, IsWhole, IsWholeDatabase}
 use Rattle.bk_machine.specs.World.{Database, World, ended, log_of, opened, restarted}
 use Rattle.bk_machine.proofs.Lasting.{event-grows}
 
--- where the history is the same, logs are
-same-history : (old new : World) → new.databases ≡ old.databases → new.history ≡ old.history → SameLogs old new
-same-history old new databases history = record { databases = databases; logs = each old.databases }
-  where
-    each : (dbs : List Database) → AllByRecursion (λ (db : Database). log_of new.history db ≡ log_of old.history db) dbs
-    each [] = tt
-    each (db ∷ dbs) = (ap (λ h. log_of h db) history, each dbs)
-
--- and where it has grown
+-- where the history has grown, logs are the same
 same-grown : (old new : World) → IsWhole old → new.databases ≡ old.databases → Grew old.history new.history → SameLogs old new
 unfolding log_of
 same-grown old new is databases grew = record {
@@ -29,7 +22,7 @@ same-grown old new is databases grew = record {
 }
 
 pub same-reflexive : (w : World) → SameLogs w w
-same-reflexive w = same-history w w refl refl
+same-reflexive w = logs-same w w refl refl
 
 pub same-on : (a b c : World) → SameLogs a b → SameLogs b c → SameLogs a c
 same-on a b c first second =
@@ -46,29 +39,33 @@ same-idle old new same idle = subst (AllByRecursion IsIdle) (sym same.databases)
 
 pub same-turned : (w : World) (name : Option (List ℕ)) → SameLogs w (done w (turned name))
 unfolding done
-same-turned w name = same-history w (done w (turned name)) refl refl
+same-turned w name = logs-same w (done w (turned name)) refl refl
+
+pub same-seated : (w : World) (session : ℕ) → SameLogs w (done w (seated session))
+unfolding done
+same-seated w session = logs-same w (done w (seated session)) refl refl
 
 pub same-medium_made : (w : World) (path : List ℕ) → SameLogs w (done w (medium_made path))
 unfolding done
-same-medium_made w path = same-history w (done w (medium_made path)) refl refl
+same-medium_made w path = logs-same w (done w (medium_made path)) refl refl
 
 pub same-sealed : (w : World) (path : List ℕ) (header : Header) → SameLogs w (done w (set_sealed path header))
 unfolding done
-same-sealed w path header = same-history w (done w (set_sealed path header)) refl refl
+same-sealed w path header = logs-same w (done w (set_sealed path header)) refl refl
 
 -- runs
 
 pub same-opened : (w : World) → SameLogs w (opened w)
 unfolding opened
-same-opened w = same-history w (opened w) refl refl
+same-opened w = logs-same w (opened w) refl refl
 
 pub same-ended : (w : World) → SameLogs w (ended w)
 unfolding ended
-same-ended w = same-history w (ended w) refl refl
+same-ended w = logs-same w (ended w) refl refl
 
 pub same-restarted : (counter : ℕ) (w : World) → SameLogs w (restarted counter w)
 unfolding restarted
-same-restarted counter w = same-history w (restarted counter w) refl refl
+same-restarted counter w = logs-same w (restarted counter w) refl refl
 
 -- events
 
@@ -79,13 +76,13 @@ same-lines : (old new later : World) → new ≡ later → later.history ≡ old
 same-lines old new later is same = ap (λ (w : World). w.history) is ∙ same
 
 pub same-medium_removed : (old new : World) → IsSound old → MediumRemoved old new → SameLogs old new
-same-medium_removed old new is e = same-history old new (same-databases old new _ e.becomes refl) (same-lines old new _ e.becomes refl)
+same-medium_removed old new is e = logs-same old new (same-databases old new _ e.becomes refl) (same-lines old new _ e.becomes refl)
 
 pub same-standby_removed : (old new : World) → IsSound old → StandbyRemoved old new → SameLogs old new
-same-standby_removed old new is e = same-history old new (same-databases old new _ e.becomes refl) (same-lines old new _ e.becomes refl)
+same-standby_removed old new is e = logs-same old new (same-databases old new _ e.becomes refl) (same-lines old new _ e.becomes refl)
 
 pub same-medium_changed : (old new : World) → IsSound old → MediumChanged old new → SameLogs old new
-same-medium_changed old new is e = same-history old new (same-databases old new _ e.becomes refl) (same-lines old new _ e.becomes refl)
+same-medium_changed old new is e = logs-same old new (same-databases old new _ e.becomes refl) (same-lines old new _ e.becomes refl)
 
 pub same-medium_added : (old new : World) → IsSound old → MediumAdded old new → SameLogs old new
 same-medium_added old new is e = same-grown old new is.whole (same-databases old new _ e.becomes refl) (event-grows old new is (inr (inr (inr (inr (inr e))))))

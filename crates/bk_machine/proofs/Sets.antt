@@ -8,16 +8,19 @@ use Rattle.bk_world.specs.GrowthLaws.{records-grown}
 use Rattle.bk_machine.specs.Acts.{Act, done, done_all}
 use Rattle.bk_machine.specs.Events.{Happen, Happens, nothing_more, one_more}
 use Rattle.bk_machine.specs.MayDo.{MayDo, MayDoAll}
-use Rattle.bk_machine.specs.Sound.{IsSound, IsSoundReading, IsSoundSet, IsSoundSlot, SetIn}
+use Rattle.bk_machine.specs.Sound.{IsSound, IsSoundReading, IsSoundSet, IsSoundSlot, IsWhole, SetIn}
 use Rattle.bk_machine.specs.World.{World, ended, opened, restarted}
 use Rattle.bk_machine.proofs.Acting.{act-reads, acts-read}
 use Rattle.bk_machine.proofs.Happened.{of-medium}
 use Rattle.bk_machine.proofs.Lasting.{events-grow}
 use Rattle.bk_machine.proofs.Left.{of-contained}
 
+pub set-whole : (w : World) (path : List ℕ) (header : Header) → IsWhole w → SetIn w path header → IsSoundSet w header
+set-whole w path header is there = of-contained (IsSoundSlot w) there.0 (readable header) (of-medium (IsSoundReading w) w.media path (medium there.0) is.media there.1) there.2
+
 module _ (w : World) (path : List ℕ) (header : Header) (is : IsSound w) (there : SetIn w path header) where
   pub set-sound : IsSoundSet w header
-  set-sound = of-contained (IsSoundSlot w) there.0 (readable header) (of-medium (IsSoundReading w) w.media path (medium there.0) is.whole.media there.1) there.2
+  set-sound = set-whole w path header is.whole there
 
   pub set-counts : Counts 1 (log_below w.history header.path header.last) header.last
   set-counts = set-sound.log.counts

@@ -28,7 +28,8 @@ use Rattle.bk_machine.specs.Sound.{IsPassed, IsSoundLine, IsWholeDatabase, RiseF
 use Rattle.bk_machine.specs.Stays.{MayStay}
 use Rattle.bk_machine.specs.World.{Database, World, log_of}
 use Rattle.bk_machine.proofs.Histories.{below-numbered, counts-front, log-front, rise-said}
-use Rattle.bk_machine.proofs.Left.{counts-below, counts-end, none-lost, of-contained}
+use Rattle.bk_machine.specs.SettledLaws.{counts-end}
+use Rattle.bk_machine.proofs.Left.{counts-below, none-lost, of-contained}
 use Rattle.bk_machine.proofs.Lost.{at-first, at-passed, has-left, rise-line}
 use Rattle.bk_machine.proofs.Truncated.{all-below, at-below, below, from, from-each, rise-filter, rise-splits, same-front}
 

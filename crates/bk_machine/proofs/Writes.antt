@@ -2,7 +2,7 @@
 use Rattle.std.proofs.Common.{◌≡◌, inl, inr, ℕ, List, [], ◌∷◌, Option, sym, subst}
 use Rattle.std.specs.List.{AllByRecursion}
 use Rattle.bk_items.specs.declared.item.ScriptEntry.{ScriptEntry}
-use Rattle.bk_items.specs.declared.item.ScriptItem.TheVariants.{Rows, Use}
+use Rattle.bk_items.specs.declared.item.ScriptItem.TheVariants.{Rows, Use, Session}
 use Rattle.bk_items.specs.declared.rows.RowStatement.TheVariants.{Select}
 use Rattle.bk_world.specs.declared.reply.Reply.{Reply}
 use Rattle.bk_world.specs.declared.reply.Reply.TheVariants.{Done, Refused}
@@ -13,6 +13,7 @@ use Rattle.bk_machine.specs.Machine.{May}
 use Rattle.bk_machine.specs.Outcome.{Outcome, answered, in_one}
 use Rattle.bk_machine.specs.World.{World}
 use Rattle.bk_machine.specs.Writes.{ActWrites, ActsWrite, IsStill, IsTurn, StatementWrites}
+use Rattle.bk_machine.specs.statements.Session.{check_session, DoesSession}
 use Rattle.bk_machine.specs.statements.Select.{check_select, DoesSelect}
 use Rattle.bk_machine.specs.statements.Use.{check_use, DoesUse}
 use Rattle.bk_machine.proofs.statements.Each.{statement-facts}
@@ -45,6 +46,11 @@ turned-still name outcome is =
 pub use-still : (w : World) (line : ℕ) (name : List ℕ) (now : ℕ) (outcome : Outcome) → May w (record { item = Use name; line = line }) now outcome → IsStill outcome
 unfolding May
 use-still w line name now = comes-to IsStill (check_use w name) DoesUse (λ rule. tt) (λ found e. turned-still found)
+
+-- nor does another session
+pub session-still : (w : World) (line n : ℕ) (now : ℕ) (outcome : Outcome) → May w (record { item = Session n; line = line }) now outcome → IsStill outcome
+unfolding May
+session-still w line n now = comes-to IsStill (check_session line n) DoesSession (λ rule. tt) (λ found e outcome is. subst IsStill (sym is) (tt, tt))
 
 answered-still : (answer : Reply) (outcome : Outcome) → outcome ≡ answered answer → IsStill outcome
 answered-still answer outcome is = subst IsStill (sym is) tt

@@ -1,6 +1,9 @@
 -- Each statement does acts that may be done.
 pub mod Idling
 pub mod Telling
+pub mod Few
+pub mod Locks
+pub mod Ending
 pub mod Begins
 pub mod Fronts
 pub mod Facts
@@ -8,9 +11,13 @@ pub mod CreateDatabase
 pub mod CreateTable
 pub mod Writing
 pub mod Rows
+pub mod Transactions
 pub mod Restore
 pub mod Said
 pub mod Backup
 pub mod Each
 pub mod Running
 pub mod Leaving
+pub mod Closing
+pub mod Counting
+pub mod Firsts

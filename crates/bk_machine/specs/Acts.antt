@@ -24,7 +24,8 @@ use Rattle.bk_world.specs.Medium.{Slot, Reading, readable, not_media, medium, me
 use Rattle.bk_world.specs.Records.{Deed, Logged, Said, database_made, checkpointed, numbered}
 use Rattle.bk_world.specs.Says.{alone}
 use Rattle.bk_world.specs.Telling.{model, time}
-use Rattle.bk_machine.specs.World.{World, Database, Open, Job, log_of, log_to, least_begin, database_named, with_database, without_database, with_new_database, session_numbered, with_session}
+use Rattle.bk_world.specs.declared.transaction.Open.{Open}
+use Rattle.bk_machine.specs.World.{World, Database, Job, log_of, log_to, least_begin, database_named, with_database, without_database, with_new_database, session_numbered, with_session}
 
 -- a recovery: where, on which branch that is drawn for it, and what is said there
 pub record Recovery : Type 0 where
@@ -36,6 +37,8 @@ pub record Recovery : Type 0 where
 pub data Act : Type 0 where
   -- the current session's current database is set, or it has none
   turned : Option (List ℕ) → Act
+  -- this session is the current one from now on
+  seated : ℕ → Act
   -- a database is made, and says its first record
   created : Creation → Act
   dropped : List ℕ → Act
@@ -271,6 +274,7 @@ where_found w (Some db) next = next db
 -- a world behind an act
 unfoldable pub done : World → Act → World
 done w (turned name) = record w { sessions = with_session w.sessions (record (session_numbered w.sessions w.session) { current = name }) }
+done w (seated session) = record w { session = session }
 done w (created c) = record w {
   counter = w.counter + 2;
   history = new_line c.branch 1 (creation_said c) ∷ w.history;

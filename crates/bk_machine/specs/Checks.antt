@@ -1,5 +1,5 @@
 -- Checks, one after the other: the first rule that is broken ends them, and what they find is handed on.
-use Rattle.std.specs.Prelude.{ℕ, Bool, true, false, ◌||◌, ◌&&◌, nat_le, nat_lt, List, [], ◌∷◌, length, map, flat_map, codes, not, filter, Option, Some, None, Result, Ok, Err, if◌then◌else◌}
+use Rattle.std.specs.Prelude.{ℕ, min, is_some, Bool, true, false, ◌||◌, ◌&&◌, nat_le, nat_lt, List, [], ◌∷◌, length, map, flat_map, codes, not, filter, Option, Some, None, Result, Ok, Err, if◌then◌else◌}
 use Rattle.std.specs.List.{list_any}
 use Rattle.std.specs.Str.{bytes_eq}
 use Rattle.bk_ids.specs.Name.{same_name}
@@ -11,10 +11,11 @@ use Rattle.bk_world.specs.declared.database.TableSpec.{TableSpec}
 use Rattle.bk_world.specs.declared.database.Unit.{Unit as RestoreUnit}
 use Rattle.bk_world.specs.declared.rule.Limit.TheVariants.{Lsn}
 use Rattle.bk_world.specs.declared.rule.Rule.{Rule}
-use Rattle.bk_world.specs.declared.rule.Rule.TheVariants.{NotOnline, FileInUse, LimitReached}
+use Rattle.bk_world.specs.declared.rule.Rule.TheVariants.{NotOnline, InTransaction, DatabaseInUse, FileInUse, LimitReached}
 use Rattle.bk_world.specs.declared.rule.StatusWord.{StatusWord}
 use Rattle.bk_world.specs.declared.rule.StatusWord.TheVariants as word
-use Rattle.bk_machine.specs.World.{Database}
+use Rattle.bk_world.specs.declared.transaction.Open.{Open}
+use Rattle.bk_machine.specs.World.{World, Database, own_held}
 
 -- what checks come to: what they found, or the first rule that is broken
 abbrev pub Checked : Type 0 → Type 0
@@ -34,6 +35,30 @@ refuse_if test rule = if test then Err rule else Ok tt
 abbrev pub or_refuse : {A : Type 0} → Option A → Rule → Checked A
 or_refuse None rule = Err rule
 or_refuse (Some found) rule = Ok found
+
+-- Transactions.
+
+-- refused inside a transaction of the current session
+abbrev pub outside : World → Checked (Unit {0})
+outside w = refuse_if (is_some (own_held w)) InTransaction
+
+-- the lesser of a number and another one, if there is one
+abbrev pub lesser : ℕ → Option ℕ → ℕ
+lesser n None = n
+lesser n (Some m) = min n m
+
+-- the least session of some transactions
+abbrev pub least_session : List Open → Option ℕ
+least_session [] = None
+least_session (t ∷ transactions) = Some (lesser t.session (least_session transactions))
+
+abbrev pub unused_by : Option ℕ → Checked (Unit {0})
+unused_by None = Ok tt
+unused_by (Some session) = Err (DatabaseInUse session)
+
+-- refused where a session has an open transaction in the database
+abbrev pub unused : Database → Checked (Unit {0})
+unused db = unused_by (least_session db.transactions)
 
 -- Numbers.
 

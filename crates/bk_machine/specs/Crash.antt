@@ -14,7 +14,8 @@ use Rattle.bk_machine.specs.Acts.{Act, logged, done_all}
 use Rattle.bk_machine.specs.Outcome.{Outcome}
 use Rattle.bk_machine.specs.Run.{behind_all}
 use Rattle.bk_machine.specs.Sound.{RiseFrom}
-use Rattle.bk_machine.specs.World.{World, Database, Open, log_of, least_begin, database_named}
+use Rattle.bk_world.specs.declared.transaction.Open.{Open}
+use Rattle.bk_machine.specs.World.{World, Database, log_of, least_begin, database_named}
 
 -- Where a run is cut.
 
@@ -96,18 +97,18 @@ greatest_end before whole db = max (end_in (database_named before.databases db.n
 abbrev pub most_end : World → World → Database → ℕ
 most_end before whole db = greatest_end before whole db + (greatest_end before whole db - begin_in (database_named before.databases db.name) (greatest_end before whole db)) + 16
 
--- where the transaction of its own begins in which a statement writes
-abbrev pub own_begin : Option Database → List ℕ
-own_begin None = []
-own_begin (Some db) = db.end ∷ []
-
 -- the first records of some transactions
 abbrev pub begins_of : List Open → List ℕ
 begins_of transactions = map (λ (t : Open). t.begin) transactions
 
--- the first records of what is open in a database at a cut: of that of the statement that is cut, and of its transactions
+-- the first records of what may be open in a database while a statement goes on: of a transaction that the statement begins, and of those before it
+abbrev pub begins_in : Option Database → List ℕ
+begins_in None = []
+begins_in (Some db) = db.end ∷ begins_of db.transactions
+
+-- the first records of what may be open in a database where a statement is cut
 abbrev pub open_begins : World → Database → List ℕ
-open_begins before db = own_begin (database_named before.databases db.name) ++ begins_of db.transactions
+open_begins before db = begins_in (database_named before.databases db.name)
 
 -- The log of a database that is online is cut, and what was open in it is undone. No record is lost that is of no transaction, and the database
 -- goes on behind what is left: its last branch has nothing at its end or above.

@@ -1,5 +1,4 @@
 pub mod World
-pub mod Same
 pub mod Checks
 pub mod Files
 pub mod Acts
@@ -10,7 +9,10 @@ pub mod statements
 pub mod Machine
 pub mod Writes
 pub mod Run
+pub mod Closing
 pub mod Sound
+pub mod Same
+pub mod Settled
 pub mod Crash
 pub mod Stays
 pub mod Events
@@ -21,5 +23,9 @@ pub mod NamedLaws
 pub mod CheckLaws
 pub mod FindingLaws
 pub mod ReadyLaws
+pub mod UpLaws
+pub mod HeldLaws
 pub mod TargetLaws
 pub mod FirstLaws
+pub mod SettledLaws
+pub mod ClosingLaws

@@ -2,7 +2,7 @@
 use Rattle.std.specs.Prelude.{◌≡◌, ℕ}
 use Rattle.bk_items.specs.declared.item.ScriptEntry.{ScriptEntry}
 use Rattle.bk_items.specs.declared.item.ScriptItem.{ScriptItem}
-use Rattle.bk_items.specs.declared.item.ScriptItem.TheVariants.{CreateDatabase, DropDatabase, Use, CreateTable, Rows, BackupDatabase, RestoreDatabase, Syntax, TooLong}
+use Rattle.bk_items.specs.declared.item.ScriptItem.TheVariants.{CreateDatabase, DropDatabase, Use, CreateTable, Rows, BackupDatabase, RestoreDatabase, Begin, Commit, Rollback, Session, Syntax, TooLong}
 use Rattle.bk_world.specs.declared.rule.Rule.TheVariants as rule
 use Rattle.bk_world.specs.declared.rule.Rule.TheVariants.{NotBuilt}
 use Rattle.bk_machine.specs.Acts.{done_all}
@@ -13,6 +13,10 @@ use Rattle.bk_machine.specs.statements.DropDatabase.{check_drop_database, DoesDr
 use Rattle.bk_machine.specs.statements.Use.{check_use, DoesUse}
 use Rattle.bk_machine.specs.statements.CreateTable.{check_create_table, DoesCreateTable}
 use Rattle.bk_machine.specs.statements.Rows.{RowsMay}
+use Rattle.bk_machine.specs.statements.Begin.{check_begin, mark_of, DoesBegin}
+use Rattle.bk_machine.specs.statements.Commit.{check_commit, DoesCommit}
+use Rattle.bk_machine.specs.statements.Rollback.{check_rollback, DoesRollback}
+use Rattle.bk_machine.specs.statements.Session.{check_session, DoesSession}
 use Rattle.bk_machine.specs.statements.Backup.{check_backup, DoesBackup}
 use Rattle.bk_machine.specs.statements.Restore.{check_restore, DoesRestore}
 
@@ -25,6 +29,10 @@ ItemMay w line (CreateTable name group) now = ComesTo (check_create_table w line
 ItemMay w line (Rows table statement) now = RowsMay w line table statement now
 ItemMay w line (BackupDatabase name units disk options) now = ComesTo (check_backup w line name units disk options) (DoesBackup w disk now)
 ItemMay w line (RestoreDatabase name units disk options) now = ComesTo (check_restore w line name units disk options) (DoesRestore w name)
+ItemMay w line (Begin transaction) now = ComesTo (check_begin w line transaction) (DoesBegin w (mark_of transaction))
+ItemMay w line Commit now = ComesTo (check_commit w) (DoesCommit w now)
+ItemMay w line Rollback now = ComesTo (check_rollback w) (DoesRollback w)
+ItemMay w line (Session number) now = ComesTo (check_session line number) DoesSession
 ItemMay w line (Syntax there) now = λ outcome. outcome ≡ refused (rule.Syntax there)
 ItemMay w line TooLong now = λ outcome. outcome ≡ refused rule.TooLong
 ItemMay w line _ now = λ outcome. outcome ≡ refused (NotBuilt line)

@@ -5,10 +5,11 @@ use Rattle.bk_world.specs.declared.database.Status.TheVariants.{Online, Down}
 use Rattle.bk_world.specs.Records.{Said, more, numbered}
 use Rattle.bk_world.specs.SoundLogs.{MayFollow}
 use Rattle.bk_world.specs.Telling.{tables}
-use Rattle.bk_machine.specs.Acts.{Act, Recovery, turned, created, dropped, logged, medium_made, set_sealed, based, replaced, restored, recovered, done, drawn}
+use Rattle.bk_machine.specs.Acts.{Act, Recovery, turned, seated, created, dropped, logged, medium_made, set_sealed, based, replaced, restored, recovered, done, drawn}
 use Rattle.bk_machine.specs.Files.{AreDataFiles}
 use Rattle.bk_machine.specs.Sound.{AreNumbered, AreOpen, ArePlaced, IsSoundSet}
-use Rattle.bk_machine.specs.World.{World, Database, Open, database_named, log_of, log_to}
+use Rattle.bk_world.specs.declared.transaction.Open.{Open}
+use Rattle.bk_machine.specs.World.{World, Database, database_named, log_of, log_to, most_sessions}
 use Rattle.bk_machine.specs.statements.CreateTable.{most_groups}
 use Rattle.bk_machine.specs.statements.Restore.{Recovers}
 
@@ -47,6 +48,7 @@ HoldsOf (Some db) P = P db
 
 abbrev pub MayDo : World → Act → Type 0
 MayDo w (turned name) = Unit {0}
+MayDo w (seated session) = session ≤ most_sessions
 MayDo w (created c) = MayCreate w c
 MayDo w (dropped name) = Unit {0}
 MayDo w (logged name said transactions) = HoldsOf (database_named w.databases name) (λ db. MayLog w db said transactions)

@@ -4,7 +4,8 @@ use Rattle.std.specs.List.{AllByRecursion}
 use Rattle.std.specs.Str.{bytes_eq}
 use Rattle.std.proofs.lemmas.Slice.Eq.{bytes_eq-Decides}
 use Rattle.bk_ids.specs.Name.{same_name, lowered}
-use Rattle.bk_world.specs.ListLaws.{all_mapped}
+use Rattle.bk_world.specs.ListLaws.{all_both, all_mapped}
+use Rattle.bk_world.specs.SameLaws.{same_name-refl}
 use Rattle.bk_machine.specs.Sound.{Differ, AreDifferent}
 use Rattle.bk_machine.specs.World.{Database, database_named, with_database, without_database, with_new_database}
 
@@ -200,3 +201,12 @@ different-placed (d ∷ dbs) new all apart = by (same_name d.name new.name) refl
 pub different-one_more : (dbs : List Database) (new : Database) → AreDifferent dbs → AllByRecursion (λ o. Differ o new) dbs → AreDifferent (dbs ++ new ∷ [])
 different-one_more [] new all apart = (tt, tt)
 different-one_more (d ∷ dbs) new all apart = (all-one_more (Differ d) dbs new all.0 apart.0, different-one_more dbs new all.1 apart.1)
+
+-- Where they are different each is found by its own name.
+pub named-each : (dbs : List Database) → AreDifferent dbs → AllByRecursion (λ (db : Database). database_named dbs db.name ≡ Some db) dbs
+named-each [] different = tt
+named-each (d ∷ ds) different = (
+  ap (λ t. cond t (Some d) (database_named ds d.name)) (same_name-refl d.name),
+  all_both (Differ d) (λ (db : Database). database_named ds db.name ≡ Some db) (λ (db : Database). database_named (d ∷ ds) db.name ≡ Some db)
+      (λ x apart is. ap (λ t. cond t (Some d) (database_named ds x.name)) (apart-named d.name x.name apart.names) ∙ is) ds different.0 (named-each ds different.1),
+)

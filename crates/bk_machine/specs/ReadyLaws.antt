@@ -25,6 +25,9 @@ nothing-open rs end none = record {
   loads = subst (AllByRecursion (λ (w : Pending). w.extents ≡ [])) (sym none) tt;
   apart = tt;
   begins = tt;
+  few = tt;
+  seats = tt;
+  kept = tt;
 }
 
 -- a database that is online, in which nothing is open

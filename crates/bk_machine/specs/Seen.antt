@@ -4,7 +4,8 @@ use Rattle.bk_world.specs.declared.database.TableSpec.{TableSpec}
 use Rattle.bk_world.specs.Records.{Logged}
 use Rattle.bk_world.specs.Rows.{Rows}
 use Rattle.bk_world.specs.Telling.{rows, row_at, seen, tables}
-use Rattle.bk_machine.specs.World.{World, Database, Open, log_of, transaction_of}
+use Rattle.bk_world.specs.declared.transaction.Open.{Open}
+use Rattle.bk_machine.specs.World.{World, Database, log_of, transaction_of}
 
 -- the tables of a database
 unfoldable pub tables_in : World → Database → List TableSpec

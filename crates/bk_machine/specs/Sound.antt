@@ -1,5 +1,5 @@
 -- What every reachable world keeps.
-use Rattle.std.specs.Prelude.{◌≡◌, ◌≢◌, ◌⊎◌, ◌<◌, ◌≤◌, ℕ, ◌+◌, ◌==◌, Bool, true, false, List, [], ◌∷◌, ◌++◌, Option, Some, None, Contains}
+use Rattle.std.specs.Prelude.{◌≡◌, ◌≢◌, ◌⊎◌, ◌<◌, ◌≤◌, ℕ, ◌+◌, ◌==◌, Bool, true, false, List, [], ◌∷◌, ◌++◌, length, Option, Some, None, Contains}
 use Rattle.std.specs.List.{AllByRecursion, list_any, find}
 use Rattle.bk_ids.specs.declared.guid.Guid.{Guid}
 use Rattle.bk_ids.specs.declared.path.Branch.{Branch}
@@ -12,12 +12,13 @@ use Rattle.bk_world.specs.declared.header.Header.{Header}
 use Rattle.bk_world.specs.declared.header.HeaderFile.{HeaderFile}
 use Rattle.bk_world.specs.Lines.{RecordLine, RecordLines, has_record_line, line_on, log_below, MayGoOn}
 use Rattle.bk_world.specs.Medium.{Slot, Reading, readable, damaged, no_set, not_media, medium, medium_at}
-use Rattle.bk_world.specs.Pending.{Pending, pending}
+use Rattle.bk_world.specs.Pending.{Pending, of_transaction, pending}
 use Rattle.bk_world.specs.Places.{IsCellOf}
 use Rattle.bk_world.specs.Records.{Deed, Logged, Counts, written}
-use Rattle.bk_world.specs.SoundLogs.{IsSound as IsSoundLog, NoLoadPends}
+use Rattle.bk_world.specs.SoundLogs.{IsSound as IsSoundLog, NoLoadPends, undoes}
 use Rattle.bk_world.specs.Telling.{telling, tables, model, time}
-use Rattle.bk_machine.specs.World.{World, Database, Open, log_of}
+use Rattle.bk_world.specs.declared.transaction.Open.{Open}
+use Rattle.bk_machine.specs.World.{World, Database, log_of, most_sessions, most_writes}
 
 -- The history.
 
@@ -93,12 +94,23 @@ AreApart (t ∷ transactions) = AllByRecursion (Apart t) transactions × AreApar
 abbrev pub has_begin : List Open → ℕ → Bool
 has_begin transactions begin = list_any (λ (t : Open). t.begin == begin) transactions
 
--- what is pending in a log that ends here is of these open transactions, and no minimal load is pending
+-- a transaction has as many pending writes as it may have, or fewer
+abbrev pub HasFew : List Logged → Open → Type 0
+HasFew rs t = length (of_transaction t.begin (pending rs)) ≤ most_writes
+
+-- and none of its writes is undone
+abbrev pub KeepsAll : List Logged → Open → Type 0
+KeepsAll rs t = AllByRecursion (λ (r : Logged). undoes t.begin r ≡ false) rs
+
+-- What is pending in a log that ends here is of these open transactions, of which each has few writes, none of them undone, and no minimal load is pending.
 pub record AreOpen (rs : List Logged) (end : ℕ) (transactions : List Open) : Type 0 where
   pub pending : AllByRecursion (λ (w : Pending). has_begin transactions w.begin ≡ true) (pending rs)
   pub loads : NoLoadPends rs
   pub apart : AreApart transactions
   pub begins : AllByRecursion (λ (t : Open). (0 < t.begin) × (t.begin < end)) transactions
+  pub few : AllByRecursion (HasFew rs) transactions
+  pub seats : AllByRecursion (λ (t : Open). t.session ≤ most_sessions) transactions
+  pub kept : AllByRecursion (KeepsAll rs) transactions
 
 -- nothing is open, and no job runs
 pub record IsIdle (db : Database) : Type 0 where
@@ -187,7 +199,8 @@ pub record IsWhole (w : World) : Type 0 where
 pub record IsSound (w : World) : Type 0 where
   pub whole : IsWhole w
   pub opens : AllByRecursion (OpenBy w.history) w.databases
+  pub seat : w.session ≤ most_sessions
 
--- nothing is open in any database, as it is until statements begin transactions
+-- nothing is open in any database, as it is between runs
 abbrev pub AreIdle : World → Type 0
 AreIdle w = AllByRecursion IsIdle w.databases

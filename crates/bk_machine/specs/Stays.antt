@@ -6,8 +6,8 @@ use Rattle.bk_world.specs.Pending.{Pending, pending}
 use Rattle.bk_world.specs.Records.{Logged}
 use Rattle.bk_world.specs.SoundLogs.{NoLoadPends}
 use Rattle.bk_world.specs.Telling.{telling}
-use Rattle.bk_machine.specs.Crash.{begin_in, greatest_end, most_end, open_begins}
-use Rattle.bk_machine.specs.World.{World, Database, Open, database_named, log_of}
+use Rattle.bk_machine.specs.Crash.{greatest_end, most_end, open_begins}
+use Rattle.bk_machine.specs.World.{World, Database, log_of}
 
 -- What is lost behind the front is of what was open, and tells no entry. No load is cut.
 pub record IsFront (before cut : World) (db : Database) (kept : List Logged) : Type 0 where
@@ -23,8 +23,7 @@ pub record MayStay (before whole cut : World) (db : Database) (kept : List Logge
   pub front : IsFront before cut db kept
   pub bound : end_behind (settled kept) ≤ most_end before whole db
 
--- Where a statement is cut, what is pending is of what was open, which began at the least number in use or above, and nothing lies beyond its ends.
+-- Where a statement is cut, what is pending is of what was open, and nothing lies beyond its ends.
 pub record IsCutOf (before whole cut : World) (db : Database) : Type 0 where
   pub of_open : AllByRecursion (λ (w : Pending). is_among (open_begins before db) w.begin ≡ true) (pending (log_of cut.history db))
-  pub from : AllByRecursion (λ (t : Open). begin_in (database_named before.databases db.name) (greatest_end before whole db) ≤ t.begin) db.transactions
   pub end : db.end ≤ greatest_end before whole db

@@ -13,8 +13,10 @@ use Rattle.bk_machine.specs.Checks.{online, or_refuse, table_named}
 use Rattle.bk_machine.specs.FindingLaws.{current-found}
 use Rattle.bk_machine.specs.ReadyLaws.{IsReady, ready}
 use Rattle.bk_machine.specs.Seen.{tables_in, visible, visible_by}
-use Rattle.bk_machine.specs.Sound.{AreIdle, AreNumbered, IsSound}
-use Rattle.bk_machine.specs.World.{World, Database, Open, current_database, log_of, transaction_of}
+use Rattle.bk_machine.specs.Sound.{AreIdle, AreNumbered, IsSound, IsWholeDatabase}
+use Rattle.bk_machine.specs.UpLaws.{IsUp, is-up}
+use Rattle.bk_world.specs.declared.transaction.Open.{Open}
+use Rattle.bk_machine.specs.World.{World, Database, current_database, log_of, transaction_of}
 use Rattle.bk_machine.specs.statements.Target.{Target, check_table}
 
 -- What was checked.
@@ -68,15 +70,23 @@ by-number n (m ∷ made) name t all e = by (same_name m.name name) e (by-number 
 pub numbered-named : (made : List TableSpec) (name : List ℕ) (t : TableSpec) → AreNumbered 1 made → table_named made name ≡ Some t → find (λ (m : TableSpec). m.number == t.number) made ≡ Some t
 numbered-named made name t all e = (by-number 1 made name t all e).is
 
+-- In a sound world.
+
+pub target-up : (w : World) (name : List ℕ) (to : Target) → IsSound w → IsTarget w name to → IsUp w to.database
+target-up w name to sound its = is-up w to.database sound (current-found w to.database its.is) its.up
+
+-- the table is found by its number
+pub target-there : (w : World) (name : List ℕ) (to : Target) → IsWholeDatabase w to.database → IsTarget w name to → find (λ (m : TableSpec). m.number == to.table.number) (tables (log_of w.history to.database)) ≡ Some to.table
+unfolding tables_in
+target-there w name to whole its = numbered-named (tables (log_of w.history to.database)) name to.table whole.log.tables its.table
+
 -- In a sound world in which nothing is open.
 
 pub target-ready : (w : World) (name : List ℕ) (to : Target) → IsSound w → AreIdle w → IsTarget w name to → IsReady w to.database
 target-ready w name to sound idle its = ready w to.database sound idle (current-found w to.database its.is) its.up
 
--- the table is found by its number
 pub target-numbered : (w : World) (name : List ℕ) (to : Target) → IsReady w to.database → IsTarget w name to → find (λ (m : TableSpec). m.number == to.table.number) (tables (log_of w.history to.database)) ≡ Some to.table
-unfolding tables_in
-target-numbered w name to r its = numbered-named (tables (log_of w.history to.database)) name to.table r.whole.log.tables its.table
+target-numbered w name to r its = target-there w name to r.whole its
 
 -- a session sees the committed rows
 pub sees-committed : (w : World) (to : Target) → IsReady w to.database → visible w to.database to.table ≡ rows (log_of w.history to.database) to.table.number

@@ -1,8 +1,7 @@
 -- The world: one instance with its databases, media, standby files, tables of msdb and sessions.
-use Rattle.std.specs.Prelude.{ℕ, Bool, false, true, min, List, [], ◌∷◌, Option, Some, None, ◌==◌, if◌then◌else◌}
+use Rattle.std.specs.Prelude.{ℕ, Bool, false, true, not, min, List, [], ◌∷◌, filter, Option, Some, None, ◌==◌, if◌then◌else◌}
 use Rattle.bk_ids.specs.declared.guid.Guid.{Guid}
 use Rattle.bk_ids.specs.declared.path.Branch.{Branch}
-use Rattle.bk_ids.specs.declared.record.Mark.{Mark}
 use Rattle.bk_ids.specs.declared.record.ExtentId.{ExtentId}
 use Rattle.bk_ids.specs.Name.{same_name}
 use Rattle.bk_world.specs.declared.database.Base.{Base}
@@ -13,6 +12,7 @@ use Rattle.bk_world.specs.declared.header.SetKind.{SetKind}
 use Rattle.bk_world.specs.declared.msdb.BackupRow.{BackupRow}
 use Rattle.bk_world.specs.declared.msdb.RestoreRow.{RestoreRow}
 use Rattle.bk_world.specs.declared.msdb.MarkRow.{MarkRow}
+use Rattle.bk_world.specs.declared.transaction.Open.{Open}
 use Rattle.bk_world.specs.Lines.{RecordLines, log_below}
 use Rattle.bk_world.specs.Medium.{Reading}
 use Rattle.bk_world.specs.Records.{Logged}
@@ -34,11 +34,12 @@ pub record Job : Type 0 where
   -- the extents that aren't copied yet, in their order
   pub left : List ExtentId
 
--- an open transaction: its session, the number of its first record, the mark that its commit gets; its writes are the log's pending ones
-pub record Open : Type 0 where
-  pub session : ℕ
-  pub begin : ℕ
-  pub mark : Option Mark
+-- how many sessions there are, and how many writes a transaction has at most
+abbrev pub most_sessions : ℕ
+most_sessions = 32
+
+abbrev pub most_writes : ℕ
+most_writes = 1024
 
 pub record Database : Type 0 where
   pub name : List ℕ
@@ -67,7 +68,7 @@ pub record Database : Type 0 where
   pub status : Status
   pub units : List RestoreUnit
   pub job : Option Job
-  -- in the order in which they began
+  -- in the order in which they began; their writes are the log's pending ones
   pub transactions : List Open
 
 -- a session: its number from 1, its current database, and whether its next backup only starts
@@ -119,7 +120,7 @@ empty_world instance = record {
 unfoldable pub opened : World → World
 opened w = record w { session = 1; sessions = []; closed = false }
 
--- a run has ended: no session is there any more (there is no job yet, and no open transaction)
+-- a run has ended: no session is there any more (there is no job yet, and open transactions were rolled back before)
 unfoldable pub ended : World → World
 ended w = record w { session = 1; sessions = []; closed = true }
 
@@ -146,6 +147,29 @@ least_begin (t ∷ transactions) end = min t.begin (least_begin transactions end
 abbrev pub transaction_of : List Open → ℕ → Option Open
 transaction_of [] session = None
 transaction_of (t ∷ transactions) session = if t.session == session then Some t else transaction_of transactions session
+
+-- some transactions without the one with this first record
+abbrev pub without_begin : List Open → ℕ → List Open
+without_begin transactions begin = filter (λ (t : Open). not (t.begin == begin)) transactions
+
+-- an open transaction, and the database in which it is open
+pub record Held : Type 0 where
+  pub database : Database
+  pub transaction : Open
+
+-- one of this database, if there is one, or else this
+abbrev pub held_by : Database → Option Open → Option Held → Option Held
+held_by database None rest = rest
+held_by database (Some t) rest = Some (record { database = database; transaction = t })
+
+-- the open transaction of a session, in whichever database it is
+abbrev pub held_in : List Database → ℕ → Option Held
+held_in [] session = None
+held_in (database ∷ databases) session = held_by database (transaction_of database.transactions session) (held_in databases session)
+
+-- the open transaction of the current session
+abbrev pub own_held : World → Option Held
+own_held w = held_in w.databases w.session
 
 -- Databases by name.
 

@@ -3,7 +3,7 @@ use Rattle.std.specs.Prelude.{◌≡◌, ◌⊎◌, ℕ, List, [], ◌∷◌}
 use Rattle.std.specs.List.{AllByRecursion}
 use Rattle.bk_items.specs.declared.item.ScriptItem.{ScriptItem}
 use Rattle.bk_items.specs.declared.item.ScriptItem.TheVariants.{BackupDatabase}
-use Rattle.bk_machine.specs.Acts.{Act, turned, medium_made, set_sealed}
+use Rattle.bk_machine.specs.Acts.{Act, turned, seated, medium_made, set_sealed}
 use Rattle.bk_machine.specs.Outcome.{Outcome}
 
 -- Who writes to the medium at a path.
@@ -26,11 +26,12 @@ StatementWrites _ path = ⊥
 
 -- What changes nothing.
 
--- an act that touches memory alone: the one of USE
+-- an act that touches memory alone: that of USE, and that of `:session`
 abbrev pub IsTurn : Act → Type 0
 IsTurn (turned name) = Unit {0}
+IsTurn (seated session) = Unit {0}
 IsTurn _ = ⊥
 
--- An outcome that changes nothing that is stored: that of each refused statement, of USE, of SELECT.
+-- An outcome that changes nothing that is stored: that of each refused statement, of USE, of `:session`, of SELECT.
 abbrev pub IsStill : Outcome → Type 0
 IsStill outcome = AllByRecursion IsTurn outcome.acts

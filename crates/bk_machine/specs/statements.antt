@@ -9,5 +9,9 @@ pub mod Update
 pub mod Delete
 pub mod Select
 pub mod Rows
+pub mod Begin
+pub mod Commit
+pub mod Rollback
+pub mod Session
 pub mod Backup
 pub mod Restore

@@ -6,7 +6,8 @@ ghost use Rattle.bk_world.specs.Telling.{model};
 ghost use Rattle.bk_machine.specs.Acts.{Act, Recovery, done, done_all, goes_online, gone_on, gone_online, says};
 ghost use Rattle.bk_machine.specs.MayDo.{MayDo, MayDoAll, MayRecover, MaySay};
 ghost use Rattle.bk_machine.specs.Sound.{IsSound, IsWhole};
-ghost use Rattle.bk_machine.specs.World.{World, Database, Open, database_named, log_of, log_to};
+ghost use Rattle.bk_world.specs.declared.transaction.Open.{Open};
+ghost use Rattle.bk_machine.specs.World.{World, Database, database_named, log_of, log_to};
 
 /// Acts that may be done to a sound world leave a sound world.
 pub fn acts_keep_worlds_sound()

@@ -8,7 +8,7 @@ ghost use Rattle.bk_machine.specs.Machine.{May};
 ghost use Rattle.bk_machine.specs.MayDo.{MayDo, MayDoAll};
 ghost use Rattle.bk_machine.specs.Outcome.{Outcome};
 ghost use Rattle.bk_machine.specs.Run.{IsRun, behind_all};
-ghost use Rattle.bk_machine.specs.Sound.{AreIdle, IsSound, IsWhole};
+ghost use Rattle.bk_machine.specs.Sound.{IsSound, IsWhole};
 ghost use Rattle.bk_machine.specs.World.{World, empty_world, ended, opened, restarted};
 
 /// Acts that say no load leave a sound world of built logs (no load was said, and files have different numbers) such a world.
@@ -20,13 +20,13 @@ pub fn acts_keep_worlds_built()
 /// Logs are built from nothing on, behind any front of a statement, behind runs, where they begin and end, are cut, or crash.
 pub fn runs_keep_worlds_built()
     ensures nothing { (instance : ℕ) → IsBuilt (empty_world instance) }
-    ensures says { (w : World) (s : ScriptEntry) (now : ℕ) (outcome : Outcome) → IsSound w → AreIdle w → IsBuilt w → May w s now outcome → SayNoLoad w outcome.acts }
-    ensures statement { (w : World) (s : ScriptEntry) (now : ℕ) (outcome : Outcome) → IsSound w → AreIdle w → IsBuilt w → May w s now outcome
+    ensures says { (w : World) (s : ScriptEntry) (now : ℕ) (outcome : Outcome) → IsSound w → IsBuilt w → May w s now outcome → SayNoLoad w outcome.acts }
+    ensures statement { (w : World) (s : ScriptEntry) (now : ℕ) (outcome : Outcome) → IsSound w → IsBuilt w → May w s now outcome
         → (k : ℕ) → IsBuilt (done_all w (take k outcome.acts)) }
     ensures run { (w : World) (statements : List ScriptEntry) (moments : List ℕ) (outcomes : List Outcome)
-        → IsSound w → AreIdle w → IsBuilt w → IsRun w statements moments outcomes → IsBuilt (behind_all w outcomes) }
+        → IsSound w → IsBuilt w → IsRun w statements moments outcomes → IsBuilt (behind_all w outcomes) }
     ensures between { (old : World) (statements : List ScriptEntry) (moments : List ℕ) (outcomes : List Outcome) (done k : ℕ)
-        → IsSound old → AreIdle old → IsBuilt old → IsRun old statements moments outcomes → IsBuilt (cut_between old outcomes done k) }
+        → IsSound old → IsBuilt old → IsRun old statements moments outcomes → IsBuilt (cut_between old outcomes done k) }
     ensures opened { (w : World) → IsSound w → IsBuilt w → IsBuilt (opened w) }
     ensures ended { (w : World) → IsSound w → IsBuilt w → IsBuilt (ended w) }
     ensures restarted { (counter : ℕ) (w : World) → IsSound w → IsBuilt w → IsBuilt (restarted counter w) }

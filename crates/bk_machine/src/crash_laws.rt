@@ -1,10 +1,10 @@
-ghost use Rattle.std.specs.Prelude.{◌≡◌, ◌≤◌, ℕ, ◌+◌, List, length};
+ghost use Rattle.std.specs.Prelude.{◌≡◌, ◌≤◌, ℕ, ◌+◌, List, length, take};
 ghost use Rattle.std.specs.List.{AllByRecursion, AllZip};
 ghost use Rattle.bk_ids.specs.declared.path.Branch.{Branch};
 ghost use Rattle.bk_items.specs.declared.item.ScriptEntry.{ScriptEntry};
 ghost use Rattle.bk_machine.specs.Crash.{CutsRun, Leaves, WorldLeft, cut_between};
 ghost use Rattle.bk_machine.specs.Outcome.{Outcome};
-ghost use Rattle.bk_machine.specs.Run.{IsRun};
+ghost use Rattle.bk_machine.specs.Run.{IsRun, behind_all};
 ghost use Rattle.bk_machine.specs.Sound.{AreIdle, IsHeld, IsSound, IsWhole, IsWholeDatabase};
 ghost use Rattle.bk_machine.specs.Stays.{IsCutOf, IsFront, MayStay};
 ghost use Rattle.bk_machine.specs.World.{Database, World, log_of, restarted};
@@ -41,32 +41,37 @@ pub fn crashes_leave_what_stays()
         × AllZip (λ (old new : Database). old.status ≡ Online → log_of left.history new ≡ settled (kept old)) cut.databases left.databases }
 {}
 
-/// Let a run from a sound world in which nothing is open be cut. The world at the cut is whole, what is pending in a database
-/// that is online is of the statement that is cut, and its end is within those before and behind the statement. For any fronts
+/// Let a run from a sound world be cut. The world at the cut is whole, what is pending in a database that is online is of what
+/// was open or of the statement that is cut, and its end is within those before and behind the statement. For any fronts
 /// of its logs behind which only what was open is lost, a crash of the run may leave a world in which they are settled.
 pub fn runs_are_cut_in_whole_worlds()
     ensures whole { (old : World) (statements : List ScriptEntry) (moments : List ℕ) (outcomes : List Outcome) (least : ℕ) (before cut whole : World)
-        → IsSound old → AreIdle old → IsRun old statements moments outcomes → CutsRun old outcomes least before cut whole → IsWhole cut }
+        → IsSound old → IsRun old statements moments outcomes → CutsRun old outcomes least before cut whole → IsWhole cut }
     ensures cut { (old : World) (statements : List ScriptEntry) (moments : List ℕ) (outcomes : List Outcome) (least : ℕ) (before cut whole : World)
-        → IsSound old → AreIdle old → IsRun old statements moments outcomes → CutsRun old outcomes least before cut whole
+        → IsSound old → IsRun old statements moments outcomes → CutsRun old outcomes least before cut whole
         → AllByRecursion (λ (db : Database). db.status ≡ Online → IsCutOf before whole cut db) cut.databases }
     ensures leaves { (old : World) (statements : List ScriptEntry) (moments : List ℕ) (outcomes : List Outcome) (least : ℕ) (before cut whole : World)
-        → IsSound old → AreIdle old → IsRun old statements moments outcomes → CutsRun old outcomes least before cut whole
+        → IsSound old → IsRun old statements moments outcomes → CutsRun old outcomes least before cut whole
         → (kept : Database → List Logged) (counter : ℕ) → AllByRecursion (λ (db : Database). db.status ≡ Online → IsFront before cut db (kept db)) cut.databases
         → cut.counter ≤ counter → counter ≤ cut.counter + 1024
         → (left : World) × Leaves old outcomes least left × (left.counter ≡ counter)
         × AllZip (λ (now new : Database). now.status ≡ Online → log_of left.history new ≡ settled (kept now)) cut.databases left.databases }
 {}
 
-/// Let a run from a sound world in which nothing is open be cut between two acts. The world at the cut is sound, nothing is
-/// open in it, and a crash of the run may leave just this world, with no session and whatever counter within the bounds.
+/// Let a run from a sound world be cut between two acts. The world at the cut is sound. Where nothing is open in it, a crash of
+/// the run may leave just this world, with no session and whatever counter within the bounds. For any fronts of its logs behind
+/// which only what was open is lost, a crash may leave a world in which they are settled.
 pub fn runs_are_cut_between_acts()
     ensures sound { (old : World) (statements : List ScriptEntry) (moments : List ℕ) (outcomes : List Outcome) (done k : ℕ)
-        → IsSound old → AreIdle old → IsRun old statements moments outcomes → IsSound (cut_between old outcomes done k) }
-    ensures idle { (old : World) (statements : List ScriptEntry) (moments : List ℕ) (outcomes : List Outcome) (done k : ℕ)
-        → IsSound old → AreIdle old → IsRun old statements moments outcomes → AreIdle (cut_between old outcomes done k) }
+        → IsSound old → IsRun old statements moments outcomes → IsSound (cut_between old outcomes done k) }
     ensures leaves { (old : World) (statements : List ScriptEntry) (moments : List ℕ) (outcomes : List Outcome) (least done k counter : ℕ)
-        → IsSound old → AreIdle old → IsRun old statements moments outcomes → least ≤ done → done ≤ length outcomes
+        → IsSound old → IsRun old statements moments outcomes → AreIdle (cut_between old outcomes done k) → least ≤ done → done ≤ length outcomes
         → (cut_between old outcomes done k).counter ≤ counter → counter ≤ (cut_between old outcomes done k).counter + 1024
         → Leaves old outcomes least (restarted counter (cut_between old outcomes done k)) }
+    ensures fronts { (old : World) (statements : List ScriptEntry) (moments : List ℕ) (outcomes : List Outcome) (least done k counter : ℕ) (kept : Database → List Logged)
+        → IsSound old → IsRun old statements moments outcomes → least ≤ done → done ≤ length outcomes
+        → AllByRecursion (λ (db : Database). db.status ≡ Online → IsFront (behind_all old (take done outcomes)) (cut_between old outcomes done k) db (kept db)) (cut_between old outcomes done k).databases
+        → (cut_between old outcomes done k).counter ≤ counter → counter ≤ (cut_between old outcomes done k).counter + 1024
+        → (left : World) × Leaves old outcomes least left × (left.counter ≡ counter)
+        × AllZip (λ (now new : Database). now.status ≡ Online → log_of left.history new ≡ settled (kept now)) (cut_between old outcomes done k).databases left.databases }
 {}

@@ -1,9 +1,12 @@
 ghost use Rattle.std.specs.Prelude.{ℕ, List, Option};
-ghost use Rattle.bk_machine.specs.Acts.{done, medium_made, set_sealed, turned};
+ghost use Rattle.bk_machine.specs.Acts.{done, logged, medium_made, seated, set_sealed, turned};
 ghost use Rattle.bk_machine.specs.Events.{MediumAdded, MediumChanged, MediumRemoved, StandbyRemoved};
-ghost use Rattle.bk_machine.specs.Same.{SameLogs};
+ghost use Rattle.bk_machine.specs.MayDo.{MayDo};
+ghost use Rattle.bk_machine.specs.Same.{SameLogs, SameMedia};
 ghost use Rattle.bk_machine.specs.Sound.{AreIdle, IsSound};
 ghost use Rattle.bk_machine.specs.World.{World, ended, opened, restarted};
+ghost use Rattle.bk_world.specs.Records.{Said};
+ghost use Rattle.bk_world.specs.declared.transaction.Open.{Open};
 ghost use Rattle.bk_world.specs.declared.header.Header.{Header};
 
 /// Databases and their logs stay the same behind acts on sessions and media, where a run begins and ends, behind a crash of
@@ -13,6 +16,7 @@ pub fn logs_that_stay()
     ensures transitive { (a b c : World) → SameLogs a b → SameLogs b c → SameLogs a c }
     ensures idle { (old new : World) → SameLogs old new → AreIdle old → AreIdle new }
     ensures turned { (w : World) (name : Option (List ℕ)) → SameLogs w (done w (turned name)) }
+    ensures seated { (w : World) (session : ℕ) → SameLogs w (done w (seated session)) }
     ensures medium_made { (w : World) (path : List ℕ) → SameLogs w (done w (medium_made path)) }
     ensures set_sealed { (w : World) (path : List ℕ) (header : Header) → SameLogs w (done w (set_sealed path header)) }
     ensures opened { (w : World) → SameLogs w (opened w) }
@@ -22,4 +26,19 @@ pub fn logs_that_stay()
     ensures standby_removed { (old new : World) → IsSound old → StandbyRemoved old new → SameLogs old new }
     ensures medium_changed { (old new : World) → IsSound old → MediumChanged old new → SameLogs old new }
     ensures medium_added { (old new : World) → IsSound old → MediumAdded old new → SameLogs old new }
+{}
+
+/// The media of an instance stay, and sets on them read the same, behind acts on sessions, where a run begins and ends, and behind
+/// a crash of nothing that was said.
+pub fn media_that_stay()
+    ensures reflexive { (w : World) → SameMedia w w }
+    ensures symmetric { (a b : World) → SameMedia a b → SameMedia b a }
+    ensures transitive { (a b c : World) → SameMedia a b → SameMedia b c → SameMedia a c }
+    ensures turned { (w : World) (name : Option (List ℕ)) → SameMedia w (done w (turned name)) }
+    ensures seated { (w : World) (session : ℕ) → SameMedia w (done w (seated session)) }
+    ensures said { (w : World) (name : List ℕ) (said : List Said) (transactions : List Open) → IsSound w → MayDo w (logged name said transactions)
+        → SameMedia w (done w (logged name said transactions)) }
+    ensures opened { (w : World) → SameMedia w (opened w) }
+    ensures ended { (w : World) → SameMedia w (ended w) }
+    ensures restarted { (counter : ℕ) (w : World) → SameMedia w (restarted counter w) }
 {}

@@ -1,5 +1,4 @@
 ghost use Rattle.std.specs.Prelude.{◌≡◌, ℕ, List, Option, take};
-ghost use Rattle.std.specs.List.{AllByRecursion};
 ghost use Rattle.bk_items.specs.declared.item.ScriptEntry.{ScriptEntry};
 ghost use Rattle.bk_items.specs.declared.item.ScriptItem.TheVariants as script;
 ghost use Rattle.bk_items.specs.declared.rows.RowStatement.TheVariants as row;
@@ -15,38 +14,35 @@ ghost use Rattle.bk_machine.specs.Writes.{ActsWrite, IsStill, StatementWrites};
 ghost use Rattle.bk_world.specs.declared.reply.Reply.TheVariants.{Refused};
 ghost use Rattle.bk_world.specs.declared.rule.Rule.{Rule};
 
-/// What a statement comes to in a sound world in which nothing is open are acts that may be done, and nothing is open behind them.
+/// What a statement comes to in a sound world are acts that may be done, and the world behind them is sound.
 pub fn statements_do_what_they_may()
-    ensures may { (w : World) (s : ScriptEntry) (now : ℕ) (outcome : Outcome) → IsSound w → AreIdle w → May w s now outcome → MayDoAll w outcome.acts }
-    ensures idle { (w : World) (s : ScriptEntry) (now : ℕ) (outcome : Outcome) → IsSound w → AreIdle w → May w s now outcome → AreIdle (behind w outcome) }
+    ensures may { (w : World) (s : ScriptEntry) (now : ℕ) (outcome : Outcome) → IsSound w → May w s now outcome → MayDoAll w outcome.acts }
+    ensures sound { (w : World) (s : ScriptEntry) (now : ℕ) (outcome : Outcome) → IsSound w → May w s now outcome → IsSound (behind w outcome) }
 {}
 
-/// Behind each front of what a statement comes to the world is sound, and nothing is open in it: no act of a statement leaves anything open.
+/// Behind each front of what a statement comes to the world is sound. Where nothing is open, nothing is behind an act that leaves nothing open.
 pub fn acts_of_statements()
-    ensures fronts { (w : World) (s : ScriptEntry) (now : ℕ) (outcome : Outcome) → IsSound w → AreIdle w → May w s now outcome
-        → (k : ℕ) → IsSound (done_all w (take k outcome.acts)) × AreIdle (done_all w (take k outcome.acts)) }
-    ensures opens { (w : World) (s : ScriptEntry) (now : ℕ) (outcome : Outcome) → IsSound w → AreIdle w → May w s now outcome
-        → AllByRecursion LeavesIdle outcome.acts }
+    ensures fronts { (w : World) (s : ScriptEntry) (now : ℕ) (outcome : Outcome) → IsSound w → May w s now outcome
+        → (k : ℕ) → IsSound (done_all w (take k outcome.acts)) }
     ensures idle { (w : World) (act : Act) → IsSound w → AreIdle w → MayDo w act → LeavesIdle act → AreIdle (done w act) }
 {}
 
-/// What statements write to: one that is refused, USE and SELECT store nothing, and only BACKUP writes to a medium, the one
+/// What statements write to: one that is refused, USE, `:session` and SELECT store nothing, and only BACKUP writes to a medium, the one
 /// that it names.
 pub fn what_statements_write_to()
     ensures refused { (w : World) (s : ScriptEntry) (now : ℕ) (outcome : Outcome) (rule : Rule) → May w s now outcome → outcome.reply ≡ Refused rule → IsStill outcome }
     ensures uses { (w : World) (line : ℕ) (name : List ℕ) (now : ℕ) (outcome : Outcome) → May w (record { item = script.Use name; line = line }) now outcome → IsStill outcome }
+    ensures sits { (w : World) (line n : ℕ) (now : ℕ) (outcome : Outcome) → May w (record { item = script.Session n; line = line }) now outcome → IsStill outcome }
     ensures selects { (w : World) (line : ℕ) (table : List ℕ) (key : Option ℕ) (now : ℕ) (outcome : Outcome)
         → May w (record { item = script.Rows table (row.Select key); line = line }) now outcome → IsStill outcome }
     ensures media { (w : World) (s : ScriptEntry) (now : ℕ) (outcome : Outcome) (path : List ℕ) → May w s now outcome → ActsWrite outcome.acts path → StatementWrites s.item path }
 {}
 
-/// A run keeps a sound world sound, and opens nothing. So does a crash of it.
+/// A run keeps a sound world sound. So does a crash of it, behind which nothing is open.
 pub fn runs_keep_worlds_sound()
     ensures run { (w : World) (statements : List ScriptEntry) (moments : List ℕ) (outcomes : List Outcome)
-        → IsSound w → AreIdle w → IsRun w statements moments outcomes → IsSound (behind_all w outcomes) }
-    ensures run_idle { (w : World) (statements : List ScriptEntry) (moments : List ℕ) (outcomes : List Outcome)
-        → IsSound w → AreIdle w → IsRun w statements moments outcomes → AreIdle (behind_all w outcomes) }
+        → IsSound w → IsRun w statements moments outcomes → IsSound (behind_all w outcomes) }
     ensures crash { (old : World) (statements : List ScriptEntry) (moments : List ℕ) (outcomes : List Outcome) (least : ℕ) (left : World)
-        → IsSound old → AreIdle old → IsRun old statements moments outcomes → Leaves old outcomes least left → IsSound left }
+        → IsSound old → IsRun old statements moments outcomes → Leaves old outcomes least left → IsSound left }
     ensures crash_idle { (old : World) (outcomes : List Outcome) (least : ℕ) (left : World) → Leaves old outcomes least left → AreIdle left }
 {}

@@ -1,6 +1,6 @@
 -- BACKUP DATABASE as it is planned.
 use Rattle.std.proofs.Common.{◌≡◌, ◌<◌, ℕ, ◌+◌, ◌^◌, Bool, true, false, cond, List, [], ◌∷◌, length, Option, Some, None, Ok, refl, sym, ◌∙◌, ap, subst, arith, length-append}
-use Rattle.std.specs.Prelude.{◌||◌, ◌&&◌, not, is_some}
+use Rattle.std.specs.Prelude.{◌||◌, ◌&&◌, nat_lt, not, is_some, suc}
 use Rattle.std.specs.List.{AllByRecursion}
 use Rattle.std.specs.Str.{bytes_eq}
 use Rattle.std.proofs.lemmas.Bool.Decides.{nat_tests}
@@ -14,14 +14,15 @@ use Rattle.bk_items.specs.declared.item.UnitName.{UnitName}
 use Rattle.bk_items.specs.declared.options.BackupOptions.{BackupOptions}
 use Rattle.bk_machine.specs.Acts.{Act, based, done, drawn, gone_on, logged, medium_made, said_time, says, set_sealed, where_found}
 use Rattle.bk_machine.specs.CheckLaws.{first-false, is-none, not-refused, passed, second-false, was-found, was-online}
-use Rattle.bk_machine.specs.Checks.{limit, online, or_refuse, refuse_if, used_up, is_path}
+use Rattle.bk_machine.specs.Checks.{limit, online, or_refuse, outside, refuse_if, used_up, is_path}
 use Rattle.bk_machine.specs.Machine.{May}
 use Rattle.bk_machine.specs.MayDo.{HoldsOf, MayDo, MayDoAll, MayLog, MaySay}
 use Rattle.bk_machine.specs.NamedLaws.{named-own}
 use Rattle.bk_machine.specs.Outcome.{Outcome}
-use Rattle.bk_machine.specs.Sound.{AreIdle, AreOpen, IsSound, IsWhole, has_begin}
-use Rattle.bk_machine.specs.World.{World, Database, Open, database_named, log_of}
-use Rattle.bk_machine.specs.statements.Backup.{DoesBackup, backed_up, check_backup, full_header, is_whole_backup}
+use Rattle.bk_machine.specs.Sound.{AreOpen, IsSound, IsWhole}
+use Rattle.bk_machine.specs.ReadyLaws.{nothing-pends}
+use Rattle.bk_machine.specs.World.{World, Database, database_named, least_begin, log_of}
+use Rattle.bk_machine.specs.statements.Backup.{DoesBackup, backed_up, check_backup, full_header, has_open, is_whole_backup}
 use Rattle.bk_shown.specs.Shown.{AreNext}
 use Rattle.bk_world.specs.Lines.{log_below}
 use Rattle.bk_world.specs.Medium.{Reading, medium, medium_at}
@@ -30,13 +31,14 @@ use Rattle.bk_world.specs.Records.{Counts, Logged, Said, checkpointed, more, num
 use Rattle.bk_world.specs.Says.{alone}
 use Rattle.bk_world.specs.Telling.{model}
 use Rattle.bk_world.specs.declared.header.Header.{Header}
+use Rattle.bk_world.specs.declared.transaction.Open.{Open}
 use Rattle.bk_world.specs.declared.reply.Reply.TheVariants.{SetMade}
 use Rattle.bk_world.specs.declared.rule.Rule.TheVariants.{NoSuchDatabase, NotBuilt}
 use Rattle.bk_kept.specs.declared.kept.Database.{Database as KeptDatabase}
 use Rattle.bk_kept.specs.declared.kept.Kept.{Kept}
 use Rattle.bk_plans.specs.declared.parts.Part.{Part}
 use Rattle.bk_plans.specs.declared.parts.Plan.{Plan}
-use Rattle.bk_plans.specs.declared.parts.Plan.TheVariants.{Refused, Answered, Turned, Parts}
+use Rattle.bk_plans.specs.declared.parts.Plan.TheVariants.{Refused, Answered, Turned, Seated, Parts}
 use Rattle.bk_plans.specs.declared.refusal.Refusal.{Refusal}
 use Rattle.bk_media_plans.specs.Backups.{IsBackup, IsBackupPlan}
 use Rattle.bk_plans.specs.Checking.{IsRefused}
@@ -49,26 +51,34 @@ use Rattle.bk_media_plans.proofs.SetLogs.{checkpoint-still}
 
 -- What was checked.
 
--- where a backup is checked, its database is found, no medium is there, and numbers are left
+-- where a backup is checked, its database is found, nothing is open in it, no medium is there, and numbers are left
 pub record IsChecked (w : World) (path : List ℕ) (db : Database) : Type 0 where
   pub named : database_named w.databases db.name ≡ Some db
+  pub closed : db.transactions ≡ []
   pub absent : medium_at w.media path ≡ None
   pub left : used_up db.end ≡ false
   pub draws : used_up w.counter ≡ false
+
+no-open : (ts : List Open) → nat_lt 0 (length ts) ≡ false → ts ≡ []
+no-open [] is = refl
+no-open (t ∷ ts) is = let wrong : nat_lt 0 (suc (length ts)) ≡ true = grind (arith, nat_tests) in let both : true ≡ false = sym wrong ∙ is in absurd (cc (both))
 
 checked : (w : World) (line : ℕ) (name : List ℕ) (units : List UnitName) (path : List ℕ) (options : BackupOptions) (db : Database) → check_backup w line name units path options ≡ Ok db → IsChecked w path db
 unfolding check_backup
 checked w line name units path options db e =
     let one = passed (refuse_if (not (is_whole_backup units options && is_path path) || is_some (medium_at w.media path)) (NotBuilt line)) _ db e in
-    let two = passed (or_refuse (database_named w.databases name) NoSuchDatabase) _ db one.then in
+    let out = passed (outside w) _ db one.then in
+    let two = passed (or_refuse (database_named w.databases name) NoSuchDatabase) _ db out.then in
     let three = passed (online two.found) _ db two.then in
-    let four = passed (limit (used_up three.found.end || used_up w.counter)) _ db three.then in
+    let none = passed (refuse_if (has_open three.found) (NotBuilt line)) _ db three.then in
+    let four = passed (limit (used_up three.found.end || used_up w.counter)) _ db none.then in
     let last = four.then in
     let same : three.found ≡ db = cc in
     let whole : two.found ≡ db = (was-online two.found three.found three.is).is ∙ same in
     let free : (used_up three.found.end || used_up w.counter) ≡ false = not-refused (used_up three.found.end || used_up w.counter) _ four.found four.is in
     record {
       named = named-own w.databases name db (was-found (database_named w.databases name) NoSuchDatabase two.found two.is ∙ ap (λ (d : Database). Some d) whole);
+      closed = subst (λ (d : Database). d.transactions ≡ []) same (no-open three.found.transactions (not-refused (has_open three.found) (NotBuilt line) none.found none.is));
       absent = is-none (medium_at w.media path) (second-false (not (is_whole_backup units options && is_path path)) (is_some (medium_at w.media path)) (not-refused _ (NotBuilt line) one.found one.is));
       left = subst (λ (d : Database). used_up d.end ≡ false) same (first-false (used_up three.found.end) (used_up w.counter) free);
       draws = second-false (used_up three.found.end) (used_up w.counter) free;
@@ -86,16 +96,16 @@ pub record Laws : Type 0 where
 
 -- A database says something.
 
-its-log : (v : World) (name : List ℕ) (db : Database) (said : List Said) → database_named v.databases name ≡ Some db → MayDo v (logged name said []) → MayLog v db said []
-its-log v name db said named may = subst (λ (o : Option Database). HoldsOf o (λ db. MayLog v db said [])) named may
+its-log : (v : World) (name : List ℕ) (db : Database) (said : List Said) (ts : List Open) → database_named v.databases name ≡ Some db → MayDo v (logged name said ts) → MayLog v db said ts
+its-log v name db said ts named may = subst (λ (o : Option Database). HoldsOf o (λ db. MayLog v db said ts)) named may
 
-says-is : (v : World) (name : List ℕ) (db : Database) (said : List Said) → database_named v.databases name ≡ Some db → done v (logged name said []) ≡ says v db said []
+says-is : (v : World) (name : List ℕ) (db : Database) (said : List Said) (ts : List Open) → database_named v.databases name ≡ Some db → done v (logged name said ts) ≡ says v db said ts
 unfolding done
-says-is v name db said named = ap (λ (o : Option Database). where_found v o (λ d. says v d said [])) named
+says-is v name db said ts named = ap (λ (o : Option Database). where_found v o (λ d. says v d said ts)) named
 
-media-said : (v : World) (db : Database) (said : List Said) → (says v db said []).media ≡ v.media
+media-said : (v : World) (db : Database) (said : List Said) (ts : List Open) → (says v db said ts).media ≡ v.media
 unfolding says
-media-said v db said = refl
+media-said v db said ts = refl
 
 -- the world behind that
 record Behind (v u : World) (name : List ℕ) (new : Database) (rs : List Logged) : Type 0 where
@@ -104,38 +114,33 @@ record Behind (v u : World) (name : List ℕ) (new : Database) (rs : List Logged
   log : log_of u.history new ≡ rs
   media : u.media ≡ v.media
 
-behind : Laws → (v : World) (name : List ℕ) (db : Database) (said : List Said) → IsSound v → database_named v.databases name ≡ Some db → MayDo v (logged name said [])
-    → Behind v (done v (logged name said [])) name (gone_on (model (log_of v.history db)) said [] db) (more (log_of v.history db) db.end said)
-behind laws v name db said sound named may =
-    let says-so : MaySay v db said = (its-log v name db said named may).says in
-    let is : done v (logged name said []) ≡ says v db said [] = says-is v name db said named in
+behind : Laws → (v : World) (name : List ℕ) (db : Database) (said : List Said) (ts : List Open) → IsSound v → database_named v.databases name ≡ Some db → MayDo v (logged name said ts)
+    → Behind v (done v (logged name said ts)) name (gone_on (model (log_of v.history db)) said ts db) (more (log_of v.history db) db.end said)
+behind laws v name db said ts sound named may =
+    let says-so : MaySay v db said = (its-log v name db said ts named may).says in
+    let is : done v (logged name said ts) ≡ says v db said ts = says-is v name db said ts named in
     record {
-      sound = laws.act v (logged name said []) sound may;
-      named = subst (λ (u : World). database_named u.databases name ≡ Some (gone_on (model (log_of v.history db)) said [] db)) (sym is) (laws.found v name db said [] sound.whole named says-so);
-      log = subst (λ (u : World). log_of u.history (gone_on (model (log_of v.history db)) said [] db) ≡ more (log_of v.history db) db.end said) (sym is) (laws.log v name db said [] sound.whole named says-so);
-      media = subst (λ (u : World). u.media ≡ v.media) (sym is) (media-said v db said);
+      sound = laws.act v (logged name said ts) sound may;
+      named = subst (λ (u : World). database_named u.databases name ≡ Some (gone_on (model (log_of v.history db)) said ts db)) (sym is) (laws.found v name db said ts sound.whole named says-so);
+      log = subst (λ (u : World). log_of u.history (gone_on (model (log_of v.history db)) said ts db) ≡ more (log_of v.history db) db.end said) (sym is) (laws.log v name db said ts sound.whole named says-so);
+      media = subst (λ (u : World). u.media ≡ v.media) (sym is) (media-said v db said ts);
     }
 
-mark-done : (v : World) (name : List ℕ) (db : Database) (said : List Said) (records : List ℕ) → database_named v.databases name ≡ Some db → MayDo v (logged name said []) → Spell records db.end said
-    → AreNext db.files (log_of v.history db) (numbered db.end said) → IsDone v (LoggedAct name records) (logged name said [])
-mark-done v name db said records named may spell next = record {
-  means = record { n = db.end; said = said; transactions = []; act_is = refl; spell = spell };
+mark-done : (v : World) (name : List ℕ) (db : Database) (said : List Said) (ts : List Open) (records : List ℕ) → database_named v.databases name ≡ Some db → MayDo v (logged name said ts) → Spell records db.end said
+    → AreNext db.files (log_of v.history db) (numbered db.end said) → IsDone v (LoggedAct name ts records) (logged name said ts)
+mark-done v name db said ts records named may spell next = record {
+  means = record { n = db.end; said = said; act_is = refl; spell = spell };
   may = may;
   draws = tt;
   carried = tt;
   from_end = subst (λ (o : Option Database). HoldsOf o (λ db. (others : List Said) × Spell records db.end others)) (sym named) (said, spell);
-  taken = (subst (λ (o : Option Database). HoldsOf o (λ db. AreNext db.files (log_of v.history db) (numbered db.end said))) (sym named) next, refl);
+  taken = subst (λ (o : Option Database). HoldsOf o (λ db. AreNext db.files (log_of v.history db) (numbered db.end said))) (sym named) next;
 }
 
 -- records that count from a number on end behind their number
 counts-length : (n : ℕ) (rs : List Logged) (end : ℕ) → Counts n rs end → end ≡ n + length rs
 counts-length n [] end is = omega (arith, is)
 counts-length n (r ∷ rs) end is = let rest : end ≡ (n + 1) + length rs = counts-length (n + 1) rs end is.1 in omega (arith, rest)
-
--- where nothing is open nothing is pending
-none-open : (ws : List Pending) → AllByRecursion (λ (p : Pending). has_begin [] p.begin ≡ true) ws → ws ≡ []
-none-open [] all = refl
-none-open (p ∷ ws) all = absurd cc
 
 -- The medium is made.
 
@@ -157,8 +162,8 @@ module _ (d : KeptDatabase) (path : List ℕ) (set : Guid) (time : ℕ) where
   -- what the statement comes to, by the header of its set
   pub outcome_by : Header → Outcome
   outcome_by h = record {
-    acts = medium_made path ∷ logged d.name (alone (checkpointed time)) [] ∷ logged d.name (alone (stamped time set)) [] ∷ set_sealed path h ∷ based d.name h ∷ [];
-    reply = SetMade 1 d.shown.«end» d.shown.«end» (d.shown.«end» + 2);
+    acts = medium_made path ∷ logged d.name (alone (checkpointed time)) d.transactions ∷ logged d.name (alone (stamped time set)) d.transactions ∷ set_sealed path h ∷ based d.name h ∷ [];
+    reply = SetMade 1 (least_begin d.transactions d.shown.«end») d.shown.«end» (d.shown.«end» + 2);
   }
 
   is-outcome : (w : World) (now : ℕ) (h : Header) → h ≡ full_header w (database_of d) set time → set ≡ drawn w w.counter → time ≡ said_time w (database_of d) now
@@ -197,36 +202,36 @@ module _ (d : KeptDatabase) (path : List ℕ) (set : Guid) (time : ℕ) where
     unfolding log_of
     made-log = ap (λ h. log_below h d.path d.shown.«end») (made-history w path)
 
-    may-start : MayDo made (logged d.name start_said [])
+    may-start : MayDo made (logged d.name start_said d.transactions)
     unfolding outcome_by
     may-start = may.1.0
 
     -- behind the checkpoint
     abbrev started : World
-    started = done made (logged d.name start_said [])
+    started = done made (logged d.name start_said d.transactions)
 
     abbrev started_db : Database
-    started_db = gone_on (model (log_of made.history db)) start_said [] db
+    started_db = gone_on (model (log_of made.history db)) start_said d.transactions db
 
     start : Behind made started d.name started_db (more (log_of made.history db) db.end start_said)
-    start = behind laws made d.name db start_said made-sound made-named may-start
+    start = behind laws made d.name db start_said d.transactions made-sound made-named may-start
 
     started-log : log_of started.history started_db ≡ more rs db.end start_said
     started-log = start.log ∙ ap (λ l. more l db.end start_said) made-log
 
-    may-finish : MayDo started (logged d.name finish_said [])
+    may-finish : MayDo started (logged d.name finish_said d.transactions)
     unfolding outcome_by
     may-finish = may.1.1.0
 
     -- behind the stamp
     abbrev finished : World
-    finished = done started (logged d.name finish_said [])
+    finished = done started (logged d.name finish_said d.transactions)
 
     abbrev finished_db : Database
-    finished_db = gone_on (model (log_of started.history started_db)) finish_said [] started_db
+    finished_db = gone_on (model (log_of started.history started_db)) finish_said d.transactions started_db
 
     finish : Behind started finished d.name finished_db (more (log_of started.history started_db) started_db.end finish_said)
-    finish = behind laws started d.name started_db finish_said start.sound start.named may-finish
+    finish = behind laws started d.name started_db finish_said d.transactions start.sound start.named may-finish
 
     -- what is said may come next
     end-is : d.shown.«end» ≡ length rs + 1
@@ -235,24 +240,25 @@ module _ (d : KeptDatabase) (path : List ℕ) (set : Guid) (time : ℕ) where
     low : d.shown.«end» + 1 < 2 ^ 62
     low = let left : used_up d.shown.«end» ≡ false = its.left in grind (arith, nat_tests, left)
 
-    start-done : (IsDone made (LoggedAct d.name b.start) (logged d.name start_said []))
+    start-done : (IsDone made (LoggedAct d.name d.transactions b.start) (logged d.name start_said d.transactions))
     start-done =
-        mark-done made d.name db start_said b.start made-named may-start b.spell_start
+        mark-done made d.name db start_said d.transactions b.start made-named may-start b.spell_start
         (subst (λ l. AreNext d.files l (numbered d.shown.«end» start_said)) (sym made-log) (record { number = end-is; low = omega (arith, low); may = tt; placed = tt }, tt))
 
-    finish-done : IsDone started (LoggedAct d.name b.finish) (logged d.name finish_said [])
+    finish-done : IsDone started (LoggedAct d.name d.transactions b.finish) (logged d.name finish_said d.transactions)
     finish-done =
         let number : d.shown.«end» + 1 ≡ length (more rs db.end start_said) + 1 = omega (arith, end-is, length-append rs (numbered db.end start_said)) in
-        mark-done started d.name started_db finish_said b.finish start.named may-finish b.spell_finish
+        mark-done started d.name started_db finish_said d.transactions b.finish start.named may-finish b.spell_finish
         (subst (λ l. AreNext d.files l (numbered (d.shown.«end» + 1) finish_said)) (sym started-log) (record { number = number; low = low; may = tt; placed = tt }, tt))
 
     -- nothing is pending
     settled : pending (log_of w.history db) ≡ []
     unfolding log_of
     settled =
-        let opens : AreOpen (more (log_of made.history db) db.end start_said) (db.end + length start_said) [] = (its-log made d.name db start_said made-named may-start).opens in
-        let none : pending (more rs db.end start_said) ≡ [] = none-open _ (subst (λ l. AllByRecursion (λ (p : Pending). has_begin [] p.begin ≡ true) (pending (more l db.end start_said))) made-log opens.pending) in
-        sym (checkpoint-still rs db.end time).pends ∙ none
+        let opens : AreOpen (more (log_of made.history db) db.end start_said) (db.end + length start_said) d.transactions = (its-log made d.name db start_said d.transactions made-named may-start).opens in
+        let closed : AreOpen (more rs db.end start_said) (db.end + length start_said) [] =
+        subst (λ ts. AreOpen (more rs db.end start_said) (db.end + length start_said) ts) its.closed (subst (λ l. AreOpen (more l db.end start_said) (db.end + length start_said) d.transactions) made-log opens) in
+        sym (checkpoint-still rs db.end time).pends ∙ nothing-pends (more rs db.end start_said) (db.end + length start_said) closed
 
     -- the set holds what its path shows
     finished-log : log_below finished.history d.path (d.shown.«end» + 2) ≡ more (more rs db.end start_said) (db.end + 1) finish_said
@@ -268,7 +274,7 @@ module _ (d : KeptDatabase) (path : List ℕ) (set : Guid) (time : ℕ) where
       may = may.1.1.1.0;
       slots = [];
       there = ap (λ m. medium_at m path) (finish.media ∙ start.media) ∙ made-there w path;
-      carries = b.is_set.carries w finished.history shows settled finished-log;
+      carries = b.is_set.carries w finished.history shows its.closed settled finished-log;
     }
 
     base-done : (v : World) → IsDone v (Based d.name b.header) (based d.name b.body.header)
@@ -291,7 +297,7 @@ module _ (k : Kept) (line now : ℕ) (name : List ℕ) (units : List UnitName) (
   unfolding May
   backup-refused refusal plan is refuses =
       plans-refusal k Known (record { item = script.BackupDatabase name units path options; line = line }) now (λ w. check_backup w line name units path options) refusal plan is
-      (λ w sound idle keeps known. refuses w keeps known) (λ w rule e. comes-refused (check_backup w line name units path options) (DoesBackup w path now) rule e)
+      (λ w sound keeps known. refuses w keeps known) (λ w rule e. comes-refused (check_backup w line name units path options) (DoesBackup w path now) rule e)
 
   -- it may be done where it is checked
   may-back : (d : KeptDatabase) (time : ℕ) (h : Header) (w : World) → Keeps w k → ShowsLog w.history d → h ≡ full_header w (database_of d) (record { high = k.number; low = k.counter }) time → time ≡ said_time w (database_of d) now
@@ -311,13 +317,14 @@ module _ (k : Kept) (line now : ℕ) (name : List ℕ) (units : List UnitName) (
     outcome = outcome_by d path (record { high = k.number; low = k.counter }) time is.0.body.header;
     replies = sym is.1;
     may = may;
-    acts = λ w sound idle keeps known.
+    acts = λ w sound keeps known.
         parts-done d path (record { high = k.number; low = k.counter }) time laws w sound (shows w keeps) (checked w line name units path options (database_of d) (passes w keeps known)) parts.items is.0
-        (laws.may w (record { item = script.BackupDatabase name units path options; line = line }) now (outcome_by d path (record { high = k.number; low = k.counter }) time is.0.body.header) sound idle (may w sound idle keeps known));
+        (laws.may w (record { item = script.BackupDatabase name units path options; line = line }) now (outcome_by d path (record { high = k.number; low = k.counter }) time is.0.body.header) sound (may w sound keeps known));
   }
     where
-      may : (w : World) → IsSound w → AreIdle w → Keeps w k → Known w → May w (record { item = script.BackupDatabase name units path options; line = line }) now (outcome_by d path (record { high = k.number; low = k.counter }) time is.0.body.header)
-      may w sound idle keeps known = may-back d time is.0.body.header w keeps (shows w keeps) (is.0.is_set.header w (shows w keeps)) (time-is w (shows w keeps)) (passes w keeps known)
+      may : (w : World) → IsSound w → Keeps w k → Known w → May w (record { item = script.BackupDatabase name units path options; line = line }) now (outcome_by d path (record { high = k.number; low = k.counter }) time is.0.body.header)
+      may w sound keeps known = may-back d time is.0.body.header w keeps (shows w keeps) (is.0.is_set.header w (shows w keeps)) (time-is w (shows w keeps)) (passes w keeps known)
   backup-made laws d time (Refused rule) is passes shows time-is = absurd is
   backup-made laws d time (Answered reply) is passes shows time-is = absurd is
   backup-made laws d time (Turned name) is passes shows time-is = absurd is
+  backup-made laws d time (Seated session) is passes shows time-is = absurd is

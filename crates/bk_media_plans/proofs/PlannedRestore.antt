@@ -12,16 +12,16 @@ use Rattle.bk_items.specs.declared.item.ScriptItem.TheVariants as script
 use Rattle.bk_items.specs.declared.options.RestoreOptions.{RestoreOptions}
 use Rattle.bk_machine.specs.Acts.{Recovery, done, drawn, recovered, replaced, restored, taken_over, units_in}
 use Rattle.bk_machine.specs.CheckLaws.{first-false, not-refused, second-false}
-use Rattle.bk_machine.specs.Checks.{Checked, ◌>>=◌, different_paths, free_paths, others, paths_of, refuse_if, used_up}
+use Rattle.bk_machine.specs.Checks.{Checked, ◌>>=◌, different_paths, free_paths, others, outside, paths_of, refuse_if, used_up}
 use Rattle.bk_machine.specs.FindingLaws.{found-new}
 use Rattle.bk_machine.specs.FirstLaws.{first-in}
 use Rattle.bk_machine.specs.Machine.{May}
 use Rattle.bk_machine.specs.MayDo.{HoldsOf, MayDoAll}
 use Rattle.bk_machine.specs.NamedLaws.{named-changed}
 use Rattle.bk_machine.specs.ReadyLaws.{holds-of}
-use Rattle.bk_machine.specs.Sound.{AreIdle, IsSound, IsSoundSet, SetIn}
+use Rattle.bk_machine.specs.Sound.{IsSound, IsSoundSet, SetIn}
 use Rattle.bk_machine.specs.World.{World, Database, database_named, log_of, with_database, with_new_database}
-use Rattle.bk_machine.specs.statements.Restore.{DoesRestore, Recovers, base_of, check_family, check_number, check_restore, check_set, check_tail, disk_path, first_set, restored_whole, set_paths, whole_restore}
+use Rattle.bk_machine.specs.statements.Restore.{DoesRestore, Recovers, base_of, check_family, check_number, check_restore, check_set, check_tail, check_unused, disk_path, first_set, restored_whole, set_paths, whole_restore}
 use Rattle.bk_set.specs.Conditions.{IsBody}
 use Rattle.bk_set.specs.Laws.{body_keeps}
 use Rattle.bk_set.specs.declared.body.SetBody.{SetBody}
@@ -42,7 +42,7 @@ use Rattle.bk_world.specs.Says.{alone}
 use Rattle.bk_kept.specs.declared.kept.Kept.{Kept}
 use Rattle.bk_plans.specs.declared.parts.Part.{Part}
 use Rattle.bk_plans.specs.declared.parts.Plan.{Plan}
-use Rattle.bk_plans.specs.declared.parts.Plan.TheVariants.{Answered, Parts, Refused, Turned}
+use Rattle.bk_plans.specs.declared.parts.Plan.TheVariants.{Answered, Parts, Refused, Seated, Turned}
 use Rattle.bk_plans.specs.declared.refusal.Refusal.{Refusal}
 use Rattle.bk_plans.specs.declared.refusal.Refusal.TheVariants.{Broken, NoMemory}
 use Rattle.bk_plans.specs.Checking.{IsRefused}
@@ -74,7 +74,8 @@ later (Ok found) rest u e = e
 set-left : (w : World) (name : List ℕ) (replace : Bool) (header : Header) (u : Unit {0}) → check_set w name replace header ≡ Ok u → (used_up header.last || used_up w.counter) ≡ false
 unfolding check_set
 set-left w name replace header u e =
-    let tail = later (check_family (database_named w.databases name) replace header) _ u e in
+    let own = later (check_unused (database_named w.databases name)) _ u e in
+    let tail = later (check_family (database_named w.databases name) replace header) _ u own in
     let number = later (check_tail w (database_named w.databases name) replace) _ u tail in
     let free = later (check_number w.databases (database_named w.databases name)) _ u number in
     let different = later (free_paths (paths_of (others w.databases name)) (set_paths header)) _ u free in
@@ -87,14 +88,19 @@ module _ (line : ℕ) (name : List ℕ) (units : RestoredUnits) (disk : Option (
   unfolding check_restore
   not-built w is = rw is refl
 
-  built-none : (w : World) (rule : Rule) → is_built name units disk options ≡ true → first_set (medium_at w.media (disk_path disk)) ≡ Err rule → check_restore w line name units disk options ≡ Err rule
+  built-inside : (w : World) (refusal : Refusal) → is_built name units disk options ≡ true → IsRefused refusal (outside w) → IsRefused refusal (check_restore w line name units disk options)
   unfolding check_restore
-  built-none w rule is first = rw (is, first) refl
+  built-inside w (Broken rule) is inside = rw (is, inside) refl
+  built-inside w NoMemory is inside = tt
 
-  built-checked : (w : World) (header : Header) → is_built name units disk options ≡ true → first_set (medium_at w.media (disk_path disk)) ≡ Ok header
+  built-none : (w : World) (rule : Rule) → is_built name units disk options ≡ true → outside w ≡ Ok tt → first_set (medium_at w.media (disk_path disk)) ≡ Err rule → check_restore w line name units disk options ≡ Err rule
+  unfolding check_restore
+  built-none w rule is out first = rw (is, out, first) refl
+
+  built-checked : (w : World) (header : Header) → is_built name units disk options ≡ true → outside w ≡ Ok tt → first_set (medium_at w.media (disk_path disk)) ≡ Ok header
       → check_restore w line name units disk options ≡ (check_set w name options.replace header >>= λ u. Ok header)
   unfolding check_restore
-  built-checked w header is first = rw (is, first) refl
+  built-checked w header is out first = rw (is, out, first) refl
 
 -- What a recovery says of a log in which nothing is pending.
 
@@ -171,33 +177,39 @@ module _ (k : Kept) (line now : ℕ) (name : List ℕ) (units : RestoredUnits) (
   pub unbuilt-plan : is_built name units disk options ≡ false → Plans k (λ w. Unit {0}) asked now (Refused (NotBuilt line))
   unfolding May
   unbuilt-plan is = plans-refused k (λ w. Unit {0}) asked now (NotBuilt line)
-      (λ w sound idle keeps known. comes-refused (check_restore w line name units disk options) (DoesRestore w name) (NotBuilt line) (not-built line name units disk options w is))
+      (λ w sound keeps known. comes-refused (check_restore w line name units disk options) (DoesRestore w name) (NotBuilt line) (not-built line name units disk options w is))
 
-  none-then : (rule : Rule) → is_built name units disk options ≡ true → Plans k (FindsFirst disk (Err rule)) asked now (Refused rule)
+  pub inside-plan : (first : Result SetBody Rule) (refusal : Refusal) (plan : Plan) → is_built name units disk options ≡ true → IsRefusedBy refusal plan → ((w : World) → Keeps w k → IsRefused refusal (outside w)) → Plans k (FindsFirst disk first) asked now plan
   unfolding May
-  none-then rule is = plans-refused k (FindsFirst disk (Err rule)) asked now rule
-      (λ w sound idle keeps known. comes-refused (check_restore w line name units disk options) (DoesRestore w name) rule (built-none line name units disk options w rule is known.is))
+  inside-plan first refusal plan is by refuses =
+      plans-refusal k (FindsFirst disk first) asked now (λ w. check_restore w line name units disk options) refusal plan by
+      (λ w sound keeps known. built-inside line name units disk options w refusal is (refuses w keeps)) (λ w rule e. comes-refused (check_restore w line name units disk options) (DoesRestore w name) rule e)
 
-  pub none-plan : (first : Result SetBody Rule) (rule : Rule) → first ≡ Err rule → is_built name units disk options ≡ true → Plans k (FindsFirst disk first) asked now (Refused rule)
-  none-plan first rule e is = subst (λ (f : Result SetBody Rule). Plans k (FindsFirst disk f) asked now (Refused rule)) (sym e) (none-then rule is)
+  none-then : (rule : Rule) → is_built name units disk options ≡ true → ((w : World) → Keeps w k → outside w ≡ Ok tt) → Plans k (FindsFirst disk (Err rule)) asked now (Refused rule)
+  unfolding May
+  none-then rule is out = plans-refused k (FindsFirst disk (Err rule)) asked now rule
+      (λ w sound keeps known. comes-refused (check_restore w line name units disk options) (DoesRestore w name) rule (built-none line name units disk options w rule is (out w keeps) known.is))
+
+  pub none-plan : (first : Result SetBody Rule) (rule : Rule) → first ≡ Err rule → is_built name units disk options ≡ true → ((w : World) → Keeps w k → outside w ≡ Ok tt) → Plans k (FindsFirst disk first) asked now (Refused rule)
+  none-plan first rule e is out = subst (λ (f : Result SetBody Rule). Plans k (FindsFirst disk f) asked now (Refused rule)) (sym e) (none-then rule is out)
 
   refused-then : (refusal : Refusal) (w : World) (header : Header) → IsRefused refusal (check_set w name options.replace header) → IsRefused refusal (check_set w name options.replace header >>= λ u. Ok header)
   refused-then (Broken rule) w header is = ap (λ (c : Checked (Unit {0})). c >>= λ u. Ok header) is
   refused-then NoMemory w header is = tt
 
-  refused-for : (body : SetBody) (refusal : Refusal) (plan : Plan) → is_built name units disk options ≡ true → IsRefusedBy refusal plan
+  refused-for : (body : SetBody) (refusal : Refusal) (plan : Plan) → is_built name units disk options ≡ true → ((w : World) → Keeps w k → outside w ≡ Ok tt) → IsRefusedBy refusal plan
       → ((w : World) → Keeps w k → IsRefused refusal (check_set w name options.replace body.header)) → Plans k (FindsFirst disk (Ok body)) asked now plan
   unfolding May
-  refused-for body refusal plan is by refuses =
+  refused-for body refusal plan is out by refuses =
       plans-refusal k (FindsFirst disk (Ok body)) asked now (λ w. check_restore w line name units disk options) refusal plan by
-      (λ w sound idle keeps known. subst (IsRefused refusal) (sym (built-checked line name units disk options w body.header is known.is)) (refused-then refusal w body.header (refuses w keeps)))
+      (λ w sound keeps known. subst (IsRefused refusal) (sym (built-checked line name units disk options w body.header is (out w keeps) known.is)) (refused-then refusal w body.header (refuses w keeps)))
       (λ w rule e. comes-refused (check_restore w line name units disk options) (DoesRestore w name) rule e)
 
-  pub refused-plan : (first : Result SetBody Rule) (body : SetBody) (refusal : Refusal) (plan : Plan) → first ≡ Ok body → is_built name units disk options ≡ true → IsRefusedBy refusal plan
+  pub refused-plan : (first : Result SetBody Rule) (body : SetBody) (refusal : Refusal) (plan : Plan) → first ≡ Ok body → is_built name units disk options ≡ true → ((w : World) → Keeps w k → outside w ≡ Ok tt) → IsRefusedBy refusal plan
       → ((w : World) → Keeps w k → IsRefused refusal (check_set w name options.replace body.header)) → Plans k (FindsFirst disk first) asked now plan
-  refused-plan first body refusal plan e is by refuses = subst (λ (f : Result SetBody Rule). Plans k (FindsFirst disk f) asked now plan) (sym e) (refused-for body refusal plan is by refuses)
+  refused-plan first body refusal plan e is out by refuses = subst (λ (f : Result SetBody Rule). Plans k (FindsFirst disk f) asked now plan) (sym e) (refused-for body refusal plan is out by refuses)
 
-  module _ (body : SetBody) (u : Unit {0}) (parts : List Part) (built : is_built name units disk options ≡ true) (sets : SetsSound) (law : DoWhatTheyMay)
+  module _ (body : SetBody) (u : Unit {0}) (parts : List Part) (built : is_built name units disk options ≡ true) (out : (w : World) → Keeps w k → outside w ≡ Ok tt) (sets : SetsSound) (law : DoWhatTheyMay)
       (passes : (w : World) → Keeps w k → check_set w name options.replace body.header ≡ Ok u) (of : RestoreAsked k name body parts) where
     -- what the recovery says
     abbrev its : Recovery
@@ -213,7 +225,7 @@ module _ (k : Kept) (line now : ℕ) (name : List ℕ) (units : RestoredUnits) (
     unfolding May
     may-restore w sound keeps known =
         let checked : check_restore w line name units disk options ≡ Ok body.header =
-        built-checked line name units disk options w body.header built known.is ∙ ap (λ (c : Checked (Unit {0})). c >>= λ v. Ok body.header) (passes w keeps) in
+        built-checked line name units disk options w body.header built (out w keeps) known.is ∙ ap (λ (c : Checked (Unit {0})). c >>= λ v. Ok body.header) (passes w keeps) in
         comes-found (check_restore w line name units disk options) (DoesRestore w name) body.header (restored_whole of.name body.header its) checked (
           its,
           refl,
@@ -222,9 +234,9 @@ module _ (k : Kept) (line now : ℕ) (name : List ℕ) (units : RestoredUnits) (
           ap (λ n. restored_whole n body.header its) (of.known w keeps),
         )
 
-    done-parts : (w : World) → IsSound w → AreIdle w → Keeps w k → FindsFirst disk (Ok body) w → AreParts w parts (whole_restore of.name body.header its)
-    done-parts w sound idle keeps known =
-        let may : MayDoAll w (whole_restore of.name body.header its) = law w asked now (restored_whole of.name body.header its) sound idle (may-restore w sound keeps known) in
+    done-parts : (w : World) → IsSound w → Keeps w k → FindsFirst disk (Ok body) w → AreParts w parts (whole_restore of.name body.header its)
+    done-parts w sound keeps known =
+        let may : MayDoAll w (whole_restore of.name body.header its) = law w asked now (restored_whole of.name body.header its) sound (may-restore w sound keeps known) in
         let left : (used_up body.header.last || used_up w.counter) ≡ false = set-left w name options.replace body.header u (passes w keeps) in
         subst (λ (ps : List Part). AreParts w ps (whole_restore of.name body.header its)) (sym of.of_it.are) (
           record { means = refl; may = may.0; draws = tt; carried = known.carries; from_end = tt; taken = tt },
@@ -244,21 +256,22 @@ module _ (k : Kept) (line now : ℕ) (name : List ℕ) (units : RestoredUnits) (
           ),
         )
 
-  whole-for : (body : SetBody) (u : Unit {0}) (plan : Plan) → is_built name units disk options ≡ true → SetsSound → DoWhatTheyMay
+  whole-for : (body : SetBody) (u : Unit {0}) (plan : Plan) → is_built name units disk options ≡ true → ((w : World) → Keeps w k → outside w ≡ Ok tt) → SetsSound → DoWhatTheyMay
       → ((w : World) → Keeps w k → check_set w name options.replace body.header ≡ Ok u) → RestoresWhole k name body plan → Plans k (FindsFirst disk (Ok body)) asked now plan
-  whole-for body u (Parts parts answer) built sets law passes is = record {
+  whole-for body u (Parts parts answer) built out sets law passes is = record {
     outcome = restored_whole is.0.name body.header (one_record body.header.last (record { high = k.number; low = k.counter }));
     replies = sym is.1;
-    may = λ w sound idle keeps known. may-restore body u parts.items built sets law passes is.0 w sound keeps known;
-    acts = λ w sound idle keeps known. done-parts body u parts.items built sets law passes is.0 w sound idle keeps known;
+    may = λ w sound keeps known. may-restore body u parts.items built out sets law passes is.0 w sound keeps known;
+    acts = λ w sound keeps known. done-parts body u parts.items built out sets law passes is.0 w sound keeps known;
   }
-  whole-for body u (Refused rule) built sets law passes is = absurd is
-  whole-for body u (Answered said) built sets law passes is = absurd is
-  whole-for body u (Turned to) built sets law passes is = absurd is
+  whole-for body u (Refused rule) built out sets law passes is = absurd is
+  whole-for body u (Answered said) built out sets law passes is = absurd is
+  whole-for body u (Turned to) built out sets law passes is = absurd is
+  whole-for body u (Seated session) built out sets law passes is = absurd is
 
-  pub whole-plan : (first : Result SetBody Rule) (body : SetBody) (u : Unit {0}) (plan : Plan) → first ≡ Ok body → is_built name units disk options ≡ true → SetsSound → DoWhatTheyMay
+  pub whole-plan : (first : Result SetBody Rule) (body : SetBody) (u : Unit {0}) (plan : Plan) → first ≡ Ok body → is_built name units disk options ≡ true → ((w : World) → Keeps w k → outside w ≡ Ok tt) → SetsSound → DoWhatTheyMay
       → ((w : World) → Keeps w k → check_set w name options.replace body.header ≡ Ok u) → RestoresWhole k name body plan → Plans k (FindsFirst disk first) asked now plan
-  whole-plan first body u plan e built sets law passes is = subst (λ (f : Result SetBody Rule). Plans k (FindsFirst disk f) asked now plan) (sym e) (whole-for body u plan built sets law passes is)
+  whole-plan first body u plan e built out sets law passes is = subst (λ (f : Result SetBody Rule). Plans k (FindsFirst disk f) asked now plan) (sym e) (whole-for body u plan built out sets law passes is)
 
 -- What its parts keep.
 

@@ -6,7 +6,7 @@ use Rattle.bk_ids.specs.declared.guid.Guid.{Guid}
 use Rattle.bk_ids.specs.declared.record.Place.{Place}
 use Rattle.bk_ids.specs.declared.path.Branch.{Branch}
 use Rattle.bk_machine.specs.Sound.{files_of_set}
-use Rattle.bk_machine.specs.World.{World, log_of}
+use Rattle.bk_machine.specs.World.{World, least_begin, log_of}
 use Rattle.bk_machine.specs.statements.Backup.{full_header}
 use Rattle.bk_record.specs.Log.{IsLog}
 use Rattle.bk_set.specs.declared.body.SetBody.{SetBody}
@@ -133,9 +133,9 @@ pub carries-made : (w : World) (lines : RecordLines) (d : KeptDatabase) (set : G
     → IsLog body.log (map spelled (numbered d.shown.«end» (alone (checkpointed time)) ++ numbered (d.shown.«end» + 1) (alone (stamped time set)))) None
     → ((files : List FileSpec) (rs : List Logged) → Shows files rs d.shown → d.shown.«end» ≡ end_behind rs)
     → ((files : List FileSpec) (rs next : List Logged) → ArePlaced files [] rs → ArePlaced files rs next → ArePlaced files [] (rs ++ next))
-    → pending (log_of w.history (database_of d)) ≡ [] → log_below lines d.path (d.shown.«end» + 2) ≡ with_set (log_of w.history (database_of d)) d.shown.«end» set time → Carries lines body
+    → d.transactions ≡ [] → pending (log_of w.history (database_of d)) ≡ [] → log_below lines d.path (d.shown.«end» + 2) ≡ with_set (log_of w.history (database_of d)) d.shown.«end» set time → Carries lines body
 unfolding full_header log_of
-carries-made w lines d set time body shows header made listed spells ends join settled is =
+carries-made w lines d set time body shows header made listed spells ends join closed settled is =
     let rs : List Logged = log_below w.history d.path d.shown.«end» in
     let last : d.shown.«end» ≡ 1 + length (log_below w.history d.path d.shown.«end») = ends d.files (log_below w.history d.path d.shown.«end») shows in
     let end_is : d.shown.«end» ≡ length (log_below w.history d.path d.shown.«end») + 1 = omega (arith, last) in
@@ -144,7 +144,7 @@ carries-made w lines d set time body shows header made listed spells ends join s
     carries-set d.files d.path (log_below w.history d.path d.shown.«end») d.shown.«end» time set body lines
     (record {
       path_is = ap (λ (h : Header). h.path) header;
-      first_is = ap (λ (h : Header). h.first) header;
+      first_is = ap (λ (h : Header). h.first) header ∙ ap (λ ts. least_begin ts d.shown.«end») closed;
       last_is = ap (λ (h : Header). h.last) header;
       files_are = ap (λ (h : Header). h.files) header;
       made = made d.files (log_below w.history d.path d.shown.«end») shows;

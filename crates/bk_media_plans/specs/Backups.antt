@@ -1,9 +1,12 @@
 -- The parts of a full backup.
 use Rattle.std.specs.Prelude.{◌≡◌, ℕ, ◌+◌, List, [], ◌∷◌, ◌++◌}
+use Rattle.std.specs.List.{All}
+use Rattle.bk_acts.specs.declared.act.StoredAct.{StoredAct}
 use Rattle.bk_acts.specs.declared.act.StoredAct.TheVariants.{Logged as LoggedAct, Based}
 use Rattle.bk_acts.specs.Meaning.{Spell}
+use Rattle.bk_acts.specs.Transactions.{KeepsTransaction}
 use Rattle.bk_ids.specs.declared.guid.Guid.{Guid}
-use Rattle.bk_machine.specs.World.{World, log_of}
+use Rattle.bk_machine.specs.World.{World, least_begin, log_of}
 use Rattle.bk_machine.specs.statements.Backup.{full_header}
 use Rattle.bk_header.specs.Conditions.{KeepsConditions}
 use Rattle.bk_set.specs.Conditions.{KeepsBody}
@@ -27,18 +30,26 @@ use Rattle.bk_kept.specs.Stored.{Carries}
 abbrev pub IsFullHeader : KeptDatabase → Guid → ℕ → Header → Type 0
 IsFullHeader d set time header = (w : World) → ShowsLog w.history d → header ≡ full_header w (database_of d) set time
 
--- A body is the set that a full backup of a database makes, where nothing is pending: it holds what the database's log shows behind its checkpoint and
+-- A body is the set that a full backup of a database makes, where nothing is open or pending: it holds what the database's log shows behind its checkpoint and
 -- its stamp.
 pub record IsSet (d : KeptDatabase) (set : Guid) (time : ℕ) (body : SetBody) : Type 0 where
   pub header : IsFullHeader d set time body.header
-  pub carries : (w : World) (lines : RecordLines) → ShowsLog w.history d → pending (log_of w.history (database_of d)) ≡ []
+  pub carries : (w : World) (lines : RecordLines) → ShowsLog w.history d → d.transactions ≡ [] → pending (log_of w.history (database_of d)) ≡ []
       → log_below lines d.path (d.shown.«end» + 2) ≡ with_set (log_of w.history (database_of d)) d.shown.«end» set time → Carries lines body
 
--- one part more, by which a database says one thing under a number
-pub record Marks (name : List ℕ) (lsn : ℕ) (said : Said) (old new : List Part) : Type 0 where
+-- by an act a database says one thing under a number, and its transactions stay open
+pub record IsMark (d : KeptDatabase) (lsn : ℕ) (said : Said) (stored : StoredAct) : Type 0 where
   pub records : List ℕ
-  pub are : new ≡ old ++ Stored (LoggedAct name records) ∷ []
+  pub is : stored ≡ LoggedAct d.name d.transactions records
   pub spell : Spell records lsn (said ∷ [])
+  pub keep : All KeepsTransaction d.transactions
+
+-- one part more, by which a database says one thing under a number, and its transactions stay open
+pub record Marks (d : KeptDatabase) (lsn : ℕ) (said : Said) (old new : List Part) : Type 0 where
+  pub records : List ℕ
+  pub are : new ≡ old ++ Stored (LoggedAct d.name d.transactions records) ∷ []
+  pub spell : Spell records lsn (said ∷ [])
+  pub keep : All KeepsTransaction d.transactions
 
 -- one part more, by which the set of a database is sealed at a path
 pub record SealsOne (d : KeptDatabase) (path : List ℕ) (set : Guid) (time : ℕ) (old new : List Part) : Type 0 where
@@ -60,15 +71,16 @@ pub record IsBackup (d : KeptDatabase) (path : List ℕ) (set : Guid) (time : �
   pub finish : List ℕ
   pub body : SetBody
   pub header : Header
-  pub are : parts ≡ MediumMade path ∷ Stored (LoggedAct d.name start) ∷ Stored (LoggedAct d.name finish) ∷ SetSealed path body ∷ Stored (Based d.name header) ∷ []
+  pub are : parts ≡ MediumMade path ∷ Stored (LoggedAct d.name d.transactions start) ∷ Stored (LoggedAct d.name d.transactions finish) ∷ SetSealed path body ∷ Stored (Based d.name header) ∷ []
   pub spell_start : Spell start d.shown.«end» (alone (checkpointed time))
   pub spell_finish : Spell finish (d.shown.«end» + 1) (alone (stamped time set))
   pub is_set : IsSet d set time body
   pub is_header : IsFullHeader d set time header
+  pub keep : All KeepsTransaction d.transactions
   pub keeps_body : KeepsBody body
   pub keeps_header : KeepsConditions header
 
 -- a plan of those parts, and the reply to them
 abbrev pub IsBackupPlan : KeptDatabase → List ℕ → Guid → ℕ → Plan → Type 0
-IsBackupPlan d path set time (Parts parts answer) = IsBackup d path set time parts.items × (answer ≡ SetMade 1 d.shown.«end» d.shown.«end» (d.shown.«end» + 2))
+IsBackupPlan d path set time (Parts parts answer) = IsBackup d path set time parts.items × (answer ≡ SetMade 1 (least_begin d.transactions d.shown.«end») d.shown.«end» (d.shown.«end» + 2))
 IsBackupPlan d path set time _ = ⊥

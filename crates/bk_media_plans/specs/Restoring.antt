@@ -1,13 +1,13 @@
 -- What a whole restore stores, and what its plan is told.
-use Rattle.std.specs.Prelude.{◌≡◌, ℕ, Bool, ◌&&◌, List, [], ◌∷◌, Option, Result, Ok, Err}
+use Rattle.std.specs.Prelude.{◌≡◌, ℕ, Bool, ◌&&◌, ◌||◌, nat_le, List, [], ◌∷◌, length, Option, Result, Ok, Err}
 use Rattle.bk_acts.specs.declared.act.StoredAct.TheVariants.{Replaced, Restored, Recovered}
 use Rattle.bk_acts.specs.Meaning.{Spell}
 use Rattle.bk_ids.specs.declared.guid.Guid.{Guid}
 use Rattle.bk_items.specs.declared.item.RestoredUnits.{RestoredUnits}
 use Rattle.bk_items.specs.declared.options.RestoreOptions.{RestoreOptions}
-use Rattle.bk_machine.specs.Checks.{Checked, is_name, is_path}
+use Rattle.bk_machine.specs.Checks.{Checked, ◌>>=◌, different_paths, free_paths, is_name, is_path, limit, others, paths_of, refuse_if, used_up}
 use Rattle.bk_machine.specs.World.{World, database_named}
-use Rattle.bk_machine.specs.statements.Restore.{base_of, disk_path, first_set, is_whole_restore, name_known}
+use Rattle.bk_machine.specs.statements.Restore.{base_of, disk_path, first_set, is_whole_restore, name_known, set_paths}
 use Rattle.bk_set.specs.declared.body.SetBody.{SetBody}
 use Rattle.bk_world.specs.Medium.{medium_at}
 use Rattle.bk_world.specs.Records.{recovered}
@@ -15,6 +15,7 @@ use Rattle.bk_world.specs.Says.{alone}
 use Rattle.bk_world.specs.declared.header.Header.{Header}
 use Rattle.bk_world.specs.declared.reply.Reply.TheVariants as reply
 use Rattle.bk_world.specs.declared.rule.Rule.{Rule}
+use Rattle.bk_world.specs.declared.rule.Rule.TheVariants.{PathFull}
 use Rattle.bk_kept.specs.declared.kept.Kept.{Kept}
 use Rattle.bk_kept.specs.Keeps.{Keeps}
 use Rattle.bk_kept.specs.Stored.{Carries}
@@ -58,6 +59,14 @@ header_of (Err rule) = Err rule
 abbrev pub IsCarriedFirst : World → Result SetBody Rule → Type 0
 IsCarriedFirst w (Ok body) = Carries w.history body
 IsCarriedFirst w (Err rule) = Unit {0}
+
+-- what is checked of a set behind its database: its files, its path, and numbers
+abbrev pub check_header : World → List ℕ → Header → Checked (Unit {0})
+check_header w name header = do
+  _ ← free_paths (paths_of (others w.databases name)) (set_paths header)
+  _ ← different_paths [] (set_paths header)
+  _ ← refuse_if (nat_le 64 (length header.path)) PathFull
+  limit (used_up header.last || used_up w.counter)
 
 -- what was found first on the medium at a path is what the machine finds there
 pub record FindsFirst (disk : Option (List ℕ)) (first : Result SetBody Rule) (w : World) : Type 0 where

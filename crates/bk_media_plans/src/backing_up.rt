@@ -8,10 +8,11 @@ ghost use Rattle.bk_world.specs.Medium.{medium_at};
 ghost use Rattle.bk_kept.specs.Keeps.{Keeps, ShowsLog, database_of};
 ghost use Rattle.bk_plans.specs.Checking.{IsCheck};
 
+use bk_asked::has_open;
 use bk_ids::{Sequence, Text};
 use bk_items::{BackupOptions, UnitName};
 use bk_kept::{Database, Kept, used_up};
-use bk_plans::{Refusal, is_path, limit, named_or_refuse, online, refuse_if};
+use bk_plans::{Refusal, is_path, limit, named_or_refuse, online, outside, refuse_if};
 use bk_world::Rule;
 
 // Whether a switch is off, or isn't there.
@@ -66,8 +67,10 @@ pub(crate) fn check_backup<'a>(
         !(is_whole_backup(units, options) && is_path(disk.as_str())) || is_there,
         Rule::NotBuilt { line },
     )?;
+    outside(kept)?;
     let named = named_or_refuse(kept, name.as_str())?;
     let database = online(named)?;
+    refuse_if(has_open(database), Rule::NotBuilt { line })?;
     limit(used_up(database.shown.end()) || used_up(kept.counter))?;
     Ok(database)
 }

@@ -1,11 +1,11 @@
 //! The plan of a full backup.
 
 ghost use Rattle.std.specs.Prelude.{◌≡◌, ◌<◌, ◌+◌, ◌∷◌, ◌++◌, [], ◌^◌, true, false, is_some, IfOk, OnOk};
-ghost use Rattle.bk_acts.specs.Meaning.{Spell, under};
+ghost use Rattle.bk_acts.specs.Meaning.{under};
 ghost use Rattle.bk_header.specs.Conditions.{KeepsConditions};
 ghost use Rattle.bk_items.specs.declared.item.ScriptItem.TheVariants as script;
 ghost use Rattle.bk_machine.specs.Checks as checks;
-ghost use Rattle.bk_media_plans.specs.Backups.{BasesOne, IsBackup, IsBackupPlan, IsFullHeader, IsSet, Marks, SealsOne};
+ghost use Rattle.bk_media_plans.specs.Backups.{BasesOne, IsBackup, IsBackupPlan, IsFullHeader, IsMark, IsSet, Marks, SealsOne};
 ghost use Rattle.bk_plans.specs.declared.parts.Part.TheVariants.{MediumMade};
 ghost use Rattle.bk_plans.specs.Planning.{KeepsPlan, Plans};
 ghost use Rattle.bk_record.specs.Spelling.{KeepsLimits};
@@ -15,43 +15,50 @@ ghost use Rattle.bk_world.specs.Records.{Said};
 
 use crate::backing_up::check_backup;
 use crate::set::{header_of, set_of};
-use bk_acts::{StoredAct, said_law};
+use bk_acts::StoredAct;
 use bk_header::keeps;
-use bk_ids::{Body, Guid, Lsn, Name, Sequence, Text};
+use bk_ids::{Body, Guid, Lsn, Sequence, Text};
 use bk_items::{BackupOptions, UnitName};
 use bk_kept::{Database, Kept};
 use bk_machine::{acts_keep_worlds_sound, statements_do_what_they_may, what_is_said_comes_last};
-use bk_plans::{Part, Plan, refused, said_time, say};
-use bk_record::Records;
+use bk_plans::{Part, Plan, logged, open_in, refused, said_time, say_one};
 use bk_set::SetBody;
 use bk_world::{Header, Reply};
 use std::alloc::{AllocError, Global};
 
-// One record of no transaction, spelled.
-fn one_record(alloc: Global, lsn: Lsn, body: Body) -> Result<Records, AllocError>
+// The act by which a database says one record of no transaction.
+fn mark_act(
+    alloc: Global,
+    database: &Database,
+    lsn: Lsn,
+    body: Body,
+) -> Result<StoredAct, AllocError>
     requires { KeepsLimits body }
-    ensures { IfOk result (λ records. (s : Said) → under lsn s ≡ record { lsn = lsn; begin = 0; body = body } → Spell records lsn (s ∷ [])) }
+    ensures { IfOk result (λ act. (s : Said) → under lsn s ≡ record { lsn = lsn; begin = 0; body = body } → IsMark database.now lsn s act) }
 {
-    said_law();
-    let mut records = Records::none(alloc);
-    say(alloc, &mut records, lsn, 0, body)?;
-    Ok(records)
+    let records = say_one(alloc, lsn, 0, body)?;
+    match open_in(alloc, database) {
+        Ok(transactions) => logged(alloc, database, transactions, records),
+        Err(error) => {
+            drop(records);
+            Err(error)
+        }
+    }
 }
 
 // One part more: a database says one record of no transaction.
 fn push_mark(
     alloc: Global,
     parts: &mut Vec<Part>,
-    name: &Name,
+    database: &Database,
     lsn: Lsn,
     body: Body,
 ) -> Result<(), AllocError>
     requires { KeepsLimits body }
-    ensures { OnOk result ((s : Said) → under lsn s ≡ record { lsn = lsn; begin = 0; body = body } → Marks name.now lsn s parts.old.items parts.new.items) }
+    ensures { OnOk result ((s : Said) → under lsn s ≡ record { lsn = lsn; begin = 0; body = body } → Marks database.now lsn s parts.old.items parts.new.items) }
 {
-    let records = one_record(alloc, lsn, body)?;
-    let name = name.copy(alloc)?;
-    parts.push(Part::Stored(StoredAct::Logged { name, records }))?;
+    let act = mark_act(alloc, database, lsn, body)?;
+    parts.push(Part::Stored(act))?;
     Ok(())
 }
 
@@ -142,17 +149,11 @@ fn backup_parts(
     let end = database.shown.end();
     let mut parts = Vec::new(alloc);
     push_medium(alloc, &mut parts, disk)?;
+    push_mark(alloc, &mut parts, database, end, Body::Checkpoint { time })?;
     push_mark(
         alloc,
         &mut parts,
-        &database.name,
-        end,
-        Body::Checkpoint { time },
-    )?;
-    push_mark(
-        alloc,
-        &mut parts,
-        &database.name,
+        database,
         end + 1,
         Body::Stamp { time, set },
     )?;
@@ -182,7 +183,7 @@ fn backup(
     let parts = backup_parts(alloc, database, disk, set, time)?;
     let reply = Reply::SetMade {
         position: 1,
-        first: end,
+        first: database.least_begin(end),
         checkpoint: end,
         last: end + 2,
     };

@@ -1,11 +1,13 @@
 //! Plans of `RESTORE DATABASE`.
 
-ghost use Rattle.std.specs.Prelude.{◌≡◌, ℕ, ◌∷◌, ◌++◌, [], true, IfOk, OnOk, IfSome, MatchOption};
+ghost use Rattle.std.specs.Prelude.{◌≡◌, ℕ, ◌∷◌, ◌++◌, [], true, Ok, IfOk, OnOk, IfSome, MatchOption};
 ghost use Rattle.bk_acts.specs.declared.act.StoredAct.TheVariants.{Recovered, Replaced, Restored};
 ghost use Rattle.bk_acts.specs.Meaning.{Spell};
 ghost use Rattle.bk_items.specs.declared.item.ScriptItem.TheVariants as script;
 ghost use Rattle.bk_machine.specs.statements.Restore as restore;
+ghost use Rattle.bk_kept.specs.Keeps.{Keeps};
 ghost use Rattle.bk_kept.specs.declared.kept.Kept.{Kept as KeptOf};
+ghost use Rattle.bk_machine.specs.World.{World};
 ghost use Rattle.bk_plans.specs.declared.parts.Part.TheVariants.{Stored};
 ghost use Rattle.bk_media_plans.specs.Restoring as request;
 ghost use Rattle.bk_plans.specs.Planning.{KeepsPlan, Plans};
@@ -16,12 +18,12 @@ ghost use Rattle.bk_world.specs.Records.{recovered};
 ghost use Rattle.bk_world.specs.Says.{alone};
 
 use crate::restoring::check_set;
-use bk_acts::{StoredAct, said_law};
+use bk_acts::StoredAct;
 use bk_ids::{Body, Guid, Lsn, Name, Text};
 use bk_items::{Ending, RestoreOptions, RestoredUnits};
 use bk_kept::Kept;
 use bk_machine::{sets_that_stay, statements_do_what_they_may};
-use bk_plans::{Part, Plan, is_name, is_path, name_in, refused, say};
+use bk_plans::{Part, Plan, is_name, is_path, name_in, outside, refused, say_one};
 use bk_record::Records;
 use bk_set::SetBody;
 use bk_world::{Base, Header, Reply, Rule};
@@ -125,10 +127,7 @@ fn base_of(header: &Header) -> Option<Base>
 fn recovery_said(alloc: Global, at: Lsn, branch: Guid) -> Result<Records, AllocError>
     ensures { IfOk result (λ records. Spell records at (alone (recovered branch))) }
 {
-    said_law();
-    let mut records = Records::none(alloc);
-    say(alloc, &mut records, at, 0, Body::Recovery { branch })?;
-    Ok(records)
+    say_one(alloc, at, 0, Body::Recovery { branch })
 }
 
 // One part more, which is stored.
@@ -279,6 +278,39 @@ fn restoring(kept: &Kept, alloc: Global, asked: &Text, body: SetBody) -> Result<
     })
 }
 
+// What a restore that is built comes to outside of a transaction, by the first set of its medium, or the rule by which that is refused.
+fn restore_first(
+    kept: &Kept,
+    alloc: Global,
+    line: u32,
+    database: &Text,
+    units: &RestoredUnits,
+    disk: &Option<Text>,
+    options: &RestoreOptions,
+    first: Result<SetBody, Rule>,
+    now: u64,
+) -> Result<Plan, AllocError>
+    requires built { request.is_built database.now units.now disk.now options.now ≡ true }
+    requires is_body { IfOk first IsBody }
+    requires out { (w : World) → Keeps w kept.now → checks.outside w ≡ Ok tt }
+    ensures plans { IfOk result (Plans kept.now (FindsFirst disk.now first)
+        (record { item = script.RestoreDatabase database.now units.now disk.now options.now; line = line }) now) }
+    ensures keeps { IfOk result KeepsPlan }
+{
+    sets_that_stay();
+    statements_do_what_they_may();
+    match first {
+        Err(rule) => Ok(Plan::Refused { rule }),
+        Ok(body) => match check_set(kept, alloc, database, options.replace, &body.header) {
+            Ok(()) => restoring(kept, alloc, database, body),
+            Err(refusal) => {
+                drop(body);
+                refused(refusal)
+            }
+        },
+    }
+}
+
 /// What `RESTORE DATABASE` on this line comes to, which is built, by the first set of its medium, or the rule by which that is
 /// refused.
 pub fn plan_restore(
@@ -298,16 +330,13 @@ pub fn plan_restore(
         (record { item = script.RestoreDatabase database.now units.now disk.now options.now; line = line }) now) }
     ensures keeps { IfOk result KeepsPlan }
 {
-    sets_that_stay();
-    statements_do_what_they_may();
-    match first {
-        Err(rule) => Ok(Plan::Refused { rule }),
-        Ok(body) => match check_set(kept, alloc, database, options.replace, &body.header) {
-            Ok(()) => restoring(kept, alloc, database, body),
-            Err(refusal) => {
-                drop(body);
-                refused(refusal)
-            }
-        },
+    match outside(kept) {
+        Ok(()) => restore_first(
+            kept, alloc, line, database, units, disk, options, first, now,
+        ),
+        Err(refusal) => {
+            drop(first);
+            refused(refusal)
+        }
     }
 }

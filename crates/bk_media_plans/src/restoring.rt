@@ -5,21 +5,32 @@ ghost use Rattle.std.specs.List.{find};
 ghost use Rattle.std.specs.Option.{option_map};
 ghost use Rattle.bk_machine.specs.Checks as checks;
 ghost use Rattle.bk_machine.specs.Checks.{has_path, paths_of, others};
-ghost use Rattle.bk_machine.specs.World.{World};
+ghost use Rattle.bk_machine.specs.World.{World, database_named};
 ghost use Rattle.bk_machine.specs.statements.Restore as restore;
 ghost use Rattle.bk_kept.specs.Keeps.{Keeps, ShowsLog, database_of};
 ghost use Rattle.bk_plans.specs.Checking.{IsCheck};
+ghost use Rattle.bk_media_plans.specs.Restoring as requests;
 ghost use Rattle.bk_media_plans.specs.SetPaths as paths;
 ghost use Rattle.bk_media_plans.specs.SetPaths.{file_check};
 
 use bk_ids::Text;
 use bk_kept::{Database, Kept, used_up};
-use bk_plans::{MOST_DATABASES, Refusal, in_use, is_in_use_by_others, limit, refuse_if};
+use bk_plans::{MOST_DATABASES, Refusal, in_use, is_in_use_by_others, limit, refuse_if, unused};
 use bk_world::{Header, HeaderFile, Limit, Rule, Status};
 use std::alloc::Global;
 
 // How many branches a path has before no more are added.
 const MOST_BRANCHES: usize = 64;
+
+// The database isn't there, or no session has an open transaction in it.
+fn check_unused(named: Option<&Database>) -> Result<(), Refusal>
+    ensures { IsCheck (λ u. u) result (restore.check_unused (option_map (λ d. database_of d.now) named.entry)) }
+{
+    match named {
+        Some(database) => unused(database),
+        None => Ok(()),
+    }
+}
 
 // A set of another family, unless the database may be replaced.
 fn check_family(named: Option<&Database>, replace: bool, header: &Header) -> Result<(), Refusal>
@@ -131,6 +142,29 @@ fn different_paths(alloc: Global, files: &[HeaderFile]) -> Result<(), Refusal>
     refuse_file(alloc, first_repeated(files))
 }
 
+// Whether the files of a set may be used, its path can take a branch more, and numbers are left.
+fn check_header(kept: &Kept, alloc: Global, name: &Text, header: &Header) -> Result<(), Refusal>
+    ensures { (w : World) → Keeps w kept.now → IsCheck (λ u. u) result (requests.check_header w name.now header.now) }
+{
+    let files = header.files.as_slice();
+    free_paths(alloc, &kept.databases, name.as_str(), files)?;
+    different_paths(alloc, files)?;
+    refuse_if(
+        header.path.as_slice().len() >= MOST_BRANCHES,
+        Rule::PathFull,
+    )?;
+    limit(used_up(header.last) || used_up(kept.counter))
+}
+
+// The database of this name, if there is one.
+fn named_in<'a>(kept: &'a Kept, name: &Text) -> Option<&'a Database>
+    ensures found { (w : World) → Keeps w kept.now → option_map (λ d. database_of d.now) result ≡ database_named w.databases name.now }
+    ensures shows { (w : World) → Keeps w kept.now → IfSome result (λ d. ShowsLog w.history d.now) }
+{
+    let database = kept.named(name.as_str())?;
+    Some(database)
+}
+
 // Whether the set with this header may take the place of the database of this name, or come behind the others.
 #[tactic(auto, unfolding(bk_machine::specs::statements::Restore::check_set))]
 pub(crate) fn check_set(
@@ -142,16 +176,10 @@ pub(crate) fn check_set(
 ) -> Result<(), Refusal>
     ensures { (w : World) → Keeps w kept.now → IsCheck (λ u. u) result (restore.check_set w name.now replace header.now) }
 {
-    let files = header.files.as_slice();
-    let named = kept.named(name.as_str());
+    let named = named_in(kept, name);
+    check_unused(named)?;
     check_family(named, replace, header)?;
     check_tail(named, replace)?;
     check_number(&kept.databases, named)?;
-    free_paths(alloc, &kept.databases, name.as_str(), files)?;
-    different_paths(alloc, files)?;
-    refuse_if(
-        header.path.as_slice().len() >= MOST_BRANCHES,
-        Rule::PathFull,
-    )?;
-    limit(used_up(header.last) || used_up(kept.counter))
+    check_header(kept, alloc, name, header)
 }

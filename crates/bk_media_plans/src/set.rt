@@ -1,4 +1,4 @@
-//! The set that a full backup of an idle database makes.
+//! The set that a full backup of a database in which nothing is open makes.
 
 ghost use Rattle.std.specs.Prelude.{◌≡◌, ◌<◌, ◌+◌, ◌^◌, ◌∷◌, ◌++◌, [], true, false, List, length, map, IfOk, OnOk, IfSome, IsSome, None};
 ghost use Rattle.bk_ids.specs.declared.record.Rec.{Rec as RecSpec};
@@ -90,7 +90,7 @@ pub(crate) fn header_of(
         checksums: false,
         set,
         family: database.family,
-        first: end,
+        first: database.least_begin(end),
         checkpoint: end,
         last: end + 2,
         database_backup: base_lsn(database.base),
@@ -136,7 +136,7 @@ fn set_log(alloc: Global, end: Lsn, set: Guid, time: u64) -> Result<Records, All
 }
 
 // The body of the set that a full backup of a database makes at a time, in milliseconds since 1970-01-01 00:00:00 UTC, where
-// nothing is pending: its log is the checkpoint at the database's end and the stamp behind it. None where numbers are used
+// nothing is open or pending: its log is the checkpoint at the database's end and the stamp behind it. None where numbers are used
 // up, or where tables and rows don't keep the conditions of a set.
 pub(crate) fn set_of(
     alloc: Global,
@@ -147,7 +147,7 @@ pub(crate) fn set_of(
     ensures header { IfOk result (λ made. IfSome made (λ body. (w : World) → ShowsLog w.history database.now → body.header ≡ backup.full_header w (database_of database.now) set time)) }
     ensures parts { IfOk result (λ made. IfSome made (λ body. KeepParts body.header body.tables body.rows)) }
     ensures carries { IfOk result (λ made. IfSome made (λ body. (w : World) (lines : RecordLines)
-        → ShowsLog w.history database.now → pending (log_of w.history (database_of database.now)) ≡ []
+        → ShowsLog w.history database.now → database.now.transactions ≡ [] → pending (log_of w.history (database_of database.now)) ≡ []
         → log_below lines database.now.path (database.now.shown.«end» + 2) ≡ with_set (log_of w.history (database_of database.now)) database.now.shown.«end» set time
         → Carries lines body)) }
     ensures some { IfOk result (λ made. (w : World) → ShowsLog w.history database.now → checks.used_up database.now.shown.«end» ≡ false

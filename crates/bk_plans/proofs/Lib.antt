@@ -1,13 +1,2 @@
-pub mod Cuts
-pub mod NewFiles
-pub mod Limits
 pub mod InUse
-pub mod Sounds
-pub mod FullGroups
-pub mod Placing
-pub mod SaidActs
-pub mod PlannedCreateDatabase
-pub mod PlannedDropDatabase
-pub mod PlannedUse
-pub mod PlannedCreateTable
-pub mod PlannedRows
+pub mod Fit

@@ -1,7 +1,7 @@
 pub mod Checking
-pub mod NewFiles
+pub mod Opened
 pub mod Paths
-pub mod Targets
 pub mod Planning
 pub mod Planned
 pub mod PlanLaws
+pub mod SaidLaws

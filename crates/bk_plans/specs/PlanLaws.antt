@@ -1,31 +1,28 @@
--- Plans of statements that are refused, that only answer, that turn to a database, or that store one act.
+-- Plans of statements that are refused, that only answer, that turn to a database or a session, or that store one act.
 use Rattle.std.proofs.Common.{◌≡◌, ℕ, List, [], ◌∷◌, Option, Result, Ok, Err, refl, sym, subst}
 use Rattle.std.specs.Prelude.{IfOk}
 use Rattle.bk_acts.specs.declared.act.StoredAct.{StoredAct}
-use Rattle.bk_acts.specs.declared.act.StoredAct.TheVariants.{Logged as LoggedAct}
-use Rattle.bk_acts.specs.Meaning.{Means, Spell}
+use Rattle.bk_acts.specs.Meaning.{Means}
 use Rattle.bk_items.specs.declared.item.ScriptEntry.{ScriptEntry}
-use Rattle.bk_machine.specs.Acts.{Act, said_time, turned}
+use Rattle.bk_machine.specs.Acts.{Act, seated, turned}
 use Rattle.bk_machine.specs.Checks.{Checked}
 use Rattle.bk_machine.specs.Machine.{May}
 use Rattle.bk_machine.specs.MayDo.{MayDoAll}
 use Rattle.bk_machine.specs.Outcome.{ComesTo, Outcome, answered, in_one, refused}
-use Rattle.bk_machine.specs.Sound.{AreIdle, IsSound}
+use Rattle.bk_machine.specs.Sound.{IsSound}
 use Rattle.bk_machine.specs.World.{World}
-use Rattle.bk_world.specs.Records.{Said}
 use Rattle.bk_world.specs.declared.reply.Reply.{Reply}
 use Rattle.bk_world.specs.declared.reply.Reply.TheVariants as reply
 use Rattle.bk_world.specs.declared.rule.Rule.{Rule}
-use Rattle.bk_kept.specs.declared.kept.Database.{Database as KeptDatabase}
 use Rattle.bk_kept.specs.declared.kept.Kept.{Kept}
 use Rattle.bk_plans.specs.declared.parts.Part.{Part}
 use Rattle.bk_plans.specs.declared.parts.Plan.{Plan}
-use Rattle.bk_plans.specs.declared.parts.Plan.TheVariants.{Refused, Answered, Turned, Parts}
+use Rattle.bk_plans.specs.declared.parts.Plan.TheVariants.{Refused, Answered, Turned, Seated, Parts}
 use Rattle.bk_plans.specs.declared.refusal.Refusal.{Refusal}
 use Rattle.bk_plans.specs.declared.refusal.Refusal.TheVariants.{Broken, NoMemory}
 use Rattle.bk_plans.specs.Checking.{IsRefused}
-use Rattle.bk_kept.specs.Keeps.{Keeps, ShowsLog, database_of}
-use Rattle.bk_plans.specs.Planned.{IsOne, IsRefusedBy, SaysThen}
+use Rattle.bk_kept.specs.Keeps.{Keeps}
+use Rattle.bk_plans.specs.Planned.{IsOne, IsRefusedBy}
 use Rattle.bk_plans.specs.Planning.{AreParts, Plans}
 use Rattle.bk_kept.specs.Stored.{IsCarried, IsDone, IsNumbered, IsTaken, MayDraw}
 
@@ -37,13 +34,13 @@ comes-refused checked may rule is = subst (λ (c : Checked _). ComesTo c may (re
 pub comes-found : {A : Type 0} (checked : Checked A) (may : A → Outcome → Type 0) (found : A) (outcome : Outcome) → checked ≡ Ok found → may found outcome → ComesTo checked may outcome
 comes-found checked may found outcome is does = subst (λ (c : Checked _). ComesTo c may outcome) (sym is) does
 
--- this holds in each sound world in which nothing is open, that is kept, and of which something is known
+-- this holds in each sound world that is kept, and of which something is known
 abbrev pub InEach : Kept → (World → Type 0) → (World → Type 0) → Type 0
-InEach k Known P = (w : World) → IsSound w → AreIdle w → Keeps w k → Known w → P w
+InEach k Known P = (w : World) → IsSound w → Keeps w k → Known w → P w
 
 -- what statements may do, they may do act by act
 abbrev pub DoWhatTheyMay : Type 0
-DoWhatTheyMay = (w : World) (s : ScriptEntry) (now : ℕ) (outcome : Outcome) → IsSound w → AreIdle w → May w s now outcome → MayDoAll w outcome.acts
+DoWhatTheyMay = (w : World) (s : ScriptEntry) (now : ℕ) (outcome : Outcome) → IsSound w → May w s now outcome → MayDoAll w outcome.acts
 
 -- what is stored of an act, beside what the statement may do
 pub record Stores (stored : StoredAct) (act : Act) (w : World) : Type 0 where
@@ -54,19 +51,22 @@ pub record Stores (stored : StoredAct) (act : Act) (w : World) : Type 0 where
 
 module _ (k : Kept) (Known : World → Type 0) (s : ScriptEntry) (now : ℕ) where
   pub plans-refused : (rule : Rule) → InEach k Known (λ w. May w s now (refused rule)) → Plans k Known s now (Refused rule)
-  plans-refused rule may = record { outcome = refused rule; replies = refl; may = may; acts = λ w sound idle keeps known. refl }
+  plans-refused rule may = record { outcome = refused rule; replies = refl; may = may; acts = λ w sound keeps known. refl }
 
   pub plans-answered : (answer : Reply) → InEach k Known (λ w. May w s now (answered answer)) → Plans k Known s now (Answered answer)
-  plans-answered answer may = record { outcome = answered answer; replies = refl; may = may; acts = λ w sound idle keeps known. refl }
+  plans-answered answer may = record { outcome = answered answer; replies = refl; may = may; acts = λ w sound keeps known. refl }
 
   pub plans-turned : (name : Option (List ℕ)) → InEach k Known (λ w. May w s now (in_one (turned name) reply.Done)) → Plans k Known s now (Turned name)
-  plans-turned name may = record { outcome = in_one (turned name) reply.Done; replies = refl; may = may; acts = λ w sound idle keeps known. refl }
+  plans-turned name may = record { outcome = in_one (turned name) reply.Done; replies = refl; may = may; acts = λ w sound keeps known. refl }
+
+  pub plans-seated : (session : ℕ) → InEach k Known (λ w. May w s now (in_one (seated session) reply.Nothing)) → Plans k Known s now (Seated session)
+  plans-seated session may = record { outcome = in_one (seated session) reply.Nothing; replies = refl; may = may; acts = λ w sound keeps known. refl }
 
   -- a statement that a check refuses
   pub plans-refusal : {A : Type 0} (check : World → Checked A) (refusal : Refusal) (plan : Plan) → IsRefusedBy refusal plan
       → InEach k Known (λ w. IsRefused refusal (check w)) → ((w : World) (rule : Rule) → check w ≡ Err rule → May w s now (refused rule)) → Plans k Known s now plan
   plans-refusal check (Broken rule) plan is refuses may =
-      subst (Plans k Known s now) (sym is) (plans-refused rule (λ w sound idle keeps known. may w rule (refuses w sound idle keeps known)))
+      subst (Plans k Known s now) (sym is) (plans-refused rule (λ w sound keeps known. may w rule (refuses w sound keeps known)))
   plans-refusal check NoMemory plan is refuses may = absurd is
 
   -- a statement that stores one act
@@ -76,28 +76,26 @@ module _ (k : Kept) (Known : World → Type 0) (s : ScriptEntry) (now : ℕ) whe
     outcome = in_one act answer;
     replies = sym is.1;
     may = may;
-    acts = λ w sound idle keeps known. subst (λ (ps : List Part). AreParts w ps (act ∷ [])) (sym is.0) (done w sound idle keeps known, tt);
+    acts = λ w sound keeps known. subst (λ (ps : List Part). AreParts w ps (act ∷ [])) (sym is.0) (done w sound keeps known, tt);
   }
     where
       done : InEach k Known (λ w. IsDone w stored act)
-      done w sound idle keeps known =
-          let its = stores w sound idle keeps known in
-          record { means = means; may = (law w s now (in_one act answer) sound idle (may w sound idle keeps known)).0; draws = its.draws; carried = its.carried; from_end = its.from_end; taken = its.taken }
+      done w sound keeps known =
+          let its = stores w sound keeps known in
+          record { means = means; may = (law w s now (in_one act answer) sound (may w sound keeps known)).0; draws = its.draws; carried = its.carried; from_end = its.from_end; taken = its.taken }
   plans-one stored act answer (Refused rule) is means law may stores = absurd is
   plans-one stored act answer (Answered reply) is means law may stores = absurd is
   plans-one stored act answer (Turned name) is means law may stores = absurd is
+  plans-one stored act answer (Seated session) is means law may stores = absurd is
 
--- what holds of each plan holds of the one that came out, if one did
+-- what holds of each result holds of the one that came out, if one did
+pub if-ok : {A E : Type 0} (P Q : A → Type 0) (result : Result A E) → ((a : A) → P a → Q a) → IfOk result P → IfOk result Q
+if-ok P Q (Ok a) leads is = leads a is
+if-ok P Q (Err e) leads is = tt
+
 pub if-plan : {E : Type 0} (P Q : Plan → Type 0) (result : Result Plan E) → ((plan : Plan) → P plan → Q plan) → IfOk result P → IfOk result Q
-if-plan P Q (Ok plan) leads is = leads plan is
-if-plan P Q (Err e) leads is = tt
+if-plan P Q result leads is = if-ok P Q result leads is
 
 pub both-of : {E : Type 0} (P Q : Plan → Type 0) (result : Result Plan E) → IfOk result P → IfOk result Q → IfOk result (λ plan. P plan × Q plan)
 both-of P Q (Ok plan) one other = (one, other)
 both-of P Q (Err e) one other = tt
-
--- a database says something by the act that its name and these records spell
-pub says-then : (d : KeptDatabase) (now : ℕ) (said : ℕ → List Said) (reply : Reply) (plan : Plan) (own records : List ℕ) (time : ℕ) → own ≡ d.name → IsOne (LoggedAct own records) reply plan
-    → Spell records d.shown.«end» (said time) → ((w : World) → ShowsLog w.history d → time ≡ said_time w (database_of d) now) → SaysThen d now said reply plan
-says-then d now said reply plan own records time is one spell time_is =
-    record { records = records; time = time; one = subst (λ (n : List ℕ). IsOne (LoggedAct n records) reply plan) is one; spell = spell; time_is = time_is }

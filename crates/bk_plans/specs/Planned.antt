@@ -7,6 +7,7 @@ use Rattle.bk_machine.specs.Acts.{said_time}
 use Rattle.bk_machine.specs.World.{World}
 use Rattle.bk_world.specs.Records.{Said}
 use Rattle.bk_world.specs.declared.reply.Reply.{Reply}
+use Rattle.bk_world.specs.declared.transaction.Open.{Open}
 use Rattle.bk_kept.specs.declared.kept.Database.{Database as KeptDatabase}
 use Rattle.bk_plans.specs.declared.parts.Part.TheVariants.{Stored}
 use Rattle.bk_plans.specs.declared.parts.Plan.{Plan}
@@ -25,10 +26,18 @@ abbrev pub IsOne : StoredAct → Reply → Plan → Type 0
 IsOne stored reply (Parts parts answer) = (parts.items ≡ Stored stored ∷ []) × (answer ≡ reply)
 IsOne stored reply _ = ⊥
 
--- By a plan a database says at its end what is said at a time, which is the machine's where its log is what it shows, and then it replies.
-pub record SaysThen (d : KeptDatabase) (now : ℕ) (said : ℕ → List Said) (reply : Reply) (plan : Plan) : Type 0 where
+-- a plan stores one act of which this is known, and replies
+abbrev pub StoresOne : (StoredAct → Type 0) → Reply → Plan → Type 0
+StoresOne P reply plan = (stored : StoredAct) × IsOne stored reply plan × P stored
+
+-- By an act a database says this at its end, and then these transactions are open.
+pub record SaysNow (d : KeptDatabase) (said : List Said) (transactions : List Open) (stored : StoredAct) : Type 0 where
   pub records : List ℕ
+  pub is : stored ≡ Logged d.name transactions records
+  pub spell : Spell records d.shown.«end» said
+
+-- By an act it says what is said at a time, which is the machine's where its log is what it shows.
+pub record SaysThen (d : KeptDatabase) (now : ℕ) (said : ℕ → List Said) (transactions : List Open) (stored : StoredAct) : Type 0 where
   pub time : ℕ
-  pub one : IsOne (Logged d.name records) reply plan
-  pub spell : Spell records d.shown.«end» (said time)
+  pub says : SaysNow d (said time) transactions stored
   pub time_is : (w : World) → ShowsLog w.history d → time ≡ said_time w (database_of d) now

@@ -5,12 +5,12 @@ use Rattle.bk_acts.specs.Spelling.{KeepsAct}
 use Rattle.bk_items.specs.declared.item.ScriptEntry.{ScriptEntry}
 use Rattle.bk_items.specs.declared.item.ScriptItem.{ScriptItem}
 use Rattle.bk_items.specs.declared.item.ScriptItem.TheVariants.{BackupDatabase, RestoreDatabase}
-use Rattle.bk_machine.specs.Acts.{Act, turned, medium_made, set_sealed, done}
+use Rattle.bk_machine.specs.Acts.{Act, turned, seated, medium_made, set_sealed, done}
 use Rattle.bk_machine.specs.Checks.{used_up, is_path}
 use Rattle.bk_machine.specs.Machine.{May}
 use Rattle.bk_machine.specs.MayDo.{MayDo}
 use Rattle.bk_machine.specs.Outcome.{Outcome}
-use Rattle.bk_machine.specs.Sound.{IsSound, AreIdle}
+use Rattle.bk_machine.specs.Sound.{IsSound}
 use Rattle.bk_machine.specs.World.{World}
 use Rattle.bk_set.specs.declared.body.SetBody.{SetBody}
 use Rattle.bk_set.specs.Conditions.{KeepsBody}
@@ -21,7 +21,7 @@ use Rattle.bk_kept.specs.declared.kept.Kept.{Kept}
 use Rattle.bk_plans.specs.declared.parts.Part.{Part}
 use Rattle.bk_plans.specs.declared.parts.Part.TheVariants.{Stored, MediumMade, SetSealed}
 use Rattle.bk_plans.specs.declared.parts.Plan.{Plan}
-use Rattle.bk_plans.specs.declared.parts.Plan.TheVariants.{Refused, Answered, Turned, Parts}
+use Rattle.bk_plans.specs.declared.parts.Plan.TheVariants.{Refused, Answered, Turned, Seated, Parts}
 use Rattle.bk_kept.specs.Keeps.{Keeps}
 use Rattle.bk_kept.specs.Stored.{IsDone, Carries}
 
@@ -66,6 +66,7 @@ abbrev pub reply_of : Plan → Reply
 reply_of (Refused rule) = reply.Refused rule
 reply_of (Answered answer) = answer
 reply_of (Turned name) = reply.Done
+reply_of (Seated session) = reply.Nothing
 reply_of (Parts parts answer) = answer
 
 -- the acts of a plan, each of which may be done to a world behind those before it
@@ -73,6 +74,7 @@ abbrev pub AreActsOf : World → Plan → List Act → Type 0
 AreActsOf w (Refused rule) acts = acts ≡ []
 AreActsOf w (Answered answer) acts = acts ≡ []
 AreActsOf w (Turned name) acts = acts ≡ turned name ∷ []
+AreActsOf w (Seated session) acts = acts ≡ seated session ∷ []
 AreActsOf w (Parts parts answer) acts = AreParts w parts.items acts
 
 -- what a plan keeps beside its types
@@ -85,8 +87,8 @@ KeepsPlan _ = Unit {0}
 pub record Plans (k : Kept) (Known : World → Type 0) (s : ScriptEntry) (now : ℕ) (plan : Plan) : Type 0 where
   pub outcome : Outcome
   pub replies : outcome.reply ≡ reply_of plan
-  pub may : (w : World) → IsSound w → AreIdle w → Keeps w k → Known w → May w s now outcome
-  pub acts : (w : World) → IsSound w → AreIdle w → Keeps w k → Known w → AreActsOf w plan outcome.acts
+  pub may : (w : World) → IsSound w → Keeps w k → Known w → May w s now outcome
+  pub acts : (w : World) → IsSound w → Keeps w k → Known w → AreActsOf w plan outcome.acts
 
 -- an item that reads no medium
 abbrev pub ReadsNoMedium : ScriptItem → Type 0

@@ -1,30 +1,26 @@
-//! What a statement comes to in memory: its checks in their order, and its plan. Here are the statements that read no medium, and
-//! what the plans of the others are made of.
+//! What plans of statements are made of: their parts, the checks that several statements make, and the acts by which a database
+//! says something.
 #![tactic(auto)]
 
-mod cells;
-mod create_database;
-mod create_table;
-mod drop_database;
 mod finding;
-mod log_name;
-mod new_files;
-mod new_storage;
+mod images;
+mod opened;
 mod parts;
 mod paths;
-mod planning;
 mod planning_parts;
 mod refusal;
-mod row;
-mod rows;
 mod rules;
-mod select;
-mod use_database;
 
-pub use finding::{Target, named_or_refuse};
+pub use finding::{current_or_refuse, named_or_refuse};
+pub use images::{MOST_VALUE_BYTES, free_image, image_of, row_image};
+pub use opened::{is_fit, open_in, storable};
 pub use parts::{Part, Plan};
-pub use paths::{in_use, is_in_use_by_others};
-pub use planning::plan;
-pub use planning_parts::{name_in, refused, said_time, say};
+pub use paths::{in_use, is_in_use, is_in_use_by_others, taken};
+pub use planning_parts::{
+    LATEST, has_numbers, logged, name_in, refused, said_time, say, say_one, stored,
+};
 pub use refusal::Refusal;
-pub use rules::{MOST_DATABASES, is_name, is_path, limit, online, refuse_if};
+pub use rules::{
+    MOST_DATABASES, MOST_GROUPS, is_name, is_path, is_system, limit, online, outside, refuse_if,
+    unused,
+};

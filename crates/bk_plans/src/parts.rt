@@ -25,6 +25,8 @@ pub enum Plan {
     Answered { reply: Reply },
     /// The current database becomes the one of this name, or there is none; the reply is that it is done.
     Turned { name: Option<Text> },
+    /// The session of this number, from 1 to 32, is the current one from now on; nothing is replied.
+    Seated { session: u8 },
     /// Its parts are done one after the other, and then it replies.
     Parts { parts: Vec<Part>, reply: Reply },
 }

@@ -38,8 +38,8 @@ fn any_other_has_file(databases: &[Database], name: &str, path: &str) -> bool
     })
 }
 
-// Whether a path of a data file is in use.
-pub(crate) fn is_in_use(databases: &[Database], path: &str) -> bool
+/// Whether a path of a data file is in use.
+pub fn is_in_use(databases: &[Database], path: &str) -> bool
     ensures { result ≡ has_path (paths_of (map database_of databases.now)) path.now }
 {
     any_has_file(databases, path)
@@ -52,8 +52,8 @@ pub fn is_in_use_by_others(databases: &[Database], name: &str, path: &str) -> bo
     any_other_has_file(databases, name, path)
 }
 
-// The refusal by a name or a path that is in use.
-pub(crate) fn taken(alloc: Global, what: &str) -> Refusal
+/// The refusal by a name or a path that is in use.
+pub fn taken(alloc: Global, what: &str) -> Refusal
     ensures { IsInUse what.now result }
 {
     match String::from_str(alloc, what) {

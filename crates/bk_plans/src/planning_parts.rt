@@ -1,8 +1,11 @@
 //! Plans of one part, and what parts are made of.
 
-ghost use Rattle.std.specs.Prelude.{◌≡◌, ℕ, ◌+◌, true, [], ◌∷◌, ◌++◌, List, length, IfOk, OnOk};
+ghost use Rattle.std.specs.Prelude.{◌≡◌, ℕ, ◌+◌, ◌≤◌, ◌^◌, true, [], ◌∷◌, ◌++◌, List, length, IfOk, OnOk};
+ghost use Rattle.std.specs.List.{All};
+ghost use Rattle.bk_acts.specs.declared.act.StoredAct.TheVariants.{Logged};
 ghost use Rattle.bk_acts.specs.Meaning.{Spell, under};
 ghost use Rattle.bk_acts.specs.Spelling.{KeepsAct};
+ghost use Rattle.bk_acts.specs.Transactions.{KeepsTransaction};
 ghost use Rattle.bk_machine.specs.Acts as acts;
 ghost use Rattle.bk_machine.specs.Checks as checks;
 ghost use Rattle.bk_machine.specs.World.{World};
@@ -16,14 +19,17 @@ ghost use Rattle.bk_world.specs.Records.{Said};
 use crate::parts::{Part, Plan};
 use crate::refusal::Refusal;
 use bk_acts::{StoredAct, said_law};
-use bk_ids::{Body, Lsn, Name, Rec, Text};
+use bk_ids::{Body, Lsn, Name, Rec, Sequence, Text};
 use bk_kept::Database;
 use bk_record::Records;
-use bk_world::Reply;
+use bk_world::{Open, Reply};
 use std::alloc::{AllocError, Global};
 
 /// 9999-12-31 23:59:59.999 in milliseconds since 1970-01-01 00:00:00 UTC.
-pub(crate) const LATEST: u64 = 253_402_300_799_999;
+pub const LATEST: u64 = 253_402_300_799_999;
+
+// Numbers from here on, 2^62, are never given.
+const LAST_NUMBER: u64 = 1 << 62;
 
 /// The plan of a statement that is refused.
 pub fn refused(refusal: Refusal) -> Result<Plan, AllocError>
@@ -44,8 +50,8 @@ fn one_part(alloc: Global, act: StoredAct) -> Result<Vec<Part>, AllocError>
     Ok(parts)
 }
 
-// The plan that stores one act, and replies.
-pub(crate) fn stored(alloc: Global, act: StoredAct, reply: Reply) -> Result<Plan, AllocError>
+/// The plan that stores one act, and replies.
+pub fn stored(alloc: Global, act: StoredAct, reply: Reply) -> Result<Plan, AllocError>
     requires { KeepsAct act }
     ensures one { IfOk result (IsOne act reply) }
     ensures keeps { IfOk result KeepsPlan }
@@ -54,6 +60,31 @@ pub(crate) fn stored(alloc: Global, act: StoredAct, reply: Reply) -> Result<Plan
         Ok(parts) => Ok(Plan::Parts { parts, reply }),
         Err(error) => {
             drop(reply);
+            Err(error)
+        }
+    }
+}
+
+/// The act by which a database says these records at its end, and then these transactions are open.
+pub fn logged(
+    alloc: Global,
+    database: &Database,
+    transactions: Sequence<Open>,
+    records: Records,
+) -> Result<StoredAct, AllocError>
+    requires { All KeepsTransaction transactions }
+    ensures is { IfOk result (λ act. act ≡ Logged database.now.name transactions records) }
+    ensures keeps { IfOk result KeepsAct }
+{
+    match database.name.copy(alloc) {
+        Ok(name) => Ok(StoredAct::Logged {
+            name,
+            transactions,
+            records,
+        }),
+        Err(error) => {
+            drop(records);
+            drop(transactions);
             Err(error)
         }
     }
@@ -75,6 +106,18 @@ pub fn said_time(database: &Database, now: u64) -> u64
     now.min(LATEST).max(database.shown.time())
 }
 
+/// Fails as if memory were wanting where a database has no numbers for so many records: what is never refused takes some of those that are
+/// kept for it. That statements leave enough of them isn't proved here.
+pub fn has_numbers(database: &Database, records: usize) -> Result<(), AllocError>
+    ensures { IfOk result (λ u. database.now.shown.«end» + records ≤ 2 ^ 62) }
+{
+    let end = database.shown.end();
+    if end <= LAST_NUMBER && records as u64 <= LAST_NUMBER - end {
+        return Ok(());
+    }
+    Err(AllocError)
+}
+
 /// One record more is said under a number, in the transaction of this first record, or in none.
 pub fn say(
     alloc: Global,
@@ -92,4 +135,15 @@ pub fn say(
     let pushed = records.push(alloc, &record);
     drop(record);
     pushed
+}
+
+/// One record, in the transaction of this first record, or in none.
+pub fn say_one(alloc: Global, lsn: Lsn, begin: Lsn, body: Body) -> Result<Records, AllocError>
+    requires { KeepsLimits body }
+    ensures { IfOk result (λ records. (s : Said) → under lsn s ≡ record { lsn = lsn; begin = begin; body = body } → Spell records lsn (s ∷ [])) }
+{
+    said_law();
+    let mut records = Records::none(alloc);
+    say(alloc, &mut records, lsn, begin, body)?;
+    Ok(records)
 }

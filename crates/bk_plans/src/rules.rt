@@ -1,29 +1,23 @@
 //! Checks that several statements make.
 
-ghost use Rattle.std.specs.Prelude.{◌≡◌, ◌≤◌, false, length, IfOk, Some};
+ghost use Rattle.std.specs.Prelude.{◌≡◌, false, IfOk, Some};
 ghost use Rattle.std.specs.List.{list_any};
 ghost use Rattle.bk_machine.specs.Checks as checks;
-ghost use Rattle.bk_machine.specs.statements.Target as target;
+ghost use Rattle.bk_machine.specs.World.{World};
 ghost use Rattle.bk_world.specs.declared.database.Status.TheVariants.{Down};
-ghost use Rattle.bk_kept.specs.Keeps.{database_of};
+ghost use Rattle.bk_kept.specs.Keeps.{Keeps, database_of};
 ghost use Rattle.bk_plans.specs.Checking.{IsCheck};
 
 use crate::refusal::Refusal;
-use bk_ids::Text;
-use bk_kept::Database;
+use bk_asked::{least_session, own_held};
+use bk_kept::{Database, Kept};
 use bk_world::{Limit, Rule, State, Status, StatusWord, Unit};
 
 /// How many databases an instance has at most.
 pub const MOST_DATABASES: usize = 16;
 
-// How many filegroups a database has at most.
-pub(crate) const MOST_GROUPS: usize = 8;
-
-// The greatest key.
-const GREATEST_KEY: u64 = 9_223_372_036_854_775_807;
-
-/// How many bytes a value has at most.
-pub(crate) const MOST_VALUE_BYTES: usize = 112;
+/// How many filegroups a database has at most.
+pub const MOST_GROUPS: usize = 8;
 
 /// Refused by this rule where the test holds.
 pub fn refuse_if(test: bool, rule: Rule) -> Result<(), Refusal>
@@ -48,28 +42,21 @@ pub fn limit(used_up: bool) -> Result<(), Refusal>
     Ok(())
 }
 
-// Refused where a text is too long for a value of a row.
-pub(crate) fn check_value(value: &Text) -> Result<(), Refusal>
-    ensures check { IsCheck (λ u. u) result (target.check_value value.now) }
-    ensures short { IfOk result (λ u. length value.now ≤ 112) }
+/// Refused inside a transaction of the current session.
+pub fn outside(kept: &Kept) -> Result<(), Refusal>
+    ensures { (w : World) → Keeps w kept.now → IsCheck (λ u. u) result (checks.outside w) }
 {
-    let bytes = value.as_str().len();
-    refuse_if(
-        bytes > MOST_VALUE_BYTES,
-        Rule::ValueTooLong {
-            bytes: bytes as u64,
-        },
-    )?;
-    Ok(())
+    refuse_if(own_held(kept).is_some(), Rule::InTransaction)
 }
 
-// Refused where a number is no key of a row.
-pub(crate) fn check_key(key: u64) -> Result<(), Refusal>
-    ensures check { IsCheck (λ u. u) result (target.check_key key) }
-    ensures low { IfOk result (λ u. key ≤ 9223372036854775807) }
+/// Refused where a session has an open transaction in the database.
+pub fn unused(database: &Database) -> Result<(), Refusal>
+    ensures { IsCheck (λ u. u) result (checks.unused (database_of database.now)) }
 {
-    refuse_if(key > GREATEST_KEY, Rule::LimitReached { which: Limit::Key })?;
-    Ok(())
+    match least_session(database) {
+        Some(session) => Err(Refusal::Broken(Rule::DatabaseInUse { session })),
+        None => Ok(()),
+    }
 }
 
 /// Whether a text has 1 to 64 bytes, as a name has.
@@ -86,8 +73,8 @@ pub fn is_path(text: &str) -> bool
     0 < text.len() && text.len() <= 100
 }
 
-// Whether the server keeps a name for itself: master, msdb or tempdb, in any case of ASCII letters.
-pub(crate) fn is_system(name: &str) -> bool
+/// Whether the server keeps a name for itself: master, msdb or tempdb, in any case of ASCII letters.
+pub fn is_system(name: &str) -> bool
     ensures { result ≡ checks.is_system name.now }
 {
     name.eq_ignore_ascii_case("master")

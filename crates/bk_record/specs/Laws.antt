@@ -138,7 +138,7 @@ bulk_fields-IsCodec : IsCodec (ℕ × (ℕ × (ℕ × (List ℕ × List ExtentId
 bulk_fields-IsCodec =
     followed-IsCodec _ _ (number-IsCodec 4) (λ _. followed-IsCodec _ _ (number-IsCodec 8) (λ _. followed-IsCodec _ _ (number-IsCodec 4) (λ _. followed-IsCodec _ _ (string-IsCodec 0 112 (lit< tt)) (λ _. counted-IsCodec 4 extent_form extent_form-IsCodec))))
 
-mark_form-spelling : (mark : Option Mark) → mark_form.spelling mark ≡ mark_bytes mark
+pub mark_form-spelling : (mark : Option Mark) → mark_form.spelling mark ≡ mark_bytes mark
 unfolding mark_form
 mark_form-spelling None = refl
 mark_form-spelling (Some mark) = refl

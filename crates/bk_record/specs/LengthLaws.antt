@@ -1,4 +1,4 @@
--- A record that keeps the limits has less than 2 ^ 32 bytes.
+-- How many bytes a record has: less than 2 ^ 32, where it keeps the limits.
 use Rattle.std.proofs.Common.{◌≡◌, ℕ, ◌+◌, ◌*◌, ◌^◌, ◌<◌, ◌≤◌, List, [], ◌∷◌, ◌++◌, length, replicate, Option, Some, None, refl, ap, ◌∙◌, arith, length-append}
 use Rattle.std.specs.List.{flat_map}
 use Rattle.bk_ids.specs.declared.record.Place.{Place}
@@ -11,9 +11,10 @@ use Rattle.bk_bytes.specs.Field.{bytes_of}
 use Rattle.bk_bytes.specs.Cell.{IsCell}
 use Rattle.bk_bytes.specs.FieldLaws.{length-bytes_of}
 use Rattle.bk_bytes.specs.CellLaws.{length-cell_bytes}
-use Rattle.bk_fields.specs.Guids.{guid_bytes}
+use Rattle.bk_fields.specs.Guids.{guid_number, guid_bytes}
 use Rattle.bk_fields.specs.Models.{model_bytes}
-use Rattle.bk_record.specs.Spelling.{text_bytes, place_bytes, extent_bytes, mark_bytes, body_bytes, kind_of, inside, description_of, IsDescription, IsMark, IsBody, KeepsLimits}
+use Rattle.bk_record.specs.Spelling.{text_bytes, place_bytes, extent_bytes, mark_bytes, body_bytes, kind_of, inside, spelling, description_of, IsDescription, IsMark, IsBody, KeepsLimits}
+use Rattle.bk_record.specs.Lengths.{mark_length, body_length}
 
 length-text : (text : List ℕ) → length (text_bytes text) ≡ 2 + length text
 length-text text = omega (arith, length-append (bytes_of 2 (length text)) text, length-bytes_of 2 (length text))
@@ -21,7 +22,7 @@ length-text text = omega (arith, length-append (bytes_of 2 (length text)) text, 
 length-place : (place : Place) → length (place_bytes place) ≡ 8
 length-place place = omega (arith, length-append (bytes_of 2 place.file) (bytes_of 4 place.page ++ bytes_of 2 place.slot), length-append (bytes_of 4 place.page) (bytes_of 2 place.slot), length-bytes_of 2 place.file, length-bytes_of 4 place.page, length-bytes_of 2 place.slot)
 
-length-image : (image : List ℕ) → IsCell image → length image ≡ 128
+pub length-image : (image : List ℕ) → IsCell image → length image ≡ 128
 length-image image found = ap length found.1.1 ∙ length-cell_bytes found.0 found.1.0
 
 length-extents : (extents : List ExtentId) → length (flat_map extent_bytes extents) ≡ 6 * length extents
@@ -80,3 +81,64 @@ inside_short r h k =
       length-bytes_of 8 r.begin,
       body_short r.body h k,
     )
+
+-- ---- exact lengths
+
+length-mark : (mark : Option Mark) → length (mark_bytes mark) ≡ mark_length mark
+length-mark None = omega (arith, length-append (text_bytes []) (text_bytes []), length-text [])
+length-mark (Some mark) =
+    omega (arith, length-append (text_bytes mark.name) (text_bytes (description_of mark.description)), length-text mark.name, length-text (description_of mark.description))
+
+-- the fields of a kind have so many bytes
+length-body : (body : Body) → KeepsLimits body → length (body_bytes body) ≡ body_length body
+length-body (Database time family branch) k =
+    omega (arith, length-append (bytes_of 8 time) (guid_bytes family ++ guid_bytes branch), length-append (guid_bytes family) (guid_bytes branch), length-bytes_of)
+length-body (Table time number name group) k =
+    omega (arith, length-append (bytes_of 8 time) (bytes_of 4 number ++ (text_bytes name ++ bytes_of 1 group)), length-append (bytes_of 4 number) (text_bytes name ++ bytes_of 1 group), length-append (text_bytes name) (bytes_of 1 group), length-text name, length-bytes_of)
+length-body Begin k = refl
+length-body (Write place before after) k =
+    omega (arith, length-append (place_bytes place) (before.bytes ++ after.bytes), length-append before.bytes after.bytes, length-place place, length-image before.bytes k.1.0, length-image after.bytes k.1.1)
+length-body (Commit time mark) k = omega (arith, length-append (bytes_of 8 time) (mark_bytes mark), length-bytes_of, length-mark mark)
+length-body RollbackEnd k = refl
+length-body (Compensation place cell undone) k =
+    omega (arith, length-append (place_bytes place) (cell.bytes ++ bytes_of 8 undone), length-append cell.bytes (bytes_of 8 undone), length-place place, length-image cell.bytes k.1, length-bytes_of)
+length-body (Checkpoint time) k = length-bytes_of 8 time
+length-body (Stamp time set) k = omega (arith, length-append (bytes_of 8 time) (guid_bytes set), length-bytes_of)
+length-body (Model time model) k = omega (arith, length-append (bytes_of 8 time) (model_bytes model), length-bytes_of)
+length-body (Bulk table first count value extents) k =
+    omega (
+      arith,
+      length-append (bytes_of 4 table) (bytes_of 8 first ++ (bytes_of 4 count ++ (text_bytes value ++ (bytes_of 4 (length extents) ++ flat_map extent_bytes extents)))),
+      length-append (bytes_of 8 first) (bytes_of 4 count ++ (text_bytes value ++ (bytes_of 4 (length extents) ++ flat_map extent_bytes extents))),
+      length-append (bytes_of 4 count) (text_bytes value ++ (bytes_of 4 (length extents) ++ flat_map extent_bytes extents)),
+      length-append (text_bytes value) (bytes_of 4 (length extents) ++ flat_map extent_bytes extents),
+      length-append (bytes_of 4 (length extents)) (flat_map extent_bytes extents),
+      length-text value,
+      length-extents extents,
+      length-bytes_of,
+    )
+length-body (Recovery branch) k = length-bytes_of 16 (guid_number branch)
+
+-- and the spelling of the record
+pub length-spelling : (r : Rec) → KeepsLimits r.body → length (spelling r) ≡ 24 + body_length r.body
+unfolding spelling
+length-spelling r k =
+    omega (
+      arith,
+      length-append (bytes_of 4 (4 + length (inside r))) (inside r),
+      length-append (bytes_of 1 (kind_of r.body) ++ (replicate 3 0 ++ (bytes_of 8 r.lsn ++ bytes_of 8 r.begin))) (body_bytes r.body),
+      length-append (bytes_of 1 (kind_of r.body)) (replicate 3 0 ++ (bytes_of 8 r.lsn ++ bytes_of 8 r.begin)),
+      length-append (bytes_of 8 r.lsn) (bytes_of 8 r.begin),
+      length-bytes_of 4 (4 + length (inside r)),
+      length-bytes_of 1 (kind_of r.body),
+      length-bytes_of 8 r.lsn,
+      length-bytes_of 8 r.begin,
+      length-body r.body k,
+    )
+
+-- a record's length, and what follows it, are its spelling
+pub spelling-parts : (r : Rec) (len : ℕ) → len ≡ length (spelling r) → bytes_of 4 len ++ inside r ≡ spelling r
+unfolding spelling
+spelling-parts r len is =
+    let size : len ≡ 4 + length (inside r) = omega (arith, is, length-append (bytes_of 4 (4 + length (inside r))) (inside r), length-bytes_of 4 (4 + length (inside r))) in
+    ap (λ (n : ℕ). bytes_of 4 n ++ inside r) size

@@ -4,6 +4,7 @@ pub mod Extents
 pub mod View
 pub mod Log
 pub mod Laws
+pub mod Lengths
 pub mod LengthLaws
 pub mod WalkLaws
 pub mod Records

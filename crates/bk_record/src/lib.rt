@@ -7,6 +7,8 @@
 
 mod check;
 mod extents;
+mod lengths;
+mod marks;
 mod reading;
 mod records;
 mod view;
@@ -15,7 +17,9 @@ mod writing;
 
 pub use check::{check_log, log_law, records_law};
 pub use extents::Extents;
+pub use lengths::spelled_len;
+pub use marks::{append_mark, read_mark};
 pub use records::Records;
 pub use view::{BodyRef, MarkRef, RecRef};
 pub use walk::{BadRecord, LogCursor, cursor};
-pub use writing::encode;
+pub use writing::{encode, encode_reserved};

@@ -221,7 +221,7 @@ fn split_image(bytes: &[u8]) -> Option<(&[u8; 128], &[u8])>
 }
 
 #[tactic(auto, unfolding(crate::specs::Reading::mark_form))]
-fn split_mark(bytes: &[u8]) -> Option<(Option<MarkRef<'_>>, &[u8])>
+pub(crate) fn split_mark(bytes: &[u8]) -> Option<(Option<MarkRef<'_>>, &[u8])>
     ensures { Gives (λ x. (mark_of x.0, x.1.now)) result (mark_form.reading bytes.now) }
 {
     let (name, rest) = split_str(bytes, 0, 64)?;

@@ -1,6 +1,6 @@
-//! Writing a record.
+//! Writing a record, into a vector with room for it.
 
-ghost use Rattle.std.specs.Prelude.{◌≡◌, ◌+◌, ◌*◌, ◌^◌, ◌<◌, ◌≤◌, ◌++◌, length, replicate, OnOk, OnErr, Option};
+ghost use Rattle.std.specs.Prelude.{◌≡◌, ◌+◌, ◌*◌, ◌^◌, ◌<◌, ◌≤◌, ◌++◌, length, OnOk, OnErr, IfSome, vec_len, vec_capacity};
 ghost use Rattle.std.specs.Str.{IsUtf8};
 ghost use Rattle.std.specs.List.{flat_map, AllByRecursion};
 ghost use Rattle.bk_bytes.specs.Codec.{IsString};
@@ -8,248 +8,369 @@ ghost use Rattle.bk_bytes.specs.Cell.{IsCell};
 ghost use Rattle.bk_bytes.specs.Field.{bytes_of};
 ghost use Rattle.bk_fields.specs.Guids.{guid_bytes, IsGuid};
 ghost use Rattle.bk_fields.specs.Models.{model_bytes};
-ghost use Rattle.bk_record.specs.Spelling.{text_bytes, place_bytes, extent_bytes, mark_bytes, body_bytes, kind_of, inside, spelling, IsPlace, IsExtent, IsMark, IsBody, IsRecord, KeepsLimits, KeepsMarkLimits};
+ghost use Rattle.bk_record.specs.Lengths.{mark_length, body_length};
+ghost use Rattle.bk_record.specs.Spelling.{text_bytes, place_bytes, extent_bytes, description_of, mark_bytes, body_bytes, kind_of, inside, spelling, IsPlace, IsExtent, IsDescription, IsMark, IsBody, IsRecord, KeepsLimits, KeepsMarkLimits};
 
-use bk_bytes::{append_text, append_u8, append_u16, append_u32, append_u64};
-use bk_fields::{append_guid, append_model};
+use crate::lengths::spelled_len;
 use bk_ids::{Body, CellImage, ExtentId, Guid, Lsn, Mark, Name, Place, Rec, RecoveryModel, Text};
 use std::alloc::{AllocError, Global};
 
-fn append_name(out: &mut Vec<u8>, name: &Name) -> Result<(), AllocError>
-    ensures ok { OnOk result (out.new.items ≡ out.old.items ++ text_bytes name.now) }
-    ensures fits { OnOk result (IsString 1 64 name.now) }
+// Adds bytes for which there is room.
+fn add(out: &mut Vec<u8>, bytes: &[u8])
+    requires { vec_len out.old + length bytes.now ≤ vec_capacity out.old }
+    ensures items { out.new.items ≡ out.old.items ++ bytes.now }
+    ensures len { vec_len out.new ≡ vec_len out.old + length bytes.now }
+    ensures room { vec_capacity out.old ≤ vec_capacity out.new }
+{
+    match out.extend_from_slice(bytes) {
+        Ok(()) => {}
+        Err(_) => unreachable!(),
+    }
+}
+
+// Adds a byte for which there is room.
+#[tactic(auto, unfolding(bk_bytes::specs::Field::bytes_of))]
+fn add_u8(out: &mut Vec<u8>, n: u8)
+    requires { vec_len out.old + 1 ≤ vec_capacity out.old }
+    ensures items { out.new.items ≡ out.old.items ++ bytes_of 1 n }
+    ensures len { vec_len out.new ≡ vec_len out.old + 1 }
+    ensures room { vec_capacity out.old ≤ vec_capacity out.new }
+{
+    match out.push(n) {
+        Ok(()) => {}
+        Err(_) => unreachable!(),
+    }
+}
+
+// Adds the 2 bytes of a number, for which there is room; so below for 4, 8 and 16.
+#[tactic(auto, unfolding(bk_bytes::specs::Field::bytes_of))]
+fn add_u16(out: &mut Vec<u8>, n: u16)
+    requires { vec_len out.old + 2 ≤ vec_capacity out.old }
+    ensures items { out.new.items ≡ out.old.items ++ bytes_of 2 n }
+    ensures len { vec_len out.new ≡ vec_len out.old + 2 }
+    ensures room { vec_capacity out.old ≤ vec_capacity out.new }
+{
+    add(out, &n.to_le_bytes());
+}
+
+#[tactic(auto, unfolding(bk_bytes::specs::Field::bytes_of))]
+fn add_u32(out: &mut Vec<u8>, n: u32)
+    requires { vec_len out.old + 4 ≤ vec_capacity out.old }
+    ensures items { out.new.items ≡ out.old.items ++ bytes_of 4 n }
+    ensures len { vec_len out.new ≡ vec_len out.old + 4 }
+    ensures room { vec_capacity out.old ≤ vec_capacity out.new }
+{
+    add(out, &n.to_le_bytes());
+}
+
+#[tactic(auto, unfolding(bk_bytes::specs::Field::bytes_of))]
+fn add_u64(out: &mut Vec<u8>, n: u64)
+    requires { vec_len out.old + 8 ≤ vec_capacity out.old }
+    ensures items { out.new.items ≡ out.old.items ++ bytes_of 8 n }
+    ensures len { vec_len out.new ≡ vec_len out.old + 8 }
+    ensures room { vec_capacity out.old ≤ vec_capacity out.new }
+{
+    add(out, &n.to_le_bytes());
+}
+
+#[tactic(auto, unfolding(bk_bytes::specs::Field::bytes_of))]
+fn add_u128(out: &mut Vec<u8>, n: u128)
+    requires { vec_len out.old + 16 ≤ vec_capacity out.old }
+    ensures items { out.new.items ≡ out.old.items ++ bytes_of 16 n }
+    ensures len { vec_len out.new ≡ vec_len out.old + 16 }
+    ensures room { vec_capacity out.old ≤ vec_capacity out.new }
+{
+    add(out, &n.to_le_bytes());
+}
+
+// The first number that the lower half of a GUID can't hold.
+const HALF: u128 = 1 << 64;
+
+fn add_guid(out: &mut Vec<u8>, guid: Guid)
+    requires { vec_len out.old + 16 ≤ vec_capacity out.old }
+    ensures items { out.new.items ≡ out.old.items ++ guid_bytes guid }
+    ensures len { vec_len out.new ≡ vec_len out.old + 16 }
+    ensures room { vec_capacity out.old ≤ vec_capacity out.new }
+    ensures fits { IsGuid guid }
+{
+    add_u128(out, u128::from(guid.high) * HALF + u128::from(guid.low));
+}
+
+fn add_model(out: &mut Vec<u8>, model: RecoveryModel)
+    requires { vec_len out.old + 1 ≤ vec_capacity out.old }
+    ensures items { out.new.items ≡ out.old.items ++ model_bytes model }
+    ensures len { vec_len out.new ≡ vec_len out.old + 1 }
+    ensures room { vec_capacity out.old ≤ vec_capacity out.new }
+{
+    let number = match model {
+        RecoveryModel::Simple => 0,
+        RecoveryModel::Full => 1,
+        RecoveryModel::BulkLogged => 2,
+    };
+    add_u8(out, number);
+}
+
+// Adds a text of less than 2^16 bytes: its length in 2 bytes, and its bytes.
+fn add_text(out: &mut Vec<u8>, text: &[u8])
+    requires short { length text.now < 2 ^ 16 }
+    requires room { vec_len out.old + 2 + length text.now ≤ vec_capacity out.old }
+    ensures items { out.new.items ≡ out.old.items ++ text_bytes text.now }
+    ensures len { vec_len out.new ≡ vec_len out.old + 2 + length text.now }
+    ensures room { vec_capacity out.old ≤ vec_capacity out.new }
+{
+    add_u16(out, text.len() as u16);
+    add(out, text);
+}
+
+fn add_name(out: &mut Vec<u8>, name: &Name)
+    requires { vec_len out.old + 2 + length name.now ≤ vec_capacity out.old }
+    ensures items { out.new.items ≡ out.old.items ++ text_bytes name.now }
+    ensures len { vec_len out.new ≡ vec_len out.old + 2 + length name.now }
+    ensures room { vec_capacity out.old ≤ vec_capacity out.new }
+    ensures fits { IsString 1 64 name.now }
 {
     let text = name.as_str();
-    append_text(out, text.as_bytes())?;
-    Ok(())
+    add_text(out, text.as_bytes());
 }
 
-fn append_string(out: &mut Vec<u8>, text: &Text) -> Result<(), AllocError>
-    requires { length text.now < 2 ^ 16 }
-    ensures ok { OnOk result (out.new.items ≡ out.old.items ++ text_bytes text.now) }
-    ensures fits { OnOk result (IsUtf8 text.now) }
+fn add_string(out: &mut Vec<u8>, text: &Text)
+    requires short { length text.now < 2 ^ 16 }
+    requires room { vec_len out.old + 2 + length text.now ≤ vec_capacity out.old }
+    ensures items { out.new.items ≡ out.old.items ++ text_bytes text.now }
+    ensures len { vec_len out.new ≡ vec_len out.old + 2 + length text.now }
+    ensures room { vec_capacity out.old ≤ vec_capacity out.new }
+    ensures fits { IsUtf8 text.now }
 {
     let text = text.as_str();
-    append_text(out, text.as_bytes())?;
-    Ok(())
+    add_text(out, text.as_bytes());
 }
 
-fn append_place(out: &mut Vec<u8>, place: Place) -> Result<(), AllocError>
-    requires { place.slot < 63 }
-    ensures ok { OnOk result (out.new.items ≡ out.old.items ++ place_bytes place) }
-    ensures fits { OnOk result (IsPlace place) }
+fn add_place(out: &mut Vec<u8>, place: Place)
+    requires slot { place.slot < 63 }
+    requires room { vec_len out.old + 8 ≤ vec_capacity out.old }
+    ensures items { out.new.items ≡ out.old.items ++ place_bytes place }
+    ensures len { vec_len out.new ≡ vec_len out.old + 8 }
+    ensures room { vec_capacity out.old ≤ vec_capacity out.new }
+    ensures fits { IsPlace place }
 {
-    append_u16(out, place.file)?;
-    append_u32(out, place.page)?;
-    append_u16(out, place.slot)?;
-    Ok(())
+    add_u16(out, place.file);
+    add_u32(out, place.page);
+    add_u16(out, place.slot);
 }
 
-fn append_extents(out: &mut Vec<u8>, extents: &[ExtentId]) -> Result<(), AllocError>
-    requires { length extents.now < 2 ^ 32 }
-    ensures ok { OnOk result (out.new.items ≡ out.old.items ++ (bytes_of 4 (length extents.now) ++ flat_map extent_bytes extents.now)) }
-    ensures fits { OnOk result (AllByRecursion IsExtent extents.now) }
+fn add_image(out: &mut Vec<u8>, image: &CellImage)
+    requires { vec_len out.old + 128 ≤ vec_capacity out.old }
+    ensures items { out.new.items ≡ out.old.items ++ image.now.bytes }
+    ensures len { vec_len out.new ≡ vec_len out.old + 128 }
+    ensures room { vec_capacity out.old ≤ vec_capacity out.new }
 {
-    append_u32(out, extents.len() as u32)?;
+    add(out, &image.bytes);
+}
+
+fn add_extents(out: &mut Vec<u8>, extents: &[ExtentId])
+    requires few { length extents.now < 2 ^ 32 }
+    requires room { vec_len out.old + 4 + 6 * length extents.now ≤ vec_capacity out.old }
+    ensures items { out.new.items ≡ out.old.items ++ (bytes_of 4 (length extents.now) ++ flat_map extent_bytes extents.now) }
+    ensures len { vec_len out.new ≡ vec_len out.old + 4 + 6 * length extents.now }
+    ensures room { vec_capacity out.old ≤ vec_capacity out.new }
+    ensures fits { AllByRecursion IsExtent extents.now }
+{
+    add_u32(out, extents.len() as u32);
     for extent in extents {
-        append_u16(out, extent.file)?;
-        append_u32(out, extent.extent)?;
+        add_u16(out, extent.file);
+        add_u32(out, extent.extent);
     }
-    Ok(())
 }
 
-fn append_mark(out: &mut Vec<u8>, mark: &Option<Mark>) -> Result<(), AllocError>
-    requires { KeepsMarkLimits mark.now }
-    ensures ok { OnOk result (out.new.items ≡ out.old.items ++ mark_bytes mark.now) }
-    ensures fits { OnOk result (IsMark mark.now) }
+fn add_description(out: &mut Vec<u8>, description: &Option<Text>)
+    requires limits { IfSome description.now (λ text. (0 < length text) × (length text < 2 ^ 16)) }
+    requires room { vec_len out.old + 2 + length (description_of description.now) ≤ vec_capacity out.old }
+    ensures items { out.new.items ≡ out.old.items ++ text_bytes (description_of description.now) }
+    ensures len { vec_len out.new ≡ vec_len out.old + 2 + length (description_of description.now) }
+    ensures room { vec_capacity out.old ≤ vec_capacity out.new }
+    ensures fits { IsDescription description.now }
+{
+    match description {
+        None => add_text(out, &[]),
+        Some(text) => add_string(out, text),
+    }
+}
+
+fn add_mark(out: &mut Vec<u8>, mark: &Option<Mark>)
+    requires limits { KeepsMarkLimits mark.now }
+    requires room { vec_len out.old + mark_length mark.now ≤ vec_capacity out.old }
+    ensures items { out.new.items ≡ out.old.items ++ mark_bytes mark.now }
+    ensures len { vec_len out.new ≡ vec_len out.old + mark_length mark.now }
+    ensures room { vec_capacity out.old ≤ vec_capacity out.new }
+    ensures fits { IsMark mark.now }
 {
     match mark {
         None => {
-            append_text(out, &[])?;
-            append_text(out, &[])?;
+            add_text(out, &[]);
+            add_text(out, &[]);
         }
         Some(mark) => {
-            append_name(out, &mark.name)?;
-            match &mark.description {
-                None => append_text(out, &[])?,
-                Some(text) => append_string(out, text)?,
-            }
+            add_name(out, &mark.name);
+            add_description(out, &mark.description);
         }
     }
-    Ok(())
 }
 
-fn append_database(
-    out: &mut Vec<u8>,
-    time: u64,
-    family: Guid,
-    branch: Guid,
-) -> Result<(), AllocError>
-    ensures ok { OnOk result (out.new.items ≡ out.old.items ++ body_bytes (Body.Database time family branch)) }
-    ensures fits { OnOk result (IsBody (Body.Database time family branch)) }
+fn add_database(out: &mut Vec<u8>, time: u64, family: Guid, branch: Guid)
+    requires { vec_len out.old + 40 ≤ vec_capacity out.old }
+    ensures items { out.new.items ≡ out.old.items ++ body_bytes (Body.Database time family branch) }
+    ensures len { vec_len out.new ≡ vec_len out.old + 40 }
+    ensures room { vec_capacity out.old ≤ vec_capacity out.new }
+    ensures fits { IsBody (Body.Database time family branch) }
 {
-    append_u64(out, time)?;
-    append_guid(out, family)?;
-    append_guid(out, branch)?;
-    Ok(())
+    add_u64(out, time);
+    add_guid(out, family);
+    add_guid(out, branch);
 }
 
-fn append_table(
-    out: &mut Vec<u8>,
-    time: u64,
-    number: u32,
-    name: &Name,
-    group: u8,
-) -> Result<(), AllocError>
-    ensures ok { OnOk result (out.new.items ≡ out.old.items ++ body_bytes (Body.Table time number name.now group)) }
-    ensures fits { OnOk result (IsBody (Body.Table time number name.now group)) }
+fn add_table(out: &mut Vec<u8>, time: u64, number: u32, name: &Name, group: u8)
+    requires { vec_len out.old + 15 + length name.now ≤ vec_capacity out.old }
+    ensures items { out.new.items ≡ out.old.items ++ body_bytes (Body.Table time number name.now group) }
+    ensures len { vec_len out.new ≡ vec_len out.old + 15 + length name.now }
+    ensures room { vec_capacity out.old ≤ vec_capacity out.new }
+    ensures fits { IsBody (Body.Table time number name.now group) }
 {
-    append_u64(out, time)?;
-    append_u32(out, number)?;
-    append_name(out, name)?;
-    append_u8(out, group)?;
-    Ok(())
+    add_u64(out, time);
+    add_u32(out, number);
+    add_name(out, name);
+    add_u8(out, group);
 }
 
-fn append_write(
-    out: &mut Vec<u8>,
-    place: Place,
-    before: &CellImage,
-    after: &CellImage,
-) -> Result<(), AllocError>
+fn add_write(out: &mut Vec<u8>, place: Place, before: &CellImage, after: &CellImage)
     requires slot { place.slot < 63 }
     requires before { IsCell before.now.bytes }
     requires after { IsCell after.now.bytes }
-    ensures ok { OnOk result (out.new.items ≡ out.old.items ++ body_bytes (Body.Write place before.now after.now)) }
-    ensures fits { OnOk result (IsBody (Body.Write place before.now after.now)) }
+    requires room { vec_len out.old + 264 ≤ vec_capacity out.old }
+    ensures items { out.new.items ≡ out.old.items ++ body_bytes (Body.Write place before.now after.now) }
+    ensures len { vec_len out.new ≡ vec_len out.old + 264 }
+    ensures room { vec_capacity out.old ≤ vec_capacity out.new }
+    ensures fits { IsBody (Body.Write place before.now after.now) }
 {
-    append_place(out, place)?;
-    out.extend_from_slice(&before.bytes)?;
-    out.extend_from_slice(&after.bytes)?;
-    Ok(())
+    add_place(out, place);
+    add_image(out, before);
+    add_image(out, after);
 }
 
-fn append_commit(out: &mut Vec<u8>, time: u64, mark: &Option<Mark>) -> Result<(), AllocError>
-    requires { KeepsMarkLimits mark.now }
-    ensures ok { OnOk result (out.new.items ≡ out.old.items ++ body_bytes (Body.Commit time mark.now)) }
-    ensures fits { OnOk result (IsBody (Body.Commit time mark.now)) }
+fn add_commit(out: &mut Vec<u8>, time: u64, mark: &Option<Mark>)
+    requires limits { KeepsMarkLimits mark.now }
+    requires room { vec_len out.old + 8 + mark_length mark.now ≤ vec_capacity out.old }
+    ensures items { out.new.items ≡ out.old.items ++ body_bytes (Body.Commit time mark.now) }
+    ensures len { vec_len out.new ≡ vec_len out.old + 8 + mark_length mark.now }
+    ensures room { vec_capacity out.old ≤ vec_capacity out.new }
+    ensures fits { IsBody (Body.Commit time mark.now) }
 {
-    append_u64(out, time)?;
-    append_mark(out, mark)?;
-    Ok(())
+    add_u64(out, time);
+    add_mark(out, mark);
 }
 
-fn append_compensation(
-    out: &mut Vec<u8>,
-    place: Place,
-    cell: &CellImage,
-    undone: Lsn,
-) -> Result<(), AllocError>
+fn add_compensation(out: &mut Vec<u8>, place: Place, cell: &CellImage, undone: Lsn)
     requires slot { place.slot < 63 }
     requires cell { IsCell cell.now.bytes }
-    ensures ok { OnOk result (out.new.items ≡ out.old.items ++ body_bytes (Body.Compensation place cell.now undone)) }
-    ensures fits { OnOk result (IsBody (Body.Compensation place cell.now undone)) }
+    requires room { vec_len out.old + 144 ≤ vec_capacity out.old }
+    ensures items { out.new.items ≡ out.old.items ++ body_bytes (Body.Compensation place cell.now undone) }
+    ensures len { vec_len out.new ≡ vec_len out.old + 144 }
+    ensures room { vec_capacity out.old ≤ vec_capacity out.new }
+    ensures fits { IsBody (Body.Compensation place cell.now undone) }
 {
-    append_place(out, place)?;
-    out.extend_from_slice(&cell.bytes)?;
-    append_u64(out, undone)?;
-    Ok(())
+    add_place(out, place);
+    add_image(out, cell);
+    add_u64(out, undone);
 }
 
-fn append_checkpoint(out: &mut Vec<u8>, time: u64) -> Result<(), AllocError>
-    ensures ok { OnOk result (out.new.items ≡ out.old.items ++ body_bytes (Body.Checkpoint time)) }
-    ensures fits { OnOk result (IsBody (Body.Checkpoint time)) }
+fn add_stamp(out: &mut Vec<u8>, time: u64, set: Guid)
+    requires { vec_len out.old + 24 ≤ vec_capacity out.old }
+    ensures items { out.new.items ≡ out.old.items ++ body_bytes (Body.Stamp time set) }
+    ensures len { vec_len out.new ≡ vec_len out.old + 24 }
+    ensures room { vec_capacity out.old ≤ vec_capacity out.new }
+    ensures fits { IsBody (Body.Stamp time set) }
 {
-    append_u64(out, time)
+    add_u64(out, time);
+    add_guid(out, set);
 }
 
-fn append_stamp(out: &mut Vec<u8>, time: u64, set: Guid) -> Result<(), AllocError>
-    ensures ok { OnOk result (out.new.items ≡ out.old.items ++ body_bytes (Body.Stamp time set)) }
-    ensures fits { OnOk result (IsBody (Body.Stamp time set)) }
+fn add_model_change(out: &mut Vec<u8>, time: u64, model: RecoveryModel)
+    requires { vec_len out.old + 9 ≤ vec_capacity out.old }
+    ensures items { out.new.items ≡ out.old.items ++ body_bytes (Body.Model time model) }
+    ensures len { vec_len out.new ≡ vec_len out.old + 9 }
+    ensures room { vec_capacity out.old ≤ vec_capacity out.new }
+    ensures fits { IsBody (Body.Model time model) }
 {
-    append_u64(out, time)?;
-    append_guid(out, set)?;
-    Ok(())
+    add_u64(out, time);
+    add_model(out, model);
 }
 
-fn append_model_change(out: &mut Vec<u8>, time: u64, model: RecoveryModel) -> Result<(), AllocError>
-    ensures ok { OnOk result (out.new.items ≡ out.old.items ++ body_bytes (Body.Model time model)) }
-    ensures fits { OnOk result (IsBody (Body.Model time model)) }
-{
-    append_u64(out, time)?;
-    append_model(out, model)?;
-    Ok(())
-}
-
-fn append_bulk(
+fn add_bulk(
     out: &mut Vec<u8>,
     table: u32,
     first: u64,
     count: u32,
     value: &Text,
     extents: &[ExtentId],
-) -> Result<(), AllocError>
+)
     requires value { length value.now ≤ 112 }
     requires extents { length extents.now < 2 ^ 32 }
-    ensures ok { OnOk result (out.new.items ≡ out.old.items ++ body_bytes (Body.Bulk table first count value.now extents.now)) }
-    ensures fits { OnOk result (IsBody (Body.Bulk table first count value.now extents.now)) }
+    requires room { vec_len out.old + 22 + length value.now + 6 * length extents.now ≤ vec_capacity out.old }
+    ensures items { out.new.items ≡ out.old.items ++ body_bytes (Body.Bulk table first count value.now extents.now) }
+    ensures len { vec_len out.new ≡ vec_len out.old + 22 + length value.now + 6 * length extents.now }
+    ensures room { vec_capacity out.old ≤ vec_capacity out.new }
+    ensures fits { IsBody (Body.Bulk table first count value.now extents.now) }
 {
-    append_u32(out, table)?;
-    append_u64(out, first)?;
-    append_u32(out, count)?;
-    append_string(out, value)?;
-    append_extents(out, extents)?;
-    Ok(())
+    add_u32(out, table);
+    add_u64(out, first);
+    add_u32(out, count);
+    add_string(out, value);
+    add_extents(out, extents);
 }
 
-fn append_recovery(out: &mut Vec<u8>, branch: Guid) -> Result<(), AllocError>
-    ensures ok { OnOk result (out.new.items ≡ out.old.items ++ body_bytes (Body.Recovery branch)) }
-    ensures fits { OnOk result (IsBody (Body.Recovery branch)) }
-{
-    append_guid(out, branch)
-}
-
-fn append_body(out: &mut Vec<u8>, body: &Body) -> Result<(), AllocError>
-    requires { KeepsLimits body.now }
-    ensures ok { OnOk result (out.new.items ≡ out.old.items ++ body_bytes body.now) }
-    ensures fits { OnOk result (IsBody body.now) }
+fn add_body(out: &mut Vec<u8>, body: &Body)
+    requires limits { KeepsLimits body.now }
+    requires room { vec_len out.old + body_length body.now ≤ vec_capacity out.old }
+    ensures items { out.new.items ≡ out.old.items ++ body_bytes body.now }
+    ensures len { vec_len out.new ≡ vec_len out.old + body_length body.now }
+    ensures room { vec_capacity out.old ≤ vec_capacity out.new }
+    ensures fits { IsBody body.now }
 {
     match body {
         Body::Database {
             time,
             family,
             branch,
-        } => append_database(out, *time, *family, *branch),
+        } => add_database(out, *time, *family, *branch),
         Body::Table {
             time,
             number,
             name,
             group,
-        } => append_table(out, *time, *number, name, *group),
-        Body::Begin => Ok(()),
+        } => add_table(out, *time, *number, name, *group),
+        Body::Begin => {}
         Body::Write {
             place,
             before,
             after,
-        } => append_write(out, *place, before, after),
-        Body::Commit { time, mark } => append_commit(out, *time, mark),
-        Body::RollbackEnd => Ok(()),
+        } => add_write(out, *place, before, after),
+        Body::Commit { time, mark } => add_commit(out, *time, mark),
+        Body::RollbackEnd => {}
         Body::Compensation {
             place,
             cell,
             undone,
-        } => append_compensation(out, *place, cell, *undone),
-        Body::Checkpoint { time } => append_checkpoint(out, *time),
-        Body::Stamp { time, set } => append_stamp(out, *time, *set),
-        Body::Model { time, model } => append_model_change(out, *time, *model),
+        } => add_compensation(out, *place, cell, *undone),
+        Body::Checkpoint { time } => add_u64(out, *time),
+        Body::Stamp { time, set } => add_stamp(out, *time, *set),
+        Body::Model { time, model } => add_model_change(out, *time, *model),
         Body::Bulk {
             table,
             first,
             count,
             value,
             extents,
-        } => append_bulk(out, *table, *first, *count, value, extents.as_slice()),
-        Body::Recovery { branch } => append_recovery(out, *branch),
+        } => add_bulk(out, *table, *first, *count, value, extents.as_slice()),
+        Body::Recovery { branch } => add_guid(out, *branch),
     }
 }
 
@@ -273,31 +394,43 @@ fn kind(body: &Body) -> u8
 }
 
 // What follows the length of a record.
-fn append_inside(out: &mut Vec<u8>, r: &Rec) -> Result<(), AllocError>
-    requires { KeepsLimits r.now.body }
-    ensures ok { OnOk result (out.new.items ≡ out.old.items ++ inside r.now) }
-    ensures fits { OnOk result (IsRecord r.now) }
+fn add_inside(out: &mut Vec<u8>, r: &Rec)
+    requires limits { KeepsLimits r.now.body }
+    requires room { vec_len out.old + 20 + body_length r.now.body ≤ vec_capacity out.old }
+    ensures items { out.new.items ≡ out.old.items ++ inside r.now }
+    ensures len { vec_len out.new ≡ vec_len out.old + 20 + body_length r.now.body }
+    ensures room { vec_capacity out.old ≤ vec_capacity out.new }
+    ensures fits { IsRecord r.now }
 {
-    append_u8(out, kind(&r.body))?;
-    out.extend_from_slice(&[0; 3])?;
-    append_u64(out, r.lsn)?;
-    append_u64(out, r.begin)?;
-    append_body(out, &r.body)?;
-    Ok(())
+    add_u8(out, kind(&r.body));
+    add(out, &[0; 3]);
+    add_u64(out, r.lsn);
+    add_u64(out, r.begin);
+    add_body(out, &r.body);
+}
+
+/// Appends the spelling of a record, for which there is room. Takes no memory.
+pub fn encode_reserved(r: &Rec, out: &mut Vec<u8>)
+    requires limits { KeepsLimits r.now.body }
+    requires room { vec_len out.old + length (spelling r.now) ≤ vec_capacity out.old }
+    ensures items { out.new.items ≡ out.old.items ++ spelling r.now }
+    ensures fits { IsRecord r.now }
+    ensures len { vec_len out.new ≡ vec_len out.old + length (spelling r.now) }
+    ensures room { vec_capacity out.old ≤ vec_capacity out.new }
+{
+    let len = spelled_len(r);
+    add_u32(out, len as u32);
+    add_inside(out, r);
 }
 
 /// Appends the spelling of a record. Where there is no memory, `out` stays as it was.
-#[tactic(auto, unfolding(crate::specs::Spelling::spelling))]
 pub fn encode(alloc: Global, r: &Rec, out: &mut Vec<u8>) -> Result<(), AllocError>
     requires { KeepsLimits r.now.body }
     ensures ok { OnOk result (out.new.items ≡ out.old.items ++ spelling r.now) }
     ensures fits { OnOk result (IsRecord r.now) }
     ensures err { OnErr result (out.new.items ≡ out.old.items) }
 {
-    let mut inside = Vec::new(alloc);
-    append_inside(&mut inside, r)?;
-    let mut whole = Vec::new(alloc);
-    append_u32(&mut whole, 4 + inside.len() as u32)?;
-    whole.extend_from_slice(&inside)?;
+    let mut whole = Vec::with_capacity(alloc, spelled_len(r))?;
+    encode_reserved(r, &mut whole);
     out.extend_from_slice(&whole)
 }

@@ -58,12 +58,13 @@ module _ (rs : List Logged) (n : ℕ) (s new : Stored) (h : Holds rs s) (rise : 
 
   tied_mid : Tied mid
   unfolding mid
-  tied_mid = undoes_write w.place (image w.change.table w.change.key w.before) w.lsn s mid (record {
+  tied_mid = undoes_write w.begin w.place (image w.change.table w.change.key w.before) w.lsn s mid (record {
     front = map cell_write front;
     write = cell_write w;
     back = map cell_write back;
     whole = stored_whole;
     last = all-over cell_write (λ v. is_place w.place v.place ≡ false) back last;
+    own = refl;
     number = refl;
     place = refl;
     noted = refl;

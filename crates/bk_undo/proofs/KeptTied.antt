@@ -240,8 +240,8 @@ commits_rows begin old new s t =
 
 -- ---- a compensation
 
-pub undoes_write : (at : Place) (image : CellImage) (undone : ℕ) (old new : Stored) → UndoesWrite at image undone old new → Tied old → Tied new
-undoes_write at image undone old new s t =
+pub undoes_write : (begin : ℕ) (at : Place) (image : CellImage) (undone : ℕ) (old new : Stored) → UndoesWrite begin at image undone old new → Tied old → Tied new
+undoes_write begin at image undone old new s t =
     let Own : List CellWrite → Type 0 = AllByRecursion (IsOwn new.places) in
     let own_old : AllByRecursion (IsOwn new.places) (s.front ++ s.write ∷ s.back) = subst Own s.whole (own_all old new s.places old.pending t.written) in
     record {

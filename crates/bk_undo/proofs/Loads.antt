@@ -130,7 +130,7 @@ kept_by : (lsn begin : ℕ) (body : Body) (old new : Stored) → BodyGoes lsn be
 kept_by lsn begin (Write at before after) old new s t = writes_row lsn begin at before after old new s t
 kept_by lsn begin (Commit time mark) old new s t = commits_rows begin old new s t
 kept_by lsn begin RollbackEnd old new s t = ends_rollback begin old new s t
-kept_by lsn begin (Compensation at image undone) old new s t = undoes_write at image undone old new s t
+kept_by lsn begin (Compensation at image undone) old new s t = undoes_write begin at image undone old new s t
 kept_by lsn begin (Bulk table first count value extents) old new s t = loads_rows table first count value old new s t
 kept_by lsn begin (Database a b c) old new s t = leaves_all old new s t
 kept_by lsn begin (Table a b c d) old new s t = leaves_all old new s t

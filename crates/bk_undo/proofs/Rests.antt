@@ -68,7 +68,7 @@ parts f (w ∷ ws) (x ∷ front) back is =
 
 -- which writes a part of the compensation leaves open
 
-open_test : (written : List Rec) (done : List Pending) (write : Pending) → map unnumbered written ≡ map compensation_of done → is_open written write ≡ list_all (λ (w : Pending). not (write.lsn == w.lsn)) done
+open_test : (written : List Rec) (done : List Pending) (write : Pending) → map unnumbered written ≡ map compensation_of done → is_open written write ≡ list_all (λ (w : Pending). not (write.begin == w.begin && write.lsn == w.lsn)) done
 open_test [] [] write is = refl
 open_test [] (w ∷ done) write is = absurd (cc)
 open_test (r ∷ written) [] write is = absurd (cc)
@@ -76,9 +76,11 @@ open_test (r ∷ written) (w ∷ done) write is =
     let head : unnumbered r ≡ compensation_of w = cc in
     let rest : map unnumbered written ≡ map compensation_of done = cc in
     let body : r.body ≡ Compensation w.place w.before w.lsn = ap (λ (s : Rec). s.body) head in
-    let test : closes r write ≡ (write.lsn == w.lsn) = ap (λ (b : Body). body_closes b r.begin write) body in
+    let own : r.begin ≡ w.begin = ap (λ (s : Rec). s.begin) head in
+    let test : closes r write ≡ (write.begin == w.begin && write.lsn == w.lsn) =
+    ap (λ (b : Body). body_closes b r.begin write) body ∙ ap (λ (n : ℕ). write.begin == n && write.lsn == w.lsn) own in
     ap (λ (b : Bool). not b && is_open written write) test
-    ∙ ap (λ (b : Bool). not (write.lsn == w.lsn) && b) (open_test written done write rest)
+    ∙ ap (λ (b : Bool). not (write.begin == w.begin && write.lsn == w.lsn) && b) (open_test written done write rest)
 
 -- a compensation writes nothing to be undone
 nothing_pending : (written : List Rec) (done : List Pending) → map unnumbered written ≡ map compensation_of done → pending written ≡ []
@@ -94,15 +96,15 @@ nothing_pending (r ∷ written) (w ∷ done) is =
 same_lsn : (n : ℕ) → (n == n) ≡ true
 same_lsn n = eq-eqb n n refl
 
-found_before : (write : Pending) (pre post : List Pending) → list_all (λ (w : Pending). not (write.lsn == w.lsn)) (pre ++ write ∷ post) ≡ false
+found_before : (write : Pending) (pre post : List Pending) → list_all (λ (w : Pending). not (write.begin == w.begin && write.lsn == w.lsn)) (pre ++ write ∷ post) ≡ false
 found_before write pre post =
-    list_all-append (λ (w : Pending). not (write.lsn == w.lsn)) pre (write ∷ post)
-    ∙ and_right _ _ (and_left _ _ (ap not (same_lsn write.lsn)))
+    list_all-append (λ (w : Pending). not (write.begin == w.begin && write.lsn == w.lsn)) pre (write ∷ post)
+    ∙ and_right _ _ (and_left _ _ (ap not (and_from _ _ (same_lsn write.begin) (same_lsn write.lsn))))
 
-gone : (pre xs : List Pending) → filter (λ (write : Pending). list_all (λ (w : Pending). not (write.lsn == w.lsn)) (pre ++ xs)) xs ≡ []
+gone : (pre xs : List Pending) → filter (λ (write : Pending). list_all (λ (w : Pending). not (write.begin == w.begin && write.lsn == w.lsn)) (pre ++ xs)) xs ≡ []
 gone pre [] = refl
 gone pre (x ∷ xs) =
-    let Gone : List Pending → Type 0 = λ ws. filter (λ (write : Pending). list_all (λ (w : Pending). not (write.lsn == w.lsn)) ws) xs ≡ [] in
+    let Gone : List Pending → Type 0 = λ ws. filter (λ (write : Pending). list_all (λ (w : Pending). not (write.begin == w.begin && write.lsn == w.lsn)) ws) xs ≡ [] in
     rw (found_before x pre xs) (subst Gone (append_assoc pre (x ∷ []) xs) (gone (pre ++ x ∷ []) xs))
 
 -- numbers that fall
@@ -160,7 +162,7 @@ all_back P (x ∷ xs) ys all = all_back P xs ys all.1
 -- no write of the rest is among the writes that were undone
 
 abbrev is_left : List Pending → Pending → Bool
-is_left done write = list_all (λ (w : Pending). not (write.lsn == w.lsn)) done
+is_left done write = list_all (λ (w : Pending). not (write.begin == w.begin && write.lsn == w.lsn)) done
 
 none_done : (left : List Pending) → AllByRecursion (λ (x : Pending). is_left [] x ≡ true) left
 none_done [] = tt
@@ -170,7 +172,7 @@ one_done : (d : Pending) (done left : List Pending) → AllByRecursion (λ (x : 
 one_done d done [] lower rest = tt
 one_done d done (x ∷ left) lower rest =
     let less : x.lsn < d.lsn = lower.0 in
-    let differ : not (x.lsn == d.lsn) ≡ true = ap not (ne_eqb x.lsn d.lsn (λ same. absurd (omega (arith, same)))) in
+    let differ : not (x.begin == d.begin && x.lsn == d.lsn) ≡ true = ap not (and_right (x.begin == d.begin) _ (ne_eqb x.lsn d.lsn (λ same. absurd (omega (arith, same))))) in
     (and_from _ _ differ rest.0, one_done d done left lower.1 rest.1)
 
 apart : (done left : List Pending) → Falls (done ++ left) → AllByRecursion (λ (x : Pending). is_left done x ≡ true) left

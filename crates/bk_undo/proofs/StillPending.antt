@@ -1,6 +1,6 @@
 -- The pending writes are those that the log's reader finds.
 use Rattle.std.proofs.Common.{◌≡◌, ℕ, true, false, not, List, [], ◌∷◌, ◌++◌, map, refl, sym, ◌∙◌, ap, subst}
-use Rattle.std.specs.Prelude.{◌==◌}
+use Rattle.std.specs.Prelude.{◌==◌, ◌&&◌}
 use Rattle.std.specs.List.{filter}
 use Rattle.std.proofs.lemmas.List.{append-nil, map-append}
 use Rattle.std.proofs.lemmas.List.Elements.{filter_agree}
@@ -52,10 +52,11 @@ after_by lsn begin RollbackEnd old new s t =
 after_by lsn begin (Compensation at image undone) old new s t =
     ap (map pending_of) (s.pending
     ∙ sym (one_number s.front s.write s.back (subst WritesRise s.whole t.rise))
-    ∙ ap (λ (n : ℕ). filter (λ w. not (w.lsn == n)) (s.front ++ s.write ∷ s.back)) s.number
-    ∙ ap (filter (λ w. not (w.lsn == undone))) (sym s.whole))
-    ∙ sym (filter_mapped pending_of (λ write. not (write.lsn == undone)) (λ w. not (w.lsn == undone)) (λ w. refl) old.pending)
-    ∙ sym (append-nil (filter (λ write. not (write.lsn == undone)) (map pending_of old.pending)))
+    ∙ ap (λ (n : ℕ). filter (λ w. not (w.begin == n && w.lsn == s.write.lsn)) (s.front ++ s.write ∷ s.back)) s.own
+    ∙ ap (λ (n : ℕ). filter (λ w. not (w.begin == begin && w.lsn == n)) (s.front ++ s.write ∷ s.back)) s.number
+    ∙ ap (filter (λ w. not (w.begin == begin && w.lsn == undone))) (sym s.whole))
+    ∙ sym (filter_mapped pending_of (λ write. not (write.begin == begin && write.lsn == undone)) (λ w. not (w.begin == begin && w.lsn == undone)) (λ w. refl) old.pending)
+    ∙ sym (append-nil (filter (λ write. not (write.begin == begin && write.lsn == undone)) (map pending_of old.pending)))
 after_by lsn begin (Bulk table first count value extents) old new s t = nothing_done old.pending new.pending s.pending
 after_by lsn begin (Database a b c) old new s t = nothing_done old.pending new.pending s.pending
 after_by lsn begin (Table a b c d) old new s t = nothing_done old.pending new.pending s.pending

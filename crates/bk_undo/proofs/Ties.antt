@@ -2,7 +2,7 @@
 use Rattle.std.proofs.Common.{◌≡◌, ◌≢◌, ◌⊎◌, ◌<◌, ℕ, Bool, true, false, not, ◌&&◌, List, [], ◌∷◌, ◌++◌, map, Option, Some, None, inl, inr, refl, sym, ◌∙◌, ap, subst, arith}
 use Rattle.std.specs.Prelude.{◌==◌, if◌then◌else◌}
 use Rattle.std.specs.List.{filter, AllByRecursion}
-use Rattle.std.proofs.lemmas.Bool.{eqb-true, eq-eqb, and_parts, and_from, cases_Bool}
+use Rattle.std.proofs.lemmas.Bool.{eqb-true, eq-eqb, and_parts, and_from, and_right, cases_Bool}
 use Rattle.std.proofs.lemmas.List.{append-nil}
 use Rattle.std.proofs.lemmas.List.Elements.{filter-append}
 use Rattle.std.proofs.lemmas.Option.{same_Some}
@@ -272,23 +272,25 @@ rise_without [] w back rise = rise.1
 rise_without (v ∷ front) w back rise = (all_without (λ x. v.lsn < x.lsn) front w back rise.0, rise_without front w back rise.1)
 
 -- only one of rising writes has its number
-pub one_number : (front : List CellWrite) (w : CellWrite) (back : List CellWrite) → WritesRise (front ++ w ∷ back) → filter (λ v. not (v.lsn == w.lsn)) (front ++ w ∷ back) ≡ front ++ back
+pub one_number : (front : List CellWrite) (w : CellWrite) (back : List CellWrite) → WritesRise (front ++ w ∷ back) → filter (λ v. not (v.begin == w.begin && v.lsn == w.lsn)) (front ++ w ∷ back) ≡ front ++ back
 one_number [] w back rise =
     let own : (w.lsn == w.lsn) ≡ true = eq-eqb w.lsn w.lsn refl in
-    rw own (filter_every (λ v. not (v.lsn == w.lsn)) back (all_mapped (λ v. w.lsn < v.lsn) (λ v. not (v.lsn == w.lsn) ≡ true) above back rise.0))
+    let of_it : (w.begin == w.begin) ≡ true = eq-eqb w.begin w.begin refl in
+    rw of_it (rw own (filter_every (λ v. not (v.begin == w.begin && v.lsn == w.lsn)) back (all_mapped (λ v. w.lsn < v.lsn) (λ v. not (v.begin == w.begin && v.lsn == w.lsn) ≡ true) above back rise.0)))
   where
-    above : (v : CellWrite) → w.lsn < v.lsn → not (v.lsn == w.lsn) ≡ true
+    above : (v : CellWrite) → w.lsn < v.lsn → not (v.begin == w.begin && v.lsn == w.lsn) ≡ true
     above v less = differ v.lsn w.lsn (λ e. absurd (omega (arith, less, e)))
       where
-        differ : (m n : ℕ) → m ≢ n → not (m == n) ≡ true
+        differ : (m n : ℕ) → m ≢ n → not (v.begin == w.begin && m == n) ≡ true
         differ m n apart = elim (cases_Bool (m == n)) [
           | inl is ↦ absurd (apart (eqb-true m n is))
-          | inr isnt ↦ ap not isnt
+          | inr isnt ↦ ap not (and_right (v.begin == w.begin) (m == n) isnt)
         ]
 one_number (v ∷ front) w back rise =
     let less : v.lsn < w.lsn = all_middle (λ x. v.lsn < x.lsn) front w back rise.0 in
     let other : (v.lsn == w.lsn) ≡ false = below v.lsn w.lsn less in
-    rw other (ap (λ (rest : List CellWrite). v ∷ rest) (one_number front w back rise.1))
+    let no : (v.begin == w.begin && v.lsn == w.lsn) ≡ false = and_right (v.begin == w.begin) (v.lsn == w.lsn) other in
+    rw no (ap (λ (rest : List CellWrite). v ∷ rest) (one_number front w back rise.1))
   where
     below : (m n : ℕ) → m < n → (m == n) ≡ false
     below m n less = elim (cases_Bool (m == n)) [

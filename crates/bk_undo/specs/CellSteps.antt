@@ -46,13 +46,14 @@ pub record CommitsRows (begin : ℕ) (old new : Stored) : Type 0 where
   pub cells : SameCells old new
   pub places : SamePlaces old new
 
--- a compensation puts back what the last pending write at a place noted
-pub record UndoesWrite (at : Place) (image : CellImage) (undone : ℕ) (old new : Stored) : Type 0 where
+-- a compensation puts back what the last pending write at a place noted, one of its own transaction
+pub record UndoesWrite (begin : ℕ) (at : Place) (image : CellImage) (undone : ℕ) (old new : Stored) : Type 0 where
   pub front : List CellWrite
   pub write : CellWrite
   pub back : List CellWrite
   pub whole : old.pending ≡ front ++ write ∷ back
   pub last : AllByRecursion (λ w. is_place at w.place ≡ false) back
+  pub own : write.begin ≡ begin
   pub number : write.lsn ≡ undone
   pub place : write.place ≡ at
   pub noted : image ≡ record { bytes = cell_bytes write.before }
@@ -96,7 +97,7 @@ abbrev pub BodyGoes : ℕ → ℕ → Body → Stored → Stored → Type 0
 BodyGoes lsn begin (Write at before after) old new = WritesRow lsn begin at before after old new
 BodyGoes lsn begin (Commit time mark) old new = CommitsRows begin old new
 BodyGoes lsn begin RollbackEnd old new = EndsRollback begin old new
-BodyGoes lsn begin (Compensation at image undone) old new = UndoesWrite at image undone old new
+BodyGoes lsn begin (Compensation at image undone) old new = UndoesWrite begin at image undone old new
 BodyGoes lsn begin (Bulk table first count value extents) old new = LoadsRows table first count value old new
 BodyGoes lsn begin _ old new = LeavesRows old new
 

@@ -1,5 +1,5 @@
 -- Which writes of a log are to be undone, and by which records.
-use Rattle.std.specs.Prelude.{ℕ, ◌<◌, ◌++◌, ◌==◌, nat_lt, not, if◌then◌else◌, Bool, false, List, [], ◌∷◌, map, reverse}
+use Rattle.std.specs.Prelude.{ℕ, ◌<◌, ◌++◌, ◌==◌, ◌&&◌, nat_lt, not, if◌then◌else◌, Bool, false, List, [], ◌∷◌, map, reverse}
 use Rattle.std.specs.List.{filter, list_all, AllByRecursion}
 use Rattle.bk_ids.specs.declared.record.Rec.{Rec}
 use Rattle.bk_ids.specs.declared.record.Body.{Body}
@@ -10,7 +10,7 @@ use Rattle.bk_undo.specs.declared.pending.Pending.{Pending}
 abbrev pub body_closes : Body → ℕ → Pending → Bool
 body_closes (Commit time mark) begin write = write.begin == begin
 body_closes RollbackEnd begin write = write.begin == begin
-body_closes (Compensation place cell undone) begin write = write.lsn == undone
+body_closes (Compensation place cell undone) begin write = write.begin == begin && write.lsn == undone
 body_closes _ begin write = false
 
 abbrev pub closes : Rec → Pending → Bool

@@ -1,5 +1,5 @@
 // Writes that are pending, and what a record makes of them.
-ghost use Rattle.std.specs.Prelude.{◌≡◌, ◌==◌, not, OnOk};
+ghost use Rattle.std.specs.Prelude.{◌≡◌, ◌==◌, ◌&&◌, not, OnOk};
 ghost use Rattle.std.specs.List.{filter};
 ghost use Rattle.bk_record.specs.View.{record_of};
 ghost use Rattle.bk_undo.specs.Losers.{compensation_of, noted};
@@ -41,10 +41,10 @@ fn drop_transaction(writes: &mut Vec<Pending>, begin: Lsn)
     writes.retain(|write| write.begin != begin);
 }
 
-fn drop_write(writes: &mut Vec<Pending>, lsn: Lsn)
-    ensures { writes.new.items ≡ filter (λ write. not (write.lsn == lsn)) writes.old.items }
+fn drop_write(writes: &mut Vec<Pending>, begin: Lsn, lsn: Lsn)
+    ensures { writes.new.items ≡ filter (λ write. not (write.begin == begin && write.lsn == lsn)) writes.old.items }
 {
-    writes.retain(|write| write.lsn != lsn);
+    writes.retain(|write| write.begin != begin || write.lsn != lsn);
 }
 
 // Makes of the writes that are pending before a record those that are pending after it, if it lies below this LSN.
@@ -62,7 +62,7 @@ pub fn note(writes: &mut Vec<Pending>, logged: RecRef<'_>, below: Lsn) -> Result
             before: CellImage { bytes: *before },
         })?,
         BodyRef::Commit { .. } | BodyRef::RollbackEnd => drop_transaction(writes, logged.begin),
-        BodyRef::Compensation { undone, .. } => drop_write(writes, undone),
+        BodyRef::Compensation { undone, .. } => drop_write(writes, logged.begin, undone),
         _ => {}
     }
     Ok(())

@@ -1,14 +1,14 @@
 -- The bytes of a refusal and of a reply.
-use Rattle.std.specs.Prelude.{ℕ, List, ◌++◌, length, codes, flat_map}
+use Rattle.std.specs.Prelude.{ℕ, List, [], ◌++◌, length, codes, flat_map}
 use Rattle.std.specs.Fmt.{decimal}
 use Rattle.bk_world.specs.declared.reply.Reply.{Reply}
-use Rattle.bk_world.specs.declared.reply.Reply.TheVariants.{Done, Counted, Selected, SetMade, Recovered, Refused}
+use Rattle.bk_world.specs.declared.reply.Reply.TheVariants.{Done, Nothing, Counted, Selected, SetMade, Recovered, Refused}
 use Rattle.bk_world.specs.declared.rule.Limit.{Limit}
-use Rattle.bk_world.specs.declared.rule.Limit.TheVariants.{Databases, Files, Groups, Extents, Tables, Key, Lsn}
+use Rattle.bk_world.specs.declared.rule.Limit.TheVariants.{Databases, Files, Groups, Extents, Tables, Key, Writes, Lsn}
 use Rattle.bk_world.specs.declared.rule.StatusWord.{StatusWord}
 use Rattle.bk_world.specs.declared.rule.StatusWord.TheVariants.{Restoring, Standby, Interrupted}
 use Rattle.bk_world.specs.declared.rule.Rule.{Rule}
-use Rattle.bk_world.specs.declared.rule.Rule.TheVariants.{Syntax, TooLong, NoSuchDatabase, DatabaseExists, NotOnline, NoSuchTable, TableExists, NoSuchGroup, DuplicateKey, ValueTooLong, GroupFull, MediaMissing, NotMedia, NoSuchSet, SetDamaged, OtherFamily, TailNotBackedUp, PathFull, FileInUse, LimitReached, NotBuilt}
+use Rattle.bk_world.specs.declared.rule.Rule.TheVariants.{Syntax, TooLong, NoSuchDatabase, DatabaseExists, NotOnline, NoSuchTable, TableExists, NoSuchGroup, DuplicateKey, ValueTooLong, Locked, GroupFull, InTransaction, NoTransaction, MediaMissing, NotMedia, NoSuchSet, SetDamaged, DatabaseInUse, OtherFamily, TailNotBackedUp, PathFull, FileInUse, LimitReached, NotBuilt}
 use Rattle.bk_ids.specs.Digest.{digest_text}
 use Rattle.bk_ids.specs.Guid.{guid_text}
 
@@ -20,6 +20,7 @@ limit_text Groups = codes "GROUPS"
 limit_text Extents = codes "EXTENTS"
 limit_text Tables = codes "TABLES"
 limit_text Key = codes "KEY"
+limit_text Writes = codes "WRITES"
 limit_text Lsn = codes "LSN"
 
 -- the word of a status that isn't online
@@ -40,11 +41,15 @@ rule_text TableExists = codes "8 TableExists"
 rule_text NoSuchGroup = codes "9 NoSuchGroup"
 rule_text (DuplicateKey key) = codes "10 DuplicateKey " ++ decimal key
 rule_text (ValueTooLong bytes) = codes "11 ValueTooLong " ++ decimal bytes
+rule_text (Locked session) = codes "12 Locked " ++ decimal session
 rule_text (GroupFull group) = codes "13 GroupFull " ++ group
+rule_text InTransaction = codes "16 InTransaction"
+rule_text NoTransaction = codes "17 NoTransaction"
 rule_text MediaMissing = codes "30 MediaMissing"
 rule_text NotMedia = codes "31 NotMedia"
 rule_text (NoSuchSet position count) = codes "32 NoSuchSet " ++ (decimal position ++ (codes " " ++ decimal count))
 rule_text (SetDamaged stored found) = codes "33 SetDamaged " ++ (digest_text stored ++ (codes " " ++ digest_text found))
+rule_text (DatabaseInUse session) = codes "35 DatabaseInUse " ++ decimal session
 rule_text (OtherFamily database set) = codes "36 OtherFamily " ++ (guid_text database ++ (codes " " ++ guid_text set))
 rule_text (TailNotBackedUp archive end) = codes "37 TailNotBackedUp " ++ (decimal archive ++ (codes " " ++ decimal end))
 rule_text PathFull = codes "52 PathFull 64"
@@ -63,6 +68,7 @@ row_text row = decimal row.0 ++ (codes "\t" ++ (row.1 ++ codes "\n"))
 -- a reply, each line ended by a line feed
 abbrev pub reply_text : Reply → List ℕ
 reply_text Done = codes "Done.\n"
+reply_text Nothing = []
 reply_text (Counted rows) = count_text rows
 reply_text (Selected rows) = flat_map row_text rows ++ count_text (length rows)
 reply_text (SetMade position first checkpoint last) =

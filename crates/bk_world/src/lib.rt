@@ -9,6 +9,7 @@ mod msdb;
 mod reply;
 mod row;
 mod rule;
+mod transaction;
 
 pub use database::{Base, Creation, FileSpec, State, Status, Storage, TableSpec, Unit};
 pub use header::{Header, HeaderFile, SetKind};
@@ -20,3 +21,4 @@ pub use msdb::{BackupRow, MarkRow, RestoreKind, RestoreRow};
 pub use reply::Reply;
 pub use row::PlacedRow;
 pub use rule::{Limit, Rule, StatusWord};
+pub use transaction::Open;

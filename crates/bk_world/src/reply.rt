@@ -6,6 +6,8 @@ use bk_ids::{Lsn, Sequence, Text};
 pub enum Reply {
     /// It is done.
     Done,
+    /// Nothing is answered.
+    Nothing,
     /// It changed this many rows.
     Counted {
         rows: u64,

@@ -21,6 +21,8 @@ pub enum Limit {
     Tables,
     /// The key is above 9223372036854775807.
     Key,
+    /// The transaction has 1,024 writes.
+    Writes,
     /// Log records or GUIDs are used up, but for those that what is never refused may need.
     Lsn,
 }
@@ -37,6 +39,7 @@ impl Limit {
             Limit::Extents => "EXTENTS",
             Limit::Tables => "TABLES",
             Limit::Key => "KEY",
+            Limit::Writes => "WRITES",
             Limit::Lsn => "LSN",
         }
     }
@@ -89,8 +92,14 @@ pub enum Rule {
     DuplicateKey { key: u64 },
     /// The value has so many bytes, more than 112.
     ValueTooLong { bytes: u64 },
+    /// An open transaction of this session wrote the row.
+    Locked { session: u8 },
     /// The files of the table's filegroup, whose name this is, have no room for the row.
     GroupFull { group: Text },
+    /// The session has an open transaction.
+    InTransaction,
+    /// The session has no open transaction.
+    NoTransaction,
     /// There is no file at the medium's path.
     MediaMissing,
     /// The file is no medium, or what stands at the position is no backup set.
@@ -99,6 +108,8 @@ pub enum Rule {
     NoSuchSet { position: u64, count: u64 },
     /// The set's digest isn't that of its bytes.
     SetDamaged { stored: Digest, found: Digest },
+    /// This session, and none of a lesser number, has an open transaction in the database.
+    DatabaseInUse { session: u8 },
     /// The set is of another family of databases.
     OtherFamily { database: Guid, set: Guid },
     /// Log records from `archive` to below `end` weren't backed up, and would be lost.
@@ -132,16 +143,20 @@ impl Rule {
             Rule::NoSuchGroup => String::from_str(alloc, "9 NoSuchGroup"),
             Rule::DuplicateKey { key } => format!(in alloc; "10 DuplicateKey {key}"),
             Rule::ValueTooLong { bytes } => format!(in alloc; "11 ValueTooLong {bytes}"),
+            Rule::Locked { session } => format!(in alloc; "12 Locked {session}"),
             Rule::GroupFull { group } => {
                 let group = group.as_str();
                 format!(in alloc; "13 GroupFull {group}")
             }
+            Rule::InTransaction => String::from_str(alloc, "16 InTransaction"),
+            Rule::NoTransaction => String::from_str(alloc, "17 NoTransaction"),
             Rule::MediaMissing => String::from_str(alloc, "30 MediaMissing"),
             Rule::NotMedia => String::from_str(alloc, "31 NotMedia"),
             Rule::NoSuchSet { position, count } => {
                 format!(in alloc; "32 NoSuchSet {position} {count}")
             }
             Rule::SetDamaged { stored, found } => damaged_text(alloc, *stored, *found),
+            Rule::DatabaseInUse { session } => { format!(in alloc; "35 DatabaseInUse {session}") }
             Rule::OtherFamily { database, set } => family_text(alloc, *database, *set),
             Rule::TailNotBackedUp { archive, end } => {
                 format!(in alloc; "37 TailNotBackedUp {archive} {end}")

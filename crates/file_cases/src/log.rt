@@ -3,12 +3,14 @@ ghost use Rattle.std.specs.Prelude.{◌≡◌, ◌≤◌, false, IfOk, OnOk};
 ghost use Rattle.bk_device.specs.Disk.{IsSettled};
 ghost use Rattle.bk_device.specs.Replay.{disk_of};
 ghost use Rattle.bk_log.specs.Log.{IsLog};
+ghost use Rattle.bk_record.specs.Spelling.{KeepsLimits};
 
 use crate::session::Session;
 use crate::words::{bytes, number, shown};
 use bk_device::MemDevice;
 use bk_ids::{Body, Rec};
 use bk_log::{Log, LogError};
+use bk_record::spelled_len;
 use std::alloc::{AllocError, Global};
 
 fn open(session: &Session, device: &mut MemDevice) -> Result<Log, LogError>
@@ -26,8 +28,20 @@ fn open(session: &Session, device: &mut MemDevice) -> Result<Log, LogError>
     }
 }
 
+// A record of a checkpoint.
+fn checkpoint(lsn: u64) -> Rec
+    ensures lsn { result.lsn ≡ lsn }
+    ensures limits { KeepsLimits result.body }
+{
+    Rec {
+        lsn,
+        begin: 0,
+        body: Body::Checkpoint { time: lsn },
+    }
+}
+
 // Adds so many records of checkpoints.
-fn add(alloc: Global, device: &MemDevice, log: &mut Log, count: u64) -> Result<(), AllocError>
+fn add(device: &MemDevice, log: &mut Log, count: u64) -> Result<(), AllocError>
     requires fit { log.old.failed ≡ false }
     requires stands { IsLog (disk_of device.now) log.old }
     ensures fit { log.new.failed ≡ false }
@@ -38,12 +52,48 @@ fn add(alloc: Global, device: &MemDevice, log: &mut Log, count: u64) -> Result<(
         if lsn == u64::MAX {
             return Ok(());
         }
-        let record = Rec {
-            lsn,
-            begin: 0,
-            body: Body::Checkpoint { time: lsn },
-        };
-        log.append(alloc, &record)?;
+        log.append(&checkpoint(lsn))?;
+    }
+    Ok(())
+}
+
+// Makes room for so many bytes of records and so many flushes.
+fn make_room(device: &MemDevice, log: &mut Log, words: &str) -> Result<(), AllocError>
+    requires fit { log.old.failed ≡ false }
+    requires stands { IsLog (disk_of device.now) log.old }
+    ensures fit { log.new.failed ≡ false }
+    ensures stands { IsLog (disk_of device.now) log.new }
+{
+    let (bytes, flushes) = words.split_once(' ').unwrap_or((words, ""));
+    log.reserve(number(bytes) as usize, number(flushes) as usize)
+}
+
+// Adds so many records of checkpoints, or fewer where there are no spare bytes for them.
+fn add_reserved(device: &MemDevice, log: &mut Log, count: u64)
+    requires fit { log.old.failed ≡ false }
+    requires stands { IsLog (disk_of device.now) log.old }
+    ensures fit { log.new.failed ≡ false }
+    ensures stands { IsLog (disk_of device.now) log.new }
+{
+    'records: for _ in 0..count {
+        let lsn = log.end();
+        let record = checkpoint(lsn);
+        if lsn == u64::MAX || log.spare_bytes() < spelled_len(&record) {
+            return;
+        }
+        log.append_reserved(&record);
+    }
+}
+
+// Makes the records that wait durable, where there is a spare flush.
+fn flush_reserved(device: &mut MemDevice, log: &mut Log) -> Result<(), LogError>
+    requires fit { log.old.failed ≡ false }
+    requires stands { IsLog (disk_of device.old) log.old }
+    ensures fit { OnOk result (log.new.failed ≡ false) }
+    ensures stands { OnOk result (IsLog (disk_of device.new) log.new) }
+{
+    if log.spare_flushes() > 0 {
+        log.flush_reserved(device)?;
     }
     Ok(())
 }
@@ -97,7 +147,33 @@ fn reset(alloc: Global, device: &mut MemDevice, log: &mut Log, words: &str) -> R
     Ok(())
 }
 
-// The call that a line says: `add COUNT`, `flush`, `note BYTES`, `reset LSN BYTES`, `truncate LSN`.
+// The call that a line says, of those that need room made before: `reserve BYTES FLUSHES`, `add-reserved COUNT`,
+// `flush-reserved`.
+fn call_reserved(
+    device: &mut MemDevice,
+    log: &mut Log,
+    name: &str,
+    rest: &str,
+) -> Result<(), LogError>
+    requires fit { log.old.failed ≡ false }
+    requires stands { IsLog (disk_of device.old) log.old }
+    ensures fit { OnOk result (log.new.failed ≡ false) }
+    ensures stands { OnOk result (IsLog (disk_of device.new) log.new) }
+{
+    match name {
+        "reserve" => {
+            make_room(device, log, rest)?;
+            Ok(())
+        }
+        "add-reserved" => {
+            add_reserved(device, log, number(rest));
+            Ok(())
+        }
+        _ => flush_reserved(device, log),
+    }
+}
+
+// The call that a line says: `add COUNT`, `flush`, `note BYTES`, `reset LSN BYTES`, `truncate LSN`, or one that needs room.
 fn call(alloc: Global, device: &mut MemDevice, log: &mut Log, line: &str) -> Result<(), LogError>
     requires fit { log.old.failed ≡ false }
     requires stands { IsLog (disk_of device.old) log.old }
@@ -107,13 +183,14 @@ fn call(alloc: Global, device: &mut MemDevice, log: &mut Log, line: &str) -> Res
     let (name, rest) = line.split_once(' ').unwrap_or((line, ""));
     match name {
         "add" => {
-            add(alloc, device, log, number(rest))?;
+            add(device, log, number(rest))?;
             Ok(())
         }
         "flush" => log.flush(alloc, device),
         "note" => set_note(alloc, device, log, rest),
         "reset" => reset(alloc, device, log, rest),
-        _ => truncate(device, log, number(rest)),
+        "truncate" => truncate(device, log, number(rest)),
+        _ => call_reserved(device, log, name, rest),
     }
 }
 

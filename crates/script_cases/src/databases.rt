@@ -1,18 +1,18 @@
 // Items on databases.
-use bk_ids::Text;
+use crate::words::{add_count, add_name, add_pieces};
 use bk_items::{NewFile, NewGroup, ScriptItem, Size};
 use std::alloc::AllocError;
 
 fn add_size(out: &mut String, size: &Size) -> Result<(), AllocError> {
-    let count = size.count;
+    add_count(out, size.count)?;
     match size.unit {
-        Some(unit) => write!(out, " {count} {unit:?}"),
-        None => write!(out, " {count}"),
+        Some(unit) => write!(out, " {unit:?}"),
+        None => Ok(()),
     }
 }
 
 fn add_file(out: &mut String, file: &NewFile) -> Result<(), AllocError> {
-    write!(out, " ({} {}", file.name.as_str(), file.path.as_str())?;
+    add_pieces(out, &[" (", file.name.as_str(), " ", file.path.as_str()])?;
     if let Some(size) = &file.size {
         add_size(out, size)?;
     }
@@ -28,7 +28,7 @@ fn add_files(out: &mut String, files: &[NewFile]) -> Result<(), AllocError> {
 
 fn add_groups(out: &mut String, groups: &[NewGroup]) -> Result<(), AllocError> {
     for group in groups {
-        write!(out, " group {}", group.name.as_str())?;
+        add_name(out, " group", &group.name)?;
         add_files(out, group.files.as_slice())?;
     }
     Ok(())
@@ -42,10 +42,6 @@ fn add_log(out: &mut String, log: &Option<NewFile>) -> Result<(), AllocError> {
         }
         None => Ok(()),
     }
-}
-
-fn add_name(out: &mut String, word: &str, name: &Text) -> Result<(), AllocError> {
-    write!(out, "{word} {}", name.as_str())
 }
 
 /// Adds what the item is: one on databases.
@@ -64,7 +60,8 @@ pub fn add_database_item(out: &mut String, item: &ScriptItem) -> Result<(), Allo
         }
         ScriptItem::Use { database } => add_name(out, "use", database),
         ScriptItem::SetRecovery { database, model } => {
-            write!(out, "recovery {} {model:?}", database.as_str())
+            add_name(out, "recovery", database)?;
+            write!(out, " {model:?}")
         }
         ScriptItem::DropDatabase { database } => add_name(out, "drop", database),
         _ => out.push_str("?"),

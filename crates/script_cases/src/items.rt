@@ -2,17 +2,18 @@
 use crate::databases::add_database_item;
 use crate::media::add_media_item;
 use crate::rows::add_row_item;
+use crate::words::add_counted;
 use bk_items::{ScriptEntry, ScriptItem};
 use bk_syntax::items;
 use std::alloc::{AllocError, Global};
 
 fn add_item(out: &mut String, item: &ScriptItem) -> Result<(), AllocError> {
     match item {
-        ScriptItem::Session { number } => write!(out, "session {number}"),
+        ScriptItem::Session { number } => add_counted(out, "session", *number),
         ScriptItem::Start => out.push_str("start"),
-        ScriptItem::Step { count } => write!(out, "step {count}"),
+        ScriptItem::Step { count } => add_counted(out, "step", *count),
         ScriptItem::Wait => out.push_str("wait"),
-        ScriptItem::Syntax { line } => write!(out, "syntax {line}"),
+        ScriptItem::Syntax { line } => add_counted(out, "syntax", u64::from(*line)),
         ScriptItem::TooLong => out.push_str("too long"),
         ScriptItem::BackupDatabase { .. }
         | ScriptItem::BackupLog { .. }

@@ -1,15 +1,23 @@
 // Items on media.
 use crate::options::{add_backup_options, add_restore_options};
+use crate::words::{add_count, add_name, add_pieces};
 use bk_ids::Text;
-use bk_items::{MediumQuery, RestoredUnits, ScriptItem, UnitName};
+use bk_items::{MediumQuery, PageName, RestoredUnits, ScriptItem, UnitName};
 use std::alloc::AllocError;
 
 fn add_units(out: &mut String, units: &[UnitName]) -> Result<(), AllocError> {
     for unit in units {
         match unit {
-            UnitName::File(name) => write!(out, " file {}", name.as_str())?,
-            UnitName::Group(name) => write!(out, " group {}", name.as_str())?,
+            UnitName::File(name) => add_name(out, " file", name)?,
+            UnitName::Group(name) => add_name(out, " group", name)?,
         }
+    }
+    Ok(())
+}
+
+fn add_pages(out: &mut String, pages: &[PageName]) -> Result<(), AllocError> {
+    for name in pages {
+        write!(out, " page {}:{}", name.file, name.page)?;
     }
     Ok(())
 }
@@ -17,18 +25,13 @@ fn add_units(out: &mut String, units: &[UnitName]) -> Result<(), AllocError> {
 fn add_restored(out: &mut String, restored: &RestoredUnits) -> Result<(), AllocError> {
     match restored {
         RestoredUnits::Named { units } => add_units(out, units.as_slice()),
-        RestoredUnits::Pages { pages } => {
-            for name in pages.as_slice() {
-                write!(out, " page {}:{}", name.file, name.page)?;
-            }
-            Ok(())
-        }
+        RestoredUnits::Pages { pages } => add_pages(out, pages.as_slice()),
     }
 }
 
 fn add_origin(out: &mut String, disk: &Option<Text>) -> Result<(), AllocError> {
     match disk {
-        Some(disk) => write!(out, " from {}", disk.as_str()),
+        Some(disk) => add_name(out, " from", disk),
         None => Ok(()),
     }
 }
@@ -39,10 +42,11 @@ fn add_query(
     disk: &Text,
     file: Option<u64>,
 ) -> Result<(), AllocError> {
-    let disk = disk.as_str();
+    write!(out, "{query:?}")?;
+    add_name(out, "", disk)?;
     match file {
-        Some(file) => write!(out, "{query:?} {disk} {file}"),
-        None => write!(out, "{query:?} {disk}"),
+        Some(file) => add_count(out, file),
+        None => Ok(()),
     }
 }
 
@@ -54,7 +58,7 @@ fn add_restore_item(out: &mut String, item: &ScriptItem) -> Result<(), AllocErro
             disk,
             options,
         } => {
-            write!(out, "restore {}", database.as_str())?;
+            add_name(out, "restore", database)?;
             add_restored(out, units)?;
             add_origin(out, disk)?;
             add_restore_options(out, options)
@@ -64,7 +68,7 @@ fn add_restore_item(out: &mut String, item: &ScriptItem) -> Result<(), AllocErro
             disk,
             options,
         } => {
-            write!(out, "restore log {}", database.as_str())?;
+            add_name(out, "restore log", database)?;
             add_origin(out, disk)?;
             add_restore_options(out, options)
         }
@@ -82,9 +86,9 @@ pub fn add_media_item(out: &mut String, item: &ScriptItem) -> Result<(), AllocEr
             disk,
             options,
         } => {
-            write!(out, "backup {}", database.as_str())?;
+            add_name(out, "backup", database)?;
             add_units(out, units.as_slice())?;
-            write!(out, " to {}", disk.as_str())?;
+            add_name(out, " to", disk)?;
             add_backup_options(out, options)
         }
         ScriptItem::BackupLog {
@@ -92,7 +96,10 @@ pub fn add_media_item(out: &mut String, item: &ScriptItem) -> Result<(), AllocEr
             disk,
             options,
         } => {
-            write!(out, "backup log {} to {}", database.as_str(), disk.as_str())?;
+            add_pieces(
+                out,
+                &["backup log ", database.as_str(), " to ", disk.as_str()],
+            )?;
             add_backup_options(out, options)
         }
         _ => add_restore_item(out, item),

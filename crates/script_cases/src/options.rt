@@ -1,5 +1,5 @@
 // The options of BACKUP and RESTORE.
-use crate::words::{add_number, add_switch, add_words};
+use crate::words::{add_count, add_name, add_number, add_pieces, add_switch, add_text, add_words};
 use bk_items::{BackupOptions, Ending, FileMove, IdleOptions, RestoreOptions, StopMark, Stopping};
 use std::alloc::AllocError;
 
@@ -34,7 +34,7 @@ fn add_kinds(out: &mut String, o: &BackupOptions) -> Result<(), AllocError> {
 
 fn add_valued(out: &mut String, o: &BackupOptions) -> Result<(), AllocError> {
     if let Some(name) = &o.name {
-        write!(out, " name '{}'", name.as_str())?;
+        add_text(out, " name", name)?;
     }
     add_number(out, "expire", o.expire)?;
     add_number(out, "retain", o.retain)
@@ -59,7 +59,7 @@ fn add_ending(out: &mut String, ending: &Option<Ending>) -> Result<(), AllocErro
     match ending {
         Some(Ending::Recovery) => out.push_str(" recovery"),
         Some(Ending::NoRecovery) => out.push_str(" norecovery"),
-        Some(Ending::Standby { path }) => write!(out, " standby {}", path.as_str()),
+        Some(Ending::Standby { path }) => add_name(out, " standby", path),
         None => Ok(()),
     }
 }
@@ -70,14 +70,17 @@ fn add_mark(
     mark: &StopMark,
     after: Option<u64>,
 ) -> Result<(), AllocError> {
-    write!(out, " {place} mark '{}'", mark.text.as_str())?;
+    add_pieces(out, &[" ", place, " mark '", mark.text.as_str(), "'"])?;
     add_number(out, "lsn", mark.lsn)?;
     add_number(out, "after", after)
 }
 
 fn add_stop(out: &mut String, stop: &Option<Stopping>) -> Result<(), AllocError> {
     match stop {
-        Some(Stopping::At { text, time }) => write!(out, " at '{}' {time}", text.as_str()),
+        Some(Stopping::At { text, time }) => {
+            add_text(out, " at", text)?;
+            add_count(out, *time)
+        }
         Some(Stopping::AtMark { mark, after }) => add_mark(out, "at", mark, *after),
         Some(Stopping::BeforeMark { mark, after }) => add_mark(out, "before", mark, *after),
         None => Ok(()),
@@ -86,7 +89,10 @@ fn add_stop(out: &mut String, stop: &Option<Stopping>) -> Result<(), AllocError>
 
 fn add_moves(out: &mut String, moves: &[FileMove]) -> Result<(), AllocError> {
     for one in moves {
-        write!(out, " move {} to {}", one.name.as_str(), one.path.as_str())?;
+        add_pieces(
+            out,
+            &[" move ", one.name.as_str(), " to ", one.path.as_str()],
+        )?;
     }
     Ok(())
 }

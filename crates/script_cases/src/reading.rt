@@ -7,7 +7,9 @@ use std::alloc::{AllocError, Global};
 pub fn add_read(alloc: Global, src: &[u8], out: &mut String) -> Result<(), AllocError> {
     let mut reader = Reader::new(alloc);
     while let Some(entry) = reader.next(alloc, src)? {
-        add_entry(out, &entry)?;
+        let done = add_entry(out, &entry);
+        drop(entry);
+        done?;
     }
     Ok(())
 }

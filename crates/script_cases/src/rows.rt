@@ -1,4 +1,6 @@
 // Items on tables, rows and transactions.
+use crate::words::{add_count, add_name, add_pieces, add_text};
+use bk_ids::Text;
 use bk_items::{Marking, NamedTransaction, RowStatement, ScriptItem};
 use std::alloc::AllocError;
 
@@ -9,9 +11,9 @@ fn add_begin(out: &mut String, transaction: &Option<NamedTransaction>) -> Result
     };
     let name = begun.name.as_str();
     match &begun.marking {
-        Marking::Unmarked => write!(out, " {name}"),
-        Marking::Marked => write!(out, " {name} marked"),
-        Marking::Described(text) => write!(out, " {name} marked '{}'", text.as_str()),
+        Marking::Unmarked => add_pieces(out, &[" ", name]),
+        Marking::Marked => add_pieces(out, &[" ", name, " marked"]),
+        Marking::Described(text) => add_pieces(out, &[" ", name, " marked '", text.as_str(), "'"]),
     }
 }
 
@@ -26,37 +28,69 @@ fn add_transaction_item(out: &mut String, item: &ScriptItem) -> Result<(), Alloc
     }
 }
 
+fn add_insert(out: &mut String, table: &str, key: u64, value: &Text) -> Result<(), AllocError> {
+    add_pieces(out, &["insert ", table])?;
+    add_count(out, key)?;
+    add_text(out, "", value)
+}
+
+fn add_update(out: &mut String, table: &str, key: u64, value: &Text) -> Result<(), AllocError> {
+    add_pieces(out, &["update ", table, " '", value.as_str(), "'"])?;
+    add_count(out, key)
+}
+
+fn add_of_key(
+    out: &mut String,
+    word: &str,
+    table: &str,
+    key: Option<u64>,
+) -> Result<(), AllocError> {
+    add_pieces(out, &[word, table])?;
+    match key {
+        Some(key) => add_count(out, key),
+        None => Ok(()),
+    }
+}
+
+fn add_load(
+    out: &mut String,
+    table: &str,
+    first: u64,
+    count: u64,
+    value: &Text,
+) -> Result<(), AllocError> {
+    add_pieces(out, &["bulk ", table])?;
+    add_count(out, first)?;
+    add_count(out, count)?;
+    add_text(out, "", value)
+}
+
 fn add_statement(
     out: &mut String,
     table: &str,
     statement: &RowStatement,
 ) -> Result<(), AllocError> {
     match statement {
-        RowStatement::Insert { key, value } => {
-            write!(out, "insert {table} {key} '{}'", value.as_str())
-        }
-        RowStatement::Update { key, value } => {
-            write!(out, "update {table} '{}' {key}", value.as_str())
-        }
-        RowStatement::Delete { key } => write!(out, "delete {table} {key}"),
-        RowStatement::Select { key: None } => write!(out, "select {table}"),
-        RowStatement::Select { key: Some(key) } => write!(out, "select {table} {key}"),
+        RowStatement::Insert { key, value } => add_insert(out, table, *key, value),
+        RowStatement::Update { key, value } => add_update(out, table, *key, value),
+        RowStatement::Delete { key } => add_of_key(out, "delete ", table, Some(*key)),
+        RowStatement::Select { key } => add_of_key(out, "select ", table, *key),
         RowStatement::BulkInsert {
             first,
             count,
             value,
-        } => write!(out, "bulk {table} {first} {count} '{}'", value.as_str()),
+        } => add_load(out, table, *first, *count, value),
     }
 }
 
 /// Adds what the item is: one on tables, rows or transactions.
 pub fn add_row_item(out: &mut String, item: &ScriptItem) -> Result<(), AllocError> {
     match item {
-        ScriptItem::CreateTable { table, group: None } => write!(out, "table {}", table.as_str()),
+        ScriptItem::CreateTable { table, group: None } => add_name(out, "table", table),
         ScriptItem::CreateTable {
             table,
             group: Some(group),
-        } => write!(out, "table {} on {}", table.as_str(), group.as_str()),
+        } => add_pieces(out, &["table ", table.as_str(), " on ", group.as_str()]),
         ScriptItem::Rows { table, statement } => add_statement(out, table.as_str(), statement),
         _ => add_transaction_item(out, item),
     }

@@ -1,4 +1,5 @@
 // Tokens as lines.
+use crate::words::add_pieces;
 use bk_token::{Kind, Token, bytes_of, is_plain, is_reserved, name_of, text_of, tokens};
 use std::alloc::{AllocError, Global};
 
@@ -31,13 +32,13 @@ fn add_said_by(
     out: &mut String,
 ) -> Result<(), AllocError> {
     if let Some(name) = name_of(alloc, src, token)? {
-        writeln!(out, "name {name}")?;
+        add_pieces(out, &["name ", name.as_str(), "\n"])?;
     }
     if let Some(text) = text_of(alloc, src, token)? {
-        writeln!(out, "text {text}")?;
+        add_pieces(out, &["text ", text.as_str(), "\n"])?;
     }
     if is_reserved(bytes_of(src, token)) {
-        writeln!(out, "reserved")?;
+        out.push_str("reserved\n")?;
     }
     Ok(())
 }

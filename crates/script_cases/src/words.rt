@@ -1,5 +1,29 @@
-// Words that are there or not.
+// Pieces of lines, and words that are there or not.
+use bk_ids::Text;
 use std::alloc::AllocError;
+
+/// Adds pieces, one behind the other.
+pub fn add_pieces(out: &mut String, pieces: &[&str]) -> Result<(), AllocError> {
+    for piece in pieces {
+        out.push_str(piece)?;
+    }
+    Ok(())
+}
+
+/// Adds a word, and behind a blank a name.
+pub fn add_name(out: &mut String, word: &str, name: &Text) -> Result<(), AllocError> {
+    add_pieces(out, &[word, " ", name.as_str()])
+}
+
+/// Adds a word, and behind a blank a text in quotes.
+pub fn add_text(out: &mut String, word: &str, text: &Text) -> Result<(), AllocError> {
+    add_pieces(out, &[word, " '", text.as_str(), "'"])
+}
+
+/// Adds a number behind a blank.
+pub fn add_count(out: &mut String, count: u64) -> Result<(), AllocError> {
+    write!(out, " {count}")
+}
 
 fn add_word(out: &mut String, word: &str) -> Result<(), AllocError> {
     out.push(' ')?;
@@ -30,10 +54,19 @@ pub fn add_switch(
     }
 }
 
+/// Adds a word, and behind a blank a number.
+pub fn add_counted(out: &mut String, word: &str, count: u64) -> Result<(), AllocError> {
+    out.push_str(word)?;
+    add_count(out, count)
+}
+
 /// Adds the word and the number, each behind a blank, if it is there.
 pub fn add_number(out: &mut String, word: &str, number: Option<u64>) -> Result<(), AllocError> {
     match number {
-        Some(number) => write!(out, " {word} {number}"),
+        Some(number) => {
+            out.push(' ')?;
+            add_counted(out, word, number)
+        }
         None => Ok(()),
     }
 }

@@ -3,10 +3,10 @@ ghost use Rattle.bk_acts.specs.Spelling.{KeepsAct};
 
 use crate::{records, sets};
 use bk_acts::{StoredAct, Unread, acts_law, encode_act, read_act};
-use bk_ids::{Guid, Lsn, Name};
+use bk_ids::{Guid, Lsn, Mark, Name};
 use bk_record::Records;
 use bk_set::SetBody;
-use bk_world::{Creation, Header, Storage};
+use bk_world::{Creation, Header, Open, Storage};
 use std::alloc::{AllocError, Global};
 
 // The spelling of an act.
@@ -20,20 +20,53 @@ fn spelling(alloc: Global, act: &StoredAct) -> Result<Option<Vec<u8>>, AllocErro
 pub fn spelled_again(alloc: Global, bytes: &[u8]) -> Result<Option<Vec<u8>>, AllocError> {
     acts_law();
     match read_act(alloc, bytes) {
-        Ok(act) => spelling(alloc, &act),
+        Ok(act) => {
+            let again = spelling(alloc, &act);
+            drop(act);
+            again
+        }
         Err(Unread::NoAct) => Ok(None),
         Err(Unread::NoMemory) => Err(AllocError),
     }
 }
 
+// The mark of a transaction, behind what is told of it.
+fn show_mark(mark: &Mark, out: &mut String) -> Result<(), AllocError> {
+    out.push_str(", marked ")?;
+    out.push_str(mark.name.as_str())?;
+    if let Some(text) = &mark.description {
+        out.push_str(": ")?;
+        out.push_str(text.as_str())?;
+    }
+    Ok(())
+}
+
+fn show_open(open: &Open, out: &mut String) -> Result<(), AllocError> {
+    let (session, begin) = (open.session, open.begin);
+    write!(out, "open in session {session} since {begin}")?;
+    if let Some(mark) = &open.mark {
+        show_mark(mark, out)?;
+    }
+    out.push_str("\n")
+}
+
+fn show_opens(transactions: &[Open], out: &mut String) -> Result<(), AllocError> {
+    for open in transactions {
+        show_open(open, out)?;
+    }
+    Ok(())
+}
+
 fn show_logged(
     alloc: Global,
     name: &Name,
+    transactions: &[Open],
     records: &Records,
     out: &mut String,
 ) -> Result<(), AllocError> {
     let name = name.as_str();
     writeln!(out, "logged {name}")?;
+    show_opens(transactions, out)?;
     if records.is_empty() {
         return out.push_str("nothing\n");
     }
@@ -99,7 +132,11 @@ fn show_act(alloc: Global, act: &StoredAct, out: &mut String) -> Result<(), Allo
             let name = name.as_str();
             writeln!(out, "dropped {name}")
         }
-        StoredAct::Logged { name, records } => show_logged(alloc, name, records, out),
+        StoredAct::Logged {
+            name,
+            transactions,
+            records,
+        } => show_logged(alloc, name, transactions.as_slice(), records, out),
         StoredAct::Based { name, header } => show_based(name, header, out),
         StoredAct::Replaced { name, body } => show_replaced(name, body, out),
         StoredAct::Restored { name, base, redo } => {
@@ -118,7 +155,11 @@ fn show_act(alloc: Global, act: &StoredAct, out: &mut String) -> Result<(), Allo
 /// The act that all of these bytes spell.
 pub fn show(alloc: Global, bytes: &[u8], out: &mut String) -> Result<(), AllocError> {
     match read_act(alloc, bytes) {
-        Ok(act) => show_act(alloc, &act, out),
+        Ok(act) => {
+            let done = show_act(alloc, &act, out);
+            drop(act);
+            done
+        }
         Err(Unread::NoAct) => Ok(()),
         Err(Unread::NoMemory) => Err(AllocError),
     }

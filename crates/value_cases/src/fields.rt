@@ -8,7 +8,6 @@ use bk_bytes::{
 use bk_fields::{append_guid, append_model};
 use bk_ids::{Guid, RecoveryModel};
 use std::alloc::AllocError;
-use std::str::SplitWhitespace;
 
 // A line with a field's number, where the field is there.
 fn show_field(field: &str, found: Option<u128>, out: &mut String) -> Result<(), AllocError> {
@@ -19,8 +18,8 @@ fn show_field(field: &str, found: Option<u128>, out: &mut String) -> Result<(), 
 }
 
 /// The numbers of each width at a place.
-pub fn get(words: &mut SplitWhitespace<'_>, bytes: &[u8], out: &mut String) -> Result<(), Fault> {
-    let at = number(words)? as usize;
+pub fn get(words: &[&str], bytes: &[u8], out: &mut String) -> Result<(), Fault> {
+    let at = number(words, 1)? as usize;
     show_field("u16", get_u16(bytes, at).map(u128::from), out)?;
     show_field("u32", get_u32(bytes, at).map(u128::from), out)?;
     show_field("u64", get_u64(bytes, at).map(u128::from), out)?;
@@ -42,10 +41,10 @@ fn put_at(bytes: &mut [u8], at: usize, field: &str, value: u128) -> Option<()> {
 }
 
 /// Writes a number into a field at a place.
-pub fn put(words: &mut SplitWhitespace<'_>, bytes: &mut [u8]) -> Result<(), Fault> {
-    let at = number(words)? as usize;
-    let field = word(words)?;
-    let value = wide(words)?;
+pub fn put(words: &[&str], bytes: &mut [u8]) -> Result<(), Fault> {
+    let at = number(words, 1)? as usize;
+    let field = word(words, 2)?;
+    let value = wide(words, 3)?;
     put_at(bytes, at, field, value).ok_or(Fault::Misspelled)
 }
 
@@ -83,24 +82,27 @@ fn append_named(model: &str, bytes: &mut Vec<u8>) -> Result<(), Fault> {
     Ok(())
 }
 
+// Appends a GUID.
+fn append_halves(guid: Guid, bytes: &mut Vec<u8>) -> Result<(), Fault> {
+    append_guid(bytes, guid)?;
+    Ok(())
+}
+
 /// Appends a field.
-pub fn append(words: &mut SplitWhitespace<'_>, bytes: &mut Vec<u8>) -> Result<(), Fault> {
-    let field = word(words)?;
+pub fn append(words: &[&str], bytes: &mut Vec<u8>) -> Result<(), Fault> {
+    let field = word(words, 1)?;
+    let value = word(words, 2)?;
     match field {
-        "text" => append_short(word(words)?, bytes),
-        "model" => append_named(word(words)?, bytes),
-        "guid" => {
-            let guid = guid(words)?;
-            append_guid(bytes, guid)?;
-            Ok(())
-        }
-        _ => append_number(field, wide(words)?, bytes),
+        "text" => append_short(value, bytes),
+        "model" => append_named(value, bytes),
+        "guid" => append_halves(guid_at(words, 2, 3)?, bytes),
+        _ => append_number(field, number_in(value)?, bytes),
     }
 }
 
-/// The GUID that the next two words spell: its two halves.
-pub fn guid(words: &mut SplitWhitespace<'_>) -> Result<Guid, Fault> {
-    let high = number(words)?;
-    let low = number(words)?;
+/// The GUID whose two halves the words at these places spell.
+pub fn guid_at(words: &[&str], high: usize, low: usize) -> Result<Guid, Fault> {
+    let high = number(words, high)?;
+    let low = number(words, low)?;
     Ok(Guid { high, low })
 }

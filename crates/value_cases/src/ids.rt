@@ -1,10 +1,9 @@
 // Names, texts, GUIDs and digests.
 use crate::fault::Fault;
-use crate::fields::guid;
+use crate::fields::guid_at;
 use crate::words::word;
 use bk_ids::{Digest, Name, NameError, Text};
 use std::alloc::{AllocError, Global};
-use std::str::SplitWhitespace;
 
 // The name that a word spells, or why it spells none.
 fn name_of(alloc: Global, word: &str) -> Result<Result<Name, NameError>, Fault> {
@@ -17,21 +16,17 @@ fn name_of(alloc: Global, word: &str) -> Result<Result<Name, NameError>, Fault> 
     }
 }
 
-// The name that the next word spells.
-fn next_name(alloc: Global, words: &mut SplitWhitespace<'_>) -> Result<Name, Fault> {
-    match name_of(alloc, word(words)?)? {
+// The name that the word at this place spells.
+fn name_at(alloc: Global, words: &[&str], i: usize) -> Result<Name, Fault> {
+    match name_of(alloc, word(words, i)?)? {
         Ok(name) => Ok(name),
         Err(_) => Err(Fault::Misspelled),
     }
 }
 
 /// The copy of a name, or why the word is none.
-pub fn show_name(
-    alloc: Global,
-    words: &mut SplitWhitespace<'_>,
-    out: &mut String,
-) -> Result<(), Fault> {
-    match name_of(alloc, word(words)?)? {
+pub fn show_name(alloc: Global, words: &[&str], out: &mut String) -> Result<(), Fault> {
+    match name_of(alloc, word(words, 1)?)? {
         Ok(name) => {
             let copy = name.copy(alloc)?;
             let text = copy.as_str();
@@ -43,25 +38,17 @@ pub fn show_name(
 }
 
 /// Whether two names are the same.
-pub fn show_same(
-    alloc: Global,
-    words: &mut SplitWhitespace<'_>,
-    out: &mut String,
-) -> Result<(), Fault> {
-    let one = next_name(alloc, words)?;
-    let other = next_name(alloc, words)?;
+pub fn show_same(alloc: Global, words: &[&str], out: &mut String) -> Result<(), Fault> {
+    let one = name_at(alloc, words, 1)?;
+    let other = name_at(alloc, words, 2)?;
     let same = one.same(&other);
     writeln!(out, "{same}")?;
     Ok(())
 }
 
 /// The copy of a text.
-pub fn show_text(
-    alloc: Global,
-    words: &mut SplitWhitespace<'_>,
-    out: &mut String,
-) -> Result<(), Fault> {
-    let text = Text::new(String::from_str(alloc, word(words)?)?);
+pub fn show_text(alloc: Global, words: &[&str], out: &mut String) -> Result<(), Fault> {
+    let text = Text::new(String::from_str(alloc, word(words, 1)?)?);
     let copy = text.copy(alloc)?;
     let text = copy.as_str();
     writeln!(out, "{text}")?;
@@ -69,12 +56,8 @@ pub fn show_text(
 }
 
 /// The text of a GUID.
-pub fn show_guid(
-    alloc: Global,
-    words: &mut SplitWhitespace<'_>,
-    out: &mut String,
-) -> Result<(), Fault> {
-    let text = guid(words)?.text(alloc)?;
+pub fn show_guid(alloc: Global, words: &[&str], out: &mut String) -> Result<(), Fault> {
+    let text = guid_at(words, 1, 2)?.text(alloc)?;
     writeln!(out, "{text}")?;
     Ok(())
 }

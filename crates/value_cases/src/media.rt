@@ -10,7 +10,6 @@ use bk_device::MemDevice;
 use bk_media::{Medium, SetError};
 use bk_set::{Found, SetBody, read_set};
 use std::alloc::{AllocError, Global};
-use std::str::SplitWhitespace;
 
 /// What is done with the medium at a path.
 #[derive(Clone, Copy)]
@@ -33,20 +32,21 @@ pub struct Task<'p, 's> {
     pub set: &'s [u8],
 }
 
-/// The task that an act's name and the words behind it spell.
-pub fn next_task<'p, 's>(
-    act: &str,
-    words: &mut SplitWhitespace<'p>,
-    set: &'s [u8],
-) -> Result<Task<'p, 's>, Fault> {
-    let path = word(words)?;
-    let act = match act {
-        "make" => Act::Make,
-        "add" => Act::Add,
-        "load" => Act::Load,
-        "read" => Act::Read(number(words)? as usize),
-        _ => return Err(Fault::Misspelled),
-    };
+// The act that a word names. Behind the path stands the position that is read.
+fn act_in(act: &str, words: &[&str]) -> Result<Act, Fault> {
+    match act {
+        "make" => Ok(Act::Make),
+        "add" => Ok(Act::Add),
+        "load" => Ok(Act::Load),
+        "read" => Ok(Act::Read(number(words, 2)? as usize)),
+        _ => Err(Fault::Misspelled),
+    }
+}
+
+/// The task that words spell: an act's name, the path, and for a read the position.
+pub fn task_in<'p, 's>(words: &[&'p str], set: &'s [u8]) -> Result<Task<'p, 's>, Fault> {
+    let path = word(words, 1)?;
+    let act = act_in(word(words, 0)?, words)?;
     Ok(Task { act, path, set })
 }
 
@@ -117,8 +117,25 @@ fn load(
     match Medium::load(alloc, device, path) {
         Ok(medium) => {
             let count = medium.count();
+            drop(medium);
             writeln!(out, "{count} sets")
         }
+        Err(error) => writeln!(out, "{error}"),
+    }
+}
+
+fn show_found(
+    alloc: Global,
+    found: Result<SetBody, SetError>,
+    out: &mut String,
+) -> Result<(), AllocError> {
+    match found {
+        Ok(body) => {
+            let done = show_body(&body, out);
+            drop(body);
+            done
+        }
+        Err(SetError::Damaged { stored, found }) => show_digests(alloc, stored, found, out),
         Err(error) => writeln!(out, "{error}"),
     }
 }
@@ -130,17 +147,12 @@ fn read(
     position: usize,
     out: &mut String,
 ) -> Result<(), AllocError> {
-    let medium = match Medium::load(alloc, device, path) {
-        Ok(medium) => medium,
-        Err(error) => return writeln!(out, "{error}"),
-    };
-    match medium.set(alloc, device, position) {
-        Ok(body) => {
-            let done = show_body(&body, out);
-            drop(body);
-            done
+    match Medium::load(alloc, device, path) {
+        Ok(medium) => {
+            let found = medium.set(alloc, device, position);
+            drop(medium);
+            show_found(alloc, found, out)
         }
-        Err(SetError::Damaged { stored, found }) => show_digests(alloc, stored, found, out),
         Err(error) => writeln!(out, "{error}"),
     }
 }

@@ -6,7 +6,6 @@ use crate::fault::Fault;
 use crate::words::{number, number_in, word};
 use bk_ids::{Branch, Guid, Path};
 use std::alloc::{AllocError, Global};
-use std::str::SplitWhitespace;
 
 fn branch_in(text: &str) -> Result<Branch, Fault> {
     let (low, start) = text.split_once("@").ok_or(Fault::Misspelled)?;
@@ -18,20 +17,19 @@ fn branch_in(text: &str) -> Result<Branch, Fault> {
     })
 }
 
-// The path that the next word spells.
-fn next_path(alloc: Global, words: &mut SplitWhitespace<'_>) -> Result<Path, Fault> {
-    let mut branches = Vec::new(alloc);
-    for text in word(words)?.split(",") {
-        branches.push(branch_in(text)?)?;
+fn add_branches(word: &str, branches: &mut Vec<Branch>) -> Result<(), Fault> {
+    for text in word.split(",") {
+        let branch = branch_in(text)?;
+        branches.push(branch)?;
     }
-    Ok(Path::new(branches))
+    Ok(())
 }
 
-// The path and the number that the next words spell.
-fn next_end(alloc: Global, words: &mut SplitWhitespace<'_>) -> Result<(Path, u64), Fault> {
-    let path = next_path(alloc, words)?;
-    let end = number(words)?;
-    Ok((path, end))
+// The path that the word at this place spells.
+fn path_at(alloc: Global, words: &[&str], i: usize) -> Result<Path, Fault> {
+    let mut branches = Vec::new(alloc);
+    add_branches(word(words, i)?, &mut branches)?;
+    Ok(Path::new(branches))
 }
 
 fn show(path: &Path, out: &mut String) -> Result<(), AllocError> {
@@ -62,48 +60,32 @@ fn is_path(path: &[Branch]) -> bool
 }
 
 /// The copy of a path.
-pub fn show_copy(
-    alloc: Global,
-    words: &mut SplitWhitespace<'_>,
-    out: &mut String,
-) -> Result<(), Fault> {
-    let path = next_path(alloc, words)?.copy(alloc)?;
+pub fn show_copy(alloc: Global, words: &[&str], out: &mut String) -> Result<(), Fault> {
+    let path = path_at(alloc, words, 1)?.copy(alloc)?;
     show(&path, out)?;
     Ok(())
 }
 
 /// A path without the branches from a number on.
-pub fn show_cut(
-    alloc: Global,
-    words: &mut SplitWhitespace<'_>,
-    out: &mut String,
-) -> Result<(), Fault> {
-    let path = next_path(alloc, words)?;
-    let path = path.cut(alloc, number(words)?)?;
+pub fn show_cut(alloc: Global, words: &[&str], out: &mut String) -> Result<(), Fault> {
+    let path = path_at(alloc, words, 1)?;
+    let path = path.cut(alloc, number(words, 2)?)?;
     show(&path, out)?;
     Ok(())
 }
 
 /// A path with one more branch.
-pub fn show_grown(
-    alloc: Global,
-    words: &mut SplitWhitespace<'_>,
-    out: &mut String,
-) -> Result<(), Fault> {
-    let path = next_path(alloc, words)?;
-    let path = path.grown(alloc, branch_in(word(words)?)?)?;
+pub fn show_grown(alloc: Global, words: &[&str], out: &mut String) -> Result<(), Fault> {
+    let path = path_at(alloc, words, 1)?;
+    let path = path.grown(alloc, branch_in(word(words, 2)?)?)?;
     show(&path, out)?;
     Ok(())
 }
 
 /// The branch of a path at a number.
-pub fn show_branch(
-    alloc: Global,
-    words: &mut SplitWhitespace<'_>,
-    out: &mut String,
-) -> Result<(), Fault> {
-    let path = next_path(alloc, words)?;
-    let n = number(words)?;
+pub fn show_branch(alloc: Global, words: &[&str], out: &mut String) -> Result<(), Fault> {
+    let path = path_at(alloc, words, 1)?;
+    let n = number(words, 2)?;
     if n == 0 || !is_path(path.as_slice()) {
         return Err(Fault::Misspelled);
     }
@@ -113,13 +95,10 @@ pub fn show_branch(
 }
 
 /// Where two paths part, below a number of each.
-pub fn show_differ(
-    alloc: Global,
-    words: &mut SplitWhitespace<'_>,
-    out: &mut String,
-) -> Result<(), Fault> {
-    let (path, end) = next_end(alloc, words)?;
-    let (other, other_end) = next_end(alloc, words)?;
+pub fn show_differ(alloc: Global, words: &[&str], out: &mut String) -> Result<(), Fault> {
+    let (end, other_end) = (number(words, 2)?, number(words, 4)?);
+    let path = path_at(alloc, words, 1)?;
+    let other = path_at(alloc, words, 3)?;
     match path.differ(end, &other, other_end) {
         Some(n) => writeln!(out, "{n}")?,
         None => writeln!(out, "none")?,

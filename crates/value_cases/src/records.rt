@@ -1,11 +1,12 @@
 // Log records.
 ghost use Rattle.std.specs.Prelude.{◌≡◌, ◌<◌, length, IfOk};
+ghost use Rattle.bk_ids.specs.declared.record.Body.TheVariants.{Bulk};
 ghost use Rattle.bk_record.specs.Extents.{extents_shown};
 ghost use Rattle.bk_record.specs.Spelling.{IsBody, IsMark, IsRecord};
 ghost use Rattle.bk_record.specs.View.{body_of, mark_of, record_of};
 
 use bk_bytes::Cell;
-use bk_ids::{Body, CellImage, ExtentId, Mark, Name, Rec, Sequence, Text};
+use bk_ids::{Body, CellImage, ExtentId, Mark, Name, Place, Rec, Sequence, Text};
 use bk_record::{BodyRef, Extents, MarkRef, RecRef, cursor, encode};
 use std::alloc::{AllocError, Global};
 
@@ -51,15 +52,6 @@ fn owned_body(alloc: Global, body: BodyRef<'_>) -> Result<Body, AllocError>
     ensures { IfOk result (λ own. own ≡ body_of body.entry) }
 {
     match body {
-        BodyRef::Database {
-            time,
-            family,
-            branch,
-        } => Ok(Body::Database {
-            time,
-            family,
-            branch,
-        }),
         BodyRef::Table {
             time,
             number,
@@ -74,7 +66,71 @@ fn owned_body(alloc: Global, body: BodyRef<'_>) -> Result<Body, AllocError>
                 group,
             })
         }
+        BodyRef::Commit { time, mark } => {
+            let mark = owned_mark(alloc, mark)?;
+            Ok(Body::Commit { time, mark })
+        }
+        BodyRef::Bulk {
+            table,
+            first,
+            count,
+            value,
+            extents,
+        } => owned_load(alloc, table, first, count, value, extents),
+        _ => owned_plain(body),
+    }
+}
+
+fn owned_load(
+    alloc: Global,
+    table: u32,
+    first: u64,
+    count: u32,
+    value: &str,
+    extents: Extents<'_>,
+) -> Result<Body, AllocError>
+    ensures { IfOk result (λ own. own ≡ Bulk table first count value.now (extents_shown extents.entry)) }
+{
+    let value = text_of(alloc, value)?;
+    let extents = owned_extents(alloc, extents)?;
+    Ok(Body::Bulk {
+        table,
+        first,
+        count,
+        value,
+        extents,
+    })
+}
+
+// The same of a record that tells neither a name nor a text.
+fn owned_plain(body: BodyRef<'_>) -> Result<Body, AllocError>
+    ensures { IfOk result (λ own. own ≡ body_of body.entry) }
+{
+    match body {
+        BodyRef::Database {
+            time,
+            family,
+            branch,
+        } => Ok(Body::Database {
+            time,
+            family,
+            branch,
+        }),
         BodyRef::Begin => Ok(Body::Begin),
+        BodyRef::RollbackEnd => Ok(Body::RollbackEnd),
+        BodyRef::Checkpoint { time } => Ok(Body::Checkpoint { time }),
+        BodyRef::Stamp { time, set } => Ok(Body::Stamp { time, set }),
+        BodyRef::Model { time, model } => Ok(Body::Model { time, model }),
+        BodyRef::Recovery { branch } => Ok(Body::Recovery { branch }),
+        _ => owned_cells(body),
+    }
+}
+
+// The same of a record that tells cells alone; no other comes here.
+fn owned_cells(body: BodyRef<'_>) -> Result<Body, AllocError>
+    ensures { IfOk result (λ own. own ≡ body_of body.entry) }
+{
+    match body {
         BodyRef::Write {
             place,
             before,
@@ -84,11 +140,6 @@ fn owned_body(alloc: Global, body: BodyRef<'_>) -> Result<Body, AllocError>
             before: CellImage { bytes: *before },
             after: CellImage { bytes: *after },
         }),
-        BodyRef::Commit { time, mark } => {
-            let mark = owned_mark(alloc, mark)?;
-            Ok(Body::Commit { time, mark })
-        }
-        BodyRef::RollbackEnd => Ok(Body::RollbackEnd),
         BodyRef::Compensation {
             place,
             cell,
@@ -98,27 +149,7 @@ fn owned_body(alloc: Global, body: BodyRef<'_>) -> Result<Body, AllocError>
             cell: CellImage { bytes: *cell },
             undone,
         }),
-        BodyRef::Checkpoint { time } => Ok(Body::Checkpoint { time }),
-        BodyRef::Stamp { time, set } => Ok(Body::Stamp { time, set }),
-        BodyRef::Model { time, model } => Ok(Body::Model { time, model }),
-        BodyRef::Bulk {
-            table,
-            first,
-            count,
-            value,
-            extents,
-        } => {
-            let value = text_of(alloc, value)?;
-            let extents = owned_extents(alloc, extents)?;
-            Ok(Body::Bulk {
-                table,
-                first,
-                count,
-                value,
-                extents,
-            })
-        }
-        BodyRef::Recovery { branch } => Ok(Body::Recovery { branch }),
+        _ => Err(AllocError),
     }
 }
 
@@ -156,24 +187,38 @@ fn show_extents(extents: Extents<'_>, out: &mut String) -> Result<(), AllocError
     Ok(())
 }
 
+fn show_write(
+    place: Place,
+    before: &[u8; 128],
+    after: &[u8; 128],
+    out: &mut String,
+) -> Result<(), AllocError> {
+    let (before, after) = (Cell::read(before), Cell::read(after));
+    writeln!(out, "Write {place:?} {before:?} {after:?}")
+}
+
+fn show_compensation(
+    place: Place,
+    cell: &[u8; 128],
+    undone: u64,
+    out: &mut String,
+) -> Result<(), AllocError> {
+    let cell = Cell::read(cell);
+    writeln!(out, "Compensation {place:?} {cell:?} {undone}")
+}
+
 fn show_body(body: BodyRef<'_>, out: &mut String) -> Result<(), AllocError> {
     match body {
         BodyRef::Write {
             place,
             before,
             after,
-        } => {
-            let (before, after) = (Cell::read(before), Cell::read(after));
-            writeln!(out, "Write {place:?} {before:?} {after:?}")
-        }
+        } => show_write(place, before, after, out),
         BodyRef::Compensation {
             place,
             cell,
             undone,
-        } => {
-            let cell = Cell::read(cell);
-            writeln!(out, "Compensation {place:?} {cell:?} {undone}")
-        }
+        } => show_compensation(place, cell, undone, out),
         BodyRef::Bulk {
             table,
             first,
@@ -191,14 +236,16 @@ fn show_body(body: BodyRef<'_>, out: &mut String) -> Result<(), AllocError> {
     }
 }
 
+fn show_record(record: &RecRef<'_>, out: &mut String) -> Result<(), AllocError> {
+    write!(out, "{} {} ", record.lsn, record.begin)?;
+    show_body(record.body, out)
+}
+
 /// The records that bytes spell, and where no record is spelled.
 pub fn show(bytes: &[u8], out: &mut String) -> Result<(), AllocError> {
     for record in cursor(bytes) {
         match record {
-            Ok(RecRef { lsn, begin, body }) => {
-                write!(out, "{lsn} {begin} ")?;
-                show_body(body, out)?;
-            }
+            Ok(record) => show_record(&record, out)?,
             Err(bad) => writeln!(out, "{bad}")?,
         }
     }

@@ -4,13 +4,12 @@ ghost use Rattle.bk_device.specs.Disk.{IsSettled};
 ghost use Rattle.bk_device.specs.Replay.{disk_of};
 
 use crate::fault::Fault;
-use crate::media::{Task, next_task, run};
+use crate::media::{Task, run, task_in};
 use crate::words::{number, word};
 use bk_device::{Device, MemDevice};
 use bk_media::{LoadError, Medium, medium_file};
 use std::alloc::{AllocError, Global};
 use std::mem;
-use std::str::SplitWhitespace;
 
 // No task has so many calls.
 const CALLS: u64 = 100;
@@ -35,33 +34,39 @@ impl Shelf {
     pub fn put(
         &mut self,
         command: &str,
-        words: &mut SplitWhitespace<'_>,
+        words: &[&str],
         set: &[u8],
         out: &mut String,
     ) -> Result<(), Fault> {
         match command {
-            "at-each-write" => {
-                let task = next_task(word(words)?, words, set)?;
-                Ok(self.at_each(task, Breach::Stop, out)?)
-            }
-            "at-each-call" => {
-                let task = next_task(word(words)?, words, set)?;
-                Ok(self.at_each(task, Breach::Fail, out)?)
-            }
+            "at-each-write" => self.breach(Breach::Stop, words, set, out),
+            "at-each-call" => self.breach(Breach::Fail, words, set, out),
             "make" | "add" | "load" | "read" => {
-                let task = next_task(command, words, set)?;
+                let task = task_in(words, set)?;
                 Ok(self.act(task, out)?)
             }
             _ => self.file(command, words, set, out),
         }
     }
 
+    // Does the task behind the first word with a breach at each call.
+    fn breach(
+        &self,
+        breach: Breach,
+        words: &[&str],
+        set: &[u8],
+        out: &mut String,
+    ) -> Result<(), Fault> {
+        let task = task_in(words.get(1..).unwrap_or(&[]), set)?;
+        Ok(self.at_each(task, breach, out)?)
+    }
+
     // Does a task.
     fn act(&mut self, task: Task<'_, '_>, out: &mut String) -> Result<(), AllocError> {
         let mut device = self.device.copy()?;
-        run(self.alloc, task, &mut device, out)?;
+        let done = run(self.alloc, task, &mut device, out);
         self.device = device;
-        Ok(())
+        done
     }
 
     // The device, on which a call is to fail.
@@ -163,11 +168,11 @@ impl Shelf {
     fn file(
         &mut self,
         command: &str,
-        words: &mut SplitWhitespace<'_>,
+        words: &[&str],
         bytes: &[u8],
         out: &mut String,
     ) -> Result<(), Fault> {
-        let path = word(words)?;
+        let path = word(words, 1)?;
         let name = medium_file(self.alloc, path)?;
         match command {
             "name-of" => writeln!(out, "{name}")?,
@@ -175,7 +180,7 @@ impl Shelf {
                 let len = self.device.len(&name);
                 writeln!(out, "{len:?}")?;
             }
-            "damage" => self.damage(&name, number(words)?)?,
+            "damage" => self.damage(&name, number(words, 2)?)?,
             "file" => self.store(&name, bytes)?,
             _ => return Err(Fault::Misspelled),
         }

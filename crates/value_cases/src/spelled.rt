@@ -5,7 +5,6 @@ use crate::{acts, headers, records, sets};
 use bk_bytes::Cell;
 use bk_record::check_log;
 use std::alloc::{AllocError, Global};
-use std::str::SplitWhitespace;
 
 /// What bytes are to spell.
 #[derive(Clone, Copy, Debug, PartialEq, Eq)]
@@ -87,6 +86,11 @@ pub fn show(alloc: Global, kind: Kind, bytes: &[u8], out: &mut String) -> Result
     show_spelling(alloc, kind, bytes, out)
 }
 
+// Whether all of these bytes spell something.
+fn is_spelled(alloc: Global, kind: Kind, bytes: &[u8]) -> Result<bool, AllocError> {
+    Ok(spelled_again(alloc, kind, bytes)?.is_some())
+}
+
 /// The lengths below that of the bytes at which their front spells something.
 pub fn show_fronts(
     alloc: Global,
@@ -96,7 +100,7 @@ pub fn show_fronts(
 ) -> Result<(), AllocError> {
     out.push_str("fronts:")?;
     for end in 0..bytes.len() {
-        if spelled_again(alloc, kind, &bytes[..end])?.is_some() {
+        if is_spelled(alloc, kind, &bytes[..end])? {
             write!(out, " {end}")?;
         }
     }
@@ -113,6 +117,27 @@ fn is_harmless(alloc: Global, kind: Kind, bytes: &[u8], at: usize) -> Result<boo
     }
 }
 
+// Changes the byte at a place, or changes it back.
+fn flip(bytes: &mut [u8], at: usize, change: u8) {
+    if let Some(byte) = bytes.get_mut(at) {
+        *byte ^= change;
+    }
+}
+
+// Whether this change of the byte at a place does harm. The bytes are as before afterwards.
+fn does_harm(
+    alloc: Global,
+    kind: Kind,
+    bytes: &mut [u8],
+    at: usize,
+    change: u8,
+) -> Result<bool, AllocError> {
+    flip(bytes, at, change);
+    let is_harmless = is_harmless(alloc, kind, bytes, at);
+    flip(bytes, at, change);
+    Ok(!is_harmless?)
+}
+
 /// How many changes of one byte there are, by three values at each place, and how many of them do harm.
 pub fn show_changes(
     alloc: Global,
@@ -123,31 +148,27 @@ pub fn show_changes(
     let (mut changes, mut harmful) = (0u64, 0u64);
     for at in 0..bytes.len() {
         for change in [1, 0x80, 0xFF] {
-            bytes[at] ^= change;
-            if !is_harmless(alloc, kind, bytes, at)? {
-                harmful = harmful.saturating_add(1);
-            }
-            bytes[at] ^= change;
+            let harm = does_harm(alloc, kind, bytes, at, change)?;
+            harmful = harmful.saturating_add(u64::from(harm));
             changes = changes.saturating_add(1);
         }
     }
     writeln!(out, "{changes} changes, {harmful} harmful")
 }
 
-/// Writes the bytes of a word over those at a place.
-pub fn edit(alloc: Global, words: &mut SplitWhitespace<'_>, bytes: &mut [u8]) -> Result<(), Fault> {
-    let at = number(words)? as usize;
-    let new = bytes_in(alloc, word(words)?)?;
-    match bytes
-        .get_mut(at..)
-        .and_then(|rest| rest.get_mut(..new.len()))
-    {
-        Some(part) => {
-            part.copy_from_slice(&new);
-            Ok(())
-        }
-        None => Err(Fault::Misspelled),
-    }
+// Writes bytes over those at a place, where there are so many.
+fn overwrite(bytes: &mut [u8], at: usize, new: &[u8]) -> Option<()> {
+    let rest = bytes.get_mut(at..)?;
+    let part = rest.get_mut(..new.len())?;
+    part.copy_from_slice(new);
+    Some(())
+}
+
+/// Writes over the bytes at the place that the word of number 1 says those of the word behind it.
+pub fn edit(alloc: Global, words: &[&str], bytes: &mut [u8]) -> Result<(), Fault> {
+    let at = number(words, 1)? as usize;
+    let new = bytes_in(alloc, word(words, 2)?)?;
+    overwrite(bytes, at, &new).ok_or(Fault::Misspelled)
 }
 
 /// What the bytes spell once those of a word are written over those at a place, and a set has its digest again. Further
@@ -155,7 +176,7 @@ pub fn edit(alloc: Global, words: &mut SplitWhitespace<'_>, bytes: &mut [u8]) ->
 pub fn show_with(
     alloc: Global,
     kind: Kind,
-    words: &mut SplitWhitespace<'_>,
+    words: &[&str],
     bytes: &[u8],
     out: &mut String,
 ) -> Result<(), Fault> {

@@ -2,11 +2,10 @@
 use crate::fault::Fault;
 use hex::FromHexError;
 use std::alloc::{AllocError, Global};
-use std::str::SplitWhitespace;
 
-/// The next word.
-pub fn word<'a>(words: &mut SplitWhitespace<'a>) -> Result<&'a str, Fault> {
-    words.next().ok_or(Fault::Misspelled)
+/// The word at this place, from 0.
+pub fn word<'a>(words: &[&'a str], i: usize) -> Result<&'a str, Fault> {
+    words.get(i).copied().ok_or(Fault::Misspelled)
 }
 
 /// The number that a word spells, in decimal digits, or behind `0x` in hexadecimal ones.
@@ -18,14 +17,14 @@ pub fn number_in(word: &str) -> Result<u128, Fault> {
     number.map_err(|_| Fault::Misspelled)
 }
 
-/// The next word, as a number of 128 bits.
-pub fn wide(words: &mut SplitWhitespace<'_>) -> Result<u128, Fault> {
-    number_in(word(words)?)
+/// The word at this place, as a number of 128 bits.
+pub fn wide(words: &[&str], i: usize) -> Result<u128, Fault> {
+    number_in(word(words, i)?)
 }
 
-/// The next word, as a number of 64 bits.
-pub fn number(words: &mut SplitWhitespace<'_>) -> Result<u64, Fault> {
-    u64::try_from(wide(words)?).map_err(|_| Fault::Misspelled)
+/// The word at this place, as a number of 64 bits.
+pub fn number(words: &[&str], i: usize) -> Result<u64, Fault> {
+    u64::try_from(wide(words, i)?).map_err(|_| Fault::Misspelled)
 }
 
 // The bytes of hexadecimal digits.
@@ -37,21 +36,29 @@ fn digits_in(alloc: Global, digits: &str) -> Result<Vec<u8>, Fault> {
     }
 }
 
+// Appends bytes so often.
+fn append_times(bytes: &[u8], times: u128, out: &mut Vec<u8>) -> Result<(), AllocError> {
+    for _ in 0..times {
+        out.extend_from_slice(bytes)?;
+    }
+    Ok(())
+}
+
+// Appends the bytes of some digits so often.
+fn append_digits(alloc: Global, digits: &str, times: u128, out: &mut Vec<u8>) -> Result<(), Fault> {
+    let bytes = digits_in(alloc, digits)?;
+    Ok(append_times(&bytes, times, out)?)
+}
+
 // Appends what a word spells: behind `'` its text, else the bytes of its digits, so often as a number behind `*` says.
 fn append_word(alloc: Global, word: &str, out: &mut Vec<u8>) -> Result<(), Fault> {
     if let Some(text) = word.strip_prefix("'") {
-        out.extend_from_slice(text.as_bytes())?;
-        return Ok(());
+        return Ok(out.extend_from_slice(text.as_bytes())?);
     }
-    let (digits, times) = match word.split_once("*") {
-        Some((digits, times)) => (digits, number_in(times)?),
-        None => (word, 1),
-    };
-    let bytes = digits_in(alloc, digits)?;
-    for _ in 0..times {
-        out.extend_from_slice(&bytes)?;
+    match word.split_once("*") {
+        Some((digits, times)) => append_digits(alloc, digits, number_in(times)?, out),
+        None => append_digits(alloc, word, 1, out),
     }
-    Ok(())
 }
 
 /// The bytes that a word spells.
@@ -61,13 +68,14 @@ pub fn bytes_in(alloc: Global, word: &str) -> Result<Vec<u8>, Fault> {
     Ok(bytes)
 }
 
-/// Appends what the words spell.
+/// Appends what the words from this place on spell.
 pub fn append_words(
     alloc: Global,
-    words: &mut SplitWhitespace<'_>,
+    words: &[&str],
+    from: usize,
     out: &mut Vec<u8>,
 ) -> Result<(), Fault> {
-    for word in words {
+    for word in words.get(from..).unwrap_or(&[]) {
         append_word(alloc, word, out)?;
     }
     Ok(())

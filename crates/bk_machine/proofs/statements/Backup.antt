@@ -19,36 +19,37 @@ use Rattle.bk_world.specs.Says.{alone}
 use Rattle.bk_world.specs.Telling.{model, telling, time}
 use Rattle.bk_machine.specs.Acts.{based, done, drawn, gone_on, logged, medium_made, said_time, says, set_sealed}
 use Rattle.bk_machine.specs.Built.{IsBuilt, IsBuiltLog, SayNoLoad}
-use Rattle.bk_machine.specs.Checks.{is_path, limit, online, or_refuse, refuse_if, used_up}
+use Rattle.bk_machine.specs.Checks.{is_path, limit, online, or_refuse, outside, refuse_if, used_up}
 use Rattle.bk_machine.specs.MayDo.{MayDoAll}
-use Rattle.bk_machine.specs.Sound.{AreIdle, AreNumbered, IsHeld, IsLog, IsPassed, IsReached, IsSound, IsSoundSet, files_of_set}
+use Rattle.bk_machine.specs.Sound.{AreNumbered, IsHeld, IsLog, IsPassed, IsReached, IsSound, IsSoundSet, files_of_set}
 use Rattle.bk_machine.specs.World.{World, Database, database_named, log_of}
-use Rattle.bk_machine.specs.statements.Backup.{check_backup, full_backup, full_header, is_whole_backup, DoesBackup}
+use Rattle.bk_machine.specs.statements.Backup.{check_backup, full_backup, full_header, has_open, is_whole_backup, DoesBackup}
 use Rattle.bk_machine.proofs.Acting.{act-sound}
 use Rattle.bk_machine.proofs.Loads.{BuiltIn, act-built}
 use Rattle.bk_machine.specs.NamedLaws.{named-own, of-named}
 use Rattle.bk_machine.specs.CheckLaws.{Up, passed, was-found, was-online}
 use Rattle.bk_machine.specs.Outcome.{Outcome}
-use Rattle.bk_machine.proofs.statements.Facts.{Facts, facts-of, own-checkpoint, own-stamp}
-use Rattle.bk_machine.proofs.statements.Idling.{idle-done}
-use Rattle.bk_machine.specs.ReadyLaws.{IsReady, ready}
-use Rattle.bk_machine.proofs.statements.Said.{MayTell, done-is, idle-after, log-after, may-do, ready-after, sound-after}
+use Rattle.bk_machine.proofs.statements.Facts.{Facts, facts-of, opens-those, own-checkpoint, own-stamp}
+use Rattle.bk_machine.specs.UpLaws.{IsUp, is-up}
+use Rattle.bk_machine.proofs.statements.Said.{MayTell, done-is, log-after, may-do, sound-after, up-after}
 use Rattle.bk_machine.proofs.statements.Telling.{TellsOn, tells-checkpoint, tells-stamp}
 
 -- ---- what was checked
 
 -- a database that is online, found by its own name
-record IsUp (w : World) (db : Database) : Type 0 where
+record IsFound (w : World) (db : Database) : Type 0 where
   named : database_named w.databases db.name ≡ Some db
   up : db.status ≡ Online
 
-checked : (w : World) (line : ℕ) (name : List ℕ) (units : List UnitName) (path : List ℕ) (options : BackupOptions) (db : Database) → check_backup w line name units path options ≡ Ok db → IsUp w db
+checked : (w : World) (line : ℕ) (name : List ℕ) (units : List UnitName) (path : List ℕ) (options : BackupOptions) (db : Database) → check_backup w line name units path options ≡ Ok db → IsFound w db
 unfolding check_backup
 checked w line name units path options db e =
     let one = passed (refuse_if (not (is_whole_backup units options && is_path path) || is_some (medium_at w.media path)) (NotBuilt line)) _ db e in
-    let two = passed (or_refuse (database_named w.databases name) NoSuchDatabase) _ db one.then in
+    let out = passed (outside w) _ db one.then in
+    let two = passed (or_refuse (database_named w.databases name) NoSuchDatabase) _ db out.then in
     let three = passed (online two.found) _ db two.then in
-    let four = passed (limit (used_up three.found.end || used_up w.counter)) _ db three.then in
+    let none = passed (refuse_if (has_open three.found) (NotBuilt line)) _ db three.then in
+    let four = passed (limit (used_up three.found.end || used_up w.counter)) _ db none.then in
     let up : Up two.found three.found = was-online two.found three.found three.is in
     let last = four.then in
     let same : three.found ≡ db = cc in
@@ -60,15 +61,15 @@ checked w line name units path options db e =
 
 -- ---- records that change nothing
 
-checkpoint-tells : (w : World) (db : Database) (at : ℕ) (r : IsReady w db) → MayTell w db (alone (checkpointed at))
+checkpoint-tells : (w : World) (db : Database) (at : ℕ) (r : IsUp w db) → MayTell w db (alone (checkpointed at))
 checkpoint-tells w db at r =
     let t = tells-checkpoint (log_of w.history db) db.end at in
-    record { may = record { online = r.up; may = (tt, tt); tables = subst (AreNumbered 1) (sym t.tables) r.whole.log.tables; places = (tt, tt) }; none = t.pending ∙ r.none }
+    record { may = record { online = r.up; may = (tt, tt); tables = subst (AreNumbered 1) (sym t.tables) r.whole.log.tables; places = (tt, tt) }; none = (λ b. refl, tt); same = t.pending }
 
-stamp-tells : (w : World) (db : Database) (at : ℕ) (set : Guid) (r : IsReady w db) → MayTell w db (alone (stamped at set))
+stamp-tells : (w : World) (db : Database) (at : ℕ) (set : Guid) (r : IsUp w db) → MayTell w db (alone (stamped at set))
 stamp-tells w db at set r =
     let t = tells-stamp (log_of w.history db) db.end at set in
-    record { may = record { online = r.up; may = (tt, tt); tables = subst (AreNumbered 1) (sym t.tables) r.whole.log.tables; places = (tt, tt) }; none = t.pending ∙ r.none }
+    record { may = record { online = r.up; may = (tt, tt); tables = subst (AreNumbered 1) (sym t.tables) r.whole.log.tables; places = (tt, tt) }; none = (λ b. refl, tt); same = t.pending }
 
 -- ---- what is held
 
@@ -91,7 +92,7 @@ files-same h (f ∷ files) = ap (λ (rest : List FileSpec). f ∷ rest) (files-s
 
 -- ---- the parts
 
-module _ (w : World) (db : Database) (path : List ℕ) (now : ℕ) (sound : IsSound w) (idle : AreIdle w) (r : IsReady w db) where
+module _ (w : World) (db : Database) (path : List ℕ) (now : ℕ) (sound : IsSound w) (r : IsUp w db) where
   abbrev at : ℕ
   at = said_time w db now
 
@@ -108,19 +109,16 @@ module _ (w : World) (db : Database) (path : List ℕ) (now : ℕ) (sound : IsSo
   made-sound : IsSound (done w (medium_made path))
   made-sound = act-sound w (medium_made path) sound tt
 
-  made-idle : AreIdle (done w (medium_made path))
-  made-idle = idle-done w (medium_made path) idle tt
-
-  made-ready : IsReady (done w (medium_made path)) db
+  made-up : IsUp (done w (medium_made path)) db
   unfolding done
-  made-ready = ready (done w (medium_made path)) db made-sound made-idle r.named r.up
+  made-up = is-up (done w (medium_made path)) db made-sound r.named r.up
 
   -- behind the checkpoint at its start
   abbrev start_said : List Said
   start_said = alone (checkpointed at)
 
   start-tells : MayTell made db start_said
-  start-tells = checkpoint-tells made db at made-ready
+  start-tells = checkpoint-tells made db at made-up
 
   abbrev started : World
   started = says made db start_said db.transactions
@@ -129,20 +127,17 @@ module _ (w : World) (db : Database) (path : List ℕ) (now : ℕ) (sound : IsSo
   started_db = gone_on (model (log_of made.history db)) start_said db.transactions db
 
   started-sound : IsSound started
-  started-sound = sound-after made db start_said made-sound made-idle made-ready start-tells
+  started-sound = sound-after made db start_said made-sound made-up start-tells
 
-  started-idle : AreIdle started
-  started-idle = idle-after made db start_said made-sound made-idle made-ready start-tells
-
-  started-ready : IsReady started started_db
-  started-ready = ready-after made db start_said made-sound made-idle made-ready start-tells refl r.up
+  started-up : IsUp started started_db
+  started-up = up-after made db start_said made-sound made-up start-tells refl r.up
 
   -- behind the stamp at its finish
   abbrev finish_said : List Said
   finish_said = alone (stamped at set)
 
   finish-tells : MayTell started started_db finish_said
-  finish-tells = stamp-tells started started_db at set started-ready
+  finish-tells = stamp-tells started started_db at set started-up
 
   abbrev finished : World
   finished = says started started_db finish_said db.transactions
@@ -150,22 +145,22 @@ module _ (w : World) (db : Database) (path : List ℕ) (now : ℕ) (sound : IsSo
   abbrev finished_db : Database
   finished_db = gone_on (model (log_of started.history started_db)) finish_said db.transactions started_db
 
-  finished-ready : IsReady finished finished_db
-  finished-ready = ready-after started started_db finish_said started-sound started-idle started-ready finish-tells refl r.up
+  finished-up : IsUp finished finished_db
+  finished-up = up-after started started_db finish_said started-sound started-up finish-tells refl r.up
 
   finished-log : log_of finished.history finished_db ≡ more (more (log_of w.history db) db.end start_said) started_db.end finish_said
   unfolding done
   finished-log =
-      log-after started started_db finish_said started-sound started-idle started-ready finish-tells
-      ∙ ap (λ rs. more rs started_db.end finish_said) (log-after made db start_said made-sound made-idle made-ready start-tells)
+      log-after started started_db finish_said started-sound started-up finish-tells
+      ∙ ap (λ rs. more rs started_db.end finish_said) (log-after made db start_said made-sound made-up start-tells)
 
   -- what it shows is held: its last branch passed the stamp
   finished-held : IsHeld finished.history db.path finished_db.end
   unfolding says
-  finished-held k positive lt = by (finished-ready.whole.held k positive lt)
+  finished-held k positive lt = by (finished-up.whole.held k positive lt)
     where
       by : ((finished_db.status ≡ Online) × (branch_at finished_db.path k ≡ last_branch finished_db.path)) ⊎ IsPassed finished.history (branch_at finished_db.path k) k → IsPassed finished.history (branch_at db.path k) k
-      by (inl last) = subst (λ b. IsPassed finished.history b k) (sym last.1) (passed-last started.history started_db (started-ready.whole.online r.up).goes_on _ k (omega (arith, lt)) (λ e. absurd cc))
+      by (inl last) = subst (λ b. IsPassed finished.history b k) (sym last.1) (passed-last started.history started_db (started-up.whole.online r.up).goes_on _ k (omega (arith, lt)) (λ e. absurd cc))
       by (inr is) = is
 
   sealed : IsSoundSet finished header
@@ -176,12 +171,12 @@ module _ (w : World) (db : Database) (path : List ℕ) (now : ℕ) (sound : IsSo
       let two : TellsOn (more (log_of w.history db) db.end start_said) (more (more (log_of w.history db) db.end start_said) started_db.end finish_said) at = tells-stamp (more (log_of w.history db) db.end start_said) started_db.end at set in
       let log : log_below finished.history db.path (db.end + 2) ≡ more (more (log_of w.history db) db.end start_said) started_db.end finish_said = ap (log_below finished.history db.path) (sym end) ∙ finished-log in record {
         log = subst (λ files. IsLog files (log_below finished.history db.path (db.end + 2)) (db.end + 2)) (sym (files-same header db.files))
-            (subst (λ n. IsLog db.files (log_below finished.history db.path n) n) end finished-ready.whole.log);
-        path = finished-ready.whole.path;
-        starts = subst (λ n. AllByRecursion (λ (b : Branch). b.start < n) db.path) end finished-ready.whole.starts;
-        drawn = finished-ready.whole.drawn;
+            (subst (λ n. IsLog db.files (log_below finished.history db.path n) n) end finished-up.whole.log);
+        path = finished-up.whole.path;
+        starts = subst (λ n. AllByRecursion (λ (b : Branch). b.start < n) db.path) end finished-up.whole.starts;
+        drawn = finished-up.whole.drawn;
         set = λ own. omega arith;
-        family = finished-ready.whole.family;
+        family = finished-up.whole.family;
         held = subst (IsHeld finished.history db.path) end finished-held;
         model = sym (ap model log ∙ two.model ∙ one.model);
         finish = sym (ap time log ∙ two.time);
@@ -193,13 +188,13 @@ module _ (w : World) (db : Database) (path : List ℕ) (now : ℕ) (sound : IsSo
   backs-up =
       let seal : MayDoAll finished (set_sealed path header ∷ based db.name header ∷ []) = (sealed, (tt, tt)) in
       let stamp : MayDoAll started (logged db.name finish_said db.transactions ∷ set_sealed path header ∷ based db.name header ∷ []) = (
-        may-do started started_db finish_said started-sound started-idle started-ready finish-tells,
-        subst (λ v. MayDoAll v (set_sealed path header ∷ based db.name header ∷ [])) (sym (done-is started started_db finish_said started-sound started-idle started-ready finish-tells)) seal,
+        may-do started started_db finish_said started-sound started-up finish-tells,
+        subst (λ v. MayDoAll v (set_sealed path header ∷ based db.name header ∷ [])) (sym (done-is started started_db finish_said started-sound started-up finish-tells)) seal,
       ) in (
         tt,
         (
-          may-do made db start_said made-sound made-idle made-ready start-tells,
-          subst (λ v. MayDoAll v (logged db.name finish_said db.transactions ∷ set_sealed path header ∷ based db.name header ∷ [])) (sym (done-is made db start_said made-sound made-idle made-ready start-tells)) stamp,
+          may-do made db start_said made-sound made-up start-tells,
+          subst (λ v. MayDoAll v (logged db.name finish_said db.transactions ∷ set_sealed path header ∷ based db.name header ∷ [])) (sym (done-is made db start_said made-sound made-up start-tells)) stamp,
         ),
       )
 
@@ -210,19 +205,19 @@ module _ (w : World) (db : Database) (path : List ℕ) (now : ℕ) (sound : IsSo
 
   started-built : IsBuilt w → IsBuilt started
   started-built built =
-      subst IsBuilt (done-is made db start_said made-sound made-idle made-ready start-tells)
-      (act-built made made-sound (made-built built) (logged db.name start_said db.transactions) (may-do made db start_said made-sound made-idle made-ready start-tells) (tt, tt))
+      subst IsBuilt (done-is made db start_said made-sound made-up start-tells)
+      (act-built made made-sound (made-built built) (logged db.name start_said db.transactions) (may-do made db start_said made-sound made-up start-tells) (tt, tt))
 
   finished-built : IsBuilt w → IsBuilt finished
   finished-built built =
-      subst IsBuilt (done-is started started_db finish_said started-sound started-idle started-ready finish-tells)
-      (act-built started started-sound (started-built built) (logged db.name finish_said db.transactions) (may-do started started_db finish_said started-sound started-idle started-ready finish-tells) (tt, tt))
+      subst IsBuilt (done-is started started_db finish_said started-sound started-up finish-tells)
+      (act-built started started-sound (started-built built) (logged db.name finish_said db.transactions) (may-do started started_db finish_said started-sound started-up finish-tells) (tt, tt))
 
   set-plain : IsBuilt w → IsBuiltLog (files_of_set header) (log_below finished.history header.path header.last)
   unfolding full_header log_of
   set-plain built =
       let end : finished_db.end ≡ db.end + 2 = omega arith in
-      let own : IsBuiltLog finished_db.files (log_of finished.history finished_db) = of-named (BuiltIn finished.history) finished.databases finished_db.name finished_db (finished-built built).databases finished-ready.named in
+      let own : IsBuiltLog finished_db.files (log_of finished.history finished_db) = of-named (BuiltIn finished.history) finished.databases finished_db.name finished_db (finished-built built).databases finished-up.named in
       subst (λ files. IsBuiltLog files (log_below finished.history db.path (db.end + 2))) (sym (files-same header db.files)) (subst (λ n. IsBuiltLog db.files (log_below finished.history db.path n)) end own)
 
   pub backs-no-load : IsBuilt w → SayNoLoad w (full_backup db path (full_header w db (drawn w w.counter) (said_time w db now)))
@@ -231,17 +226,17 @@ module _ (w : World) (db : Database) (path : List ℕ) (now : ℕ) (sound : IsSo
       let seal : SayNoLoad finished (set_sealed path header ∷ based db.name header ∷ []) = (set-plain built, (tt, tt)) in
       let stamp : SayNoLoad started (logged db.name finish_said db.transactions ∷ set_sealed path header ∷ based db.name header ∷ []) = (
         (tt, tt),
-        subst (λ v. SayNoLoad v (set_sealed path header ∷ based db.name header ∷ [])) (sym (done-is started started_db finish_said started-sound started-idle started-ready finish-tells)) seal,
+        subst (λ v. SayNoLoad v (set_sealed path header ∷ based db.name header ∷ [])) (sym (done-is started started_db finish_said started-sound started-up finish-tells)) seal,
       ) in (
         tt,
         (
           (tt, tt),
-          subst (λ v. SayNoLoad v (logged db.name finish_said db.transactions ∷ set_sealed path header ∷ based db.name header ∷ [])) (sym (done-is made db start_said made-sound made-idle made-ready start-tells)) stamp,
+          subst (λ v. SayNoLoad v (logged db.name finish_said db.transactions ∷ set_sealed path header ∷ based db.name header ∷ [])) (sym (done-is made db start_said made-sound made-up start-tells)) stamp,
         ),
       )
 
-its-ready : (w : World) (line : ℕ) (name : List ℕ) (units : List UnitName) (path : List ℕ) (options : BackupOptions) (db : Database) → IsSound w → AreIdle w → check_backup w line name units path options ≡ Ok db → IsReady w db
-its-ready w line name units path options db sound idle e = let its : IsUp w db = checked w line name units path options db e in ready w db sound idle its.named its.up
+its-up : (w : World) (line : ℕ) (name : List ℕ) (units : List UnitName) (path : List ℕ) (options : BackupOptions) (db : Database) → IsSound w → check_backup w line name units path options ≡ Ok db → IsUp w db
+its-up w line name units path options db sound e = let its : IsFound w db = checked w line name units path options db e in is-up w db sound its.named its.up
 
 pub facts : (w : World) (line : ℕ) (name : List ℕ) (units : List UnitName) (path : List ℕ) (options : BackupOptions) (now : ℕ) (db : Database) → check_backup w line name units path options ≡ Ok db
     → (outcome : Outcome) → DoesBackup w path now db outcome → Facts w (λ at. at ≡ path) outcome
@@ -249,11 +244,11 @@ unfolding full_header
 facts w line name units path options now db e outcome is = facts-of w _ outcome is (record {
   writes = (refl, (tt, (tt, (refl, (tt, tt)))));
   refused = λ rule no. absurd cc;
-  well = λ sound idle. let r : IsReady w db = its-ready w line name units path options db sound idle e in record {
-    may = backs-up w db path now sound idle r;
-    opens = (tt, (r.closed, (r.closed, (tt, (tt, tt)))));
+  well = λ sound. let r : IsUp w db = its-up w line name units path options db sound e in record {
+    may = backs-up w db path now sound r;
+    opens = (tt, (opens-those w db (alone (checkpointed (said_time w db now))) r.named, (opens-those w db (alone (stamped (said_time w db now) (drawn w w.counter))) r.named, (tt, (tt, tt)))));
     own = (tt, (own-checkpoint w db.name (said_time w db now) db.transactions, (own-stamp w db.name (said_time w db now) (drawn w w.counter) db.transactions, (tt, (tt, tt)))));
     ends = inl (tt, (tt, (tt, (tt, (tt, tt)))));
-    plain = λ built. backs-no-load w db path now sound idle r built;
+    plain = λ built. backs-no-load w db path now sound r built;
   };
 })

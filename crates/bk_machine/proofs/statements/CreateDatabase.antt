@@ -9,7 +9,7 @@ use Rattle.bk_world.specs.declared.rule.Limit.TheVariants as which
 use Rattle.bk_world.specs.declared.rule.Rule.TheVariants.{DatabaseExists, LimitReached, NotBuilt}
 use Rattle.bk_machine.specs.Acts.{created}
 use Rattle.bk_machine.specs.CheckLaws.{passed, not-refused, second-false, is-none}
-use Rattle.bk_machine.specs.Checks.{is_system, limit, most_databases, refuse_if, used_up}
+use Rattle.bk_machine.specs.Checks.{is_system, limit, most_databases, outside, refuse_if, used_up}
 use Rattle.bk_machine.specs.Files.{AreDataFiles, extents_in, most_extents, most_files}
 use Rattle.bk_machine.specs.Outcome.{Outcome}
 use Rattle.bk_machine.specs.World.{World, database_named}
@@ -60,7 +60,8 @@ checked : (w : World) (line : ℕ) (name : List ℕ) (primary : List NewFile) (g
 unfolding check_create_database
 checked w line name primary groups log s e =
     let one = passed (refuse_if (not (are_named name primary groups log)) (NotBuilt line)) _ s e in
-    let two = passed (refuse_if (is_system name || is_some (database_named w.databases name)) DatabaseExists) _ s one.then in
+    let out = passed (outside w) _ s one.then in
+    let two = passed (refuse_if (is_system name || is_some (database_named w.databases name)) DatabaseExists) _ s out.then in
     let three = passed (refuse_if (nat_le most_databases (length w.databases)) (LimitReached which.Databases)) _ s two.then in
     let four = passed (check_limits (new_storage name primary groups log)) _ s three.then in
     let same : new_storage name primary groups log ≡ s = freed w (new_storage name primary groups log) s four.then in
@@ -78,7 +79,7 @@ facts w line name primary groups log now s e outcome is =
     facts-of w _ outcome is (record {
       writes = (tt, tt);
       refused = λ rule no. absurd cc;
-      well = λ sound idle. record {
+      well = λ sound. record {
         may = (record { family = refl; branch = refl; new = made.new; groups = made.groups; files = made.files }, tt);
         opens = (tt, tt);
         own = (tt, tt);

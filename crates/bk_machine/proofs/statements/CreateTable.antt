@@ -1,5 +1,5 @@
 -- CREATE TABLE says a table of the next number.
-use Rattle.std.proofs.Common.{◌≡◌, inl, ℕ, List, Option, Some, sym, ◌∙◌, ap, subst, arith}
+use Rattle.std.proofs.Common.{◌≡◌, inl, ℕ, List, Option, Some, refl, sym, ◌∙◌, ap, subst, arith}
 use Rattle.std.specs.Prelude.{is_some, nat_le, not, length, Ok}
 use Rattle.bk_world.specs.declared.database.TableSpec.{TableSpec}
 use Rattle.bk_world.specs.declared.database.Status.TheVariants.{Online}
@@ -8,19 +8,19 @@ use Rattle.bk_world.specs.Records.{Logged, numbered, table_made}
 use Rattle.bk_world.specs.Says.{alone}
 use Rattle.bk_world.specs.Telling.{tables}
 use Rattle.bk_machine.specs.Acts.{logged, said_time}
-use Rattle.bk_machine.specs.Checks.{is_name, limit, online, or_refuse, refuse_if, table_named, used_up}
+use Rattle.bk_machine.specs.Checks.{is_name, limit, online, or_refuse, outside, refuse_if, table_named, used_up}
 use Rattle.bk_world.specs.declared.rule.Rule.TheVariants.{LimitReached, NoSuchDatabase, NotBuilt, TableExists}
 use Rattle.bk_world.specs.declared.rule.Limit.TheVariants.{Tables}
 use Rattle.bk_machine.specs.MayDo.{MayDo}
 use Rattle.bk_machine.specs.Seen.{tables_in}
-use Rattle.bk_machine.specs.Sound.{AreIdle, AreNumbered, IsSound}
+use Rattle.bk_machine.specs.Sound.{AreNumbered, IsSound}
 use Rattle.bk_machine.specs.World.{World, Database, current_database, log_of}
 use Rattle.bk_machine.specs.statements.CreateTable.{DoesCreateTable, Room, check_create_table, check_group, most_tables, new_table}
 use Rattle.bk_machine.specs.CheckLaws.{Up, passed, was-found, was-online}
 use Rattle.bk_machine.specs.FindingLaws.{current-found}
-use Rattle.bk_machine.specs.ReadyLaws.{IsReady, ready, may-log}
+use Rattle.bk_machine.specs.UpLaws.{IsUp, is-up, may-tell}
 use Rattle.bk_machine.specs.Outcome.{Outcome}
-use Rattle.bk_machine.proofs.statements.Facts.{Facts, NoMedium, facts-of, own-table}
+use Rattle.bk_machine.proofs.statements.Facts.{Facts, NoMedium, facts-of, opens-those, own-table}
 use Rattle.bk_machine.proofs.statements.Telling.{numbered-more, tables-made}
 
 -- the current database, which is online
@@ -32,7 +32,8 @@ checked : (w : World) (line : ℕ) (table : List ℕ) (group : Option (List ℕ)
 unfolding check_create_table
 checked w line table group room e =
     let one = passed (refuse_if (not (is_name table)) (NotBuilt line)) _ room e in
-    let two = passed (or_refuse (current_database w) NoSuchDatabase) _ room one.then in
+    let out = passed (outside w) _ room one.then in
+    let two = passed (or_refuse (current_database w) NoSuchDatabase) _ room out.then in
     let three = passed (online two.found) _ room two.then in
     let four = passed (refuse_if (is_some (table_named (tables_in w three.found) table)) TableExists) _ room three.then in
     let five = passed (check_group three.found group) _ room four.then in
@@ -44,30 +45,30 @@ checked w line table group room e =
     let same : mine ≡ room = cc in
     subst (IsCurrent w) same (record { is = was-found (current_database w) NoSuchDatabase two.found two.is ∙ ap (λ (d : Database). Some d) up.is; up = up.up })
 
-its-ready : (w : World) (line : ℕ) (table : List ℕ) (group : Option (List ℕ)) (room : Room) → IsSound w → AreIdle w → check_create_table w line table group ≡ Ok room → IsReady w room.database
-its-ready w line table group room sound idle e = let its : IsCurrent w room = checked w line table group room e in ready w room.database sound idle (current-found w room.database its.is) its.up
+its-up : (w : World) (line : ℕ) (table : List ℕ) (group : Option (List ℕ)) (room : Room) → IsSound w → check_create_table w line table group ≡ Ok room → IsUp w room.database
+its-up w line table group room sound e = let its : IsCurrent w room = checked w line table group room e in is-up w room.database sound (current-found w room.database its.is) its.up
 
-does : (w : World) (name : List ℕ) (now : ℕ) (room : Room) → IsReady w room.database → MayDo w (logged room.database.name (alone (table_made (said_time w room.database now) (new_table w room name))) room.database.transactions)
+does : (w : World) (name : List ℕ) (now : ℕ) (room : Room) → IsUp w room.database → MayDo w (logged room.database.name (alone (table_made (said_time w room.database now) (new_table w room name))) room.database.transactions)
 unfolding tables_in
 does w name now room r =
     let db : Database = room.database in
     let rs : List Logged = log_of w.history db in
     let t : TableSpec = new_table w room name in
-    may-log w db (alone (table_made (said_time w db now) t)) r (record {
+    may-tell w db (alone (table_made (said_time w db now) t)) r (record {
       online = r.up;
       may = (tt, tt);
       tables = subst (AreNumbered 1) (sym (tables-made rs db.end (said_time w db now) t)) (numbered-more 1 (tables rs) t r.whole.log.tables (omega arith));
       places = (tt, tt);
-    }) (pending-more rs (numbered db.end (alone (table_made (said_time w db now) t))) ∙ r.none)
+    }) (λ b. refl, tt) (pending-more rs (numbered db.end (alone (table_made (said_time w db now) t))))
 
 pub facts : (w : World) (line : ℕ) (name : List ℕ) (group : Option (List ℕ)) (now : ℕ) (room : Room) → check_create_table w line name group ≡ Ok room
     → (outcome : Outcome) → DoesCreateTable w name now room outcome → Facts w NoMedium outcome
 facts w line name group now room e outcome is = facts-of w _ outcome is (record {
   writes = (tt, tt);
   refused = λ rule no. absurd cc;
-  well = λ sound idle. let r : IsReady w room.database = its-ready w line name group room sound idle e in record {
+  well = λ sound. let r : IsUp w room.database = its-up w line name group room sound e in record {
     may = (does w name now room r, tt);
-    opens = (r.closed, tt);
+    opens = (opens-those w room.database (alone (table_made (said_time w room.database now) (new_table w room name))) r.named, tt);
     own = (own-table w room.database.name (said_time w room.database now) (new_table w room name) room.database.transactions, tt);
     ends = inl (tt, tt);
     plain = λ built. ((tt, tt), tt);

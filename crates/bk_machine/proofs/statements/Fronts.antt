@@ -9,12 +9,13 @@ use Rattle.bk_world.specs.Rows.{tables_of}
 use Rattle.bk_world.specs.SoundLaws.{follow-front}
 use Rattle.bk_world.specs.SoundLogs.{MayFollow}
 use Rattle.bk_world.specs.Telling.{entries_from, tables}
-use Rattle.bk_machine.specs.Acts.{Act, turned, created, dropped, logged, medium_made, set_sealed, based, replaced, restored, recovered, done, done_all, says, where_found}
+use Rattle.bk_machine.specs.Acts.{Act, turned, seated, created, dropped, logged, medium_made, set_sealed, based, replaced, restored, recovered, done, done_all, says, where_found}
 use Rattle.bk_machine.specs.Crash.{front_of}
 use Rattle.bk_machine.specs.MayDo.{HoldsOf, MayDoAll, MayLog, MaySay}
 use Rattle.bk_machine.specs.NamedLaws.{named-own}
 use Rattle.bk_machine.specs.Sound.{AreNumbered, ArePlaced, IsWhole}
-use Rattle.bk_machine.specs.World.{World, Database, Open, database_named, log_of}
+use Rattle.bk_world.specs.declared.transaction.Open.{Open}
+use Rattle.bk_machine.specs.World.{World, Database, database_named, log_of}
 use Rattle.bk_machine.proofs.ActsLogs.{placed-front, tables-more}
 use Rattle.bk_machine.proofs.ActsSays.{says-whole}
 
@@ -55,6 +56,7 @@ cut-whole w acts zero whole may = whole
 cut-whole w [] (suc n) whole may = whole
 cut-whole w (logged name said transactions ∷ acts) (suc n) whole may = cut-says w name said transactions (suc n) whole may.0
 cut-whole w (turned name ∷ acts) (suc n) whole may = whole
+cut-whole w (seated session ∷ acts) (suc n) whole may = whole
 cut-whole w (created c ∷ acts) (suc n) whole may = whole
 cut-whole w (dropped name ∷ acts) (suc n) whole may = whole
 cut-whole w (medium_made path ∷ acts) (suc n) whole may = whole

@@ -9,7 +9,7 @@ use Rattle.bk_world.specs.declared.rule.Rule.TheVariants.{NotBuilt}
 use Rattle.bk_world.specs.Lines.{log_below}
 use Rattle.bk_world.specs.Medium.{medium, medium_at, readable}
 use Rattle.bk_machine.specs.Acts.{Recovery, done, drawn, taken_over, units_in}
-use Rattle.bk_machine.specs.Checks.{is_name, is_path, refuse_if}
+use Rattle.bk_machine.specs.Checks.{is_name, is_path, outside, refuse_if}
 use Rattle.bk_machine.specs.MayDo.{MayDoAll}
 use Rattle.bk_machine.specs.Sound.{IsSound, IsSoundSet, SetIn, files_of_set}
 use Rattle.bk_machine.specs.World.{World, Database, database_named, log_to, with_new_database}
@@ -34,7 +34,8 @@ pub set-in : (w : World) (line : ℕ) (name : List ℕ) (units : RestoredUnits) 
 unfolding check_restore
 set-in w line name units disk options header e =
     let one = passed (refuse_if (not (is_whole_restore units disk options && is_name name && is_path (disk_path disk))) (NotBuilt line)) _ header e in
-    let two = passed (first_set (medium_at w.media (disk_path disk))) _ header one.then in
+    let out = passed (outside w) _ header one.then in
+    let two = passed (first_set (medium_at w.media (disk_path disk))) _ header out.then in
     let three = passed (check_set w name options.replace two.found) _ header two.then in
     let last = three.then in
     let same : two.found ≡ header = cc in
@@ -84,7 +85,7 @@ module _ (w : World) (line : ℕ) (name : List ℕ) (units : RestoredUnits) (dis
   facts outcome (r, at, branch, recovers, is) = facts-of w _ outcome is (record {
     writes = (tt, (tt, (tt, tt)));
     refused = λ rule no. absurd cc;
-    well = λ sound idle. record {
+    well = λ sound. record {
       may = restores w (name_known (database_named w.databases name) name) header r (set-sound w (disk_path disk) header sound there) at branch recovers;
       opens = (tt, (tt, (tt, tt)));
       own = (tt, (tt, (tt, tt)));

@@ -1,5 +1,5 @@
--- A run does acts that may be done, one after the other.
-use Rattle.std.proofs.Common.{◌≡◌, ℕ, zero, suc, List, [], ◌∷◌, ◌++◌, take, drop, refl}
+-- Runs of statements keep a world sound, behind each of their outcomes.
+use Rattle.std.proofs.Common.{ℕ, zero, suc, List, [], ◌∷◌, ◌++◌, take, drop}
 use Rattle.bk_items.specs.declared.item.ScriptEntry.{ScriptEntry}
 use Rattle.bk_machine.specs.Acts.{Act, done, done_all}
 use Rattle.bk_machine.specs.Crash.{next_acts}
@@ -7,10 +7,12 @@ use Rattle.bk_machine.specs.Machine.{May, behind}
 use Rattle.bk_machine.specs.MayDo.{MayDoAll}
 use Rattle.bk_machine.specs.Outcome.{Outcome}
 use Rattle.bk_machine.specs.Run.{IsRun, behind_all}
-use Rattle.bk_machine.specs.Sound.{AreIdle, IsSound}
+use Rattle.bk_machine.specs.Sound.{IsSound}
 use Rattle.bk_machine.specs.World.{World}
 use Rattle.bk_machine.proofs.Acting.{acts-sound}
-use Rattle.bk_machine.proofs.statements.Each.{statement-does, statement-idle}
+use Rattle.bk_machine.proofs.statements.Each.{statement-does, statement-goes}
+use Rattle.bk_machine.proofs.statements.Facts.{GoWell}
+use Rattle.std.proofs.Common.{inl}
 
 -- ---- several acts
 
@@ -24,44 +26,52 @@ may-rest w acts zero may = may
 may-rest w [] (suc n) may = tt
 may-rest w (act ∷ acts) (suc n) may = may-rest (done w act) acts n may.1
 
-pub done-joined : (w : World) (a b : List Act) → done_all w (a ++ b) ≡ done_all (done_all w a) b
-done-joined w [] b = refl
-done-joined w (act ∷ a) b = done-joined (done w act) a b
-
 -- ---- runs
 
--- a sound world in which nothing is open
-pub record IsCalm (w : World) : Type 0 where
-  pub sound : IsSound w
-  pub idle : AreIdle w
+-- outcomes whose acts go well, one after another
+abbrev pub RunsWell : World → List Outcome → Type 0
+RunsWell w [] = Unit {0}
+RunsWell w (outcome ∷ outcomes) = (IsSound w → GoWell w outcome.acts) × RunsWell (behind w outcome) outcomes
+
+pub runs-well : (w : World) (statements : List ScriptEntry) (moments : List ℕ) (outcomes : List Outcome) → IsRun w statements moments outcomes → RunsWell w outcomes
+runs-well w [] [] [] run = tt
+runs-well w [] [] (o ∷ os) run = absurd run
+runs-well w [] (m ∷ ms) os run = absurd run
+runs-well w (s ∷ ss) [] os run = absurd run
+runs-well w (s ∷ ss) (m ∷ ms) [] run = absurd run
+runs-well w (s ∷ ss) (m ∷ ms) (o ∷ os) run = (λ sound. statement-goes w sound s m o run.0, runs-well (behind w o) ss ms os run.1)
+
+-- and one more
+pub well-one_more : (w : World) (outcomes : List Outcome) (o : Outcome) → RunsWell w outcomes → (IsSound (behind_all w outcomes) → GoWell (behind_all w outcomes) o.acts) → RunsWell w (outcomes ++ o ∷ [])
+well-one_more w [] o well goes = (goes, tt)
+well-one_more w (first ∷ outcomes) o well goes = (well.0, well-one_more (behind w first) outcomes o well.1 goes)
+
+pub sound-behind : (w : World) (s : ScriptEntry) (now : ℕ) (outcome : Outcome) → IsSound w → May w s now outcome → IsSound (behind w outcome)
+sound-behind w s now outcome sound may = acts-sound w outcome.acts sound (statement-does w sound s now outcome may)
+
+pub sound-well : (w : World) (outcomes : List Outcome) → IsSound w → RunsWell w outcomes → IsSound (behind_all w outcomes)
+sound-well w [] sound well = sound
+sound-well w (o ∷ os) sound well = sound-well (behind w o) os (acts-sound w o.acts sound (well.0 sound).may) well.1
+
+pub sound-run : (w : World) (statements : List ScriptEntry) (moments : List ℕ) (outcomes : List Outcome) → IsSound w → IsRun w statements moments outcomes → IsSound (behind_all w outcomes)
+sound-run w statements moments outcomes sound run = sound-well w outcomes sound (runs-well w statements moments outcomes run)
 
 -- within a run: the world behind some of its outcomes, and what the next one does
 pub record Within (w : World) (outcomes : List Outcome) (n : ℕ) : Type 0 where
-  pub calm : IsCalm (behind_all w (take n outcomes))
-  pub may : MayDoAll (behind_all w (take n outcomes)) (next_acts (drop n outcomes))
+  pub sound : IsSound (behind_all w (take n outcomes))
+  pub well : GoWell (behind_all w (take n outcomes)) (next_acts (drop n outcomes))
 
-pub calm-behind : (w : World) (s : ScriptEntry) (now : ℕ) (outcome : Outcome) → IsCalm w → May w s now outcome → IsCalm (behind w outcome)
-calm-behind w s now outcome calm may = record {
-  sound = acts-sound w outcome.acts calm.sound (statement-does w calm.sound calm.idle s now outcome may);
-  idle = statement-idle w calm.sound calm.idle s now outcome may;
-}
+-- behind the last one nothing is done
+nothing-well : (w : World) → GoWell w []
+nothing-well w = record { may = tt; opens = tt; own = tt; ends = inl tt; plain = λ built. tt }
 
-pub calm-run : (w : World) (statements : List ScriptEntry) (moments : List ℕ) (outcomes : List Outcome) → IsCalm w → IsRun w statements moments outcomes → IsCalm (behind_all w outcomes)
-calm-run w [] [] [] calm run = calm
-calm-run w [] [] (o ∷ os) calm run = absurd run
-calm-run w [] (m ∷ ms) os calm run = absurd run
-calm-run w (s ∷ ss) [] os calm run = absurd run
-calm-run w (s ∷ ss) (m ∷ ms) [] calm run = absurd run
-calm-run w (s ∷ ss) (m ∷ ms) (o ∷ os) calm run = calm-run (behind w o) ss ms os (calm-behind w s m o calm run.0) run.1
+pub within-well : (w : World) (outcomes : List Outcome) (n : ℕ) → IsSound w → RunsWell w outcomes → Within w outcomes n
+within-well w [] zero sound well = record { sound = sound; well = nothing-well w }
+within-well w [] (suc n) sound well = record { sound = sound; well = nothing-well w }
+within-well w (o ∷ os) zero sound well = record { sound = sound; well = well.0 sound }
+within-well w (o ∷ os) (suc n) sound well =
+    let later : Within (behind w o) os n = within-well (behind w o) os n (acts-sound w o.acts sound (well.0 sound).may) well.1 in
+    record { sound = later.sound; well = later.well }
 
-pub within-run : (w : World) (statements : List ScriptEntry) (moments : List ℕ) (outcomes : List Outcome) (n : ℕ) → IsCalm w → IsRun w statements moments outcomes → Within w outcomes n
-within-run w [] [] [] zero calm run = record { calm = calm; may = tt }
-within-run w [] [] [] (suc n) calm run = record { calm = calm; may = tt }
-within-run w [] [] (o ∷ os) n calm run = absurd run
-within-run w [] (m ∷ ms) os n calm run = absurd run
-within-run w (s ∷ ss) [] os n calm run = absurd run
-within-run w (s ∷ ss) (m ∷ ms) [] n calm run = absurd run
-within-run w (s ∷ ss) (m ∷ ms) (o ∷ os) zero calm run = record { calm = calm; may = statement-does w calm.sound calm.idle s m o run.0 }
-within-run w (s ∷ ss) (m ∷ ms) (o ∷ os) (suc n) calm run =
-    let later : Within (behind w o) os n = within-run (behind w o) ss ms os n (calm-behind w s m o calm run.0) run.1 in
-    record { calm = later.calm; may = later.may }
+pub within-run : (w : World) (statements : List ScriptEntry) (moments : List ℕ) (outcomes : List Outcome) (n : ℕ) → IsSound w → IsRun w statements moments outcomes → Within w outcomes n
+within-run w statements moments outcomes n sound run = within-well w outcomes n sound (runs-well w statements moments outcomes run)

@@ -14,7 +14,7 @@ use Rattle.bk_world.specs.Pending.{pending}
 use Rattle.bk_world.specs.ReadingLaws.{entries-more, entries-single, pending-more}
 use Rattle.bk_world.specs.Records.{Logged, checkpointed, more, numbered, stamped, table_made}
 use Rattle.bk_world.specs.Rows.{model_of, tables_of, time_of}
-use Rattle.bk_world.specs.Says.{alone, begin_said, single_said}
+use Rattle.bk_world.specs.Says.{alone, begin_said, single_said, write_said}
 use Rattle.bk_world.specs.Telling.{entries, model, tables, time}
 use Rattle.bk_machine.specs.Sound.{AreNumbered}
 
@@ -57,6 +57,11 @@ pub tables-single : (rs : List Logged) (n : ℕ) (at : Place) (before : Option (
 unfolding tables
 tables-single rs n at before c now new =
     ap tables_of (entries-single rs n at before c now new) ∙ tables_of-more (entries rs) _ ∙ append-nil (tables_of (entries rs))
+
+-- nor does a write
+pub tables-written : (rs : List Logged) (n begin : ℕ) (at : Place) (before : Option (List ℕ)) (c : RowChange) → tables (more rs n (write_said begin at before c)) ≡ tables rs
+unfolding tables
+tables-written rs n begin at before c = ap tables_of (entries-more rs (numbered n (write_said begin at before c)) ∙ append-nil (entries rs))
 
 -- nor does its begin
 pub tables-begun : (rs : List Logged) (n : ℕ) → tables (more rs n (begin_said n)) ≡ tables rs

@@ -1,6 +1,6 @@
 -- BACKUP DATABASE, until media hold several sets: a full backup to a new medium, part by part.
 -- SQL Server: BACKUP (Transact-SQL); "Full Database Backups"; "backupset (Transact-SQL)".
-use Rattle.std.specs.Prelude.{◌≡◌, ℕ, ◌+◌, Bool, true, false, not, ◌&&◌, ◌||◌, List, [], ◌∷◌, map, Option, Some, None, is_some, is_none, Ok}
+use Rattle.std.specs.Prelude.{◌≡◌, ℕ, ◌+◌, Bool, true, false, not, ◌&&◌, ◌||◌, nat_lt, List, [], ◌∷◌, length, map, Option, Some, None, is_some, is_none, Ok}
 use Rattle.bk_ids.specs.declared.guid.Guid.{Guid}
 use Rattle.bk_items.specs.declared.item.UnitName.{UnitName}
 use Rattle.bk_items.specs.declared.options.BackupOptions.{BackupOptions}
@@ -14,7 +14,7 @@ use Rattle.bk_world.specs.Records.{checkpointed, stamped}
 use Rattle.bk_world.specs.Says.{alone}
 use Rattle.bk_world.specs.Telling.{model}
 use Rattle.bk_machine.specs.Acts.{Act, logged, medium_made, set_sealed, based, drawn, said_time}
-use Rattle.bk_machine.specs.Checks.{Checked, ◌>>=◌, refuse_if, or_refuse, online, limit, used_up, is_path}
+use Rattle.bk_machine.specs.Checks.{Checked, ◌>>=◌, refuse_if, or_refuse, outside, online, limit, used_up, is_path}
 use Rattle.bk_machine.specs.Outcome.{Outcome}
 use Rattle.bk_machine.specs.World.{World, Database, database_named, log_of, least_begin}
 
@@ -36,11 +36,17 @@ is_whole_backup (unit ∷ units) options = false
 
 -- Rules.
 
+-- transactions are open in it: until sets hold pending writes, its backup isn't built
+abbrev pub has_open : Database → Bool
+has_open db = nat_lt 0 (length db.transactions)
+
 unfoldable pub check_backup : World → ℕ → List ℕ → List UnitName → List ℕ → BackupOptions → Checked Database
 check_backup w line name units path options = do
   _ ← refuse_if (not (is_whole_backup units options && is_path path) || is_some (medium_at w.media path)) (NotBuilt line)
+  _ ← outside w
   named ← or_refuse (database_named w.databases name) NoSuchDatabase
   db ← online named
+  _ ← refuse_if (has_open db) (NotBuilt line)
   _ ← limit (used_up db.end || used_up w.counter)
   Ok db
 

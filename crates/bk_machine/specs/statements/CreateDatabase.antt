@@ -16,7 +16,7 @@ use Rattle.bk_world.specs.declared.reply.Reply.TheVariants.{Done}
 use Rattle.bk_world.specs.declared.rule.Limit.TheVariants as which
 use Rattle.bk_world.specs.declared.rule.Rule.TheVariants.{DatabaseExists, FileInUse, LimitReached, NotBuilt}
 use Rattle.bk_machine.specs.Acts.{created, drawn, latest}
-use Rattle.bk_machine.specs.Checks.{Checked, ◌>>=◌, refuse_if, limit, used_up, is_name, is_path, is_system, most_databases, paths_of, has_path}
+use Rattle.bk_machine.specs.Checks.{Checked, ◌>>=◌, refuse_if, outside, limit, used_up, is_name, is_path, is_system, most_databases, paths_of, has_path}
 use Rattle.bk_machine.specs.Files.{extents_in, most_extents, most_files}
 use Rattle.bk_machine.specs.Outcome.{Outcome, in_one}
 use Rattle.bk_machine.specs.World.{World, Database, database_named}
@@ -148,6 +148,7 @@ check_free w s = do
 unfoldable pub check_create_database : World → ℕ → List ℕ → List NewFile → List NewGroup → Option NewFile → Checked Storage
 check_create_database w line name primary groups log = do
   _ ← refuse_if (not (are_named name primary groups log)) (NotBuilt line)
+  _ ← outside w
   _ ← refuse_if (is_system name || is_some (database_named w.databases name)) DatabaseExists
   _ ← refuse_if (nat_le most_databases (length w.databases)) (LimitReached which.Databases)
   _ ← check_limits (new_storage name primary groups log)

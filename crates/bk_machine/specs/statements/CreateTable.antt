@@ -9,7 +9,7 @@ use Rattle.bk_world.specs.declared.rule.Rule.TheVariants.{NoSuchDatabase, TableE
 use Rattle.bk_world.specs.Records.{table_made}
 use Rattle.bk_world.specs.Says.{alone}
 use Rattle.bk_machine.specs.Acts.{logged, said_time}
-use Rattle.bk_machine.specs.Checks.{Checked, ◌>>=◌, refuse_if, or_refuse, online, limit, used_up, is_name, table_named}
+use Rattle.bk_machine.specs.Checks.{Checked, ◌>>=◌, refuse_if, or_refuse, outside, online, limit, used_up, is_name, table_named}
 use Rattle.bk_machine.specs.Outcome.{Outcome, in_one}
 use Rattle.bk_machine.specs.Seen.{tables_in}
 use Rattle.bk_machine.specs.World.{World, Database, current_database}
@@ -39,6 +39,7 @@ pub record Room : Type 0 where
 unfoldable pub check_create_table : World → ℕ → List ℕ → Option (List ℕ) → Checked Room
 check_create_table w line table group = do
   _ ← refuse_if (not (is_name table)) (NotBuilt line)
+  _ ← outside w
   current ← or_refuse (current_database w) NoSuchDatabase
   db ← online current
   _ ← refuse_if (is_some (table_named (tables_in w db) table)) TableExists

@@ -1,4 +1,4 @@
--- DELETE of one row by its key, until transactions of several statements: in one of its own. SQL Server: DELETE (Transact-SQL).
+-- DELETE of one row by its key. SQL Server: DELETE (Transact-SQL).
 use Rattle.std.specs.Prelude.{ℕ, List, None}
 use Rattle.bk_machine.specs.Checks.{Checked, ◌>>=◌}
 use Rattle.bk_machine.specs.Outcome.{Outcome}

@@ -24,7 +24,7 @@ use Rattle.bk_world.specs.Records.{Deed, Logged, Said, more, numbered, undone, r
 use Rattle.bk_world.specs.SoundLogs.{MayFollow}
 use Rattle.bk_world.specs.Telling.{model}
 use Rattle.bk_machine.specs.Acts.{Act, Recovery, replaced, restored, recovered, drawn, is_simple}
-use Rattle.bk_machine.specs.Checks.{Checked, ◌>>=◌, refuse_if, limit, used_up, is_name, is_path, most_databases, paths_of, others, free_paths, different_paths}
+use Rattle.bk_machine.specs.Checks.{Checked, ◌>>=◌, refuse_if, outside, unused, limit, used_up, is_name, is_path, most_databases, paths_of, others, free_paths, different_paths}
 use Rattle.bk_machine.specs.Outcome.{Outcome}
 use Rattle.bk_machine.specs.World.{World, Database, database_named, log_of}
 
@@ -72,6 +72,11 @@ first_set (Some not_media) = Err NotMedia
 first_set (Some (medium [])) = Err (NoSuchSet 1 0)
 first_set (Some (medium (slot ∷ slots))) = read_slot slot
 
+-- a session has an open transaction in the database, if it is there
+abbrev pub check_unused : Option Database → Checked (Unit {0})
+check_unused None = Ok tt
+check_unused (Some db) = unused db
+
 -- a set of another family, unless the database may be replaced
 abbrev pub check_family : Option Database → Bool → Header → Checked (Unit {0})
 check_family None replace header = Ok tt
@@ -107,6 +112,7 @@ disk_path (Some path) = path
 -- what is checked of a set by its header
 unfoldable pub check_set : World → List ℕ → Bool → Header → Checked (Unit {0})
 check_set w name replace header = do
+  _ ← check_unused (database_named w.databases name)
   _ ← check_family (database_named w.databases name) replace header
   _ ← check_tail w (database_named w.databases name) replace
   _ ← check_number w.databases (database_named w.databases name)
@@ -118,6 +124,7 @@ check_set w name replace header = do
 unfoldable pub check_restore : World → ℕ → List ℕ → RestoredUnits → Option (List ℕ) → RestoreOptions → Checked Header
 check_restore w line name units disk options = do
   _ ← refuse_if (not (is_whole_restore units disk options && is_name name && is_path (disk_path disk))) (NotBuilt line)
+  _ ← outside w
   header ← first_set (medium_at w.media (disk_path disk))
   _ ← check_set w name options.replace header
   Ok header

@@ -1,4 +1,4 @@
--- UPDATE of one row by its key, until transactions of several statements: in one of its own. A row gets its value anew where that is the same, too.
+-- UPDATE of one row by its key. A row gets its value anew where that is the same, too.
 -- SQL Server: UPDATE (Transact-SQL).
 use Rattle.std.specs.Prelude.{ℕ, List, Some}
 use Rattle.bk_machine.specs.Checks.{Checked, ◌>>=◌}

@@ -31,7 +31,7 @@ loop-reader-preserved g c =
     let gives = subst P c.in-Some.is c.in_ok-statement.ensures.item in
     record {
       reader = c.in_ok-statement.ensures.reader;
-      answered = λ ss are. so_far-more c.crashes_leave_worlds.ensures.cut _ _ _ _ _ ss _ _ _ _ _ _ (before.answered ss are) c.next.new.self c.in-Some.statement gives _ _ _ _ now.answered (not-stopped _ _ c.else-refused.either);
+      answered = λ ss are. so_far-more c.crashes_leave_worlds.ensures _ _ _ _ _ ss _ _ _ _ _ _ (before.answered ss are) c.next.new.self c.in-Some.statement gives _ _ _ _ now.answered (not-stopped _ _ c.else-refused.either);
       stands = λ t w stands. let to = before.stands t w stands in (done_all to.0 now.answered.outcome.acts, now.answered.does t to.0 to.1);
       ready = now.ready;
       stored = now.stored;
@@ -44,7 +44,7 @@ returns-then-stop-clause-answered g c ss are =
     let src = c.args.script.now in
     let P : Option ScriptEntry → Type 0 = λ found. (ss : List ScriptEntry) → HasItems src c.loop-reader.reader ss → GivesItem src found ss c.next.new.self in
     let gives = subst P c.in-Some.is c.in_ok-statement.ensures.item in
-    so_far-stopped c.crashes_leave_worlds.ensures.cut _ _ _ _ _ ss _ _ _ _ _ _ (c.loop-reader.invariant.answered ss are) c.next.new.self c.in-Some.statement gives _ _ _ _ c.in_ok-refused.ensures.answered c.if-refused.true c.if-stop.true
+    so_far-stopped c.crashes_leave_worlds.ensures _ _ _ _ _ ss _ _ _ _ _ _ (c.loop-reader.invariant.answered ss are) c.next.new.self c.in-Some.statement gives _ _ _ _ c.in_ok-refused.ensures.answered c.if-refused.true c.if-stop.true
 
 pub returns-in_err-refused-clause-cut_short : goal.returns-in_err-refused-clause-cut_short
 returns-in_err-refused-clause-cut_short g c ss are =
@@ -52,7 +52,7 @@ returns-in_err-refused-clause-cut_short g c ss are =
     let P : Option ScriptEntry → Type 0 = λ found. (ss : List ScriptEntry) → HasItems src c.loop-reader.reader ss → GivesItem src found ss c.next.new.self in
     let gives = subst P c.in-Some.is c.in_ok-statement.ensures.item in
     let p = err_from_is_err_and c.from_residual-in_err-refused.result c.from_residual-in_err-refused.ensures.1 in
-    OnErr-from _ (so_far-cut c.crashes_leave_worlds.ensures.cut _ _ _ _ _ ss _ _ _ _ _ _ (c.loop-reader.invariant.answered ss are) c.next.new.self c.in-Some.statement gives _ _ _ _
+    OnErr-from _ (so_far-cut c.crashes_leave_worlds.ensures _ _ _ _ _ ss _ _ _ _ _ _ (c.loop-reader.invariant.answered ss are) c.next.new.self c.in-Some.statement gives _ _ _ _
     (λ h. let same : c.in_err-refused.field-0.0 ≡ Console = cc (p.1, p.2, h) in ap Err same) c.in_err-refused.ensures.cut_short)
 
 pub returns-in_err-refused-clause-broken : goal.returns-in_err-refused-clause-broken
@@ -74,13 +74,22 @@ returns-then-stop-clause-others g c t = keeps_then (c.loop-reader.invariant.othe
 pub returns-in_err-statement-clause-cut_short : goal.returns-in_err-statement-clause-cut_short
 returns-in_err-statement-clause-cut_short g c ss are =
     let p = err_from_is_err_and c.from_residual.result c.from_residual.ensures.1 in
-    OnErr-from _ (so_far-unread c.crashes_leave_worlds.ensures.cut _ _ _ _ _ ss _ _ _ _ _ _ (c.loop-reader.invariant.answered ss are) _ (λ h. let never : ⊥ = cc (p.1, p.2, h) in never))
+    OnErr-from _ (so_far-unread c.crashes_leave_worlds.ensures _ _ _ _ _ ss _ _ _ _ _ _ (c.loop-reader.invariant.answered ss are) _ (λ h. let never : ⊥ = cc (p.1, p.2, h) in never))
 
 pub returns-clause-answered : goal.returns-clause-answered
 returns-clause-answered g c ss are =
     let src = c.args.script.now in
     let P : Option ScriptEntry → Type 0 = λ found. (ss : List ScriptEntry) → HasItems src c.loop-reader.reader ss → GivesItem src found ss c.next.new.self in
-    so_far-all c.crashes_leave_worlds.ensures.cut _ _ _ _ _ ss _ _ _ _ _ _ (c.loop-reader.invariant.answered ss are) c.next.new.self (subst P c.in_default.is c.in_ok-statement.ensures.item)
+    so_far-all c.crashes_leave_worlds.ensures _ _ _ _ _ ss _ _ _ _ _ _ (c.loop-reader.invariant.answered ss are) c.next.new.self (subst P c.in_default.is c.in_ok-statement.ensures.item)
 
 pub returns-in_err-refused-clause-others : goal.returns-in_err-refused-clause-others
 returns-in_err-refused-clause-others g c t = keeps_then (c.loop-reader.invariant.others t) (c.in_err-refused.ensures.others t)
+
+pub returns-clause-stands : goal.returns-clause-stands
+returns-clause-stands g c t w stands = c.loop-reader.invariant.stands t w stands
+
+pub returns-then-stop-clause-stands : goal.returns-then-stop-clause-stands
+returns-then-stop-clause-stands g c t w stands =
+    let to = c.loop-reader.invariant.stands t w stands in
+    let one = c.in_ok-refused.ensures.answered in
+    (done_all to.0 one.outcome.acts, one.does t to.0 to.1)

@@ -1,4 +1,4 @@
-use Rattle.std.proofs.Common.{◌≡◌, ◌∙◌, ap, sym, Err}
+use Rattle.std.proofs.Common.{◌≡◌, ◌∙◌, inl, inr, ap, sym, Err}
 use Rattle.std.proofs.lemmas.Result.{err_from_is_err_and}
 use Rattle.bk_device.specs.Compose.{keeps_then}
 use Rattle.bk_machine.specs.World.{opened}
@@ -11,12 +11,12 @@ use Rattle.bk_console.proofs.console.over_instance.Goals as goal
 pub returns-in_err-instance-clause-executed : goal.returns-in_err-instance-clause-executed
 returns-in_err-instance-clause-executed g c ss are =
     let p = err_from_is_err_and c.from_residual.result c.from_residual.ensures.1 in
-    rw (p.1, p.2) (not-loaded c.crashes_leave_worlds.ensures.cut c.crashes_leave_worlds.ensures.begun _ _ _ _ (g.C.Clock.coming c.args.clock.now) _ _ _ (λ t. g.met.D.Device.lawful t c.args.device.now) c.load.ensures.crash c.load.ensures.spares c.in_err-instance.field-0.0)
+    rw (p.1, p.2) (not-loaded c.crashes_leave_worlds.ensures _ _ _ _ (g.C.Clock.coming c.args.clock.now) _ _ _ (λ t. g.met.D.Device.lawful t c.args.device.now) c.load.ensures.crash c.load.ensures.spares c.in_err-instance.field-0.0)
 
 pub returns-in_err-ended-clause-executed : goal.returns-in_err-ended-clause-executed
 returns-in_err-ended-clause-executed g c ss are =
     let p = err_from_is_err_and c.from_residual-in_err-ended.result c.from_residual-in_err-ended.ensures.1 in
-    rw (p.1, p.2) (cut-short c.crashes_leave_worlds.ensures.cut c.crashes_leave_worlds.ensures.begun _ _ _ _ _ _ _ _ (λ t. g.met.D.Device.lawful t c.args.device.now) c.in_ok-instance.ensures.crash c.in_ok-instance.ensures.spares
+    rw (p.1, p.2) (cut-short c.crashes_leave_worlds.ensures _ _ _ _ _ _ _ _ (λ t. g.met.D.Device.lawful t c.args.device.now) c.in_ok-instance.ensures.crash c.in_ok-instance.ensures.spares
     _ _ c.in_ok-instance.ensures.media c.in_ok-instance.ensures.stands c.in_err-ended.field-0.0 (c.in_err-ended.ensures.cut_short ss are))
 
 pub returns-in_err-ended-clause-unchanged : goal.returns-in_err-ended-clause-unchanged
@@ -28,7 +28,7 @@ returns-in_err-ended-clause-unchanged g c t h =
 pub returns-in_err-close-clause-executed : goal.returns-in_err-close-clause-executed
 returns-in_err-close-clause-executed g c ss are =
     let p = err_from_is_err_and c.from_residual-in_err-close.result c.from_residual-in_err-close.ensures.1 in
-    rw (p.1, p.2) (not-closed c.crashes_leave_worlds.ensures.cut c.crashes_leave_worlds.ensures.begun _ _ _ _ _ _ _ _ (λ t. g.met.D.Device.lawful t c.args.device.now) c.in_ok-instance.ensures.crash c.in_ok-instance.ensures.spares
+    rw (p.1, p.2) (not-closed c.crashes_leave_worlds.ensures _ _ _ _ _ _ _ _ (λ t. g.met.D.Device.lawful t c.args.device.now) c.in_ok-instance.ensures.crash c.in_ok-instance.ensures.spares
     _ _ c.in_ok-instance.ensures.media c.in_ok-instance.ensures.stands _ _ (came c.in_ok-ended.ended _ _ _ _ _ _ _ _ _ _ (c.in_ok-ended.ensures.answered ss are)) c.in_err-close.ensures.crash
     (record { still = c.in_ok-instance.ensures.still; exact = c.in_ok-instance.ensures.exact }) (record { still = c.in_err-close.ensures.still; spares = c.in_err-close.ensures.spares }) c.in_err-close.field-0.0)
 
@@ -40,23 +40,26 @@ returns-in_err-close-clause-unchanged g c t h =
 
 pub returns-in-AtTheEnd-clause-executed : goal.returns-in-AtTheEnd-clause-executed
 returns-in-AtTheEnd-clause-executed g c ss are =
-    all-ended c.crashes_leave_worlds.ensures.cut c.crashes_leave_worlds.ensures.begun _ _ _ _ _ _ _ _ (λ t. g.met.D.Device.lawful t c.args.device.now) c.in_ok-instance.ensures.crash c.in_ok-instance.ensures.spares
+    all-ended c.crashes_leave_worlds.ensures _ _ _ _ _ _ _ _ (λ t. g.met.D.Device.lawful t c.args.device.now) c.in_ok-instance.ensures.crash c.in_ok-instance.ensures.spares
     _ _ c.in_ok-instance.ensures.media c.in_ok-instance.ensures.stands _ _ c.close.new.self (let answered = c.in_ok-ended.ensures.answered ss are in rw c.in-AtTheEnd.is at answered) c.in_ok-close.ensures.crash
     (record { still = c.in_ok-instance.ensures.still; exact = c.in_ok-instance.ensures.exact }) (record { still = c.in_ok-close.ensures.still; spares = c.in_ok-close.ensures.spares }) c.in_ok-ended.ensures.others
-    c.in_ok-close.ensures.stored c.in_ok-close.ensures.media c.in_ok-close.ensures.stands
+    c.in_ok-close.ensures.stored c.in_ok-close.ensures.media c.in_ok-close.ensures.closed
 
 pub returns-clause-executed : goal.returns-clause-executed
 returns-clause-executed g c ss are =
-    stopped-there c.crashes_leave_worlds.ensures.cut c.crashes_leave_worlds.ensures.begun _ _ _ _ _ _ _ _ (λ t. g.met.D.Device.lawful t c.args.device.now) c.in_ok-instance.ensures.crash c.in_ok-instance.ensures.spares
+    stopped-there c.crashes_leave_worlds.ensures _ _ _ _ _ _ _ _ (λ t. g.met.D.Device.lawful t c.args.device.now) c.in_ok-instance.ensures.crash c.in_ok-instance.ensures.spares
     _ _ c.in_ok-instance.ensures.media c.in_ok-instance.ensures.stands _ _ c.close.new.self (let answered = c.in_ok-ended.ensures.answered ss are in rw c.in-AtARefusal.is at answered) c.in_ok-close.ensures.crash
     (record { still = c.in_ok-instance.ensures.still; exact = c.in_ok-instance.ensures.exact }) (record { still = c.in_ok-close.ensures.still; spares = c.in_ok-close.ensures.spares }) c.in_ok-ended.ensures.others
-    c.in_ok-close.ensures.stored c.in_ok-close.ensures.media c.in_ok-close.ensures.stands
+    c.in_ok-close.ensures.stored c.in_ok-close.ensures.media c.in_ok-close.ensures.closed
 
 pub returns-in_err-instance-clause-unbroken : goal.returns-in_err-instance-clause-unbroken
 returns-in_err-instance-clause-unbroken g c t settled w stands h =
     let p = err_from_is_err_and c.from_residual.result c.from_residual.ensures.1 in
     let same : load_status c.in_err-instance.field-0.0 ≡ Broken = sym p.2 ∙ (rw p.1 at h) in
-    c.in_err-instance.ensures.broken t (ap Err (load-broken c.in_err-instance.field-0.0 same)) w stands
+    elim (load-broken c.in_err-instance.field-0.0 same) [
+      | inl broken ↦ c.in_err-instance.ensures.broken t (ap Err broken) w stands
+      | inr unsettled ↦ c.in_err-instance.ensures.unsettled t (ap Err unsettled) w stands
+    ]
 
 pub returns-in_err-ended-clause-unbroken : goal.returns-in_err-ended-clause-unbroken
 returns-in_err-ended-clause-unbroken g c t settled w stands h =
@@ -68,7 +71,8 @@ pub returns-in_err-close-clause-unbroken : goal.returns-in_err-close-clause-unbr
 returns-in_err-close-clause-unbroken g c t settled w stands h =
     let p = err_from_is_err_and c.from_residual-in_err-close.result c.from_residual-in_err-close.ensures.1 in
     let same : close_status c.in_err-close.field-0.0 ≡ Broken = sym p.2 ∙ (rw p.1 at h) in
-    c.in_err-close.ensures.unbroken (ap Err (close-broken c.in_err-close.field-0.0 same))
+    let to = c.in_ok-ended.ensures.stands t (opened w) (c.in_ok-instance.ensures.stands t settled w stands) in
+    c.in_err-close.ensures.broken t (ap Err (close-broken c.in_err-close.field-0.0 same)) to.0 to.1
 
 pub returns-in_err-ended-clause-others : goal.returns-in_err-ended-clause-others
 returns-in_err-ended-clause-others g c t = keeps_then (keeps-effect _ _ _ (c.in_ok-instance.ensures.crash t)) (c.in_err-ended.ensures.others t)

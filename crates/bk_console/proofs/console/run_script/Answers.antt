@@ -6,12 +6,12 @@ use Rattle.bk_console.proofs.console.run_script.Goals as goal
 
 pub returns-in-Err-clause-run : goal.returns-in-Err-clause-run
 returns-in-Err-clause-run g c =
-    rw c.from.ensures (refused-words c.crashes_leave_worlds.ensures.cut c.crashes_leave_worlds.ensures.begun _ _ _ _ _ _ _ _ (λ t. g.met.D.Device.lawful t c.args.device.now) c.in-Err.error (λ t. refl))
+    rw c.from.ensures (refused-words c.crashes_leave_worlds.ensures _ _ _ _ _ _ _ _ (λ t. g.met.D.Device.lawful t c.args.device.now) c.in-Err.error (λ t. refl))
 
 pub returns-in-Err-read_script-clause-run : goal.returns-in-Err-read_script-clause-run
 returns-in-Err-read_script-clause-run g c =
     let read = c.in-Err-read_script.ensures.read in
-    rw c.from-in-Err-read_script.ensures (failed-reading c.crashes_leave_worlds.ensures.cut c.crashes_leave_worlds.ensures.begun _ _ _ _ _ _ _ _ (λ t. g.met.D.Device.lawful t c.args.device.now)
+    rw c.from-in-Err-read_script.ensures (failed-reading c.crashes_leave_worlds.ensures _ _ _ _ _ _ _ _ (λ t. g.met.D.Device.lawful t c.args.device.now)
     c.in-Err-read_script.error read.0 read.2 read.1 (λ h. read.3 (ap Err h)) (λ h. read.4 (ap Err h)))
 
 pub returns-in-Ok-over_instance-clause-run : goal.returns-in-Ok-over_instance-clause-run

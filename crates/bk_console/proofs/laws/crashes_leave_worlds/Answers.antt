@@ -1,9 +1,15 @@
-use Rattle.bk_console.proofs.Covering.{opened-covers, cut-leaves}
+use Rattle.bk_console.proofs.Covering.{opens-near, begun-leaves, run-leaves, closing-leaves}
 use Rattle.bk_console.proofs.laws.crashes_leave_worlds.Goals as goal
 
-pub returns-clause-begun : goal.returns-clause-begun
-returns-clause-begun c = opened-covers c.logs_that_stay.ensures.transitive c.logs_that_stay.ensures.opened c.runs_begin_and_end_in_sound_worlds.ensures.begins c.runs_begin_and_end_in_sound_worlds.ensures.begins_idle
-
-pub returns-clause-cut : goal.returns-clause-cut
-returns-clause-cut c = cut-leaves c.logs_that_stay.ensures.transitive c.logs_that_stay.ensures.restarted c.restarts_keep_worlds_sound.ensures.sound c.restarts_keep_worlds_sound.ensures.idle
-    c.runs_are_cut_between_acts.ensures.leaves
+pub returns : goal.returns
+returns c =
+    let files = c.crashes_leave_files_that_stand.ensures in
+    let idle = c.settled_worlds.ensures.leaves_idle in
+    record {
+      opens = opens-near files.opened files.same_near;
+      idle = λ number w image near. idle near.before w near.settled;
+      begins = begun-leaves files.near idle c.runs_are_cut_between_acts.ensures.leaves;
+      runs = run-leaves files.held c.crashes_leave_settled_worlds.ensures.runs c.runs_keep_worlds_sound.ensures.crash;
+      closes = λ first statements moments outcomes sound run. c.runs_are_closed.ensures.comes _ (c.runs_keep_worlds_sound.ensures.run first statements moments outcomes sound run);
+      closings = closing-leaves files.held c.crashes_leave_settled_worlds.ensures.closings c.closings_are_cut_in_whole_worlds.ensures.sound;
+    }

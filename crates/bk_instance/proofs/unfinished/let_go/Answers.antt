@@ -4,7 +4,7 @@ use Rattle.bk_device.specs.Disk.{IsDurable}
 use Rattle.bk_device.specs.Laws.{nothing_yet}
 use Rattle.bk_home.specs.declared.record.Record.{Record}
 use Rattle.bk_media.specs.Names.{medium_file}
-use Rattle.bk_instance.proofs.Loads.{let-go-none, let-go-clear, let-go-then, home-cleared, blobs-cleared, media-left-durable}
+use Rattle.bk_instance.proofs.Loads.{let-go-none, let-go-clear, let-go-then, lets-both, lets-none, home-cleared, blobs-cleared, media-left-durable}
 use Rattle.bk_instance.proofs.Opened.{media-kept}
 use Rattle.bk_instance.proofs.Touching.{touches-medium, touches-none, touches-own}
 use Rattle.bk_instance.proofs.unfinished.let_go.Goals as goal
@@ -94,3 +94,16 @@ pub returns-clause-spares : goal.returns-clause-spares
 returns-clause-spares g c t =
     let making : c.args.home.now.«record».making ≡ Some c.as_str.result.now = sym (ap (λ (r : Record). r.making) c.record-record.ensures.same) ∙ c.in-Some.is ∙ ap (λ (p : List ℕ). Some p) (sym c.as_str.ensures) in
     effect_then (touches-medium c.as_str.result.now (medium_file c.as_str.result.now) making refl (c.clear.ensures.crash t)) (touches-own (c.put.ensures.crash t))
+
+pub returns-in_default-clause-lets : goal.returns-in_default-clause-lets
+returns-in_default-clause-lets g c t = lets-none (g.D.Device.disk c.args.dev.now) c.args.home.now (c.requires.stands t)
+
+pub returns-clause-lets : goal.returns-clause-lets
+unfolding next
+returns-clause-lets g c t =
+    let path = c.as_str.result.now in
+    let same = c.record-record.ensures.same in
+    let making : c.args.home.now.«record».making ≡ Some path = sym (ap (λ (r : Record). r.making) same) ∙ c.in-Some.is ∙ ap (λ (p : List ℕ). Some p) (sym c.as_str.ensures) in
+    lets-both path (g.D.Device.disk c.args.dev.now) (g.D.Device.disk c.clear.new.dev) (g.D.Device.disk c.put.new.dev) c.args.home.now c.put.new.self (next c.record-record.result.now) c.name_law.ensures.different c.clear.ensures.bytes making
+    (c.clear.ensures.crash t) (c.in_ok-clear.ensures.cleared t) (ap (λ (r : Record). r.number) same) (ap (λ (r : Record). r.counter) same) refl
+    (c.in_ok-put.ensures.stands t) c.in_ok-put.ensures.put (c.in_ok-put.ensures.blobs t) (c.put.ensures.crash t)

@@ -17,6 +17,6 @@ returns-then-not-are_data_files-clause-unfit c = λ e w may.
 
 pub first_shown-requires : goal.first_shown-requires
 first_shown-requires c =
-    let copied : c.as_slice-3.result.now ≡ c.as_slice.result.now = search rules in
+    let copied : c.as_slice-5.result.now ≡ c.as_slice.result.now = search rules in
     let is : c.are_data_files.result ≡ true = c.if-not-are_data_files.false in
     subst AreFiles (sym copied) (files-fit c.as_slice.result.now (sym c.are_data_files.ensures ∙ is))

@@ -1,4 +1,6 @@
-use Rattle.std.proofs.Common.{◌≡◌, List, map, ◌∙◌, sym, ap, subst, rules}
+use Rattle.std.proofs.Common.{◌≡◌, List, [], map, ◌∙◌, sym, ap, subst, rules}
+use Rattle.std.specs.List.{AllByRecursion}
+use Rattle.bk_acts.specs.Transactions.{IsTransaction}
 use Rattle.bk_groups.specs.Groups.{AreFiles}
 use Rattle.bk_shown.specs.Shown.{IsOf, Shows}
 use Rattle.bk_world.specs.declared.database.FileSpec.{FileSpec}
@@ -24,8 +26,8 @@ returns-in_err-shown-clause-unfit c = λ e w sound carries.
     c.args.body.now.header.last) (sym files)
     (set-is w c.args.body.now c.requires sound carries))
 
-pub returns-clause-shows : goal.returns-clause-shows
-returns-clause-shows c = λ w sound carries.
+pub returns-clause-kept : goal.returns-clause-kept
+returns-clause-kept c = λ w sound carries.
     let files : c.as_slice-2.result.now ≡ map spec_of c.args.body.now.header.files = search rules in
     let own : c.as_slice-2.result.now ≡ c.files.inside.items.items = search rules in
     let path : c.in_ok-copy-4.field-0 ≡ c.args.body.now.header.path = search rules in
@@ -34,6 +36,10 @@ returns-clause-shows c = λ w sound carries.
     (subst (λ (fs : List FileSpec). IsOf fs (log_below w.history c.args.body.now.header.path c.args.body.now.header.last) c.args.body.now.tables c.args.body.now.rows c.args.body.now.header.model c.args.body.now.header.finish
     c.args.body.now.header.last) (sym files)
     (set-is w c.args.body.now c.requires sound carries)) in
-    subst (λ (fs : List FileSpec). Shows fs (log_below w.history c.in_ok-copy-4.field-0 c.in_ok-shown.shown.end) c.in_ok-shown.shown) own
-    (subst (λ rs. Shows c.as_slice-2.result.now rs c.in_ok-shown.shown)
-    (sym (ap (λ p. log_below w.history p c.in_ok-shown.shown.end) path ∙ ap (λ n. log_below w.history c.args.body.now.header.path n) c.in_ok-shown.ensures.at)) shown)
+    let none : c.new-2.result ≡ [] = search rules in
+    record {
+      shows = subst (λ (fs : List FileSpec). Shows fs (log_below w.history c.in_ok-copy-4.field-0 c.in_ok-shown.shown.end) c.in_ok-shown.shown) own
+          (subst (λ rs. Shows c.as_slice-2.result.now rs c.in_ok-shown.shown)
+          (sym (ap (λ p. log_below w.history p c.in_ok-shown.shown.end) path ∙ ap (λ n. log_below w.history c.args.body.now.header.path n) c.in_ok-shown.ensures.at)) shown);
+      opens = subst (AllByRecursion IsTransaction) (sym none) tt;
+    }

@@ -2,7 +2,7 @@ use Rattle.std.proofs.Common.{◌≡◌, List, ℕ, sym, subst, arith}
 use Rattle.std.proofs.lemmas.Result.{err_from_is_err_and}
 use Rattle.bk_device.specs.Laws.{nothing_then}
 use Rattle.bk_log.specs.declared.error.LogError.TheVariants.{Foreign}
-use Rattle.bk_log.specs.FileLaws.{foreign_record, foreign_run, all_moved, blobs_moved, one_end}
+use Rattle.bk_log.specs.FileLaws.{foreign_record, foreign_run, all_moved, blobs_moved, begun_same, one_end}
 use Rattle.bk_log.specs.Log.{blobs_at, blobs_of}
 use Rattle.bk_log.specs.SegmentLaws.{segments_same}
 use Rattle.bk_log.specs.Records.{IsRun}
@@ -18,8 +18,9 @@ pub returns-in_err-walked-clause-foreign : goal.returns-in_err-walked-clause-for
 returns-in_err-walked-clause-foreign g c t =
     let p = err_from_is_err_and c.from_residual-in_err-walked.result c.from_residual-in_err-walked.ensures.1 in
     rw (p.1, p.2) (λ is. foreign_run (g.D.Device.disk c.args.dev.now).files c.args.db c.in_ok-control.control.content c.in_ok-head.head c.in_ok-head.note.items (c.in_ok-control.ensures.content t) c.in_ok-head.ensures.reads
-    (λ end run inside small. c.in_err-walked.ensures.foreign t (same_error c.in_err-walked.field-0.0 Foreign is) end
-    (subst (λ (bs : List (List ℕ)). IsRun c.in_ok-head.head.first bs end) (sym (all_moved c.args.db c.in_ok-head.head c.in_ok-head.ensures.sound.front (c.load_control.ensures.effect t))) run) small))
+    (λ end begun run inside small. c.in_err-walked.ensures.foreign t (same_error c.in_err-walked.field-0.0 Foreign is) end
+    (subst (λ (bs : List (List ℕ)). IsRun c.in_ok-head.head.first bs end) (sym (all_moved c.args.db c.in_ok-head.head c.in_ok-head.ensures.sound.front (c.load_control.ensures.effect t))) run) small
+    (begun_same (g.D.Device.disk c.args.dev.now).files (g.D.Device.disk c.load_control.new.dev).files c.args.db c.in_ok-head.head (λ n low high. blobs_moved c.args.db n (c.load_control.ensures.effect t)) begun)))
 
 pub returns-in_err-walked-clause-effect : goal.returns-in_err-walked-clause-effect
 returns-in_err-walked-clause-effect g c t = nothing_then (g.met.D.Device.lawful t c.args.dev.now) (c.load_control.ensures.effect t) (c.walk_all.ensures.effect t)
@@ -27,7 +28,7 @@ returns-in_err-walked-clause-effect g c t = nothing_then (g.met.D.Device.lawful 
 pub returns-then-walked-head-clause-foreign : goal.returns-then-walked-head-clause-foreign
 returns-then-walked-head-clause-foreign g c t is =
     foreign_run (g.D.Device.disk c.args.dev.now).files c.args.db c.in_ok-control.control.content c.in_ok-head.head c.in_ok-head.note.items (c.in_ok-control.ensures.content t) c.in_ok-head.ensures.reads
-    (λ end run inside small.
+    (λ end begun run inside small.
     let here = subst (λ (bs : List (List ℕ)). IsRun c.in_ok-head.head.first bs c.in_ok-walked.walked.end) (all_moved c.args.db c.in_ok-head.head c.in_ok-head.ensures.sound.front (c.load_control.ensures.effect t)) (c.in_ok-walked.ensures.run t) in
     let same : end ≡ c.in_ok-walked.walked.end = one_end c.in_ok-head.head.first end c.in_ok-walked.walked.end (blobs_of (g.D.Device.disk c.args.dev.now).files c.args.db c.in_ok-head.head) run here in
     absurd (omega (arith, same, inside, c.if-walked-head.true)))
@@ -38,6 +39,10 @@ returns-then-walked-head-clause-effect g c t = nothing_then (g.met.D.Device.lawf
 pub returns-clause-run : goal.returns-clause-run
 returns-clause-run g c t =
     subst (λ (bs : List (List ℕ)). IsRun c.in_ok-head.head.first bs c.in_ok-walked.walked.end) (all_moved c.args.db c.in_ok-head.head c.in_ok-head.ensures.sound.front (c.load_control.ensures.effect t)) (c.in_ok-walked.ensures.run t)
+
+pub returns-clause-begun : goal.returns-clause-begun
+returns-clause-begun g c t =
+    begun_same (g.D.Device.disk c.load_control.new.dev).files (g.D.Device.disk c.args.dev.now).files c.args.db c.in_ok-head.head (λ n low high. sym (blobs_moved c.args.db n (c.load_control.ensures.effect t))) (c.in_ok-walked.ensures.begun t)
 
 pub returns-clause-effect : goal.returns-clause-effect
 returns-clause-effect g c t = nothing_then (g.met.D.Device.lawful t c.args.dev.now) (c.load_control.ensures.effect t) (c.walk_all.ensures.effect t)

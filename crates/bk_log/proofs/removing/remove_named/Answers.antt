@@ -1,4 +1,4 @@
-use Rattle.std.proofs.Common.{◌<◌, refl, arith}
+use Rattle.std.proofs.Common.{refl, arith}
 use Rattle.std.proofs.lemmas.Option.{slice_get_within}
 use Rattle.bk_device.specs.Laws.{cause_then}
 use Rattle.bk_log.proofs.Removals.{named_none, named_more, named_gone}

@@ -1,4 +1,4 @@
-use Rattle.std.proofs.Common.{◌<◌, length, arith}
+use Rattle.std.proofs.Common.{arith}
 use Rattle.std.proofs.lemmas.Option.{slice_get_within}
 use Rattle.bk_log.proofs.Cuts.{below_none}
 use Rattle.bk_log.proofs.segments.count_below.Goals as goal

@@ -1,6 +1,4 @@
-use Rattle.std.proofs.Common.{◌≡◌, ◌<◌, List, sym, subst, arith}
-use Rattle.bk_log.specs.declared.segments.Segment.{Segment}
-use Rattle.bk_log.specs.Log.{BeginsAt}
+use Rattle.std.proofs.Common.{arith}
 use Rattle.bk_log.proofs.Cuts.{below_here, below_not}
 use Rattle.bk_log.proofs.segments.last_below.Goals as goal
 

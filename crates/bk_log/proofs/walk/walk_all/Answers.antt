@@ -1,6 +1,7 @@
-use Rattle.std.proofs.Common.{◌≡◌, ◌<◌, ◌-◌, ◌+◌, List, ℕ, length, refl, sym, subst, arith}
+use Rattle.std.proofs.Common.{◌≡◌, ◌<◌, ◌-◌, ◌+◌, List, ℕ, length, refl, inl, inr, sym, ap, subst, ◌∙◌, arith}
 use Rattle.std.proofs.lemmas.Result.{err_from_is_err_and}
 use Rattle.bk_device.specs.Laws.{nothing_yet, nothing_then, cause_then}
+use Rattle.bk_gate.specs.BlobLaws.{equal_or_not}
 use Rattle.bk_log.specs.declared.error.LogError.TheVariants.{Foreign}
 use Rattle.bk_log.specs.FileLaws.{blobs_moved}
 use Rattle.bk_log.specs.Log.{blobs_at, blobs_from, AreSegments}
@@ -13,16 +14,17 @@ use Rattle.bk_log.proofs.walk.walk_all.Goals as goal
 pub returns-in_err-at-clause-foreign : goal.returns-in_err-at-clause-foreign
 returns-in_err-at-clause-foreign g c t =
     let p = err_from_is_err_and c.from_residual-in_err-at.result c.from_residual-in_err-at.ensures.1 in
-    rw (p.1, p.2) (λ is to run small.
+    rw (p.1, p.2) (λ is to run small begun.
     let same = blobs_moved c.args.db (c.args.head.front + c.loop-i.i) (c.loop-i.invariant.nothing t) in
     let inside : c.loop-i.i < c.args.head.back - c.args.head.front + 1 = c.loop-i-test.true in
     segments_stuck (blobs_at (g.D.Device.disk c.args.dev.now).files c.args.db) c.args.head.front c.args.head.first c.loop-i.at to c.loop-i.i (c.args.head.back - c.args.head.front + 1) inside (c.loop-i.invariant.run t)
-    (λ end here less. c.in_err-at.ensures.foreign t (same_error c.in_err-at.field-0.0 Foreign is) end (subst (λ (bs : List (List ℕ)). IsRun c.loop-i.at bs end) (sym same) here) less) run small)
+    (λ end here less. c.in_err-at.ensures.foreign t (same_error c.in_err-at.field-0.0 Foreign is) end (subst (λ (bs : List (List ℕ)). IsRun c.loop-i.at bs end) (sym same) here) less (λ none. begun (c.args.head.front + c.loop-i.i) (omega arith) (omega (arith, inside, c.requires.order)) (sym same ∙ none))) run small)
 
 pub loop-i-init : goal.loop-i-init
 loop-i-init g c = record {
   nothing = λ t. nothing_yet (g.D.Device.disk c.args.dev.now);
   run = λ t. run_none c.args.head.first;
+  begun = λ t n low high. absurd (omega (arith, low, high));
   segments = λ t. subst (AreSegments (blobs_at (g.D.Device.disk c.args.dev.now).files c.args.db) c.args.db c.args.head.front c.args.head.first) (sym c.new-segments.ensures.items) (segments_none (blobs_at (g.D.Device.disk c.args.dev.now).files c.args.db) c.args.db c.args.head.front c.args.head.first);
   count = c.new-segments.ensures.len;
   cause = record { rose = λ none. absurd none; never_falls = omega arith; tell_faults = refl };
@@ -35,6 +37,10 @@ loop-i-preserved g c = record {
       let same = blobs_moved c.args.db (c.args.head.front + c.loop-i.i) (c.loop-i.invariant.nothing t) in
       segment_next (blobs_at (g.D.Device.disk c.args.dev.now).files c.args.db) c.args.head.front c.args.head.first c.loop-i.at c.in_ok-at.at c.loop-i.i (c.loop-i.invariant.run t)
       (subst (λ (bs : List (List ℕ)). IsRun c.loop-i.at bs c.in_ok-at.at) same (c.in_ok-at.ensures.run t));
+  begun = λ t n low high none. elim (equal_or_not n (c.args.head.front + c.loop-i.i)) [
+    | inl same ↦ c.in_ok-at.ensures.begun t (blobs_moved c.args.db (c.args.head.front + c.loop-i.i) (c.loop-i.invariant.nothing t) ∙ ap (blobs_at (g.D.Device.disk c.args.dev.now).files c.args.db) (sym same) ∙ none)
+    | inr differ ↦ c.loop-i.invariant.begun t n low (omega (arith, high, differ)) none
+  ];
   segments = λ t.
       let place : c.args.head.front + c.loop-i.i ≡ c.args.head.front + length c.loop-i.segments.items = omega (arith, c.loop-i.invariant.count) in
       let count : length c.loop-i.segments.items ≡ c.loop-i.i = omega (arith, c.loop-i.invariant.count) in
@@ -43,3 +49,6 @@ loop-i-preserved g c = record {
   count = omega (arith, c.loop-i.invariant.count, c.in_ok-add_segment.ensures.len);
   cause = cause_then c.loop-i.invariant.cause c.walk_segment.ensures.cause (λ none. absurd none);
 }
+
+pub returns-clause-begun : goal.returns-clause-begun
+returns-clause-begun g c t n low high none = c.loop-i.invariant.begun t n low (omega (arith, high, c.loop-i-test.false, c.requires.order)) none

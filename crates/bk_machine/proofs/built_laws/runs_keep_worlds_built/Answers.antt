@@ -6,7 +6,7 @@ pub returns-clause-nothing : goal.returns-clause-nothing
 returns-clause-nothing c = empty-built
 
 pub returns-clause-says : goal.returns-clause-says
-returns-clause-says c = λ w s now outcome sound idle built may. statement-plain w sound idle built s now outcome may
+returns-clause-says c = λ w s now outcome sound built may. statement-plain w sound built s now outcome may
 
 pub returns-clause-statement : goal.returns-clause-statement
 returns-clause-statement c = front-built

@@ -1,4 +1,4 @@
-use Rattle.bk_machine.proofs.Same.{same-ended, same-idle, same-medium_added, same-medium_changed, same-medium_made, same-medium_removed, same-on, same-opened, same-reflexive, same-restarted, same-sealed, same-standby_removed, same-turned}
+use Rattle.bk_machine.proofs.Same.{same-ended, same-idle, same-medium_added, same-medium_changed, same-medium_made, same-medium_removed, same-on, same-opened, same-reflexive, same-restarted, same-sealed, same-seated, same-standby_removed, same-turned}
 use Rattle.bk_machine.proofs.same_laws.logs_that_stay.Goals as goal
 
 pub returns-clause-reflexive : goal.returns-clause-reflexive
@@ -39,3 +39,6 @@ returns-clause-medium_changed c = same-medium_changed
 
 pub returns-clause-medium_added : goal.returns-clause-medium_added
 returns-clause-medium_added c = same-medium_added
+
+pub returns-clause-seated : goal.returns-clause-seated
+returns-clause-seated c = same-seated

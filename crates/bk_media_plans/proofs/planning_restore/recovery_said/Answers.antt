@@ -1,9 +1,7 @@
-use Rattle.std.proofs.Common.{ℕ, List, [], refl, sym, subst, arith}
-use Rattle.bk_acts.specs.Meaning.{Spell}
+use Rattle.std.proofs.Common.{refl}
+use Rattle.bk_plans.specs.PlanLaws.{if-ok}
 use Rattle.bk_world.specs.Records.{recovered}
 use Rattle.bk_media_plans.proofs.planning_restore.recovery_said.Goals as goal
 
 pub returns : goal.returns
-returns c =
-    c.in_ok-say.ensures c.args.at [] (record { begin = 0; deed = recovered c.args.branch })
-    (subst (λ (bytes : List ℕ). Spell bytes c.args.at []) (sym c.none-records.ensures) (c.said_law.ensures.nothing c.args.at)) (omega arith) refl
+returns c = if-ok _ _ c.say_one.result (λ records spell. spell (record { begin = 0; deed = recovered c.args.branch }) refl) c.say_one.ensures

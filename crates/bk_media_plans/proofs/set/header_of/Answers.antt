@@ -14,4 +14,4 @@ returns c = λ w shows.
     let groups : c.in_ok-copy_groups.field-0 ≡ c.args.database.now.groups = c.in_ok-copy_groups.ensures ∙ c.as_slice.ensures in
     let files : c.in_ok-header_files.field-0 ≡ map (λ (file : FileSpec). record { spec = file; in_set = true }) c.args.database.now.files =
     c.in_ok-header_files.ensures ∙ ap (map (λ (file : FileSpec). record { spec = file; in_set = true })) c.as_slice-2.ensures in
-    rw (model, c.end-end.ensures.same, c.base_lsn.ensures, c.in_ok-copy.ensures, name, c.in_ok-copy-2.ensures, groups, files, c.in_ok-copy-3.ensures, c.in_ok-copy-4.ensures) refl
+    rw (model, c.least_begin.ensures, c.end-end.ensures.same, c.base_lsn.ensures, c.in_ok-copy.ensures, name, c.in_ok-copy-2.ensures, groups, files, c.in_ok-copy-3.ensures, c.in_ok-copy-4.ensures) refl

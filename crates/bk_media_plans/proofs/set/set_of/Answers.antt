@@ -14,14 +14,14 @@ returns-clause-carries c =
     let log : IsLog c.in_ok-log.log (map spelled (numbered c.args.database.now.shown.end (alone (checkpointed c.args.time)) ++ numbered (c.args.database.now.shown.end + 1) (alone (stamped c.args.time c.args.set)))) None =
     subst (λ (n : ℕ). IsLog c.in_ok-log.log (map spelled (numbered n (alone (checkpointed c.args.time)) ++ numbered (n + 1) (alone (stamped c.args.time c.args.set)))) None) c.end-end.ensures.same c.in_ok-log.ensures in
     made-some c.make.result _ _ _ _
-    (λ w lines shows settled is.
+    (λ w lines shows closed settled is.
     carries-made w lines c.args.database.now c.args.set c.args.time (record { header = c.in_ok-header.header; tables = c.in_ok-tables.tables; rows = c.new.result; log = c.in_ok-log.log }) shows
     (c.in_ok-header.ensures w shows)
     (λ files rs sh. sym (c.tables.ensures files rs sh) ∙ sym c.in_ok-tables.ensures)
     (λ files rs sh none. subst (AreRowsOf rs) (sym c.new.ensures) (c.in_ok-rows.ensures.rows files rs sh none))
     log
     (λ files rs sh. sym c.end-end.ensures.same ∙ c.end-end.ensures.shown files rs sh)
-    c.placed_logs.ensures.more settled is)
+    c.placed_logs.ensures.more closed settled is)
     c.make.ensures.made
 
 pub returns-clause-some : goal.returns-clause-some

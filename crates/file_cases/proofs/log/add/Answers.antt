@@ -7,5 +7,5 @@ use Rattle.file_cases.proofs.log.add.Goals as goal
 pub records-preserved : goal.records-preserved
 records-preserved c = record {
   fit = ap (λ (k : Kept). k.failed) c.in_ok-append.ensures.more ∙ c.records.invariant.fit;
-  stands = subst (IsLog (disk_of c.args.device.now)) (sym c.in_ok-append.ensures.more) (log_waits _ _ c.records.invariant.stands);
+  stands = subst (IsLog (disk_of c.args.device.now)) (sym c.in_ok-append.ensures.more) (log_waits _ _ _ _ c.records.invariant.stands);
 }

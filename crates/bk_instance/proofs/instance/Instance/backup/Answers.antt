@@ -19,7 +19,7 @@ returns-clause-media g c = λ tells. calm-through c.follow.result (g.D.Device.di
 
 pub returns-clause-executed : goal.returns-clause-executed
 returns-clause-executed g c =
-    plan-executed c.args.self.now c.follow.new.self (g.D.Device.disk c.args.dev.now) (g.D.Device.disk c.is_taken.new.dev) (g.D.Device.disk c.follow.new.dev) _ c.args.now c.in_ok-plan.plan c.follow.result c.in_ok-plan.ensures.plans (λ t. g.met.D.Device.lawful t c.args.dev.now)
+    plan-executed c.acts_of_statements.ensures.fronts c.args.self.now c.follow.new.self (g.D.Device.disk c.args.dev.now) (g.D.Device.disk c.is_taken.new.dev) (g.D.Device.disk c.follow.new.dev) _ c.args.now c.in_ok-plan.plan c.follow.result c.in_ok-plan.ensures.plans (λ t. g.met.D.Device.lawful t c.args.dev.now)
     (knows-taken c.args.self.now (g.D.Device.disk c.args.dev.now) (g.D.Device.disk c.is_taken.new.dev) c.args.disk.now c.as_str.result.now c.in_ok-is_there.is_there c.requires.ready c.requires.stored c.is_taken.ensures.effect c.as_str.utf8 c.as_str.ensures c.in_ok-is_there.ensures.taken)
     (record { replies = c.follow.ensures.replies; does = c.follow.ensures.does; crash = c.follow.ensures.crash; still = c.follow.ensures.still; spares = c.follow.ensures.spares; broken = c.follow.ensures.broken })
 

@@ -1,61 +1,24 @@
-use Rattle.std.proofs.Common.{rules, ℕ, None, refl, ◌∙◌, ap, sym}
-use Rattle.bk_device.specs.Laws.{nothing_yet}
-use Rattle.bk_home.specs.declared.record.Record.{Record}
-use Rattle.bk_instance.proofs.Closes.{close-none, none-stands, close-put, put-stands}
-use Rattle.bk_instance.proofs.Opened.{media-durable}
-use Rattle.bk_instance.proofs.Standing.{home-fine}
-use Rattle.bk_instance.proofs.Touching.{own-none, own-touched}
+use Rattle.bk_device.specs.Compose.{effect_then}
+use Rattle.bk_device.specs.Laws.{nothing_then}
+use Rattle.bk_instance.proofs.RolledBack.{closed-by, rolled-cuts}
 use Rattle.bk_instance.proofs.instance.Instance.close.Goals as goal
 
-exact : ℕ → ℕ → Record
-exact number counter = record { number = number; counter = counter; making = None }
+pub returns-in_err-roll_all_back-clause-still : goal.returns-in_err-roll_all_back-clause-still
+returns-in_err-roll_all_back-clause-still g c t exact w stands idle = let rests = c.roll_all_back.ensures.still t w stands idle in rests.0
 
-pub returns-in_err-put-clause-crash : goal.returns-in_err-put-clause-crash
-unfolding exact
-returns-in_err-put-clause-crash g c tells =
-    let kept = c.args.self.now.kept in
-    close-put c.args.self.now (g.D.Device.disk c.args.dev.now) (g.D.Device.disk c.put.new.dev) (exact kept.number kept.counter) c.requires.ready (c.requires.stored tells) refl refl refl (c.put.ensures.crash tells)
+pub returns-clause-closed : goal.returns-clause-closed
+returns-clause-closed g c =
+    closed-by c.args.self.now c.roll_all_back.new.self (g.D.Device.disk c.args.dev.now) (g.D.Device.disk c.roll_all_back.new.dev) (g.D.Device.disk c.release.new.dev) c.release.result c.in_ok-roll_all_back.ensures.rolls c.release.ensures.stands
 
-pub returns-in_ok-put-clause-stands : goal.returns-in_ok-put-clause-stands
-unfolding exact
-returns-in_ok-put-clause-stands g c tells number w stands =
-    let kept = c.args.self.now.kept in
-    put-stands c.runs_begin_and_end_in_sound_worlds.ensures.ends number c.args.self.now (record { alloc = c.args.self.now.alloc; home = c.put.new.self; kept = kept }) (g.D.Device.disk c.args.dev.now) (g.D.Device.disk c.put.new.dev) w (exact kept.number kept.counter)
-    c.requires.ready refl refl refl (c.in_ok-put.ensures.stands tells) c.in_ok-put.ensures.put (c.in_ok-put.ensures.blobs tells) (c.put.ensures.crash tells) stands
+pub returns-clause-crash : goal.returns-clause-crash
+returns-clause-crash g c t =
+    effect_then (c.roll_all_back.ensures.crash t)
+    (rolled-cuts c.args.self.now c.roll_all_back.new.self (g.D.Device.disk c.args.dev.now) (g.D.Device.disk c.roll_all_back.new.dev) (g.D.Device.disk c.release.new.dev) c.in_ok-roll_all_back.ensures.rolls t (c.in_ok-roll_all_back.ensures.media t) (c.release.ensures.crash t))
 
-pub returns-in_ok-put-clause-crash : goal.returns-in_ok-put-clause-crash
-unfolding exact
-returns-in_ok-put-clause-crash g c tells =
-    let kept = c.args.self.now.kept in
-    close-put c.args.self.now (g.D.Device.disk c.args.dev.now) (g.D.Device.disk c.put.new.dev) (exact kept.number kept.counter) c.requires.ready (c.requires.stored tells) refl refl refl (c.put.ensures.crash tells)
+pub returns-clause-still : goal.returns-clause-still
+returns-clause-still g c t exact w stands idle =
+    let rests = c.roll_all_back.ensures.still t w stands idle in
+    nothing_then (g.met.D.Device.lawful t c.args.dev.now) rests.0 (c.release.ensures.still t (rests.1 exact))
 
-pub returns-else-record-self-clause-stands : goal.returns-else-record-self-clause-stands
-returns-else-record-self-clause-stands g c tells number w stands =
-    none-stands c.runs_begin_and_end_in_sound_worlds.ensures.ends number c.args.self.now (g.D.Device.disk c.args.dev.now) w c.requires.ready (c.requires.stored tells) (sym (ap (λ (r : Record). r.counter) c.record.ensures.same) ∙ c.if-record-self.false) stands
-
-pub returns-else-record-self-clause-crash : goal.returns-else-record-self-clause-crash
-returns-else-record-self-clause-crash g c tells = close-none c.args.self.now (g.D.Device.disk c.args.dev.now) c.requires.ready (c.requires.stored tells)
-
-pub returns-in_ok-put-clause-media : goal.returns-in_ok-put-clause-media
-returns-in_ok-put-clause-media g c tells = media-durable (g.D.Device.disk c.args.dev.now) (g.D.Device.disk c.put.new.dev) (c.put.ensures.crash tells)
-
-pub returns-in_err-put-clause-still : goal.returns-in_err-put-clause-still
-returns-in_err-put-clause-still g c tells exact = absurd (c.if-record-self.true (ap (λ (r : Record). r.counter) c.record.ensures.same ∙ exact))
-
-pub returns-in_err-put-clause-spares : goal.returns-in_err-put-clause-spares
-returns-in_err-put-clause-spares g c tells = own-touched (c.put.ensures.crash tells)
-
-pub returns-in_ok-put-clause-still : goal.returns-in_ok-put-clause-still
-returns-in_ok-put-clause-still g c tells exact = absurd (c.if-record-self.true (ap (λ (r : Record). r.counter) c.record.ensures.same ∙ exact))
-
-pub returns-in_ok-put-clause-spares : goal.returns-in_ok-put-clause-spares
-returns-in_ok-put-clause-spares g c tells = own-touched (c.put.ensures.crash tells)
-
-pub returns-else-record-self-clause-still : goal.returns-else-record-self-clause-still
-returns-else-record-self-clause-still g c tells exact = nothing_yet (g.D.Device.disk c.args.dev.now)
-
-pub returns-else-record-self-clause-spares : goal.returns-else-record-self-clause-spares
-returns-else-record-self-clause-spares g c tells = own-none (g.D.Device.disk c.args.dev.now)
-
-pub returns-in_err-put-clause-unbroken : goal.returns-in_err-put-clause-unbroken
-returns-in_err-put-clause-unbroken g c broken = home-fine c.in_err-put.field-0.0 c.in_err-put.ensures.trouble (search rules)
+pub returns-clause-spares : goal.returns-clause-spares
+returns-clause-spares g c t = effect_then (c.roll_all_back.ensures.spares t) (c.release.ensures.spares t)

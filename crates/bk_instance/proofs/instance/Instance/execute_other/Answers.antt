@@ -8,7 +8,7 @@ returns-in_err-plan-clause-failed g c =
 
 pub returns-clause-executed : goal.returns-clause-executed
 returns-clause-executed g c =
-    plan-executed c.args.self.now c.follow.new.self (g.D.Device.disk c.args.dev.now) (g.D.Device.disk c.args.dev.now) (g.D.Device.disk c.follow.new.dev) c.args.statement.now c.args.now c.in_ok-plan.plan c.follow.result (c.in_ok-plan.ensures.plans c.requires.other) (λ t. g.met.D.Device.lawful t c.args.dev.now)
+    plan-executed c.acts_of_statements.ensures.fronts c.args.self.now c.follow.new.self (g.D.Device.disk c.args.dev.now) (g.D.Device.disk c.args.dev.now) (g.D.Device.disk c.follow.new.dev) c.args.statement.now c.args.now c.in_ok-plan.plan c.follow.result (c.in_ok-plan.ensures.plans c.requires.other) (λ t. g.met.D.Device.lawful t c.args.dev.now)
     (knows-nothing c.args.self.now (g.D.Device.disk c.args.dev.now) c.requires.ready c.requires.stored)
     (record { replies = c.follow.ensures.replies; does = c.follow.ensures.does; crash = c.follow.ensures.crash; still = c.follow.ensures.still; spares = c.follow.ensures.spares; broken = c.follow.ensures.broken })
 

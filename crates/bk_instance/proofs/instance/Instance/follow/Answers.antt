@@ -7,7 +7,7 @@ use Rattle.bk_instance.specs.Media.{IfDurable}
 use Rattle.bk_instance.specs.Stands.{IsOurs}
 use Rattle.bk_instance.specs.Steps.{CutsParts, CutsPlan, DoesPlan}
 use Rattle.bk_instance.specs.Touched.{PartsWrite, PlanWrites, TouchesOnly}
-use Rattle.bk_instance.proofs.PartByPart.{plan-none, turned-does}
+use Rattle.bk_instance.proofs.PartByPart.{plan-none, seated-does, turned-does}
 use Rattle.bk_instance.proofs.Touching.{touches-none}
 use Rattle.bk_instance.proofs.instance.Instance.follow.Goals as goal
 
@@ -17,14 +17,14 @@ returns-in-Refused-clause-crash g c tells = plan-none c.args.self.now (g.D.Devic
 pub returns-in-Answered-clause-crash : goal.returns-in-Answered-clause-crash
 returns-in-Answered-clause-crash g c tells = plan-none c.args.self.now (g.D.Device.disk c.args.dev.now) c.args.plan c.requires.ready (c.requires.stored tells)
 
-pub returns-in-Turned-clause-crash : goal.returns-in-Turned-clause-crash
-returns-in-Turned-clause-crash g c tells = plan-none c.args.self.now (g.D.Device.disk c.args.dev.now) c.args.plan c.requires.ready (c.requires.stored tells)
+pub returns-in_ok-turn-in-Turned-clause-crash : goal.returns-in_ok-turn-in-Turned-clause-crash
+returns-in_ok-turn-in-Turned-clause-crash g c tells = plan-none c.args.self.now (g.D.Device.disk c.args.dev.now) c.args.plan c.requires.ready (c.requires.stored tells)
 
-pub returns-in-Turned-clause-does : goal.returns-in-Turned-clause-does
-returns-in-Turned-clause-does g c tells =
+pub returns-in_ok-turn-in-Turned-clause-does : goal.returns-in_ok-turn-in-Turned-clause-does
+returns-in_ok-turn-in-Turned-clause-does g c tells =
     subst (λ (p : Plan). DoesPlan c.args.self.now (g.D.Device.disk c.args.dev.now) p (record c.args.self.now { kept = c.turn.new.self }) (g.D.Device.disk c.args.dev.now)) (sym c.in-Turned.is)
-    (turned-does (record { sound = c.acts_keep_worlds_sound.ensures.act; idle = c.logs_that_stay.ensures.idle; transitive = c.logs_that_stay.ensures.transitive; turned = c.logs_that_stay.ensures.turned })
-    c.args.self.now (record c.args.self.now { kept = c.turn.new.self }) (g.D.Device.disk c.args.dev.now) c.in-Turned.name (λ w keeps. c.turn.ensures.turned w keeps))
+    (turned-does (record { transitive = c.logs_that_stay.ensures.transitive; turned = c.logs_that_stay.ensures.turned; seated = c.logs_that_stay.ensures.seated })
+    c.args.self.now (record c.args.self.now { kept = c.turn.new.self }) (g.D.Device.disk c.args.dev.now) c.in-Turned.name (λ w keeps. c.in_ok-turn-in-Turned.ensures.turned w keeps))
 
 pub returns-in_ok-done-in-Parts-clause-crash : goal.returns-in_ok-done-in-Parts-clause-crash
 returns-in_ok-done-in-Parts-clause-crash g c tells =
@@ -38,8 +38,8 @@ returns-in-Refused-clause-still g c tells none = record { device = nothing_yet (
 pub returns-in-Answered-clause-still : goal.returns-in-Answered-clause-still
 returns-in-Answered-clause-still g c tells none = record { device = nothing_yet (g.D.Device.disk c.args.dev.now); reserves = λ exact. exact }
 
-pub returns-in-Turned-clause-still : goal.returns-in-Turned-clause-still
-returns-in-Turned-clause-still g c tells none = record { device = nothing_yet (g.D.Device.disk c.args.dev.now); reserves = λ exact. exact ∙ sym c.turn.ensures.counter }
+pub returns-in_ok-turn-in-Turned-clause-still : goal.returns-in_ok-turn-in-Turned-clause-still
+returns-in_ok-turn-in-Turned-clause-still g c tells none = record { device = nothing_yet (g.D.Device.disk c.args.dev.now); reserves = λ exact. exact ∙ sym c.turn.ensures.counter }
 
 pub returns-in-Refused-clause-spares : goal.returns-in-Refused-clause-spares
 returns-in-Refused-clause-spares g c tells = touches-none (g.D.Device.disk c.args.dev.now)
@@ -47,8 +47,8 @@ returns-in-Refused-clause-spares g c tells = touches-none (g.D.Device.disk c.arg
 pub returns-in-Answered-clause-spares : goal.returns-in-Answered-clause-spares
 returns-in-Answered-clause-spares g c tells = touches-none (g.D.Device.disk c.args.dev.now)
 
-pub returns-in-Turned-clause-spares : goal.returns-in-Turned-clause-spares
-returns-in-Turned-clause-spares g c tells = touches-none (g.D.Device.disk c.args.dev.now)
+pub returns-in_ok-turn-in-Turned-clause-spares : goal.returns-in_ok-turn-in-Turned-clause-spares
+returns-in_ok-turn-in-Turned-clause-spares g c tells = touches-none (g.D.Device.disk c.args.dev.now)
 
 pub returns-in_err-done-in-Parts-clause-crash : goal.returns-in_err-done-in-Parts-clause-crash
 returns-in_err-done-in-Parts-clause-crash g c tells =
@@ -65,3 +65,24 @@ pub returns-in_err-done-in-Parts-clause-spares : goal.returns-in_err-done-in-Par
 returns-in_err-done-in-Parts-clause-spares g c tells =
     subst (λ (p : Plan). TouchesOnly (PlanWrites p) (g.D.Device.disk c.args.dev.now) (g.D.Device.disk c.carry_out-done.new.dev)) (sym c.in-Parts.is)
     (subst (λ (ps : List Part). TouchesOnly (PartsWrite ps) (g.D.Device.disk c.args.dev.now) (g.D.Device.disk c.carry_out-done.new.dev)) c.deref.ensures.value (c.carry_out-done.ensures.spares tells))
+
+pub returns-in_err-turn-in-Turned-clause-crash : goal.returns-in_err-turn-in-Turned-clause-crash
+returns-in_err-turn-in-Turned-clause-crash g c tells = plan-none c.args.self.now (g.D.Device.disk c.args.dev.now) c.args.plan c.requires.ready (c.requires.stored tells)
+
+pub returns-in_err-turn-in-Turned-clause-spares : goal.returns-in_err-turn-in-Turned-clause-spares
+returns-in_err-turn-in-Turned-clause-spares g c tells = touches-none (g.D.Device.disk c.args.dev.now)
+
+pub returns-in-Seated-clause-crash : goal.returns-in-Seated-clause-crash
+returns-in-Seated-clause-crash g c tells = plan-none c.args.self.now (g.D.Device.disk c.args.dev.now) c.args.plan c.requires.ready (c.requires.stored tells)
+
+pub returns-in-Seated-clause-does : goal.returns-in-Seated-clause-does
+returns-in-Seated-clause-does g c tells =
+    subst (λ (p : Plan). DoesPlan c.args.self.now (g.D.Device.disk c.args.dev.now) p (record c.args.self.now { kept = c.seat.new.self }) (g.D.Device.disk c.args.dev.now)) (sym c.in-Seated.is)
+    (seated-does (record { transitive = c.logs_that_stay.ensures.transitive; turned = c.logs_that_stay.ensures.turned; seated = c.logs_that_stay.ensures.seated })
+    c.args.self.now (record c.args.self.now { kept = c.seat.new.self }) (g.D.Device.disk c.args.dev.now) c.in-Seated.session (λ w keeps. c.seat.ensures.seated w keeps))
+
+pub returns-in-Seated-clause-still : goal.returns-in-Seated-clause-still
+returns-in-Seated-clause-still g c tells none = record { device = nothing_yet (g.D.Device.disk c.args.dev.now); reserves = λ exact. exact ∙ sym c.seat.ensures.counter }
+
+pub returns-in-Seated-clause-spares : goal.returns-in-Seated-clause-spares
+returns-in-Seated-clause-spares g c tells = touches-none (g.D.Device.disk c.args.dev.now)

@@ -1,104 +1,164 @@
-use Rattle.std.proofs.Common.{List, ℕ, None, inl, inr, refl, ap, subst, sym, ◌∙◌}
+use Rattle.std.proofs.Common.{◌≡◌, ◌∙◌, Err, ap, sym}
+use Rattle.std.specs.Prelude.{Result}
 use Rattle.std.proofs.lemmas.Result.{err_from_is_err_and}
-use Rattle.bk_device.specs.Compose.{effect_then, keeps_by_nothing}
+use Rattle.bk_device.specs.Compose.{effect_then}
 use Rattle.bk_device.specs.Laws.{nothing_then}
-use Rattle.bk_home.specs.declared.record.Record.{Record}
-use Rattle.bk_home.specs.Laws.{home_kept, same_error}
-use Rattle.bk_instance.specs.declared.error.LoadError.TheVariants.{Broken}
-use Rattle.bk_instance.specs.Loading.{ShowMade}
-use Rattle.bk_instance.proofs.Opened.{media-on-nothing, blobs-on}
-use Rattle.bk_instance.proofs.Loads.{read-crash, load-crash, load-stands, broken-blobs, load-number, instance-stands}
-use Rattle.bk_instance.proofs.Replays.{made-none}
-use Rattle.bk_instance.proofs.Touching.{none-making, touches-nothing, touches-own, touches-wider}
+use Rattle.bk_home.specs.Laws.{same_error}
+use Rattle.bk_instance.specs.declared.error.ExecuteError.{ExecuteError}
+use Rattle.bk_instance.specs.declared.error.ExecuteError.TheVariants as execute
+use Rattle.bk_instance.specs.declared.error.LoadError.TheVariants.{Broken, Unsettled}
+use Rattle.bk_instance.proofs.SettledOpen.{loaded-number, loaded-rests, loaded-stands, opened-cuts, opened-stuck, settled-cuts, settled-stuck, settled-stuck-at, settled-unbroken}
+use Rattle.bk_instance.proofs.Touching.{touches-own}
 use Rattle.bk_instance.proofs.instance.Instance.load.Goals as goal
 
-pub returns-in_err-home-clause-broken : goal.returns-in_err-home-clause-broken
-returns-in_err-home-clause-broken g c t =
+pub returns-in_err-instance-clause-crash : goal.returns-in_err-instance-clause-crash
+returns-in_err-instance-clause-crash g c t =
+    opened-cuts (record {
+      begins = c.runs_begin_and_end_in_sound_worlds.ensures.begins;
+      restarts = c.restarts_keep_worlds_sound.ensures.sound;
+      logs_restarted = c.logs_that_stay.ensures.restarted;
+      logs_opened = c.logs_that_stay.ensures.opened;
+      media_restarted = c.media_that_stay.ensures.restarted;
+      media_opened = c.media_that_stay.ensures.opened;
+      idle = c.logs_that_stay.ensures.idle;
+      before = c.settled_worlds.ensures.before;
+      settled_opened = c.settled_worlds.ensures.opened;
+      ended = c.settled_worlds.ensures.ended;
+    }) c.args.number (g.D.Device.disk c.args.dev.now) (g.D.Device.disk c.open.new.dev) (c.open.ensures.crash t)
+
+pub returns-in_err-instance-clause-broken : goal.returns-in_err-instance-clause-broken
+returns-in_err-instance-clause-broken g c t =
     let p = err_from_is_err_and c.from_residual.result c.from_residual.ensures.1 in
-    rw (p.1, p.2) (λ is w stands. c.in_err-home.ensures.broken t (same_error c.in_err-home.field-0.0 Broken is) w stands)
-
-pub returns-in_err-databases-clause-crash : goal.returns-in_err-databases-clause-crash
-returns-in_err-databases-clause-crash g c t =
-    read-crash c.runs_begin_and_end_in_sound_worlds.ensures.begins c.args.number (g.D.Device.disk c.args.dev.now) (g.D.Device.disk c.open_home.new.dev) (g.D.Device.disk c.replay.new.dev) c.in_ok-home.home
-    (c.open_home.ensures.crash t) (c.in_ok-home.ensures.same t) (c.in_ok-home.ensures.stands t) (c.in_ok-home.ensures.media t) (c.replay.ensures.effect t)
-
-pub returns-in_err-databases-clause-broken : goal.returns-in_err-databases-clause-broken
-returns-in_err-databases-clause-broken g c t =
-    let p = err_from_is_err_and c.from_residual-in_err-databases.result c.from_residual-in_err-databases.ensures.1 in
     rw (p.1, p.2) (λ is w stands.
-    broken-blobs c.args.number (g.D.Device.disk c.open_home.new.dev) c.in_ok-home.home w (c.in_ok-home.ensures.stands t)
-    (c.in_err-databases.ensures.broken t (same_error c.in_err-databases.field-0.0 Broken is)) (c.in_ok-home.ensures.same t w stands))
+    opened-stuck (record {
+      begins = c.runs_begin_and_end_in_sound_worlds.ensures.begins;
+      restarts = c.restarts_keep_worlds_sound.ensures.sound;
+      logs_restarted = c.logs_that_stay.ensures.restarted;
+      logs_opened = c.logs_that_stay.ensures.opened;
+      media_restarted = c.media_that_stay.ensures.restarted;
+      media_opened = c.media_that_stay.ensures.opened;
+      idle = c.logs_that_stay.ensures.idle;
+      before = c.settled_worlds.ensures.before;
+      settled_opened = c.settled_worlds.ensures.opened;
+      ended = c.settled_worlds.ensures.ended;
+    }) c.args.number (g.D.Device.disk c.args.dev.now) w (c.in_err-instance.ensures.broken t (same_error c.in_err-instance.field-0.0 Broken is)) stands)
 
-pub let_go-requires-clause-stands : goal.let_go-requires-clause-stands
-let_go-requires-clause-stands g c t = home_kept (keeps_by_nothing (c.replay.ensures.effect t)) (c.in_ok-home.ensures.stands t)
+pub returns-in-Ok-clause-media : goal.returns-in-Ok-clause-media
+returns-in-Ok-clause-media g c t settled = c.in-Ok.ensures.media t (c.in_ok-instance.ensures.media t settled)
 
-pub returns-in_err-let_go-clause-crash : goal.returns-in_err-let_go-clause-crash
-returns-in_err-let_go-clause-crash g c t =
-    load-crash c.runs_begin_and_end_in_sound_worlds.ensures.begins c.args.number (g.D.Device.disk c.args.dev.now) (g.D.Device.disk c.open_home.new.dev) (g.D.Device.disk c.replay.new.dev) (g.D.Device.disk c.let_go.new.dev) c.in_ok-home.home
-    (c.open_home.ensures.crash t) (c.in_ok-home.ensures.same t) (c.in_ok-home.ensures.stands t) (c.in_ok-home.ensures.media t) (c.replay.ensures.effect t)
-    (c.let_go.ensures.crash t)
+pub returns-in-Ok-clause-stands : goal.returns-in-Ok-clause-stands
+returns-in-Ok-clause-stands g c t settled w stands =
+    loaded-stands (record {
+      begins = c.runs_begin_and_end_in_sound_worlds.ensures.begins;
+      restarts = c.restarts_keep_worlds_sound.ensures.sound;
+      logs_restarted = c.logs_that_stay.ensures.restarted;
+      logs_opened = c.logs_that_stay.ensures.opened;
+      media_restarted = c.media_that_stay.ensures.restarted;
+      media_opened = c.media_that_stay.ensures.opened;
+      idle = c.logs_that_stay.ensures.idle;
+      before = c.settled_worlds.ensures.before;
+      settled_opened = c.settled_worlds.ensures.opened;
+      ended = c.settled_worlds.ensures.ended;
+    }) c.args.number c.in_ok-instance.instance c.settle.new.self (g.D.Device.disk c.args.dev.now) (g.D.Device.disk c.open.new.dev) (g.D.Device.disk c.settle.new.dev) w (c.in_ok-instance.ensures.stands t) (c.in-Ok.ensures.settles t) stands
 
-pub returns-clause-media : goal.returns-clause-media
-returns-clause-media g c t settled = c.in_ok-let_go.ensures.media t (media-on-nothing (c.replay.ensures.effect t) (c.in_ok-home.ensures.media t settled))
+pub returns-in-Ok-clause-number : goal.returns-in-Ok-clause-number
+returns-in-Ok-clause-number g c t w stands =
+    c.in-Ok.ensures.number ∙ loaded-number (record {
+      begins = c.runs_begin_and_end_in_sound_worlds.ensures.begins;
+      restarts = c.restarts_keep_worlds_sound.ensures.sound;
+      logs_restarted = c.logs_that_stay.ensures.restarted;
+      logs_opened = c.logs_that_stay.ensures.opened;
+      media_restarted = c.media_that_stay.ensures.restarted;
+      media_opened = c.media_that_stay.ensures.opened;
+      idle = c.logs_that_stay.ensures.idle;
+      before = c.settled_worlds.ensures.before;
+      settled_opened = c.settled_worlds.ensures.opened;
+      ended = c.settled_worlds.ensures.ended;
+    }) c.args.number c.in_ok-instance.instance.kept.number (g.D.Device.disk c.args.dev.now) w (c.in_ok-instance.ensures.number t) stands
 
-pub returns-clause-stands : goal.returns-clause-stands
-returns-clause-stands g c t settled w stands =
-    let same = c.record-record.ensures.same in
-    let Shows : List (List ℕ) → Type 0 = λ blobs. ShowMade blobs c.in_ok-databases.databases.items in
-    instance-stands c.runs_begin_and_end_in_sound_worlds.ensures.begins c.args.number
-    (record { alloc = c.args.alloc; home = c.let_go.new.home; kept = record { number = c.record-record.result.now.number; counter = c.record-record.result.now.counter; current = None; databases = c.in_ok-databases.databases } })
-    (g.D.Device.disk c.let_go.new.dev) w (c.in_ok-let_go.ensures.stands t) (ap (λ (r : Record). r.number) same) (ap (λ (r : Record). r.counter) same) refl c.in_ok-let_go.ensures.none
-    (subst Shows (sym (c.in_ok-let_go.ensures.blobs t ∙ blobs-on (c.replay.ensures.effect t))) (c.in_ok-databases.ensures.made t))
-    (load-stands c.args.number (g.D.Device.disk c.args.dev.now) (g.D.Device.disk c.open_home.new.dev) (g.D.Device.disk c.replay.new.dev) (g.D.Device.disk c.let_go.new.dev) c.in_ok-home.home w
-    (g.met.D.Device.lawful t c.let_go.new.dev) (c.in_ok-home.ensures.same t) (c.in_ok-home.ensures.stands t) (c.replay.ensures.effect t)
-    (media-on-nothing (c.replay.ensures.effect t) (c.in_ok-home.ensures.media t settled)) (c.let_go.ensures.crash t) stands)
+pub returns-in-Ok-clause-crash : goal.returns-in-Ok-clause-crash
+returns-in-Ok-clause-crash g c t = settled-cuts (record {
+  begins = c.runs_begin_and_end_in_sound_worlds.ensures.begins;
+  restarts = c.restarts_keep_worlds_sound.ensures.sound;
+  logs_restarted = c.logs_that_stay.ensures.restarted;
+  logs_opened = c.logs_that_stay.ensures.opened;
+  media_restarted = c.media_that_stay.ensures.restarted;
+  media_opened = c.media_that_stay.ensures.opened;
+  idle = c.logs_that_stay.ensures.idle;
+  before = c.settled_worlds.ensures.before;
+  settled_opened = c.settled_worlds.ensures.opened;
+  ended = c.settled_worlds.ensures.ended;
+}) c.args.number c.in_ok-instance.instance (g.D.Device.disk c.args.dev.now) (g.D.Device.disk c.open.new.dev) (g.D.Device.disk c.settle.new.dev) (c.in_ok-instance.ensures.stands t) (c.in_ok-instance.ensures.media t) (c.open.ensures.crash t) (c.settle.ensures.crash t)
 
-pub returns-clause-number : goal.returns-clause-number
-returns-clause-number g c t w stands =
-    ap (λ (r : Record). r.number) c.record-record.ensures.same ∙ c.in_ok-let_go.ensures.number ∙ sym (load-number c.args.number (g.D.Device.disk c.open_home.new.dev) c.in_ok-home.home w (c.in_ok-home.ensures.stands t) (c.in_ok-home.ensures.same t w stands))
+pub returns-in-Ok-clause-still : goal.returns-in-Ok-clause-still
+returns-in-Ok-clause-still g c t made none w covers idle =
+    nothing_then (g.met.D.Device.lawful t c.args.dev.now) (c.in_ok-instance.ensures.still t made none)
+    (loaded-rests (record {
+      begins = c.runs_begin_and_end_in_sound_worlds.ensures.begins;
+      restarts = c.restarts_keep_worlds_sound.ensures.sound;
+      logs_restarted = c.logs_that_stay.ensures.restarted;
+      logs_opened = c.logs_that_stay.ensures.opened;
+      media_restarted = c.media_that_stay.ensures.restarted;
+      media_opened = c.media_that_stay.ensures.opened;
+      idle = c.logs_that_stay.ensures.idle;
+      before = c.settled_worlds.ensures.before;
+      settled_opened = c.settled_worlds.ensures.opened;
+      ended = c.settled_worlds.ensures.ended;
+    }) c.args.number c.in_ok-instance.instance c.settle.new.self (g.D.Device.disk c.args.dev.now) (g.D.Device.disk c.open.new.dev) (g.D.Device.disk c.settle.new.dev) w (c.in_ok-instance.ensures.stands t) (c.in-Ok.ensures.still t) covers idle)
 
-pub returns-clause-crash : goal.returns-clause-crash
-returns-clause-crash g c t =
-    load-crash c.runs_begin_and_end_in_sound_worlds.ensures.begins c.args.number (g.D.Device.disk c.args.dev.now) (g.D.Device.disk c.open_home.new.dev) (g.D.Device.disk c.replay.new.dev) (g.D.Device.disk c.let_go.new.dev) c.in_ok-home.home
-    (c.open_home.ensures.crash t) (c.in_ok-home.ensures.same t) (c.in_ok-home.ensures.stands t) (c.in_ok-home.ensures.media t) (c.replay.ensures.effect t)
-    (c.let_go.ensures.crash t)
+pub returns-in-Ok-clause-spares : goal.returns-in-Ok-clause-spares
+returns-in-Ok-clause-spares g c t = effect_then (c.open.ensures.spares t) (touches-own (c.settle.ensures.spares t))
 
-pub returns-in_err-home-clause-unbroken : goal.returns-in_err-home-clause-unbroken
-returns-in_err-home-clause-unbroken g c t =
+pub returns-in-Err-clause-crash : goal.returns-in-Err-clause-crash
+returns-in-Err-clause-crash g c t = settled-cuts (record {
+  begins = c.runs_begin_and_end_in_sound_worlds.ensures.begins;
+  restarts = c.restarts_keep_worlds_sound.ensures.sound;
+  logs_restarted = c.logs_that_stay.ensures.restarted;
+  logs_opened = c.logs_that_stay.ensures.opened;
+  media_restarted = c.media_that_stay.ensures.restarted;
+  media_opened = c.media_that_stay.ensures.opened;
+  idle = c.logs_that_stay.ensures.idle;
+  before = c.settled_worlds.ensures.before;
+  settled_opened = c.settled_worlds.ensures.opened;
+  ended = c.settled_worlds.ensures.ended;
+}) c.args.number c.in_ok-instance.instance (g.D.Device.disk c.args.dev.now) (g.D.Device.disk c.open.new.dev) (g.D.Device.disk c.settle.new.dev) (c.in_ok-instance.ensures.stands t) (c.in_ok-instance.ensures.media t) (c.open.ensures.crash t) (c.settle.ensures.crash t)
+
+pub returns-in-Err-clause-spares : goal.returns-in-Err-clause-spares
+returns-in-Err-clause-spares g c t = effect_then (c.open.ensures.spares t) (touches-own (c.settle.ensures.spares t))
+
+pub returns-in-Err-clause-broken : goal.returns-in-Err-clause-broken
+returns-in-Err-clause-broken g c t is w stands =
+    let same : c.from.result ≡ Broken = cc in
+    absurd (settled-unbroken c.in-Err.error (sym c.from.ensures ∙ same))
+
+pub returns-in-Err-clause-unbroken : goal.returns-in-Err-clause-unbroken
+returns-in-Err-clause-unbroken g c t is =
+    let same : c.from.result ≡ Broken = cc in
+    absurd (settled-unbroken c.in-Err.error (sym c.from.ensures ∙ same))
+
+pub returns-in_err-instance-clause-unbroken : goal.returns-in_err-instance-clause-unbroken
+returns-in_err-instance-clause-unbroken g c t =
     let p = err_from_is_err_and c.from_residual.result c.from_residual.ensures.1 in
-    rw (p.1, p.2) (λ is. c.in_err-home.ensures.unbroken t (same_error c.in_err-home.field-0.0 Broken is))
+    rw (p.1, p.2) (λ is. c.in_err-instance.ensures.unbroken t (same_error c.in_err-instance.field-0.0 Broken is))
 
-pub returns-in_err-databases-clause-unbroken : goal.returns-in_err-databases-clause-unbroken
-returns-in_err-databases-clause-unbroken g c t =
-    let p = err_from_is_err_and c.from_residual-in_err-databases.result c.from_residual-in_err-databases.ensures.1 in
-    rw (p.1, p.2) (λ is.
-    elim (c.in_ok-home.ensures.found t) [
-      | inl nothing ↦ nothing_then (g.met.D.Device.lawful t c.args.dev.now) nothing (c.replay.ensures.effect t)
-      | inr none ↦ absurd (made-none _ none (c.in_err-databases.ensures.broken t (same_error c.in_err-databases.field-0.0 Broken is)))
-    ])
+pub returns-in_err-instance-clause-unsettled : goal.returns-in_err-instance-clause-unsettled
+returns-in_err-instance-clause-unsettled g c t =
+    let p = err_from_is_err_and c.from_residual.result c.from_residual.ensures.1 in
+    rw (p.1, p.2) (λ is w stands. c.in_err-instance.ensures.unsettled (same_error c.in_err-instance.field-0.0 Unsettled is))
 
-pub returns-clause-made : goal.returns-clause-made
-returns-clause-made g c t = (c.in_ok-let_go.ensures.stands t).made
-
-pub returns-in_err-home-clause-spares : goal.returns-in_err-home-clause-spares
-returns-in_err-home-clause-spares g c t = touches-own (c.open_home.ensures.spares t)
-
-pub returns-in_err-databases-clause-spares : goal.returns-in_err-databases-clause-spares
-returns-in_err-databases-clause-spares g c t = effect_then (touches-own (c.open_home.ensures.spares t)) (touches-nothing (c.replay.ensures.effect t))
-
-pub returns-in_err-let_go-clause-spares : goal.returns-in_err-let_go-clause-spares
-returns-in_err-let_go-clause-spares g c t =
-    effect_then (touches-own (c.open_home.ensures.spares t)) (effect_then (touches-nothing (c.replay.ensures.effect t)) (touches-wider (λ path making. c.in_ok-home.ensures.making t path making) (c.let_go.ensures.spares t)))
-
-pub returns-clause-spares : goal.returns-clause-spares
-returns-clause-spares g c t =
-    effect_then (touches-own (c.open_home.ensures.spares t)) (effect_then (touches-nothing (c.replay.ensures.effect t)) (touches-wider (λ path making. c.in_ok-home.ensures.making t path making) (c.let_go.ensures.spares t)))
-
-pub returns-clause-exact : goal.returns-clause-exact
-returns-clause-exact g c = sym (ap (λ (r : Record). r.counter) c.record-record.ensures.same)
-
-pub returns-clause-still : goal.returns-clause-still
-returns-clause-still g c t made none =
-    let lawful = g.met.D.Device.lawful t c.args.dev.now in
-    nothing_then lawful (nothing_then lawful (c.in_ok-home.ensures.still t made) (c.replay.ensures.effect t))
-    (c.let_go.ensures.still t (none-making c.in_ok-home.home.«record».making (λ path making. none path (c.in_ok-home.ensures.making t path making))))
+pub returns-in-Err-clause-unsettled : goal.returns-in-Err-clause-unsettled
+returns-in-Err-clause-unsettled g c t is w stands =
+    let same : c.from.result ≡ Unsettled = cc in
+    let error : c.in-Err.error ≡ execute.Broken = settled-stuck-at c.in-Err.error (sym c.from.ensures ∙ same) in
+    settled-stuck (record {
+      begins = c.runs_begin_and_end_in_sound_worlds.ensures.begins;
+      restarts = c.restarts_keep_worlds_sound.ensures.sound;
+      logs_restarted = c.logs_that_stay.ensures.restarted;
+      logs_opened = c.logs_that_stay.ensures.opened;
+      media_restarted = c.media_that_stay.ensures.restarted;
+      media_opened = c.media_that_stay.ensures.opened;
+      idle = c.logs_that_stay.ensures.idle;
+      before = c.settled_worlds.ensures.before;
+      settled_opened = c.settled_worlds.ensures.opened;
+      ended = c.settled_worlds.ensures.ended;
+    }) c.args.number c.in_ok-instance.instance (g.D.Device.disk c.args.dev.now) (g.D.Device.disk c.open.new.dev) w (c.in_ok-instance.ensures.stands t) (c.in-Err.ensures.broken t (ap (λ (e : ExecuteError). let r : Result (Unit {0}) ExecuteError = Err e in r) error)) stands

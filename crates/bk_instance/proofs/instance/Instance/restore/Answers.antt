@@ -5,7 +5,7 @@ use Rattle.bk_instance.proofs.instance.Instance.restore.Goals as goal
 
 pub returns-in-Some-clause-executed : goal.returns-in-Some-clause-executed
 returns-in-Some-clause-executed g c =
-    plan-executed c.args.self.now c.follow.new.self (g.D.Device.disk c.args.dev.now) (g.D.Device.disk c.args.dev.now) (g.D.Device.disk c.follow.new.dev) _ c.args.now c.in-Some.plan c.follow.result (c.in-Some.ensures.plans c.args.now c.args.self.now.kept) (λ t. g.met.D.Device.lawful t c.args.dev.now)
+    plan-executed c.acts_of_statements.ensures.fronts c.args.self.now c.follow.new.self (g.D.Device.disk c.args.dev.now) (g.D.Device.disk c.args.dev.now) (g.D.Device.disk c.follow.new.dev) _ c.args.now c.in-Some.plan c.follow.result (c.in-Some.ensures.plans c.args.now c.args.self.now.kept) (λ t. g.met.D.Device.lawful t c.args.dev.now)
     (knows-nothing c.args.self.now (g.D.Device.disk c.args.dev.now) c.requires.ready c.requires.stored)
     (record { replies = c.follow.ensures.replies; does = c.follow.ensures.does; crash = c.follow.ensures.crash; still = c.follow.ensures.still; spares = c.follow.ensures.spares; broken = c.follow.ensures.broken })
 
@@ -37,7 +37,7 @@ returns-clause-media g c = λ tells. calm-through c.follow-2.result (g.D.Device.
 
 pub returns-clause-executed : goal.returns-clause-executed
 returns-clause-executed g c =
-    plan-executed c.args.self.now c.follow-2.new.self (g.D.Device.disk c.args.dev.now) (g.D.Device.disk c.first_set.new.dev) (g.D.Device.disk c.follow-2.new.dev) _ c.args.now c.in_ok-plan.plan c.follow-2.result c.in_ok-plan.ensures.plans (λ t. g.met.D.Device.lawful t c.args.dev.now)
+    plan-executed c.acts_of_statements.ensures.fronts c.args.self.now c.follow-2.new.self (g.D.Device.disk c.args.dev.now) (g.D.Device.disk c.first_set.new.dev) (g.D.Device.disk c.follow-2.new.dev) _ c.args.now c.in_ok-plan.plan c.follow-2.result c.in_ok-plan.ensures.plans (λ t. g.met.D.Device.lawful t c.args.dev.now)
     (knows-first c.args.self.now (g.D.Device.disk c.args.dev.now) (g.D.Device.disk c.first_set.new.dev) c.args.disk.now c.path_of.result.now c.in_ok-first.first c.requires.ready c.requires.stored c.first_set.ensures.effect c.path_of.utf8 c.path_of.ensures c.in_ok-first.ensures.first)
     (record { replies = c.follow-2.ensures.replies; does = c.follow-2.ensures.does; crash = c.follow-2.ensures.crash; still = c.follow-2.ensures.still; spares = c.follow-2.ensures.spares; broken = c.follow-2.ensures.broken })
 

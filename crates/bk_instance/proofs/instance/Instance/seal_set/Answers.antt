@@ -29,7 +29,7 @@ returns-in_err-medium-clause-broken g c tells =
 
 pub returns-in_err-add_set-clause-crash : goal.returns-in_err-add_set-clause-crash
 returns-in_err-add_set-clause-crash g c tells =
-    let laws : SealLaws = record { sound = c.acts_keep_worlds_sound.ensures.act; idle = c.acts_of_statements.ensures.idle; then = c.logs_that_stay.ensures.transitive; same = c.logs_that_stay.ensures.set_sealed } in
+    let laws : SealLaws = record { sound = c.acts_keep_worlds_sound.ensures.act; then = c.logs_that_stay.ensures.transitive; same = c.logs_that_stay.ensures.set_sealed } in
     let call = nothing_then (g.met.D.Device.lawful tells c.args.dev.now) (nothing_by_sync (c.sync.ensures.effect tells) (c.in_ok-sync.ensures.same tells)) (c.load.ensures.effect tells) in
     let is_name = c.in_ok-medium.ensures.name ∙ ap medium_file c.as_str-2.ensures in
     let on = seals-on c.args.self.now (g.D.Device.disk c.args.dev.now) (g.D.Device.disk c.load.new.dev) c.args.path.now c.in_ok-medium.medium.name c.requires.ready (c.requires.stored tells) call
@@ -38,7 +38,7 @@ returns-in_err-add_set-clause-crash g c tells =
 
 pub returns-clause-crash : goal.returns-clause-crash
 returns-clause-crash g c tells =
-    let laws : SealLaws = record { sound = c.acts_keep_worlds_sound.ensures.act; idle = c.acts_of_statements.ensures.idle; then = c.logs_that_stay.ensures.transitive; same = c.logs_that_stay.ensures.set_sealed } in
+    let laws : SealLaws = record { sound = c.acts_keep_worlds_sound.ensures.act; then = c.logs_that_stay.ensures.transitive; same = c.logs_that_stay.ensures.set_sealed } in
     let call = nothing_then (g.met.D.Device.lawful tells c.args.dev.now) (nothing_by_sync (c.sync.ensures.effect tells) (c.in_ok-sync.ensures.same tells)) (c.load.ensures.effect tells) in
     let is_name = c.in_ok-medium.ensures.name ∙ ap medium_file c.as_str-2.ensures in
     let on = seals-on c.args.self.now (g.D.Device.disk c.args.dev.now) (g.D.Device.disk c.load.new.dev) c.args.path.now c.in_ok-medium.medium.name c.requires.ready (c.requires.stored tells) call
@@ -65,7 +65,7 @@ returns-clause-media g c tells =
 
 pub returns-clause-does : goal.returns-clause-does
 returns-clause-does g c tells =
-    let laws : SealLaws = record { sound = c.acts_keep_worlds_sound.ensures.act; idle = c.acts_of_statements.ensures.idle; then = c.logs_that_stay.ensures.transitive; same = c.logs_that_stay.ensures.set_sealed } in
+    let laws : SealLaws = record { sound = c.acts_keep_worlds_sound.ensures.act; then = c.logs_that_stay.ensures.transitive; same = c.logs_that_stay.ensures.set_sealed } in
     let call = nothing_then (g.met.D.Device.lawful tells c.args.dev.now) (nothing_by_sync (c.sync.ensures.effect tells) (c.in_ok-sync.ensures.same tells)) (c.load.ensures.effect tells) in
     let is_name = c.in_ok-medium.ensures.name ∙ ap medium_file c.as_str-2.ensures in
     let on = seals-on c.args.self.now (g.D.Device.disk c.args.dev.now) (g.D.Device.disk c.load.new.dev) c.args.path.now c.in_ok-medium.medium.name c.requires.ready (c.requires.stored tells) call

@@ -18,7 +18,7 @@ returns-in_err-apply-clause-crash g c tells = stored-none c.args.self.now (g.D.D
 pub returns-in_err-append-clause-crash : goal.returns-in_err-append-clause-crash
 returns-in_err-append-clause-crash g c tells =
     effect_then (stored-none c.args.self.now (g.D.Device.disk c.args.dev.now) (g.D.Device.disk c.reserve.new.dev) c.args.act.now (c.reserve.ensures.crash tells))
-    (stored-crash (record { sound = c.acts_keep_worlds_sound.ensures.act; idle = c.acts_of_statements.ensures.idle; reflexive = c.logs_that_stay.ensures.reflexive; sets = c.sets_that_stay.ensures.act }) c.args.self.now c.reserve.new.self (record c.reserve.new.self { kept = c.apply.new.self }) (g.D.Device.disk c.args.dev.now) (g.D.Device.disk c.reserve.new.dev) (g.D.Device.disk c.append.new.dev) c.args.act.now c.deref.result.now c.in_ok-reserve.ensures.ready (record {
+    (stored-crash (record { sound = c.acts_keep_worlds_sound.ensures.act; reflexive = c.logs_that_stay.ensures.reflexive; sets = c.sets_that_stay.ensures.act }) c.args.self.now c.reserve.new.self (record c.reserve.new.self { kept = c.apply.new.self }) (g.D.Device.disk c.args.dev.now) (g.D.Device.disk c.reserve.new.dev) (g.D.Device.disk c.append.new.dev) c.args.act.now c.deref.result.now c.in_ok-reserve.ensures.ready (record {
       spelled = c.deref.ensures.value ∙ c.in_ok-bytes.ensures.bytes;
       is_act = c.in_ok-bytes.ensures.fits;
       keeps = c.in_ok-apply.ensures.ok;
@@ -32,7 +32,7 @@ returns-clause-media g c tells durable = media-durable (g.D.Device.disk c.reserv
 
 pub returns-clause-does : goal.returns-clause-does
 returns-clause-does g c tells =
-    stored-does (record { sound = c.acts_keep_worlds_sound.ensures.act; idle = c.acts_of_statements.ensures.idle; reflexive = c.logs_that_stay.ensures.reflexive; sets = c.sets_that_stay.ensures.act }) c.args.self.now c.reserve.new.self (record c.reserve.new.self { kept = c.apply.new.self }) (record c.reserve.new.self { home = c.append.new.self; kept = c.apply.new.self }) (g.D.Device.disk c.args.dev.now) (g.D.Device.disk c.reserve.new.dev) (g.D.Device.disk c.append.new.dev) c.args.act.now c.deref.result.now (record {
+    stored-does (record { sound = c.acts_keep_worlds_sound.ensures.act; reflexive = c.logs_that_stay.ensures.reflexive; sets = c.sets_that_stay.ensures.act }) c.args.self.now c.reserve.new.self (record c.reserve.new.self { kept = c.apply.new.self }) (record c.reserve.new.self { home = c.append.new.self; kept = c.apply.new.self }) (g.D.Device.disk c.args.dev.now) (g.D.Device.disk c.reserve.new.dev) (g.D.Device.disk c.append.new.dev) c.args.act.now c.deref.result.now (record {
       spelled = c.deref.ensures.value ∙ c.in_ok-bytes.ensures.bytes;
       is_act = c.in_ok-bytes.ensures.fits;
       keeps = c.in_ok-apply.ensures.ok;
@@ -44,7 +44,7 @@ returns-clause-does g c tells =
 pub returns-clause-crash : goal.returns-clause-crash
 returns-clause-crash g c tells =
     effect_then (stored-none c.args.self.now (g.D.Device.disk c.args.dev.now) (g.D.Device.disk c.reserve.new.dev) c.args.act.now (c.reserve.ensures.crash tells))
-    (stored-crash (record { sound = c.acts_keep_worlds_sound.ensures.act; idle = c.acts_of_statements.ensures.idle; reflexive = c.logs_that_stay.ensures.reflexive; sets = c.sets_that_stay.ensures.act }) c.args.self.now c.reserve.new.self (record c.reserve.new.self { kept = c.apply.new.self }) (g.D.Device.disk c.args.dev.now) (g.D.Device.disk c.reserve.new.dev) (g.D.Device.disk c.append.new.dev) c.args.act.now c.deref.result.now c.in_ok-reserve.ensures.ready (record {
+    (stored-crash (record { sound = c.acts_keep_worlds_sound.ensures.act; reflexive = c.logs_that_stay.ensures.reflexive; sets = c.sets_that_stay.ensures.act }) c.args.self.now c.reserve.new.self (record c.reserve.new.self { kept = c.apply.new.self }) (g.D.Device.disk c.args.dev.now) (g.D.Device.disk c.reserve.new.dev) (g.D.Device.disk c.append.new.dev) c.args.act.now c.deref.result.now c.in_ok-reserve.ensures.ready (record {
       spelled = c.deref.ensures.value ∙ c.in_ok-bytes.ensures.bytes;
       is_act = c.in_ok-bytes.ensures.fits;
       keeps = c.in_ok-apply.ensures.ok;

@@ -8,11 +8,11 @@ use Rattle.bk_kept.specs.declared.error.ApplyError.TheVariants.{Unfit}
 use Rattle.bk_kept.proofs.kept.Kept.apply.Goals as goal
 
 pub returns-clause-ok : goal.returns-clause-ok
-returns-clause-ok c = λ w a sound idle keeps doing.
+returns-clause-ok c = λ w a sound keeps doing.
     keeps-behind w (done w a) c.args.self.now (record c.args.self.now { counter = c.in_ok-counter.counter; databases = c.apply.new.databases }) (drawn_by c.args.act.now)
-    (rest-of w c.args.act.now a doing) refl c.in_ok-counter.ensures.ok refl
-    (c.in_ok-apply.ensures.ok w a sound idle (databases-kept w c.args.self.now keeps) doing) keeps
+    (rest-of w c.args.act.now a doing) refl c.in_ok-counter.ensures.ok refl refl
+    (c.in_ok-apply.ensures.ok w a sound (databases-kept w c.args.self.now keeps) doing) keeps
 
 pub returns-in_err-counter-clause-unfit : goal.returns-in_err-counter-clause-unfit
-returns-in_err-counter-clause-unfit c = λ unfit w a sound idle keeps doing.
+returns-in_err-counter-clause-unfit c = λ unfit w a sound keeps doing.
     c.in_err-counter.ensures.unfit (same-error {U = ℕ} c.in_err-counter.field-0.0 Unfit c.from_residual.result c.from_residual.ensures.1 unfit) w keeps.counter doing.draws

@@ -1,6 +1,6 @@
 use Rattle.std.proofs.Common.{◌≡◌}
 use Rattle.std.specs.Option.{option_map}
-use Rattle.bk_kept.proofs.Named.{first, found-named, found-shows}
+use Rattle.bk_kept.proofs.Named.{first, found-named, found-kept}
 use Rattle.bk_kept.proofs.kept.Kept.named.Goals as goal
 
 same : (c : goal.After-first_named) → option_map (λ d. d.now) c.first_named.result ≡ first c.args.name.now c.args.self.now.databases.items
@@ -9,5 +9,5 @@ same c = rw (← c.deref.ensures.value) c.first_named.ensures
 pub returns-clause-found : goal.returns-clause-found
 returns-clause-found c = λ w keeps. found-named w c.args.self.now c.args.name.now c.first_named.result (same c) keeps
 
-pub returns-clause-shows : goal.returns-clause-shows
-returns-clause-shows c = λ w keeps. found-shows w c.args.self.now c.args.name.now c.first_named.result (same c) keeps
+pub returns-clause-kept : goal.returns-clause-kept
+returns-clause-kept c = λ w keeps. found-kept w c.args.self.now c.args.name.now c.first_named.result (same c) keeps

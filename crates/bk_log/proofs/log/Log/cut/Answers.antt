@@ -1,4 +1,4 @@
-use Rattle.std.proofs.Common.{◌≡◌, ◌≤◌, ◌<◌, ◌⊎◌, ◌+◌, List, ℕ, None, Some, Bool, false, length, take, drop, refl, sym, ap, subst, ◌∙◌, arith}
+use Rattle.std.proofs.Common.{◌≡◌, ◌≤◌, ◌<◌, ◌⊎◌, ◌+◌, List, ℕ, None, Some, false, length, take, refl, sym, ap, subst, ◌∙◌, arith}
 use Rattle.std.specs.Prelude.{slice_get, ◌||◌}
 use Rattle.bk_device.specs.Effects.{Effect}
 use Rattle.bk_log.specs.contracts.log.Log.{the_view}
@@ -214,4 +214,6 @@ invariant_of-self-2 g c =
       inv.5,
       record { gone = omega arith; front = omega (arith, inv.7, there); back = sound.back; few = omega (arith, sound.few, sound.gone); kept = first; short = sound.short },
       omega (arith, inv.7, c.drop_segments.ensures.len),
+      inv.8,
+      inv.9,
     )

@@ -1,8 +1,7 @@
-use Rattle.std.proofs.Common.{◌≡◌, ◌≤◌, ◌<◌, ◌⊎◌, ◌+◌, ◌++◌, ◌^◌, List, [], ℕ, Some, false, refl, sym, ap, subst, ◌∙◌, arith}
+use Rattle.std.proofs.Common.{◌≡◌, ◌≤◌, ◌<◌, ◌⊎◌, ◌+◌, ◌++◌, ◌^◌, List, [], ◌∷◌, ℕ, Some, false, refl, sym, ap, subst, ◌∙◌, arith}
 use Rattle.std.specs.Prelude.{◌||◌}
 use Rattle.bk_device.specs.Disk.{IsDurable}
 use Rattle.bk_device.specs.Effects.{Effect}
-use Rattle.bk_ids.specs.declared.record.Rec.{Rec}
 use Rattle.bk_log.specs.contracts.log.Log.{the_view}
 use Rattle.bk_log.specs.Control.{read_control, IsSound}
 use Rattle.bk_log.specs.BatchLaws.{part_none, records_none}
@@ -22,10 +21,10 @@ returns-in_err-put-clause-crash g c t =
     let small : c.args.at < 2 ^ 64 = omega arith in
     let sound = begun_sound c.args.at is.sound (subst (λ (k : Kept). k.head.back + 1 ≤ k.head.gone + 65536) (sym c.self.view_is) c.requires.few) (subst (λ (k : Kept). k.head.back + 1 < 2 ^ 62) (sym c.self.view_is) c.requires.small) c.requires.short in
     let durable = subst (λ (k : Kept). IsDurable b (segment_file k.db (k.head.back + 1))) (sym c.self.view_is) (c.requires.durable t) in
-    let none = subst (λ (k : Kept). blobs_at b.files k.db (k.head.back + 1) ≡ []) (sym c.self.view_is) (c.requires.sealed t) in
+    let one = subst (λ (k : Kept). blobs_at b.files k.db (k.head.back + 1) ≡ [] ∷ []) (sym c.self.view_is) (c.requires.sealed t) in
     let reads : read_control c.deref.result.now ≡ Some (begun log.head c.args.at, c.args.note.now) = ap read_control c.deref.ensures.value ∙ c.spell.ensures.reads in
     let W : Kept → Type 0 = λ k. Effect (IsOwn k.db) (λ image. LogIs image k.db (value_of b.files k) ⊎ LogIs image k.db (emptied c.args.at c.args.note.now)) b d in
-    subst W c.self.view_is (begun_put log b d c.args.at c.args.note.now c.deref.result.now is small sound reads durable none (c.put.ensures.crash t))
+    subst W c.self.view_is (begun_put log b d c.args.at c.args.note.now c.deref.result.now is small sound reads durable one (c.put.ensures.crash t))
 
 pub returns-in_err-remove_named-clause-crash : goal.returns-in_err-remove_named-clause-crash
 returns-in_err-remove_named-clause-crash g c t =
@@ -37,13 +36,13 @@ returns-in_err-remove_named-clause-crash g c t =
     let small : c.args.at < 2 ^ 64 = omega arith in
     let sound = begun_sound c.args.at is.sound (subst (λ (k : Kept). k.head.back + 1 ≤ k.head.gone + 65536) (sym c.self.view_is) c.requires.few) (subst (λ (k : Kept). k.head.back + 1 < 2 ^ 62) (sym c.self.view_is) c.requires.small) c.requires.short in
     let durable = subst (λ (k : Kept). IsDurable b (segment_file k.db (k.head.back + 1))) (sym c.self.view_is) (c.requires.durable t) in
-    let none = subst (λ (k : Kept). blobs_at b.files k.db (k.head.back + 1) ≡ []) (sym c.self.view_is) (c.requires.sealed t) in
+    let one = subst (λ (k : Kept). blobs_at b.files k.db (k.head.back + 1) ≡ [] ∷ []) (sym c.self.view_is) (c.requires.sealed t) in
     let reads : read_control c.deref.result.now ≡ Some (begun log.head c.args.at, c.args.note.now) = ap read_control c.deref.ensures.value ∙ c.spell.ensures.reads in
     let e = g.D.Device.disk c.remove_named.new.dev in
     let gate_name = subst (λ (k : Kept). c.args.gate.name ≡ segment_file k.db (k.head.back + 1)) (sym c.self.view_is) c.requires.gate_name in
     let added = subst (λ (k : Kept). IsAdded [] c.args.segments.items k.db (k.head.back + 1) c.args.at) (sym c.self.view_is) c.requires.added in
     let second = emptied_second log b d e c.args.at c.args.note.now c.deref.result.now c.deref-2.result.now c.put.new.self c.args.gate c.args.segments.items is small sound reads c.put.ensures.name c.in_ok-put.ensures.content (c.in_ok-put.ensures.stands t)
-    gate_name (c.requires.gate_stands t) added durable none c.deref-2.ensures.value (c.put.ensures.crash t) (c.remove_named.ensures.crash t) in
+    gate_name (c.requires.gate_stands t) added durable one c.deref-2.ensures.value (c.put.ensures.crash t) (c.remove_named.ensures.crash t) in
     let W : Kept → Type 0 = λ k. Effect (IsOwn k.db) (λ image. LogIs image k.db (value_of b.files k) ⊎ LogIs image k.db (emptied c.args.at c.args.note.now)) b e in
     subst W c.self.view_is second.0
 
@@ -57,13 +56,13 @@ returns-in_err-put-2-clause-crash g c t =
     let small : c.args.at < 2 ^ 64 = omega arith in
     let sound = begun_sound c.args.at is.sound (subst (λ (k : Kept). k.head.back + 1 ≤ k.head.gone + 65536) (sym c.self.view_is) c.requires.few) (subst (λ (k : Kept). k.head.back + 1 < 2 ^ 62) (sym c.self.view_is) c.requires.small) c.requires.short in
     let durable = subst (λ (k : Kept). IsDurable b (segment_file k.db (k.head.back + 1))) (sym c.self.view_is) (c.requires.durable t) in
-    let none = subst (λ (k : Kept). blobs_at b.files k.db (k.head.back + 1) ≡ []) (sym c.self.view_is) (c.requires.sealed t) in
+    let one = subst (λ (k : Kept). blobs_at b.files k.db (k.head.back + 1) ≡ [] ∷ []) (sym c.self.view_is) (c.requires.sealed t) in
     let reads : read_control c.deref.result.now ≡ Some (begun log.head c.args.at, c.args.note.now) = ap read_control c.deref.ensures.value ∙ c.spell.ensures.reads in
     let e = g.D.Device.disk c.remove_named.new.dev in
     let gate_name = subst (λ (k : Kept). c.args.gate.name ≡ segment_file k.db (k.head.back + 1)) (sym c.self.view_is) c.requires.gate_name in
     let added = subst (λ (k : Kept). IsAdded [] c.args.segments.items k.db (k.head.back + 1) c.args.at) (sym c.self.view_is) c.requires.added in
     let second = emptied_second log b d e c.args.at c.args.note.now c.deref.result.now c.deref-2.result.now c.put.new.self c.args.gate c.args.segments.items is small sound reads c.put.ensures.name c.in_ok-put.ensures.content (c.in_ok-put.ensures.stands t)
-    gate_name (c.requires.gate_stands t) added durable none c.deref-2.ensures.value (c.put.ensures.crash t) (c.remove_named.ensures.crash t) in
+    gate_name (c.requires.gate_stands t) added durable one c.deref-2.ensures.value (c.put.ensures.crash t) (c.remove_named.ensures.crash t) in
     let f = g.D.Device.disk c.put-2.new.dev in
     let again : read_control c.deref-3.result.now ≡ Some (cleared (begun log.head c.args.at), c.args.note.now) = ap read_control c.deref-3.ensures.value ∙ c.spell-2.ensures.reads in
     let W : Kept → Type 0 = λ k. Effect (IsOwn k.db) (λ image. LogIs image k.db (value_of b.files k) ⊎ LogIs image k.db (emptied c.args.at c.args.note.now)) b f in
@@ -79,13 +78,13 @@ returns-clause-crash g c t =
     let small : c.args.at < 2 ^ 64 = omega arith in
     let sound = begun_sound c.args.at is.sound (subst (λ (k : Kept). k.head.back + 1 ≤ k.head.gone + 65536) (sym c.self.view_is) c.requires.few) (subst (λ (k : Kept). k.head.back + 1 < 2 ^ 62) (sym c.self.view_is) c.requires.small) c.requires.short in
     let durable = subst (λ (k : Kept). IsDurable b (segment_file k.db (k.head.back + 1))) (sym c.self.view_is) (c.requires.durable t) in
-    let none = subst (λ (k : Kept). blobs_at b.files k.db (k.head.back + 1) ≡ []) (sym c.self.view_is) (c.requires.sealed t) in
+    let one = subst (λ (k : Kept). blobs_at b.files k.db (k.head.back + 1) ≡ [] ∷ []) (sym c.self.view_is) (c.requires.sealed t) in
     let reads : read_control c.deref.result.now ≡ Some (begun log.head c.args.at, c.args.note.now) = ap read_control c.deref.ensures.value ∙ c.spell.ensures.reads in
     let e = g.D.Device.disk c.remove_named.new.dev in
     let gate_name = subst (λ (k : Kept). c.args.gate.name ≡ segment_file k.db (k.head.back + 1)) (sym c.self.view_is) c.requires.gate_name in
     let added = subst (λ (k : Kept). IsAdded [] c.args.segments.items k.db (k.head.back + 1) c.args.at) (sym c.self.view_is) c.requires.added in
     let second = emptied_second log b d e c.args.at c.args.note.now c.deref.result.now c.deref-2.result.now c.put.new.self c.args.gate c.args.segments.items is small sound reads c.put.ensures.name c.in_ok-put.ensures.content (c.in_ok-put.ensures.stands t)
-    gate_name (c.requires.gate_stands t) added durable none c.deref-2.ensures.value (c.put.ensures.crash t) (c.remove_named.ensures.crash t) in
+    gate_name (c.requires.gate_stands t) added durable one c.deref-2.ensures.value (c.put.ensures.crash t) (c.remove_named.ensures.crash t) in
     let f = g.D.Device.disk c.put-2.new.dev in
     let again : read_control c.deref-3.result.now ≡ Some (cleared (begun log.head c.args.at), c.args.note.now) = ap read_control c.deref-3.ensures.value ∙ c.spell-2.ensures.reads in
     let W : Kept → Type 0 = λ k. Effect (IsOwn k.db) (λ image. LogIs image k.db (value_of b.files k) ⊎ LogIs image k.db (emptied c.args.at c.args.note.now)) b f in
@@ -101,13 +100,13 @@ returns-clause-stands g c t =
     let small : c.args.at < 2 ^ 64 = omega arith in
     let sound = begun_sound c.args.at is.sound (subst (λ (k : Kept). k.head.back + 1 ≤ k.head.gone + 65536) (sym c.self.view_is) c.requires.few) (subst (λ (k : Kept). k.head.back + 1 < 2 ^ 62) (sym c.self.view_is) c.requires.small) c.requires.short in
     let durable = subst (λ (k : Kept). IsDurable b (segment_file k.db (k.head.back + 1))) (sym c.self.view_is) (c.requires.durable t) in
-    let none = subst (λ (k : Kept). blobs_at b.files k.db (k.head.back + 1) ≡ []) (sym c.self.view_is) (c.requires.sealed t) in
+    let one = subst (λ (k : Kept). blobs_at b.files k.db (k.head.back + 1) ≡ [] ∷ []) (sym c.self.view_is) (c.requires.sealed t) in
     let reads : read_control c.deref.result.now ≡ Some (begun log.head c.args.at, c.args.note.now) = ap read_control c.deref.ensures.value ∙ c.spell.ensures.reads in
     let e = g.D.Device.disk c.remove_named.new.dev in
     let gate_name = subst (λ (k : Kept). c.args.gate.name ≡ segment_file k.db (k.head.back + 1)) (sym c.self.view_is) c.requires.gate_name in
     let added = subst (λ (k : Kept). IsAdded [] c.args.segments.items k.db (k.head.back + 1) c.args.at) (sym c.self.view_is) c.requires.added in
     let second = emptied_second log b d e c.args.at c.args.note.now c.deref.result.now c.deref-2.result.now c.put.new.self c.args.gate c.args.segments.items is small sound reads c.put.ensures.name c.in_ok-put.ensures.content (c.in_ok-put.ensures.stands t)
-    gate_name (c.requires.gate_stands t) added durable none c.deref-2.ensures.value (c.put.ensures.crash t) (c.remove_named.ensures.crash t) in
+    gate_name (c.requires.gate_stands t) added durable one c.deref-2.ensures.value (c.put.ensures.crash t) (c.remove_named.ensures.crash t) in
     let f = g.D.Device.disk c.put-2.new.dev in
     let again : read_control c.deref-3.result.now ≡ Some (cleared (begun log.head c.args.at), c.args.note.now) = ap read_control c.deref-3.ensures.value ∙ c.spell-2.ensures.reads in
     let note : c.add.new.out.items ≡ c.args.note.now = c.add.ensures.items ∙ ap (λ (x : List ℕ). x ++ c.args.note.now) c.clear.ensures.items in
@@ -124,13 +123,13 @@ returns-clause-value g c t =
     let small : c.args.at < 2 ^ 64 = omega arith in
     let sound = begun_sound c.args.at is.sound (subst (λ (k : Kept). k.head.back + 1 ≤ k.head.gone + 65536) (sym c.self.view_is) c.requires.few) (subst (λ (k : Kept). k.head.back + 1 < 2 ^ 62) (sym c.self.view_is) c.requires.small) c.requires.short in
     let durable = subst (λ (k : Kept). IsDurable b (segment_file k.db (k.head.back + 1))) (sym c.self.view_is) (c.requires.durable t) in
-    let none = subst (λ (k : Kept). blobs_at b.files k.db (k.head.back + 1) ≡ []) (sym c.self.view_is) (c.requires.sealed t) in
+    let one = subst (λ (k : Kept). blobs_at b.files k.db (k.head.back + 1) ≡ [] ∷ []) (sym c.self.view_is) (c.requires.sealed t) in
     let reads : read_control c.deref.result.now ≡ Some (begun log.head c.args.at, c.args.note.now) = ap read_control c.deref.ensures.value ∙ c.spell.ensures.reads in
     let e = g.D.Device.disk c.remove_named.new.dev in
     let gate_name = subst (λ (k : Kept). c.args.gate.name ≡ segment_file k.db (k.head.back + 1)) (sym c.self.view_is) c.requires.gate_name in
     let added = subst (λ (k : Kept). IsAdded [] c.args.segments.items k.db (k.head.back + 1) c.args.at) (sym c.self.view_is) c.requires.added in
     let second = emptied_second log b d e c.args.at c.args.note.now c.deref.result.now c.deref-2.result.now c.put.new.self c.args.gate c.args.segments.items is small sound reads c.put.ensures.name c.in_ok-put.ensures.content (c.in_ok-put.ensures.stands t)
-    gate_name (c.requires.gate_stands t) added durable none c.deref-2.ensures.value (c.put.ensures.crash t) (c.remove_named.ensures.crash t) in
+    gate_name (c.requires.gate_stands t) added durable one c.deref-2.ensures.value (c.put.ensures.crash t) (c.remove_named.ensures.crash t) in
     let f = g.D.Device.disk c.put-2.new.dev in
     let again : read_control c.deref-3.result.now ≡ Some (cleared (begun log.head c.args.at), c.args.note.now) = ap read_control c.deref-3.ensures.value ∙ c.spell-2.ensures.reads in
     let note : c.add.new.out.items ≡ c.args.note.now = c.add.ensures.items ∙ ap (λ (x : List ℕ). x ++ c.args.note.now) c.clear.ensures.items in
@@ -147,13 +146,13 @@ put-requires-2-clause-stands g c t =
     let small : c.args.at < 2 ^ 64 = omega arith in
     let sound = begun_sound c.args.at is.sound (subst (λ (k : Kept). k.head.back + 1 ≤ k.head.gone + 65536) (sym c.self.view_is) c.requires.few) (subst (λ (k : Kept). k.head.back + 1 < 2 ^ 62) (sym c.self.view_is) c.requires.small) c.requires.short in
     let durable = subst (λ (k : Kept). IsDurable b (segment_file k.db (k.head.back + 1))) (sym c.self.view_is) (c.requires.durable t) in
-    let none = subst (λ (k : Kept). blobs_at b.files k.db (k.head.back + 1) ≡ []) (sym c.self.view_is) (c.requires.sealed t) in
+    let one = subst (λ (k : Kept). blobs_at b.files k.db (k.head.back + 1) ≡ [] ∷ []) (sym c.self.view_is) (c.requires.sealed t) in
     let reads : read_control c.deref.result.now ≡ Some (begun log.head c.args.at, c.args.note.now) = ap read_control c.deref.ensures.value ∙ c.spell.ensures.reads in
     let e = g.D.Device.disk c.remove_named.new.dev in
     let gate_name = subst (λ (k : Kept). c.args.gate.name ≡ segment_file k.db (k.head.back + 1)) (sym c.self.view_is) c.requires.gate_name in
     let added = subst (λ (k : Kept). IsAdded [] c.args.segments.items k.db (k.head.back + 1) c.args.at) (sym c.self.view_is) c.requires.added in
     let second = emptied_second log b d e c.args.at c.args.note.now c.deref.result.now c.deref-2.result.now c.put.new.self c.args.gate c.args.segments.items is small sound reads c.put.ensures.name c.in_ok-put.ensures.content (c.in_ok-put.ensures.stands t)
-    gate_name (c.requires.gate_stands t) added durable none c.deref-2.ensures.value (c.put.ensures.crash t) (c.remove_named.ensures.crash t) in
+    gate_name (c.requires.gate_stands t) added durable one c.deref-2.ensures.value (c.put.ensures.crash t) (c.remove_named.ensures.crash t) in
     second.1.controls
 
 pub invariant_of-self-2 : goal.invariant_of-self-2
@@ -170,6 +169,8 @@ invariant_of-self-2 g c =
       omega arith,
       subst (λ (x : List ℕ). IsSound (cleared (begun c.self.inside.head c.args.at)) x) (sym note) (cleared_sound (begun_sound c.args.at inv.6 few small c.requires.short)),
       omega (arith, c.requires.count),
+      omega (arith, inv.8, c.clear-2.ensures.len, c.clear-2.ensures.capacity),
+      (λ fit. subst (λ (k : Kept). k.spare_flushes ≤ c.args.gate.spare) (sym c.self.view_is) c.requires.gate_spare),
     )
 
 pub returns-clause-end : goal.returns-clause-end

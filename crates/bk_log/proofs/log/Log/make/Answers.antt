@@ -4,8 +4,17 @@ use Rattle.bk_log.specs.declared.segments.Segment.{Segment}
 use Rattle.bk_log.specs.Control.{read_control}
 use Rattle.bk_log.specs.Log.{IsAdded}
 use Rattle.bk_log.specs.Records.{IsPart, records_in}
-use Rattle.bk_log.proofs.Makes.{made_sound, made_crash, made_log}
+use Rattle.bk_log.proofs.Makes.{made_sound, made_untouched, made_value, made_crash, made_log}
 use Rattle.bk_log.proofs.log.Log.make.Goals as goal
+
+pub returns-in_err-note-clause-crash : goal.returns-in_err-note-clause-crash
+returns-in_err-note-clause-crash g c t durable none = made_untouched c.args.db c.args.at (g.D.Device.disk c.args.dev.now) durable none
+
+pub returns-in_err-add_segment-clause-crash : goal.returns-in_err-add_segment-clause-crash
+returns-in_err-add_segment-clause-crash g c t durable none = made_untouched c.args.db c.args.at (g.D.Device.disk c.args.dev.now) durable none
+
+pub returns-in_err-spelled-clause-crash : goal.returns-in_err-spelled-clause-crash
+returns-in_err-spelled-clause-crash g c t durable none = made_untouched c.args.db c.args.at (g.D.Device.disk c.args.dev.now) durable none
 
 pub returns-in_err-control-clause-crash : goal.returns-in_err-control-clause-crash
 returns-in_err-control-clause-crash g c t durable none =
@@ -22,6 +31,8 @@ invariant_of-result g c = (
   omega arith,
   made_sound c.args.at c.in_ok-note.note.items c.in_ok-note.ensures.items,
   omega (arith, c.in_ok-add_segment.ensures.len, c.new-segments.ensures.len),
+  omega (arith, c.new.ensures.len),
+  (λ fit. omega arith),
 )
 
 pub returns-clause-none : goal.returns-clause-none
@@ -32,10 +43,14 @@ returns-clause-stands g c t =
     let small : c.args.at < 2 ^ 64 = omega arith in
     let stands = c.in_ok-control.ensures.stands t in
     let added = subst (λ (xs : List Segment). IsAdded xs c.add_segment.new.segments.items c.args.db 1 c.args.at) c.new-segments.ensures.items c.in_ok-add_segment.ensures.added in
-    made_log c.args.db c.args.at c.deref.result.now c.in_ok-note.note.items (g.D.Device.disk c.make_files.new.dev) c.in_ok-control.control c.in_ok-control.gate c.add_segment.new.segments.items c.args.at _ _ small added c.in_ok-note.ensures.items
+    made_log c.args.db c.args.at c.deref.result.now c.in_ok-note.note.items (g.D.Device.disk c.make_files.new.dev) c.in_ok-control.control c.in_ok-control.gate c.add_segment.new.segments.items c.args.at _ _ _ _ small added c.in_ok-note.ensures.items
     (ap read_control c.deref.ensures.value ∙ c.spell.ensures.reads) c.in_ok-control.ensures.names.0 c.in_ok-control.ensures.content c.in_ok-control.ensures.names.1 stands.0 stands.1 (c.in_ok-control.ensures.durable t) (c.in_ok-control.ensures.sealed t)
 
 pub returns-clause-crash : goal.returns-clause-crash
 returns-clause-crash g c t durable none =
     let small : c.args.at < 2 ^ 64 = omega arith in
     made_crash c.args.db c.args.at c.deref.result.now (g.D.Device.disk c.args.dev.now) (g.D.Device.disk c.make_files.new.dev) small (ap read_control c.deref.ensures.value ∙ c.spell.ensures.reads) (c.make_files.ensures.crash t durable none)
+
+pub returns-clause-value : goal.returns-clause-value
+returns-clause-value g c t =
+    made_value (g.D.Device.disk c.make_files.new.dev).files c.args.db c.args.at c.in_ok-note.note.items c.in_ok-note.ensures.items (c.in_ok-control.ensures.sealed t)

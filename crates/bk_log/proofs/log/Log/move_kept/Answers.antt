@@ -32,7 +32,7 @@ returns-clause-stands g c t =
     let from : c.self.inside.head.kept ≤ c.args.to = subst (λ (k : Kept). k.head.kept ≤ c.args.to) (sym c.self.view_is) c.requires.from in
     let inside : c.args.to ≤ c.self.inside.stored = subst (λ (k : Kept). c.args.to ≤ k.stored) (sym c.self.view_is) c.requires.inside in
     let reads : read_control c.deref-2.result.now ≡ Some (head, c.self.inside.note.items) = ap read_control c.deref-2.ensures.value ∙ c.spell.ensures.reads ∙ ap (λ (note : List ℕ). Some (head, note)) c.deref.ensures.value in
-    put_log (the_view c.self.inside) head c.self.inside.note.items c.deref-2.result.now a b c.put.new.self c.self.inside.end _ _ is refl refl refl inside (cut_sound is.sound from)
+    put_log (the_view c.self.inside) head c.self.inside.note.items c.deref-2.result.now a b c.put.new.self c.self.inside.end _ _ _ _ is refl refl refl inside (cut_sound is.sound from)
     c.put.ensures.name c.in_ok-put.ensures.content reads (c.in_ok-put.ensures.stands t) (c.put.ensures.crash t)
 
 pub returns-clause-value : goal.returns-clause-value

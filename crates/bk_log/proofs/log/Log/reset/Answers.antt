@@ -1,4 +1,4 @@
-use Rattle.std.proofs.Common.{◌≡◌, ◌+◌, List, [], ℕ, inl, sym, subst}
+use Rattle.std.proofs.Common.{◌+◌, List, [], inl, sym, subst}
 use Rattle.bk_device.specs.Compose.{effect_weaken}
 use Rattle.bk_device.specs.Effects.{Effect, IsName}
 use Rattle.bk_log.specs.contracts.log.Log.{the_view}
@@ -28,7 +28,7 @@ returns-in-Err-clause-crash g c t =
     let a = g.D.Device.disk c.args.dev.now in
     let b = g.D.Device.disk c.begin_segment.new.dev in
     let At : Kept → Type 0 = λ k. Effect (IsName (segment_file k.db (k.head.back + 1))) (λ _. Unit {0}) a b in
-    let begun : Effect (IsName (segment_file c.args.self.now.db (c.args.self.now.head.back + 1))) (λ _. Unit {0}) a b = subst At c.self.view_is (c.begin_segment.ensures.crash t) in
+    let begun : Effect (IsName (segment_file c.args.self.now.db (c.args.self.now.head.back + 1))) (λ _. Unit {0}) a b = subst At c.self.view_is (effect_weaken (λ image here. tt) (c.begin_segment.ensures.crash t)) in
     effect_weaken (λ image here. inl here) (begun_crash c.args.self.now a b (c.requires.stands t) begun)
 
 pub empty-requires-clause-added : goal.empty-requires-clause-added
@@ -42,7 +42,7 @@ empty-requires-clause-stands g c t =
     let a = g.D.Device.disk c.args.dev.now in
     let b = g.D.Device.disk c.begin_segment.new.dev in
     let At : Kept → Type 0 = λ k. Effect (IsName (segment_file k.db (k.head.back + 1))) (λ _. Unit {0}) a b in
-    let begun : Effect (IsName (segment_file c.args.self.now.db (c.args.self.now.head.back + 1))) (λ _. Unit {0}) a b = subst At c.self.view_is (c.begin_segment.ensures.crash t) in
+    let begun : Effect (IsName (segment_file c.args.self.now.db (c.args.self.now.head.back + 1))) (λ _. Unit {0}) a b = subst At c.self.view_is (effect_weaken (λ image here. tt) (c.begin_segment.ensures.crash t)) in
     begun_log c.args.self.now a b (c.requires.stands t) begun
 
 pub returns-in_err-empty-clause-crash : goal.returns-in_err-empty-clause-crash
@@ -50,7 +50,7 @@ returns-in_err-empty-clause-crash g c t =
     let a = g.D.Device.disk c.args.dev.now in
     let b = g.D.Device.disk c.begin_segment.new.dev in
     let At : Kept → Type 0 = λ k. Effect (IsName (segment_file k.db (k.head.back + 1))) (λ _. Unit {0}) a b in
-    let begun : Effect (IsName (segment_file c.args.self.now.db (c.args.self.now.head.back + 1))) (λ _. Unit {0}) a b = subst At c.self.view_is (c.begin_segment.ensures.crash t) in
+    let begun : Effect (IsName (segment_file c.args.self.now.db (c.args.self.now.head.back + 1))) (λ _. Unit {0}) a b = subst At c.self.view_is (effect_weaken (λ image here. tt) (c.begin_segment.ensures.crash t)) in
     let is = c.requires.stands t in
     reset_crash c.args.self.now.db c.args.at c.args.note.now (value_of a.files c.args.self.now) (value_of b.files c.args.self.now) a b (g.D.Device.disk c.empty.new.dev) (begun_value c.args.self.now a b is begun) (begun_crash c.args.self.now a b is begun) (c.empty.ensures.crash t)
 
@@ -59,6 +59,6 @@ returns-clause-crash g c t =
     let a = g.D.Device.disk c.args.dev.now in
     let b = g.D.Device.disk c.begin_segment.new.dev in
     let At : Kept → Type 0 = λ k. Effect (IsName (segment_file k.db (k.head.back + 1))) (λ _. Unit {0}) a b in
-    let begun : Effect (IsName (segment_file c.args.self.now.db (c.args.self.now.head.back + 1))) (λ _. Unit {0}) a b = subst At c.self.view_is (c.begin_segment.ensures.crash t) in
+    let begun : Effect (IsName (segment_file c.args.self.now.db (c.args.self.now.head.back + 1))) (λ _. Unit {0}) a b = subst At c.self.view_is (effect_weaken (λ image here. tt) (c.begin_segment.ensures.crash t)) in
     let is = c.requires.stands t in
     reset_crash c.args.self.now.db c.args.at c.args.note.now (value_of a.files c.args.self.now) (value_of b.files c.args.self.now) a b (g.D.Device.disk c.empty.new.dev) (begun_value c.args.self.now a b is begun) (begun_crash c.args.self.now a b is begun) (c.empty.ensures.crash t)

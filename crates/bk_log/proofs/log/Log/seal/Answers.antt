@@ -1,4 +1,4 @@
-use Rattle.std.proofs.Common.{◌≡◌, ◌⊎◌, List, [], ◌∷◌, ◌++◌, ℕ, refl, sym, ap, subst, ◌∙◌}
+use Rattle.std.proofs.Common.{◌≡◌, ◌≤◌, ◌+◌, ◌⊎◌, List, [], ◌∷◌, ◌++◌, ℕ, refl, sym, ap, subst, ◌∙◌, arith}
 use Rattle.bk_device.specs.Effects.{Effect, IsName}
 use Rattle.bk_gate.specs.Blobs.{sealed}
 use Rattle.bk_log.specs.contracts.log.Log.{the_view}
@@ -23,7 +23,7 @@ returns-in_err-append_reserved-clause-crash g c t =
 pub invariant_of-self-2 : goal.invariant_of-self-2
 invariant_of-self-2 g c =
     let inv = c.self.invariant in
-    ((λ fit. c.in_ok-append_reserved.ensures.none), inv.1, inv.2, inv.3, subst (λ (bs : List ℕ). IsPart c.self.inside.end bs c.self.inside.end) (sym c.clear.ensures.items) (part_none c.self.inside.end), inv.5, inv.6, inv.7)
+    ((λ fit. c.in_ok-append_reserved.ensures.none), inv.1, inv.2, inv.3, subst (λ (bs : List ℕ). IsPart c.self.inside.end bs c.self.inside.end) (sym c.clear.ensures.items) (part_none c.self.inside.end), inv.5, inv.6, inv.7, omega (arith, inv.8, c.clear.ensures.len, c.clear.ensures.capacity), (λ fit. omega (arith, c.in_ok-append_reserved.ensures.spare, subst (λ (k : Kept). c.args.flushes + 1 ≤ k.gate.spare) (sym c.self.view_is) c.requires.spare)))
 
 pub returns-clause-stands : goal.returns-clause-stands
 returns-clause-stands g c t =
@@ -33,7 +33,7 @@ returns-clause-stands g c t =
     let is = subst (IsLog a) (sym c.self.view_is) (c.requires.stands t) in
     let name = c.self.inside.gate.name in
     let Grown : List ℕ → Type 0 = λ blob. sealed (b.files name) ≡ sealed (a.files name) ++ blob ∷ [] in
-    add_log (the_view c.self.inside) name c.self.inside.waiting.items c.self.inside.end a b c.append_reserved.new.self c.self.inside.end _ _ is inv.4 inv.5
+    add_log (the_view c.self.inside) name c.self.inside.waiting.items c.self.inside.end a b c.append_reserved.new.self c.self.inside.end _ _ _ _ is inv.4 inv.5
     refl c.append_reserved.ensures.name (subst Grown c.deref.ensures.value (c.in_ok-append_reserved.ensures.sealed t))
     (c.in_ok-append_reserved.ensures.stands t) (c.in_ok-append_reserved.ensures.durable t) (c.append_reserved.ensures.crash t)
 

@@ -23,7 +23,7 @@ returns-clause-stands g c t =
     let is = subst (IsLog a) (sym c.self.view_is) (c.requires.stands t) in
     let note : c.add.new.out.items ≡ c.args.bytes.now = c.add.ensures.items ∙ ap (λ (x : List ℕ). x ++ c.args.bytes.now) c.clear.ensures.items in
     let W : List ℕ → Type 0 = λ note. IsLog b (record (the_view c.self.inside) { control = c.put.new.self; note = note; failed = c.self.inside.failed || c.put.new.self.failed || c.self.inside.gate.failed }) in
-    subst W (sym note) (put_log (the_view c.self.inside) c.self.inside.head c.args.bytes.now c.deref.result.now a b c.put.new.self c.self.inside.end _ _ is refl refl refl is.inside (noted is.sound c.requires.short)
+    subst W (sym note) (put_log (the_view c.self.inside) c.self.inside.head c.args.bytes.now c.deref.result.now a b c.put.new.self c.self.inside.end _ _ _ _ is refl refl refl is.inside (noted is.sound c.requires.short)
     c.put.ensures.name c.in_ok-put.ensures.content (ap read_control c.deref.ensures.value ∙ c.spell.ensures.reads) (c.in_ok-put.ensures.stands t) (c.put.ensures.crash t))
 
 pub returns-clause-crash : goal.returns-clause-crash

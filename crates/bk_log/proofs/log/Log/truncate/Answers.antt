@@ -1,4 +1,4 @@
-use Rattle.std.proofs.Common.{◌≡◌, ◌<◌, ◌+◌, List, ℕ, drop, sym, ap, subst, ◌∙◌, arith}
+use Rattle.std.proofs.Common.{List, drop, sym, ap, subst, ◌∙◌, arith}
 use Rattle.bk_log.specs.declared.segments.Segment.{Segment}
 use Rattle.bk_log.specs.Log.{Kept, BeginsAt}
 use Rattle.bk_log.proofs.Cuts.{least_kept, least_cut}

@@ -1,0 +1,4 @@
+pub mod Opened
+pub mod Foremost
+pub mod Locking
+pub mod Laying

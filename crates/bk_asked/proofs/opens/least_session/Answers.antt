@@ -1,0 +1,7 @@
+use Rattle.std.proofs.Common.{◌∙◌, ap}
+use Rattle.bk_machine.specs.Checks.{least_session}
+use Rattle.bk_asked.proofs.Opened.{least-alone}
+use Rattle.bk_asked.proofs.opens.least_session.Goals as goal
+
+pub returns : goal.returns
+returns c = c.least_of.ensures ∙ least-alone c.as_slice.result.now ∙ ap least_session c.as_slice.ensures

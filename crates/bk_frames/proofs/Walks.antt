@@ -1,0 +1,31 @@
+-- What the walks share: a parameter of a signature, and what follows a part of a body, and a constant of many digits.
+use Prim.Native.Nat.{ℕ, zero, suc}
+use mathlib.Core.List.{List, [], ◌∷◌}
+use seplogic.Ra.Ura.{Ura}
+use mir.Syntax.{Body, Width, int_big}
+use mir.Val.{Fits, vint}
+use base.Logic.{via, guard_i}
+use prog.Wp.{Env, Calls, Loops, Wp, after_seq, after_block}
+use types.Logic.{Logic}
+use types.Kit.{Item, Post, any_q, post}
+use types.Run.{Opd}
+use denote.Builtin.{unit}
+use denote.Signature.{Slot, plain}
+
+abbrev pub slot_at : {n : ℕ} → ℕ → List (Slot n) → Slot n
+slot_at k [] = plain (λ _. unit)
+slot_at zero (s ∷ ss) = s
+slot_at (suc k) (s ∷ ss) = slot_at k ss
+
+module _ {M : Type 1} {𝓤 : Ura M} (𝓛 : Logic 𝓤) where
+  open 𝓛 use {H}
+
+  abbrev pub then_runs : Calls 𝓤 H → Loops 𝓤 H → Env 𝓤 H → Body → Post 𝓤 H → Post 𝓤 H
+  then_runs C Λ E b q = any_q (after_seq 𝓤 H (Wp 𝓤 H C Λ E b (post 𝓤 H q)) (post 𝓤 H q))
+
+  abbrev pub out_of_block : Post 𝓤 H → Post 𝓤 H
+  out_of_block q = any_q (after_block 𝓤 H (post 𝓤 H q))
+
+module _ {M : Type 1} {𝓤 : Ura M} {𝓛 : Logic 𝓤} {K : Type 0} {Γ : List (Item 𝓤)} {E : Env 𝓤 𝓛.H} where
+  pub big_lit : K → {w : Width} {n : ℕ} → Fits w n → Opd K 𝓛 Γ E (int_big w n) (vint w n)
+  big_lit t {w} {n} fits = record { go = λ Kt h. via 𝓤 (Kt (vint w n)) h (guard_i 𝓤 (Fits w n) (Kt (vint w n)) fits) }

@@ -1,0 +1,81 @@
+//! Sessions.
+
+ghost use Rattle.std.specs.Prelude.{◌≡◌, ◌==◌, ◌<◌, false, length, map, IfSome, OnOk, OnErr};
+ghost use Rattle.std.specs.List.{find, position};
+ghost use Rattle.std.specs.Option.{option_map};
+ghost use Rattle.bk_machine.specs.World.{with_session};
+ghost use Rattle.bk_kept.specs.Keeps.{session_of};
+
+use crate::kept::{Kept, Session};
+use bk_ids::Text;
+use std::alloc::AllocError;
+
+// The session of a number, if there is something to say of it.
+fn session_numbered(sessions: &[Session], number: u8) -> Option<&Session>
+    ensures { option_map (λ s. s.now) result ≡ find (λ s. s.number == number) sessions.now }
+{
+    sessions.iter().find(|s| s.number == number)
+}
+
+// Its place.
+fn seat_of(sessions: &[Session], number: u8) -> Option<usize>
+    ensures place { result ≡ position (λ s. s.number == number) sessions.now }
+    ensures within { IfSome result (λ at. at < length sessions.now) }
+{
+    sessions.iter().position(|s| s.number == number)
+}
+
+// Sets the name of a session's current database.
+fn set_current(
+    sessions: &mut Vec<Session>,
+    number: u8,
+    name: Option<Text>,
+) -> Result<(), AllocError>
+    ensures ok { OnOk result (map session_of sessions.new.items ≡ with_session (map session_of sessions.old.items) (record { number = number; current = name; starts = false })) }
+    ensures err { OnErr result (sessions.new.items ≡ sessions.old.items) }
+{
+    match seat_of(sessions, number) {
+        Some(at) => sessions[at].current = name,
+        None => sessions.push(Session {
+            number,
+            current: name,
+        })?,
+    }
+    Ok(())
+}
+
+impl Kept {
+    ghost use Rattle.std.specs.Prelude.{◌≡◌, OnOk, OnErr};
+    ghost use Rattle.std.specs.Option.{option_map};
+    ghost use Rattle.bk_machine.specs.Acts.{turned, seated, done};
+    ghost use Rattle.bk_machine.specs.World.{World, current_name};
+    ghost use Rattle.bk_kept.specs.Keeps.{Keeps};
+
+    /// The name of the current session's current database, as it was asked for.
+    pub fn current(&self) -> Option<&Text>
+        ensures { (w : World) → Keeps w self.now → option_map (λ name. name.now) result ≡ current_name w }
+    {
+        let session = session_numbered(&self.sessions, self.session)?;
+        session.current.as_ref()
+    }
+
+    /// The current session's current database is the one of this name, or there is none. Where there is no memory, what is kept
+    /// stands for the same worlds as before.
+    pub fn turn(&mut self, name: Option<Text>) -> Result<(), AllocError>
+        ensures turned { OnOk result ((w : World) → Keeps w self.old → Keeps (done w (turned name)) self.new) }
+        ensures err { OnErr result ((w : World) → Keeps w self.old → Keeps w self.new) }
+        ensures number { self.new.number ≡ self.old.number }
+        ensures counter { self.new.counter ≡ self.old.counter }
+    {
+        set_current(&mut self.sessions, self.session, name)
+    }
+
+    /// This session is the current one from now on.
+    pub fn seat(&mut self, session: u8)
+        ensures seated { (w : World) → Keeps w self.old → Keeps (done w (seated session)) self.new }
+        ensures number { self.new.number ≡ self.old.number }
+        ensures counter { self.new.counter ≡ self.old.counter }
+    {
+        self.session = session;
+    }
+}

@@ -1,0 +1,30 @@
+use Rattle.bk_machine.proofs.SameMedia.{media-ended, media-opened, media-restarted, media-said, media-seated, media-turned}
+use Rattle.bk_machine.proofs.same_laws.media_that_stay.Goals as goal
+use Rattle.bk_machine.specs.SettledLaws.{media-reflexive, media-symmetric, media-transitive}
+
+pub returns-clause-reflexive : goal.returns-clause-reflexive
+returns-clause-reflexive c = media-reflexive
+
+pub returns-clause-symmetric : goal.returns-clause-symmetric
+returns-clause-symmetric c = media-symmetric
+
+pub returns-clause-transitive : goal.returns-clause-transitive
+returns-clause-transitive c = media-transitive
+
+pub returns-clause-turned : goal.returns-clause-turned
+returns-clause-turned c = media-turned
+
+pub returns-clause-seated : goal.returns-clause-seated
+returns-clause-seated c = media-seated
+
+pub returns-clause-said : goal.returns-clause-said
+returns-clause-said c = media-said
+
+pub returns-clause-opened : goal.returns-clause-opened
+returns-clause-opened c = media-opened
+
+pub returns-clause-ended : goal.returns-clause-ended
+returns-clause-ended c = media-ended
+
+pub returns-clause-restarted : goal.returns-clause-restarted
+returns-clause-restarted c = media-restarted

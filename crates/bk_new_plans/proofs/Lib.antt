@@ -1,0 +1,4 @@
+pub mod Cuts
+pub mod NewFiles
+pub mod Limits
+pub mod PlannedCreateDatabase

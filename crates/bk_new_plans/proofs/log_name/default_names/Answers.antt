@@ -1,0 +1,5 @@
+use Rattle.bk_new_plans.proofs.Cuts.{default_log-named}
+use Rattle.bk_new_plans.proofs.log_name.default_names.Goals as goal
+
+pub name_in-requires : goal.name_in-requires
+name_in-requires c = rw c.in_ok-path.ensures (default_log-named c.args.database.now)

@@ -1,0 +1,7 @@
+pub mod PlannedUse
+pub mod PlannedDropDatabase
+pub mod PlannedCreateTable
+pub mod PlannedSession
+pub mod PlannedBegin
+pub mod Undone
+pub mod PlannedEnds

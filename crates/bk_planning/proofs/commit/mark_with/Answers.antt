@@ -1,0 +1,25 @@
+use Rattle.std.proofs.Common.{List, sym, ◌∙◌, ap}
+use Rattle.bk_kept.specs.Keeps.{database_of}
+use Rattle.bk_machine.specs.World.{log_of}
+use Rattle.bk_machine.specs.statements.Commit.{mark_with}
+use Rattle.bk_plans.specs.PlanLaws.{if-ok}
+use Rattle.bk_world.specs.Pending.{Pending, of_transaction}
+use Rattle.bk_planning.proofs.Undone.{marked, unmarked}
+use Rattle.bk_planning.proofs.commit.mark_with.Goals as goal
+
+pub returns-then-has_written-clause-is : goal.returns-then-has_written-clause-is
+unfolding log_of
+returns-then-has_written-clause-is c = λ w shows.
+    let d = c.args.database.now in
+    let t = c.args.transaction.now in
+    let pends = c.written.ensures d.files (log_of w.history (database_of d)) shows in
+    if-ok _ _ c.own_mark.result
+    (λ mark same. same ∙ sym (marked t.begin c.written.result.now t.mark (sym c.has_written.ensures ∙ c.if-has_written.true)) ∙ ap (λ (ws : List Pending). mark_with (of_transaction t.begin ws) t.mark) pends) c.own_mark.ensures.same
+
+pub returns-clause-is : goal.returns-clause-is
+unfolding log_of
+returns-clause-is c = λ w shows.
+    let d = c.args.database.now in
+    let t = c.args.transaction.now in
+    let pends = c.written.ensures d.files (log_of w.history (database_of d)) shows in
+    sym (unmarked t.begin c.written.result.now t.mark (sym c.has_written.ensures ∙ c.if-has_written.false)) ∙ ap (λ (ws : List Pending). mark_with (of_transaction t.begin ws) t.mark) pends

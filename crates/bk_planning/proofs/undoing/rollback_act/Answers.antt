@@ -1,0 +1,40 @@
+use Rattle.std.proofs.Common.{◌≡◌, ℕ, List, ◌∙◌, ap, map, subst}
+use Rattle.bk_acts.specs.Meaning.{Spell}
+use Rattle.bk_acts.specs.declared.act.StoredAct.TheVariants.{Logged}
+use Rattle.bk_kept.specs.Keeps.{ShowsLog, database_of}
+use Rattle.bk_machine.specs.World.{World, log_of}
+use Rattle.bk_plans.specs.PlanLaws.{if-ok}
+use Rattle.bk_shown.specs.Shown.{pending_of}
+use Rattle.bk_world.specs.Pending.{pending}
+use Rattle.bk_world.specs.Says.{rollback_said}
+use Rattle.bk_world.specs.declared.transaction.Open.{Open}
+use Rattle.bk_planning.proofs.PlannedEnds.{rollback-done, says-rollback}
+use Rattle.bk_planning.proofs.undoing.rollback_act.Goals as goal
+
+pub returns-in-Ok-clause-says : goal.returns-in-Ok-clause-says
+unfolding log_of
+returns-in-Ok-clause-says c =
+    let d = c.args.database.now in
+    let t = c.args.transaction.now in
+    let written = c.written-written.result.now in
+    let records = c.in_ok-records.records in
+    if-ok _ _ c.logged.result
+    (λ act is.
+    says-rollback d act records written (λ w shows. c.written-written.ensures d.files (log_of w.history (database_of d)) shows) t (is ∙ ap (λ (ts : List Open). Logged d.name ts records) c.in-Ok.ensures.same)
+    (subst (λ (n : ℕ). Spell records n (rollback_said t.begin (map pending_of written))) c.end.ensures.same c.in_ok-records.ensures) c.in_ok-has_numbers.ensures)
+    c.logged.ensures.is
+
+pub returns-in-Ok-clause-is_done : goal.returns-in-Ok-clause-is_done
+unfolding log_of
+returns-in-Ok-clause-is_done c =
+    let d = c.args.database.now in
+    let t = c.args.transaction.now in
+    let written = c.written-written.result.now in
+    let records = c.in_ok-records.records in
+    if-ok _ _ c.logged.result
+    (λ act is w named shows may.
+    rollback-done w d act named shows t
+    (says-rollback d act records written (λ v sh. c.written-written.ensures d.files (log_of v.history (database_of d)) sh) t (is ∙ ap (λ (ts : List Open). Logged d.name ts records) c.in-Ok.ensures.same)
+    (subst (λ (n : ℕ). Spell records n (rollback_said t.begin (map pending_of written))) c.end.ensures.same c.in_ok-records.ensures) c.in_ok-has_numbers.ensures)
+    may)
+    c.logged.ensures.is

@@ -1,0 +1,118 @@
+//! `COMMIT`: its check and its plan.
+
+ghost use Rattle.std.specs.Prelude.{◌≡◌, ◌==◌, ℕ, IfOk};
+ghost use Rattle.std.specs.List.{list_any};
+ghost use Rattle.bk_acts.specs.Meaning.{Spell};
+ghost use Rattle.bk_acts.specs.Spelling.{KeepsAct};
+ghost use Rattle.bk_items.specs.declared.item.ScriptItem.TheVariants as script;
+ghost use Rattle.bk_kept.specs.Keeps.{ShowsLog, database_of};
+ghost use Rattle.bk_machine.specs.World.{World, log_of};
+ghost use Rattle.bk_machine.specs.statements.Commit as committing;
+ghost use Rattle.bk_plans.specs.Planning.{KeepsPlan, Plans};
+ghost use Rattle.bk_planning.specs.Undoing.{Commits};
+ghost use Rattle.bk_record.specs.Spelling.{KeepsMarkLimits};
+ghost use Rattle.bk_world.specs.Pending.{of_transaction, pending};
+ghost use Rattle.bk_world.specs.Says.{commit_said};
+
+use crate::ending::{held_or_refuse, open_without};
+use bk_acts::StoredAct;
+use bk_ids::{Body, Lsn, Mark};
+use bk_kept::{Database, Kept};
+use bk_machine::statements_do_what_they_may;
+use bk_plans::{Plan, has_numbers, is_fit, logged, refused, said_time, say_one, stored};
+use bk_record::Records;
+use bk_shown::Written;
+use bk_world::{Open, Reply};
+use std::alloc::{AllocError, Global};
+
+// Whether one of some writes is of the transaction that begins with this record.
+fn has_written(written: &[Written], begin: Lsn) -> bool
+    ensures { result ≡ list_any (λ w. w.begin == begin) written.now }
+{
+    written.iter().any(|w| w.begin == begin)
+}
+
+// The mark of a transaction. It fails as if memory were wanting where that has a description that no mark has.
+fn own_mark(alloc: Global, transaction: &Open) -> Result<Option<Mark>, AllocError>
+    ensures same { IfOk result (λ mark. mark ≡ transaction.now.mark) }
+    ensures keeps { IfOk result KeepsMarkLimits }
+{
+    if !is_fit(transaction) {
+        return Err(AllocError);
+    }
+    let copy = transaction.copy(alloc)?;
+    Ok(copy.mark)
+}
+
+// The mark that the commit of a transaction gets: none where it has written nothing.
+fn mark_with(
+    alloc: Global,
+    database: &Database,
+    transaction: &Open,
+) -> Result<Option<Mark>, AllocError>
+    ensures is { (w : World) → ShowsLog w.history database.now
+        → IfOk result (λ mark. mark ≡ committing.mark_with (of_transaction transaction.now.begin (pending (log_of w.history (database_of database.now)))) transaction.now.mark) }
+    ensures keeps { IfOk result KeepsMarkLimits }
+{
+    if has_written(database.shown.written(), transaction.begin) {
+        return own_mark(alloc, transaction);
+    }
+    Ok(None)
+}
+
+// The record of a commit at a time.
+fn commit_record(
+    alloc: Global,
+    database: &Database,
+    begin: Lsn,
+    time: u64,
+    mark: Option<Mark>,
+) -> Result<Records, AllocError>
+    requires { KeepsMarkLimits mark }
+    ensures { IfOk result (λ records. Spell records database.now.shown.«end» (commit_said begin time mark)) }
+{
+    say_one(
+        alloc,
+        database.shown.end(),
+        begin,
+        Body::Commit { time, mark },
+    )
+}
+
+// The act by which a transaction is committed in a database at `now`.
+fn commit_act(
+    alloc: Global,
+    database: &Database,
+    transaction: &Open,
+    now: u64,
+) -> Result<StoredAct, AllocError>
+    ensures commits { IfOk result (Commits database.now now transaction.now) }
+    ensures keeps { IfOk result KeepsAct }
+{
+    has_numbers(database, 1)?;
+    let mark = mark_with(alloc, database, transaction)?;
+    let time = said_time(database, now);
+    let records = commit_record(alloc, database, transaction.begin, time, mark)?;
+    match open_without(alloc, database, transaction.begin) {
+        Ok(others) => logged(alloc, database, others, records),
+        Err(error) => {
+            drop(records);
+            Err(error)
+        }
+    }
+}
+
+// What `COMMIT` comes to at `now`, in milliseconds since 1970-01-01 00:00:00 UTC, on any line.
+pub(crate) fn plan_commit(kept: &Kept, alloc: Global, now: u64) -> Result<Plan, AllocError>
+    ensures plans { IfOk result (λ plan. (line : ℕ) → Plans kept.now (λ w. Unit {0}) (record { item = script.Commit; line = line }) now plan) }
+    ensures keeps { IfOk result KeepsPlan }
+{
+    statements_do_what_they_may();
+    match held_or_refuse(kept) {
+        Ok(held) => {
+            let act = commit_act(alloc, held.database, held.transaction, now)?;
+            stored(alloc, act, Reply::Done)
+        }
+        Err(refusal) => refused(refusal),
+    }
+}

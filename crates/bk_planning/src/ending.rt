@@ -1,0 +1,52 @@
+//! Transactions that end: the one of the current session, refused where it has none, and what is open without one.
+
+ghost use Rattle.std.specs.Prelude.{◌≡◌, ◌==◌, not, IfOk};
+ghost use Rattle.std.specs.List.{All, filter};
+ghost use Rattle.bk_acts.specs.Transactions.{KeepsTransaction};
+ghost use Rattle.bk_asked.specs.Asked.{held_of};
+ghost use Rattle.bk_kept.specs.Keeps.{Keeps, ShowsLog};
+ghost use Rattle.bk_machine.specs.Checks as checks;
+ghost use Rattle.bk_machine.specs.World as world;
+ghost use Rattle.bk_machine.specs.World.{World};
+ghost use Rattle.bk_plans.specs.Checking.{IsCheck};
+ghost use Rattle.bk_world.specs.declared.rule.Rule.TheVariants.{NoTransaction};
+
+use bk_asked::{Held, own_held};
+use bk_ids::{Lsn, Sequence};
+use bk_kept::{Database, Kept, copy_transactions};
+use bk_plans::{Refusal, storable};
+use bk_world::{Open, Rule};
+use std::alloc::{AllocError, Global};
+
+/// The open transaction of the current session, refused where it has none.
+pub(crate) fn held_or_refuse(kept: &Kept) -> Result<Held<'_>, Refusal>
+    ensures check { (w : World) → Keeps w kept.now → IsCheck held_of result (checks.or_refuse (world.own_held w) NoTransaction) }
+    ensures shows { (w : World) → Keeps w kept.now → IfOk result (λ h. ShowsLog w.history h.database.now) }
+{
+    match own_held(kept) {
+        Some(held) => Ok(held),
+        None => Err(Refusal::Broken(Rule::NoTransaction)),
+    }
+}
+
+// Leaves out the transaction that begins with this record.
+fn leave_out(transactions: &mut Vec<Open>, begin: Lsn)
+    ensures { transactions.new.items ≡ filter (λ t. not (t.begin == begin)) transactions.old.items }
+{
+    transactions.retain(|t| t.begin != begin);
+}
+
+/// What is open in a database without the transaction that begins with this record.
+pub(crate) fn open_without(
+    alloc: Global,
+    database: &Database,
+    begin: Lsn,
+) -> Result<Sequence<Open>, AllocError>
+    ensures same { IfOk result (λ ts. ts ≡ world.without_begin database.now.transactions begin) }
+    ensures keep { IfOk result (All KeepsTransaction) }
+{
+    let copy = copy_transactions(alloc, database.transactions.as_slice())?;
+    let mut transactions = copy.into_vec();
+    leave_out(&mut transactions, begin);
+    storable(Sequence::new(transactions))
+}

@@ -1,0 +1,78 @@
+-- What a transaction sees it could commit: a row that it sees lies somewhere, and its value fits into a cell.
+use Rattle.std.proofs.Common.{◌≡◌, ◌≤◌, ℕ, ◌+◌, Bool, true, false, cond, List, [], ◌∷◌, ◌++◌, length, Option, Some, None, refl, sym, ◌∙◌, ap, subst, arith}
+use Rattle.std.specs.Prelude.{◌==◌, is_some}
+use Rattle.std.specs.List.{AllByRecursion, filter}
+use Rattle.bk_ids.specs.declared.record.Place.{Place}
+use Rattle.bk_machine.specs.Sound.{AreOpen, KeepsAll}
+use Rattle.bk_machine.specs.World.{transaction_of}
+use Rattle.bk_shown.specs.Shown.{ArePlaced}
+use Rattle.bk_world.specs.declared.database.FileSpec.{FileSpec}
+use Rattle.bk_world.specs.declared.transaction.Open.{Open}
+use Rattle.bk_world.specs.HomeLaws.{homed}
+use Rattle.bk_world.specs.Pending.{Pending, of_transaction, pending}
+use Rattle.bk_world.specs.Places.{home_behind, homes, last_of, later, place_behind, place_of}
+use Rattle.bk_world.specs.ReadingLaws.{homes-commit, rows-commit}
+use Rattle.bk_world.specs.Records.{Counts, Logged, RowId, id_of, is_row, more, numbered}
+use Rattle.bk_world.specs.Says.{commit_said}
+use Rattle.bk_world.specs.SoundLaws.{follow-join}
+use Rattle.bk_world.specs.SoundLogs.{IsSound, undoes}
+use Rattle.bk_world.specs.Telling.{row_at, rows, seen}
+
+-- Lists.
+
+-- what holds of all transactions holds of that of a session
+pub open-all : (P : Open → Type 0) (ts : List Open) (session : ℕ) (t : Open) → AllByRecursion P ts → transaction_of ts session ≡ Some t → P t
+open-all P [] session t all is = absurd (cc)
+open-all P (u ∷ ts) session t all is = by (u.session == session) is (open-all P ts session t all.1)
+  where
+    by : (b : Bool) → cond b (Some u) (transaction_of ts session) ≡ Some t → (transaction_of ts session ≡ Some t → P t) → P t
+    by true is later = let same : u ≡ t = cc in subst P same all.0
+    by false is later = later is
+
+-- where none of some writes is of a row, none of fewer is
+last-none : (id : RowId) (p : Pending → Bool) (ws : List Pending) → last_of id ws ≡ None → last_of id (filter p ws) ≡ None
+last-none id p [] none = refl
+last-none id p (w ∷ ws) none = by (last_of id ws) (is_row (id_of w.change) id) refl none (p w) (last-none id p ws)
+  where
+    by : (o : Option Pending) (b : Bool) → is_row (id_of w.change) id ≡ b → later o (cond b (Some w) None) ≡ None → (c : Bool) → (o ≡ None → last_of id (filter p ws) ≡ None) → last_of id (cond c (w ∷ filter p ws) (filter p ws)) ≡ None
+    by (Some v) b is none c rest = absurd (cc (none))
+    by None true is none c rest = absurd (cc (none))
+    by None false is none true rest = ap (λ (o : Option Pending). later o (cond (is_row (id_of w.change) id) (Some w) None)) (rest refl) ∙ ap (λ (b : Bool). cond b (Some w) None) is
+    by None false is none false rest = rest refl
+
+-- one record more
+counts-more : (n : ℕ) (rs : List Logged) (end : ℕ) (r : Logged) → r.lsn ≡ end → Counts n rs end → Counts n (rs ++ r ∷ []) (end + 1)
+counts-more n [] end r is counts = (is ∙ sym counts, ap (λ m. m + 1) counts)
+counts-more n (s ∷ rs) end r is counts = (counts.0, counts-more (n + 1) rs end r is counts.1)
+
+-- A commit that would come next.
+
+module _ (rs : List Logged) (end begin : ℕ) where
+  abbrev pub committed : List Logged
+  committed = more rs end (commit_said begin 0 None)
+
+  -- a row that the transaction sees lies somewhere
+  pub seen-lies : (id : RowId) (value : List ℕ) → row_at (seen rs begin id.0) id.1 ≡ Some value → place_of rs id ≡ None → ⊥
+  unfolding place_of
+  seen-lies id value there none =
+      let there_then : is_some (row_at (rows (more rs end (commit_said begin 0 None)) id.0) id.1) ≡ true = ap (λ es. is_some (row_at es id.1)) (rows-commit rs end begin 0 None id.0) ∙ ap is_some there in
+      let home : is_some (homes (more rs end (commit_said begin 0 None)) id) ≡ true = sym (homed (more rs end (commit_said begin 0 None)) id) ∙ there_then in
+      by (last_of id (pending rs)) refl (homes rs id) refl none (sym (ap is_some (homes-commit rs end begin 0 None id)) ∙ home)
+    where
+      by : (o : Option Pending) → last_of id (pending rs) ≡ o → (h : Option Place) → homes rs id ≡ h → place_behind o h ≡ None → is_some (home_behind (last_of id (of_transaction begin (pending rs))) (homes rs id)) ≡ true → ⊥
+      by (Some w) is h at none home = cc (none)
+      by None is (Some p) at none home = cc (none)
+      by None is None at none home =
+          let gone : last_of id (of_transaction begin (pending rs)) ≡ None = last-none id (λ w. w.begin == begin) (pending rs) is in
+          let nowhere : is_some (home_behind None None) ≡ true = sym (ap (λ o. is_some (home_behind o (homes rs id))) gone ∙ ap (λ h. is_some (home_behind None h)) at) ∙ home in
+          let wrong : false ≡ true = nowhere in
+          absurd (cc (wrong))
+
+  -- and its value is short, by the law on logs
+  pub seen-short : (files : List FileSpec) → Counts 1 rs end → IsSound rs → ArePlaced files [] rs → AllByRecursion (λ (r : Logged). undoes begin r ≡ false) rs
+      → ((next : List Logged) → ArePlaced files [] rs → ArePlaced files rs next → ArePlaced files [] (rs ++ next))
+      → ((log : List Logged) (n : ℕ) → Counts 1 log n → IsSound log → ArePlaced files [] log → (table key : ℕ) (value : List ℕ) → row_at (rows log table) key ≡ Some value → length value ≤ 112)
+      → (table key : ℕ) (value : List ℕ) → row_at (seen rs begin table) key ≡ Some value → length value ≤ 112
+  seen-short files counts sound placed kept joins law table key value there =
+      law (more rs end (commit_said begin 0 None)) (end + 1) (counts-more 1 rs end _ refl counts) (follow-join [] rs (numbered end (commit_said begin 0 None)) sound (kept, tt))
+      (joins (numbered end (commit_said begin 0 None)) placed (tt, tt)) table key value (ap (λ es. row_at es key) (rows-commit rs end begin 0 None table) ∙ there)

@@ -1,0 +1,35 @@
+use Rattle.std.proofs.Common.{◌≡◌, ℕ, Bool, Ok, rules, sym, ◌∙◌, ap, subst}
+use Rattle.bk_machine.specs.Checks.{limit, refuse_if, used_up}
+use Rattle.bk_machine.specs.statements.Target.{Target, has_all_writes}
+use Rattle.bk_plans.specs.Checking.{IsRefused}
+use Rattle.bk_world.specs.declared.rule.Limit.TheVariants.{Writes}
+use Rattle.bk_world.specs.declared.rule.Rule.TheVariants.{LimitReached}
+use Rattle.bk_row_plans.specs.Targets.{check_more, target_of}
+use Rattle.bk_row_plans.proofs.Chains.{refused-behind, refused-first, through}
+use Rattle.bk_row_plans.proofs.limits.check_more.Goals as goal
+
+pub returns-in_err-refuse_if-clause-check : goal.returns-in_err-refuse_if-clause-check
+returns-in_err-refuse_if-clause-check c = λ w table keeps shows.
+    let to : Target = target_of c.args.database.now table in
+    let own : IsRefused c.in_err-refuse_if.field-0.0 (refuse_if (has_all_writes w to) (LimitReached Writes)) =
+    subst (λ (b : Bool). IsRefused c.in_err-refuse_if.field-0.0 (refuse_if b (LimitReached Writes))) (c.has_all_writes-all.ensures w table keeps shows) c.in_err-refuse_if.ensures.check in
+    let refused : IsRefused c.in_err-refuse_if.field-0.0 (check_more w to) =
+    refused-first c.in_err-refuse_if.field-0.0 (refuse_if (has_all_writes w to) (LimitReached Writes)) (λ (u : Unit {0}). limit (used_up to.database.end)) own in
+    search rules
+
+pub returns-in_err-limit-clause-check : goal.returns-in_err-limit-clause-check
+returns-in_err-limit-clause-check c = λ w table keeps shows.
+    let to : Target = target_of c.args.database.now table in
+    let few : refuse_if (has_all_writes w to) (LimitReached Writes) ≡ Ok tt = ap (λ (b : Bool). refuse_if b (LimitReached Writes)) (sym (c.has_all_writes-all.ensures w table keeps shows)) ∙ c.in_ok-refuse_if.ensures.check in
+    let used : c.used_up.result ≡ used_up to.database.end = c.used_up.ensures ∙ ap (λ (n : ℕ). used_up n) c.end.ensures.same in
+    let own : IsRefused c.in_err-limit.field-0.0 (limit (used_up to.database.end)) = subst (λ (b : Bool). IsRefused c.in_err-limit.field-0.0 (limit b)) used c.in_err-limit.ensures.check in
+    let refused : IsRefused c.in_err-limit.field-0.0 (check_more w to) =
+    refused-behind c.in_err-limit.field-0.0 (refuse_if (has_all_writes w to) (LimitReached Writes)) (λ (u : Unit {0}). limit (used_up to.database.end)) tt few own in
+    search rules
+
+pub returns-clause-check : goal.returns-clause-check
+returns-clause-check c = λ w table keeps shows.
+    let to : Target = target_of c.args.database.now table in
+    let few : refuse_if (has_all_writes w to) (LimitReached Writes) ≡ Ok tt = ap (λ (b : Bool). refuse_if b (LimitReached Writes)) (sym (c.has_all_writes-all.ensures w table keeps shows)) ∙ c.in_ok-refuse_if.ensures.check in
+    let used : c.used_up.result ≡ used_up to.database.end = c.used_up.ensures ∙ ap (λ (n : ℕ). used_up n) c.end.ensures.same in
+    through (refuse_if (has_all_writes w to) (LimitReached Writes)) (λ (u : Unit {0}). limit (used_up to.database.end)) tt tt few (ap (λ (b : Bool). limit b) (sym used) ∙ c.in_ok-limit.ensures.check)
