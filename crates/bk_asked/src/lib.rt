@@ -7,5 +7,5 @@ mod opens;
 mod sights;
 
 pub use locks::{holder, own_writes};
-pub use opens::{Held, first_held, has_open, held_by, least_session, own_held, own_open};
+pub use opens::{Held, first_held, held_by, least_session, own_held, own_open};
 pub use sights::{seen_row, seen_rows, sees_key};

@@ -7,7 +7,6 @@ ghost use Rattle.bk_machine.specs.Checks as checks;
 ghost use Rattle.bk_machine.specs.Closing.{IsFirst};
 ghost use Rattle.bk_machine.specs.World as world;
 ghost use Rattle.bk_machine.specs.World.{World};
-ghost use Rattle.bk_machine.specs.statements.Backup as backing_up;
 ghost use Rattle.bk_machine.specs.statements.Target as target;
 ghost use Rattle.bk_world.specs.Lines.{RecordLines};
 ghost use Rattle.bk_kept.specs.Keeps.{IsKept, Keeps, database_of};
@@ -106,14 +105,6 @@ pub fn least_session(database: &Database) -> Option<u8>
     ensures { result ≡ checks.least_session (database_of database.now).transactions }
 {
     least_of(database.transactions.as_slice(), None)
-}
-
-/// Whether transactions are open in a database.
-pub fn has_open(database: &Database) -> bool
-    ensures { result ≡ backing_up.has_open (database_of database.now) }
-{
-    let transactions = database.transactions.as_slice();
-    !transactions.is_empty()
 }
 
 // The least session that has an open transaction in some databases, if one has, from the last of them on.

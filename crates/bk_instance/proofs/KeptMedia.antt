@@ -8,22 +8,19 @@ use Rattle.std.proofs.lemmas.Slice.Eq.{bytes_eq-Decides}
 use Rattle.bk_bytes.specs.Field.{AreBytes}
 use Rattle.bk_device.specs.Disk.{Files}
 use Rattle.bk_gate.specs.Blobs.{sealed}
-use Rattle.bk_machine.specs.Sound.{SetIn, files_of_set}
+use Rattle.bk_machine.specs.Sound.{SetIn}
 use Rattle.bk_machine.specs.World.{World}
 use Rattle.bk_media.specs.Laws.{nothing_sealed}
 use Rattle.bk_media.specs.Media.{medium_letters, sets_in, sets_of, slot_in, reading_of, read_medium, found_at}
 use Rattle.bk_media.specs.Names.{medium_file}
-use Rattle.bk_shown.specs.Shown.{ArePlaced}
-use Rattle.bk_kept.specs.Stored.{Carries, SpellsEnd}
 use Rattle.bk_set.specs.declared.body.SetBody.{SetBody}
 use Rattle.bk_set.specs.declared.found.Found.TheVariants.{Holds}
 use Rattle.bk_set.specs.Found.{found, slot_of}
 use Rattle.bk_world.specs.declared.header.Header.{Header}
-use Rattle.bk_world.specs.Lines.{RecordLines, log_below}
+use Rattle.bk_world.specs.Lines.{log_below}
 use Rattle.bk_world.specs.Medium.{Slot, Reading, readable, medium, medium_at, with_medium, without_medium}
-use Rattle.bk_world.specs.PlacedRows.{AreRowsOf}
-use Rattle.bk_world.specs.Telling.{tables}
 use Rattle.bk_instance.specs.Media.{KeepsMedia, is_begun, is_making, shown_medium}
+use Rattle.bk_instance.proofs.MediumAt.{carries-same}
 
 -- The same files under the names of media.
 
@@ -101,14 +98,6 @@ set-in w making files path p body media bytes is =
 
 -- Sets hold what their paths show.
 
-pub carries-on : (l m : RecordLines) (body : SetBody) → log_below m body.header.path body.header.last ≡ log_below l body.header.path body.header.last → Carries l body → Carries m body
-carries-on l m body same is = record {
-  tables_are = subst (λ rs. tables rs ≡ body.tables) (sym same) is.tables_are;
-  rows_are = subst (λ rs. AreRowsOf rs body.rows) (sym same) is.rows_are;
-  log_is = subst (λ rs. SpellsEnd rs body.header.first body.log) (sym same) is.log_is;
-  placed = subst (λ rs. ArePlaced (files_of_set body.header) [] rs) (sym same) is.placed;
-}
-
 -- the logs of the sets on the media of a world read the same in another
 abbrev pub SetsStay : World → World → Type 0
 SetsStay w v = (path : List ℕ) (header : Header) → SetIn w path header → log_below v.history header.path header.last ≡ log_below w.history header.path header.last
@@ -116,7 +105,7 @@ SetsStay w v = (path : List ℕ) (header : Header) → SetIn w path header → l
 pub media-on : (w v : World) (making : Option (List ℕ)) (files : Files) → v.media ≡ w.media → SetsStay w v → KeepsMedia w making files → KeepsMedia v making files
 media-on w v making files same stay media = record {
   read = λ path bytes. ap (λ m. medium_at m path) same ∙ media.read path bytes;
-  carried = λ path p body bytes is. carries-on w.history v.history body (stay path body.header (set-in w making files path p body media bytes is)) (media.carried path p body bytes is);
+  carried = λ path p body bytes is. carries-same w.history v.history body (stay path body.header (set-in w making files path p body media bytes is)) (media.carried path p body bytes is);
 }
 
 -- Files with the same sets.

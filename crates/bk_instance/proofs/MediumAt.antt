@@ -11,8 +11,9 @@ use Rattle.bk_machine.specs.World.{World}
 use Rattle.bk_media.specs.Laws.{names_differ, none_read, nothing_sealed}
 use Rattle.bk_media.specs.Media.{read_medium, found_at, sets_of, sets_in, slot_in, reading_of}
 use Rattle.bk_media.specs.Names.{medium_file}
+use Rattle.bk_shown.specs.Ends.{HoldsPending}
 use Rattle.bk_shown.specs.Shown.{ArePlaced}
-use Rattle.bk_kept.specs.Stored.{Carries, SpellsEnd}
+use Rattle.bk_kept.specs.Stored.{Carries}
 use Rattle.bk_set.specs.declared.body.SetBody.{SetBody}
 use Rattle.bk_set.specs.declared.found.Found.TheVariants.{Holds}
 use Rattle.bk_set.specs.Found.{found, slot_of}
@@ -147,6 +148,6 @@ found-in w path file p body reads is = let there = found-slots file p body is in
 pub carries-same : (old new : RecordLines) (body : SetBody) → log_below new body.header.path body.header.last ≡ log_below old body.header.path body.header.last → Carries old body → Carries new body
 carries-same old new body same carries =
     let Rows : List Logged → Type 0 = λ log. AreRowsOf log body.rows in
-    let Log : List Logged → Type 0 = λ log. SpellsEnd log body.header.first body.log in
+    let Holding : List Logged → Type 0 = λ log. HoldsPending log body.header.first body.log in
     let Placed : List Logged → Type 0 = λ log. ArePlaced (files_of_set body.header) [] log in
-    record { tables_are = ap tables same ∙ carries.tables_are; rows_are = subst Rows (sym same) carries.rows_are; log_is = subst Log (sym same) carries.log_is; placed = subst Placed (sym same) carries.placed }
+    record { tables_are = ap tables same ∙ carries.tables_are; rows_are = subst Rows (sym same) carries.rows_are; holds = subst Holding (sym same) carries.holds; placed = subst Placed (sym same) carries.placed }

@@ -10,10 +10,11 @@ use Rattle.bk_acts.specs.Spelling.{act_bytes, IsAct}
 use Rattle.bk_machine.specs.Acts.{Act, done}
 use Rattle.bk_machine.specs.Same.{SameLogs}
 use Rattle.bk_machine.specs.Sound.{IsSound}
-use Rattle.bk_machine.specs.World.{Database, World, empty_world, ended, log_of, opened}
+use Rattle.bk_machine.specs.World.{Database, World, empty_world, ended, least_begin, log_of, opened}
 use Rattle.bk_kept.specs.declared.kept.Database.{Database as KeptDatabase}
 use Rattle.bk_kept.specs.Keeps.{IsKept, KeepsDatabases, database_of}
 use Rattle.bk_kept.specs.Stored.{IsDone}
+use Rattle.bk_shown.specs.Ends.{SpellsEnd}
 use Rattle.bk_shown.specs.Shown.{Shows}
 use Rattle.bk_world.specs.Lines.{RecordLines, log_below}
 use Rattle.bk_world.specs.ListLaws.{all_both}
@@ -117,7 +118,11 @@ kept-same old new (d ∷ ds) [] is logs kept = absurd cc
 kept-same old new (d ∷ ds) (db ∷ dbs) is logs kept =
     let OfLog : Database → Type 0 = λ x. log_of new x ≡ log_of old x in
     let log : log_below new d.path d.shown.«end» ≡ log_below old d.path d.shown.«end» = subst OfLog (head-same db (database_of d) dbs (map database_of ds) is) logs.0 in (
-      record { shows = subst (λ rs. Shows d.files rs d.shown) (sym log) kept.0.shows; opens = kept.0.opens },
+      record {
+        shows = subst (λ rs. Shows d.files rs d.shown) (sym log) kept.0.shows;
+        live = subst (λ rs. SpellsEnd rs (least_begin d.transactions d.shown.«end») d.live) (sym log) kept.0.live;
+        opens = kept.0.opens;
+      },
       kept-same old new ds dbs (tail-same db (database_of d) dbs (map database_of ds) is) logs.1 kept.1,
     )
 

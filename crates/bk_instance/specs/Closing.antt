@@ -41,8 +41,8 @@ pub record RollsAll (tells : Type 0) (old : Instance) (before : Disk) (new : Ins
   pub does : tells → (w : World) → StandsFor old before w → StandsFor new after (done_all w acts)
 
 -- where nothing is open in a world for which it stood, nothing was changed, and no GUID reserved
-abbrev pub RestsIdle : Instance → Disk → Instance → Disk → Type 0
-RestsIdle old before new after = (w : World) → StandsFor old before w → AreIdle w → ChangesNothing before after × (ReservesNone old → ReservesNone new)
+abbrev pub RestsClosed : Instance → Disk → Instance → Disk → Type 0
+RestsClosed old before new after = (w : World) → StandsFor old before w → AreIdle w → ChangesNothing before after × (ReservesNone old → ReservesNone new)
 
 -- the files stand for each world for which the instance stood and in which nothing is open, as its run has ended
 abbrev pub StandsEnded : Instance → Disk → Files → Type 0

@@ -48,7 +48,7 @@ impl Instance {
     ghost use Rattle.bk_device.specs.Effects.{Effect};
     ghost use Rattle.bk_machine.specs.Sound.{AreIdle};
     ghost use Rattle.bk_machine.specs.World.{World};
-    ghost use Rattle.bk_instance.specs.Closing.{RollsAll, RollsOne, StandsEnded, RestsIdle};
+    ghost use Rattle.bk_instance.specs.Closing.{RollsAll, RollsOne, StandsEnded, RestsClosed};
     ghost use Rattle.bk_instance.specs.Media.{MediaAreDurable, IfDurable};
     ghost use Rattle.bk_instance.specs.Stands.{CutsEnd, IsReady, IsStored, IsOurs, ReservesNone, StandsFor};
     ghost use Rattle.bk_instance.specs.Steps.{Closed, Stays};
@@ -87,7 +87,7 @@ impl Instance {
         ensures media { D.tells → MediaAreDurable (D.disk dev.old) → OnOk result (MediaAreDurable (D.disk dev.new)) }
         ensures rolls { OnOk result (RollsAll D.tells self.old (D.disk dev.old) self.new (D.disk dev.new)) }
         ensures crash { D.tells → Effect IsOurs (IfDurable (D.disk dev.old) (CutsEnd self.old (D.disk dev.old))) (D.disk dev.old) (D.disk dev.new) }
-        ensures still { D.tells → RestsIdle self.old (D.disk dev.old) self.new (D.disk dev.new) }
+        ensures still { D.tells → RestsClosed self.old (D.disk dev.old) self.new (D.disk dev.new) }
         ensures spares { D.tells → TouchesOwn (D.disk dev.old) (D.disk dev.new) }
         ensures broken { D.tells → IsErrOf result Broken → (w : World) → StandsFor self.old (D.disk dev.old) w → ⊥ }
         ensures cause { HasCause D.disk_faults D.tell_faults dev.old dev.new (IsErrOf result Fault) }

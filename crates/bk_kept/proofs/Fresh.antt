@@ -12,7 +12,8 @@ use Rattle.bk_ids.specs.declared.guid.Guid.{Guid}
 use Rattle.bk_ids.specs.declared.path.Branch.{Branch}
 use Rattle.bk_machine.specs.Acts.{created, creation_said, done, new_database, new_line}
 use Rattle.bk_machine.specs.Files.{AreDataFiles, CountFrom, extents_in}
-use Rattle.bk_machine.specs.World.{World, Database}
+use Rattle.bk_machine.specs.World.{World, Database, least_begin}
+use Rattle.bk_shown.specs.Ends.{SpellsEnd}
 use Rattle.bk_shown.specs.Shown.{Shows, IsNext}
 use Rattle.bk_world.specs.declared.database.Creation.{Creation}
 use Rattle.bk_world.specs.declared.database.FileSpec.{FileSpec}
@@ -20,8 +21,9 @@ use Rattle.bk_world.specs.History.{is_guid}
 use Rattle.bk_world.specs.Lines.{RecordLines, log_below}
 use Rattle.bk_world.specs.Records.{Counts, Logged, database_made}
 use Rattle.bk_kept.specs.declared.kept.Database.{Database as KeptDatabase}
-use Rattle.bk_kept.specs.Keeps.{IsKept, KeepsDatabases, ShowsLog, database_of}
+use Rattle.bk_kept.specs.Keeps.{HoldsLive, IsKept, KeepsDatabases, ShowsLog, database_of}
 use Rattle.bk_kept.specs.Made.{IsMade, are_counted, first_log}
+use Rattle.bk_kept.proofs.LiveEnds.{nothing-open}
 
 -- Its files.
 
@@ -99,6 +101,10 @@ end-is : (c : Creation) (d : KeptDatabase) → IsMade c d → d.shown.«end» �
 unfolding new_database
 end-is c d made = ap (λ (x : Database). x.end) made.same
 
+no-transactions : (c : Creation) (d : KeptDatabase) → IsMade c d → d.transactions ≡ []
+unfolding new_database
+no-transactions c d made = ap (λ (x : Database). x.transactions) made.same
+
 own-log : (lines : RecordLines) (c : Creation) (d : KeptDatabase) → IsMade c d → ShowsLog (new_line c.branch 1 (creation_said c) ∷ lines) d
 own-log lines c d made =
     let is : log_below (new_line c.branch 1 (creation_said c) ∷ lines) d.path d.shown.«end» ≡ first_log c.family c.branch c.time =
@@ -107,10 +113,14 @@ own-log lines c d made =
     ∙ new-log lines c in
     subst (λ rs. Shows d.files rs d.shown) (sym is) made.shows
 
+-- and keeps nothing of it
+own-live : (lines : RecordLines) (c : Creation) (d : KeptDatabase) → IsMade c d → HoldsLive (new_line c.branch 1 (creation_said c) ∷ lines) d
+own-live lines c d made =
+    nothing-open (log_below (new_line c.branch 1 (creation_said c) ∷ lines) d.path d.shown.«end») d.transactions d.shown.«end» d.live (no-transactions c d made) made.live (own-log lines c d made).log.counts
+
 -- nothing is open in it
 none-open : (c : Creation) (d : KeptDatabase) → IsMade c d → AllByRecursion IsTransaction d.transactions
-unfolding new_database
-none-open c d made = subst (AllByRecursion IsTransaction) (sym (ap (λ (x : Database). x.transactions) made.same)) tt
+none-open c d made = subst (AllByRecursion IsTransaction) (sym (no-transactions c d made)) tt
 
 -- All databases.
 
@@ -121,8 +131,14 @@ ReadsOn old new = (path : List Branch) (n : ℕ) → Counts 1 (log_below old pat
 pub kept-stay : (old new : RecordLines) (ks : List KeptDatabase) → ReadsOn old new → AllByRecursion (IsKept old) ks → AllByRecursion (IsKept new) ks
 kept-stay old new [] stays all = tt
 kept-stay old new (d ∷ ks) stays all =
-    let first : IsKept old d = all.0 in
-    (record { shows = subst (λ rs. Shows d.files rs d.shown) (sym (stays d.path d.shown.«end» first.shows.log.counts)) first.shows; opens = first.opens }, kept-stay old new ks stays all.1)
+    let first : IsKept old d = all.0 in (
+      record {
+        shows = subst (λ rs. Shows d.files rs d.shown) (sym (stays d.path d.shown.«end» first.shows.log.counts)) first.shows;
+        live = subst (λ rs. SpellsEnd rs (least_begin d.transactions d.shown.«end») d.live) (sym (stays d.path d.shown.«end» first.shows.log.counts)) first.live;
+        opens = first.opens;
+      },
+      kept-stay old new ks stays all.1,
+    )
 
 all-more : (P : KeptDatabase → Type 0) (ks : List KeptDatabase) (d : KeptDatabase) → AllByRecursion P ks → P d → AllByRecursion P (ks ++ d ∷ [])
 all-more P [] d all here = (here, tt)
@@ -139,5 +155,5 @@ keeps-created w ds new c d items made stays keeps = record {
       ∙ ap (map database_of) (sym items);
   kept = subst (AllByRecursion (IsKept (new_line c.branch 1 (creation_said c) ∷ w.history))) (sym items)
       (all-more (IsKept (new_line c.branch 1 (creation_said c) ∷ w.history)) ds d
-      (kept-stay w.history (new_line c.branch 1 (creation_said c) ∷ w.history) ds stays keeps.kept) (record { shows = own-log w.history c d made; opens = none-open c d made }));
+      (kept-stay w.history (new_line c.branch 1 (creation_said c) ∷ w.history) ds stays keeps.kept) (record { shows = own-log w.history c d made; live = own-live w.history c d made; opens = none-open c d made }));
 }

@@ -29,6 +29,7 @@ pub recovered-now : (files : List FileSpec) (rs next : List Logged) (at : ℕ) (
     → HasSaid files rs next old mid → set ≡ set-online at chain base mid → HasRecovered files rs next at branch old (record set { path = path; units = units })
 recovered-now files rs next at branch old mid set chain base path units chain-is base-is path-is units-is said set-is = subst (λ d. HasRecovered files rs next at branch old (record d { path = path; units = units })) (sym set-is) (record {
   shows = said.shows;
+  live = said.live;
   points =
       ap (all-set at chain base path units mid.shown.«end») said.points
       ∙ ap (λ db. all-set at chain base path units mid.shown.«end» (record db { end = mid.shown.«end» })) (pointed-only (model rs) (database_of old) next)

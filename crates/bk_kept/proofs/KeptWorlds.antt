@@ -1,5 +1,5 @@
 -- Databases in memory behind acts of a world that change one of them.
-use Rattle.std.proofs.Common.{◌≡◌, ◌<◌, ℕ, zero, suc, ◌+◌, true, false, List, [], ◌∷◌, ◌++◌, map, length, get_or, Option, Some, None, Result, Ok, Err, refl, sym, ◌∙◌, ap, subst, arith, length-append}
+use Rattle.std.proofs.Common.{◌≡◌, ◌<◌, ◌≤◌, ℕ, zero, suc, ◌+◌, true, false, List, [], ◌∷◌, ◌++◌, map, length, get_or, Option, Some, None, Result, Ok, Err, refl, sym, ◌∙◌, ap, subst, arith, length-append}
 use Rattle.std.specs.Prelude.{set, OnOk}
 use Rattle.std.specs.List.{AllByRecursion, position}
 use Rattle.std.specs.Str.{bytes_eq}
@@ -8,18 +8,24 @@ use Rattle.std.proofs.lemmas.Slice.Eq.{bytes_eq-Decides}
 use Rattle.bk_acts.specs.Transactions.{IsTransaction}
 use Rattle.bk_ids.specs.Name.{lowered, same_name}
 use Rattle.bk_machine.specs.Acts.{Recovery, logged, recovered, done, gone_on, gone_online, goes_online, says, pointed, where_found}
-use Rattle.bk_machine.specs.MayDo.{HoldsOf}
-use Rattle.bk_machine.specs.World.{World, Database, database_named, log_of, log_to, with_database}
+use Rattle.bk_machine.specs.MayDo.{HoldsOf, IsOpenOrNew}
+use Rattle.bk_machine.specs.NamedLaws.{of-named}
+use Rattle.bk_machine.specs.Sound.{IsSound, OpenBy}
+use Rattle.bk_machine.specs.World.{World, Database, database_named, log_of, log_to, with_database, least_begin}
+use Rattle.bk_shown.specs.Ends.{SpellsEnd}
 use Rattle.bk_shown.specs.Shown.{Shows}
 use Rattle.bk_world.specs.declared.database.FileSpec.{FileSpec}
+use Rattle.bk_world.specs.declared.database.Status.TheVariants.{Online, Down}
 use Rattle.bk_world.specs.declared.transaction.Open.{Open}
 use Rattle.bk_world.specs.Lines.{RecordLines, log_below}
 use Rattle.bk_world.specs.Records.{Counts, Logged, Said, more, numbered}
 use Rattle.bk_world.specs.Telling.{model}
 use Rattle.bk_kept.specs.declared.kept.Database.{Database as KeptDatabase}
-use Rattle.bk_kept.specs.Keeps.{IsKept, KeepsDatabases, ShowsLog, database_of}
+use Rattle.bk_kept.specs.Keeps.{HoldsLive, IsKept, KeepsDatabases, ShowsLog, database_of}
 use Rattle.bk_kept.specs.Saying.{CanSay, HasLogged, HasRecovered, SaysNamed, RecoversNamed}
+use Rattle.bk_machine.specs.BeginLaws.{begins_rise}
 use Rattle.bk_kept.proofs.Fresh.{ReadsOn, kept-stay}
+use Rattle.bk_kept.proofs.LiveEnds.{counts-end, live-none, none-live}
 use Rattle.bk_kept.proofs.Places.{names, with-at, all-set, position-none-here, position-none-rest}
 use Rattle.bk_kept.proofs.SaidSoFar.{pointed-only}
 
@@ -27,6 +33,10 @@ use Rattle.bk_kept.proofs.SaidSoFar.{pointed-only}
 pub on-ok : {A E P Q : Type 0} (r : Result A E) → OnOk r P → (P → Q) → OnOk r Q
 on-ok (Ok x) holds next = next holds
 on-ok (Err e) holds next = tt
+
+pub on-both : {A E P Q R : Type 0} (r : Result A E) → OnOk r P → OnOk r Q → (P → Q → R) → OnOk r R
+on-both (Ok x) one other next = next one other
+on-both (Err e) one other next = tt
 
 -- The database of a name.
 
@@ -94,10 +104,6 @@ keeps-set w v name ds i x new change is at databases reads changed kept keeps = 
 
 -- Ends.
 
-counts-end : (n : ℕ) (rs : List Logged) (end : ℕ) → Counts n rs end → end ≡ n + length rs
-counts-end n [] end is = omega (arith, is)
-counts-end n (r ∷ rs) end counts = omega (arith, counts-end (n + 1) rs end counts.1)
-
 length-numbered : (n : ℕ) (said : List Said) → length (numbered n said) ≡ length said
 length-numbered n [] = refl
 length-numbered n (s ∷ said) = ap suc (length-numbered (n + 1) said)
@@ -138,13 +144,23 @@ shows-in history files log new db shows is files-are log-is =
     let own-log : log_below history new.path new.shown.«end» ≡ log = ap (λ (d : Database). log_below history d.path d.end) is ∙ log-is in
     subst (λ fs. Shows fs (log_below history new.path new.shown.«end») new.shown) (sym own-files) (subst (λ rs. Shows files rs new.shown) (sym own-log) shows)
 
+-- and the end of it is kept
+live-in : (history : RecordLines) (log : List Logged) (ts : List Open) (new : KeptDatabase) (db : Database) → SpellsEnd log (least_begin ts new.shown.«end») new.live → database_of new ≡ db
+    → db.transactions ≡ ts → log_of history db ≡ log → HoldsLive history new
+unfolding log_of
+live-in history log ts new db spells is ts-are log-is =
+    let own-open : new.transactions ≡ ts = ap (λ (d : Database). d.transactions) is ∙ ts-are in
+    let own-log : log_below history new.path new.shown.«end» ≡ log = ap (λ (d : Database). log_below history d.path d.end) is ∙ log-is in
+    subst (λ os. SpellsEnd (log_below history new.path new.shown.«end») (least_begin os new.shown.«end») new.live) (sym own-open)
+    (subst (λ rs. SpellsEnd rs (least_begin ts new.shown.«end») new.live) (sym own-log) spells)
+
 pub keeps-logged : (w : World) (name : List ℕ) (ds : List KeptDatabase) (i : ℕ) (x new : KeptDatabase) (said : List Said) (ts : List Open)
-    → position (names name) ds ≡ Some i → x ≡ get_or ds i x → KeepsDatabases w ds → AllByRecursion IsTransaction ts → ReadsOn w.history (done w (logged name said ts)).history
+    → position (names name) ds ≡ Some i → x ≡ get_or ds i x → KeepsDatabases w ds → AllByRecursion IsTransaction ts → AllByRecursion (IsOpenOrNew (database_of x)) ts → ReadsOn w.history (done w (logged name said ts)).history
     → log_of (says w (database_of x) said ts).history (gone_on (model (log_of w.history (database_of x))) said ts (database_of x)) ≡ more (log_of w.history (database_of x)) x.shown.«end» said
     → HasLogged x.files (log_of w.history (database_of x)) (numbered x.shown.«end» said) ts x new
     → KeepsDatabases (done w (logged name said ts)) (set ds i new)
 unfolding log_of
-keeps-logged w name ds i x new said ts is at keeps spelled reads log has =
+keeps-logged w name ds i x new said ts is at keeps spelled each reads log has =
     let there = is-there w name ds i x is at keeps in
     let same : done w (logged name said ts) ≡ says w (database_of x) said ts = logged-is w name (database_of x) said ts there.named in
     let changed : database_of new ≡ gone_on (model (log_of w.history (database_of x))) said ts (database_of x) =
@@ -154,10 +170,14 @@ keeps-logged w name ds i x new said ts is at keeps spelled reads log has =
     let shows : ShowsLog (says w (database_of x) said ts).history new =
     shows-in (says w (database_of x) said ts).history x.files (more (log_of w.history (database_of x)) x.shown.«end» said) new (gone_on (model (log_of w.history (database_of x))) said ts (database_of x)) has.shows changed files-are log in
     let opens : AllByRecursion IsTransaction new.transactions = subst (AllByRecursion IsTransaction) (sym (ap (λ (db : Database). db.transactions) changed)) spelled in
+    let later : x.shown.«end» ≤ new.shown.«end» = omega (arith, end-behind (log_of w.history (database_of x)) said x.shown.«end» new.shown.«end» there.shows.log.counts has.shows.log.counts) in
+    let live : HoldsLive (says w (database_of x) said ts).history new =
+    live-in (says w (database_of x) said ts).history (more (log_of w.history (database_of x)) x.shown.«end» said) ts new (gone_on (model (log_of w.history (database_of x))) said ts (database_of x))
+    (has.live (kept-at w name ds i x is at keeps).live (begins_rise (database_of x) ts new.shown.«end» each later)) changed refl log in
     let reads' : ReadsOn w.history (says w (database_of x) said ts).history = subst (λ (v : World). ReadsOn w.history v.history) same reads in
     subst (λ v. KeepsDatabases v (set ds i new)) (sym same)
     (keeps-set w (says w (database_of x) said ts) name ds i x new (gone_on (model (log_of w.history (database_of x))) said ts) is at (says-databases w (database_of x) said ts) reads' changed
-    (record { shows = shows; opens = opens }) keeps)
+    (record { shows = shows; live = live; opens = opens }) keeps)
 
 -- A database is recovered.
 
@@ -171,6 +191,10 @@ can-recover w name bytes r x there can = record {
 
 pub at-end : (w : World) (name bytes : List ℕ) (r : Recovery) (x : KeptDatabase) → IsThere w name x → RecoversNamed w name bytes r → r.at ≡ x.shown.«end»
 at-end w name bytes r x there can = (held _ (database_named w.databases name) (database_of x) there.named can.can).0
+
+-- nothing is open in a database that is down
+pub idle-down : (w : World) (db : Database) (name : List ℕ) → IsSound w → database_named w.databases name ≡ Some db → db.status ≡ Down → db.transactions ≡ []
+idle-down w db name sound named down = ((of-named (OpenBy w.history) w.databases name db sound.opens named).offline (λ online. let other : Down ≡ Online = sym down ∙ online in cc)).transactions
 
 recovered-is : (w : World) (name : List ℕ) (db : Database) (r : Recovery) → database_named w.databases name ≡ Some db → done w (recovered name r) ≡ goes_online w db r
 unfolding done
@@ -192,12 +216,12 @@ gone-online-is files rs r x new counts has =
     (end-behind rs r.said r.at new.shown.«end» counts has.shows.log.counts)
 
 pub keeps-recovered : (w : World) (name : List ℕ) (ds : List KeptDatabase) (i : ℕ) (x new : KeptDatabase) (r : Recovery)
-    → position (names name) ds ≡ Some i → x ≡ get_or ds i x → KeepsDatabases w ds → r.at ≡ x.shown.«end» → ReadsOn w.history (done w (recovered name r)).history
+    → position (names name) ds ≡ Some i → x ≡ get_or ds i x → KeepsDatabases w ds → r.at ≡ x.shown.«end» → x.transactions ≡ [] → ReadsOn w.history (done w (recovered name r)).history
     → log_of (goes_online w (database_of x) r).history (gone_online (model (log_to w.history (database_of x) r.at)) r (database_of x)) ≡ more (log_to w.history (database_of x) r.at) r.at r.said
     → HasRecovered x.files (log_of w.history (database_of x)) (numbered r.at r.said) r.at r.branch x new
     → KeepsDatabases (done w (recovered name r)) (set ds i new)
 unfolding log_of
-keeps-recovered w name ds i x new r is at keeps ends reads log has =
+keeps-recovered w name ds i x new r is at keeps ends idle reads log has =
     let there = is-there w name ds i x is at keeps in
     let same : done w (recovered name r) ≡ goes_online w (database_of x) r = recovered-is w name (database_of x) r there.named in
     let whole : log_to w.history (database_of x) r.at ≡ log_of w.history (database_of x) = whole-log w.history (database_of x) r.at ends in
@@ -211,8 +235,15 @@ keeps-recovered w name ds i x new r is at keeps ends reads log has =
     let shows : ShowsLog (goes_online w (database_of x) r).history new =
     shows-in (goes_online w (database_of x) r).history x.files (more (log_of w.history (database_of x)) r.at r.said) new (gone_online (model (log_to w.history (database_of x) r.at)) r (database_of x)) has.shows changed refl log' in
     let own : IsKept w.history x = kept-at w name ds i x is at keeps in
+    let none : x.live ≡ [] = none-live (log_of w.history (database_of x)) x.shown.«end» x.live own.shows.log.counts
+    (subst (λ ts. SpellsEnd (log_of w.history (database_of x)) (least_begin ts x.shown.«end») x.live) idle own.live) in
+    let spells : SpellsEnd (more (log_of w.history (database_of x)) r.at r.said) new.shown.«end» new.live =
+    subst (λ l. SpellsEnd (more (log_of w.history (database_of x)) r.at r.said) new.shown.«end» l) (sym (has.live ∙ none))
+    (live-none (more (log_of w.history (database_of x)) r.at r.said) new.shown.«end» has.shows.log.counts) in
+    let live : HoldsLive (goes_online w (database_of x) r).history new =
+    live-in (goes_online w (database_of x) r).history (more (log_of w.history (database_of x)) r.at r.said) [] new (gone_online (model (log_to w.history (database_of x) r.at)) r (database_of x)) spells changed idle log' in
     let opens : AllByRecursion IsTransaction new.transactions = subst (AllByRecursion IsTransaction) (sym (ap (λ (db : Database). db.transactions) changed)) own.opens in
     let reads' : ReadsOn w.history (goes_online w (database_of x) r).history = subst (λ (v : World). ReadsOn w.history v.history) same reads in
     subst (λ v. KeepsDatabases v (set ds i new)) (sym same)
     (keeps-set w (goes_online w (database_of x) r) name ds i x new (gone_online (model (log_to w.history (database_of x) r.at)) r) is at (online-databases w (database_of x) r) reads' changed
-    (record { shows = shows; opens = opens }) keeps)
+    (record { shows = shows; live = live; opens = opens }) keeps)

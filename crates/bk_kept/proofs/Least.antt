@@ -1,5 +1,5 @@
 -- The least first record of what is open.
-use Rattle.std.proofs.Common.{◌≡◌, ◌≤◌, ℕ, min, List, [], ◌∷◌, refl, ◌∙◌, ap, arith}
+use Rattle.std.proofs.Common.{◌≡◌, ℕ, min, List, [], ◌∷◌, refl, ◌∙◌, ap}
 use Rattle.std.specs.Prelude.{fold, reverse}
 use Rattle.std.proofs.lemmas.List.{reverse-append}
 use Rattle.std.proofs.lemmas.List.Sums.{fold-append}
@@ -13,7 +13,3 @@ with_begin least t = min t.begin least
 pub least-folds : (ts : List Open) (n : ℕ) → fold with_begin n (reverse ts) ≡ least_begin ts n
 least-folds [] n = refl
 least-folds (t ∷ ts) n = ap (fold with_begin n) (reverse-append (t ∷ []) ts) ∙ fold-append with_begin n (reverse ts) (t ∷ []) ∙ ap (min t.begin) (least-folds ts n)
-
-pub least-below : (ts : List Open) (n : ℕ) → least_begin ts n ≤ n
-least-below [] n = omega arith
-least-below (t ∷ ts) n = let rest : least_begin ts n ≤ n = least-below ts n in omega (arith, rest)

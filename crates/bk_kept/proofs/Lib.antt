@@ -6,6 +6,7 @@ pub mod Seated
 pub mod Least
 pub mod Fresh
 pub mod SaidSoFar
+pub mod LiveEnds
 pub mod Bases
 pub mod GoneOnline
 pub mod KeptWorlds

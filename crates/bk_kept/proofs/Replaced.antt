@@ -69,7 +69,7 @@ rows-rise table key (a ∷ b ∷ rows) rise = (first rise.1.0, rows-rise a.table
 -- The log of a set.
 
 pub set-is : (w : World) (body : SetBody) → IsBody body → IsSoundSet w body.header → Carries w.history body
-    → IsOf (map spec_of body.header.files) (log_below w.history body.header.path body.header.last) body.tables body.rows body.header.model body.header.finish body.header.last
+    → IsOf (map spec_of body.header.files) (log_below w.history body.header.path body.header.last) body.tables body.rows body.log body.header.model body.header.finish body.header.last
 set-is w body is sound carries = record {
   counts = sound.log.counts;
   sound = sound.log.sound;
@@ -77,6 +77,8 @@ set-is w body is sound carries = record {
   tables = carries.tables_are;
   committed = carries.rows_are;
   rise = rows-rise 0 0 body.rows is.rows.rise;
+  first = body.header.first;
+  holds = carries.holds;
   model = sym sound.model;
   time = sym sound.finish;
 }

@@ -1,19 +1,16 @@
 -- Records that a database in memory says, one after the other.
-use Rattle.std.proofs.Common.{◌≡◌, ◌≤◌, ℕ, Bool, cond, min, List, [], ◌∷◌, ◌++◌, map, length, Some, None, Result, Ok, Err, refl, sym, ◌∙◌, ap, subst, append_assoc, arith}
+use Rattle.std.proofs.Common.{◌≡◌, ◌≤◌, ℕ, Bool, cond, min, List, [], ◌∷◌, ◌++◌, map, None, Result, Ok, Err, refl, sym, ◌∙◌, ap, subst, append_assoc, arith}
 use Rattle.std.specs.Prelude.{◌||◌, not, max, IsErrAnd, IsErrOf}
 use Rattle.std.proofs.lemmas.List.{append-nil}
-use Rattle.std.specs.List.{flat_map}
 use Rattle.bk_ids.specs.declared.record.Rec.{Rec}
 use Rattle.bk_ids.specs.declared.record.RecoveryModel.{RecoveryModel}
 use Rattle.bk_machine.specs.Acts.{is_simple, pointed, pointed_by}
+use Rattle.bk_machine.specs.BeginLaws.{least-end}
 use Rattle.bk_machine.specs.World.{Database, least_begin}
-use Rattle.bk_record.specs.Laws.{one_record}
-use Rattle.bk_record.specs.Log.{IsLog, Left, Reads, BreaksOff}
-use Rattle.bk_record.specs.Spelling.{spelling}
+use Rattle.bk_record.specs.Log.{IsLog, Left, Reads}
 use Rattle.bk_record.specs.View.{record_of, body_of}
-use Rattle.bk_record.specs.WalkLaws.{reads_shorter, one_log}
 use Rattle.bk_record.specs.declared.view.RecRef.{RecRef}
-use Rattle.bk_record.specs.declared.walk.BadRecord.{BadRecord}
+use Rattle.bk_shown.specs.ReadLaws.{next-read, none-left}
 use Rattle.bk_shown.specs.Shown.{Shows, AreNext, IsNext}
 use Rattle.bk_shown.specs.declared.error.TakeError.{TakeError}
 use Rattle.bk_shown.specs.declared.error.TakeError.TheVariants as take
@@ -29,43 +26,6 @@ use Rattle.bk_kept.specs.declared.error.ApplyError.TheVariants as apply
 use Rattle.bk_kept.specs.Errors.{error_of}
 use Rattle.bk_kept.specs.Keeps.{database_of}
 use Rattle.bk_kept.specs.Saying.{CanSay, HasSaid, moved_by}
-use Rattle.bk_kept.proofs.Least.{least-below}
-
--- What is read.
-
--- the record that is read is the next one
-pub record NextRead (r : Rec) (rest : List Logged) (left : List ℕ) : Type 0 where
-  pub first : Logged
-  pub others : List Logged
-  pub rest_is : rest ≡ first ∷ others
-  pub read_is : r ≡ spelled first
-  pub behind : IsLog left (map spelled others) None
-
-pub next-read : (left new : Left) (r : Rec) (rest : List Logged) → IsLog left.bytes (map spelled rest) None → Reads left r new → NextRead r rest new.bytes
-next-read left new r [] log reads =
-    let none : left.bytes ≡ [] = log.spelled ∙ log.ends in
-    absurd (omega (arith, reads_shorter left new r reads, ap length none))
-next-read left new r (s ∷ rest) log reads =
-    let same = one_record r (spelled s) new.bytes (flat_map spelling (map spelled rest) ++ log.rest) reads.begins.is_record log.are_records.0
-    (sym reads.begins.spelled ∙ log.spelled ∙ append_assoc (spelling (spelled s)) (flat_map spelling (map spelled rest)) log.rest) in
-    record {
-      first = s;
-      others = rest;
-      rest_is = refl;
-      read_is = same.0;
-      behind = record { rest = log.rest; spelled = same.1; are_records = log.are_records.1; ends = log.ends };
-    }
-
-pub none-left : (rest : List Logged) → IsLog [] (map spelled rest) None → rest ≡ []
-none-left [] log = refl
-none-left (s ∷ rest) log =
-    let other = one_log [] (map spelled (s ∷ rest)) [] None None log (record { rest = []; spelled = refl; are_records = tt; ends = refl }) in
-    absurd (cc (other.0))
-
-pub none-bad : (left new : Left) (e : BadRecord) (rest : List Logged) → IsLog left.bytes (map spelled rest) None → BreaksOff left e new → ⊥
-none-bad left new e rest log breaks =
-    let other = one_log left.bytes (map spelled rest) [] None (Some 0) log (record { rest = left.bytes; spelled = refl; are_records = tt; ends = (refl, breaks.bad) }) in
-    absurd (cc (other.1))
 
 -- Points.
 
@@ -126,7 +86,7 @@ point-kept drops m n (undone at c number) d is = refl
 point-kept drops m n (checkpointed time) d is =
     ap (λ (k : ℕ). record (database_of d) { checkpoint = n; kept = k })
     (ap (λ t. cond t (max d.kept (least_begin d.transactions n)) d.kept) is
-    ∙ ap (λ k. cond (is_simple m || not d.chain) (max d.kept k) d.kept) (sym (min-least (least_begin d.transactions n) n (least-below d.transactions n))))
+    ∙ ap (λ k. cond (is_simple m || not d.chain) (max d.kept k) d.kept) (sym (min-least (least_begin d.transactions n) n (least-end d.transactions n))))
 point-kept drops m n (stamped time set) d is = refl
 point-kept drops m n (model_set time new) d is = refl
 point-kept drops m n (loaded load) d is = refl
@@ -146,6 +106,20 @@ shown-stays drops n (model_set time new) d = refl
 shown-stays drops n (loaded load) d = refl
 shown-stays drops n (recovered branch) d = refl
 
+live-stays : (drops : Bool) (n : ℕ) (deed : Deed) (d : KeptDatabase) → (moved_by drops n (deed_body deed) d).live ≡ d.live
+live-stays drops n (database_made time family branch) d = refl
+live-stays drops n (table_made time spec) d = refl
+live-stays drops n begun d = refl
+live-stays drops n (written at before c) d = refl
+live-stays drops n (committed time mark) d = refl
+live-stays drops n rolled_back d = refl
+live-stays drops n (undone at c number) d = refl
+live-stays drops n (checkpointed time) d = refl
+live-stays drops n (stamped time set) d = refl
+live-stays drops n (model_set time new) d = refl
+live-stays drops n (loaded load) d = refl
+live-stays drops n (recovered branch) d = refl
+
 -- Steps.
 
 -- some records are said, and the others may come behind them
@@ -162,7 +136,7 @@ said-none files rs next bytes d can = record {
   front = [];
   rest = next;
   splits = refl;
-  said = record { shows = subst (λ xs. Shows files xs d.shown) (sym (append-nil rs)) can.shows; points = refl };
+  said = record { shows = subst (λ xs. Shows files xs d.shown) (sym (append-nil rs)) can.shows; live = refl; points = refl };
   may = subst (λ xs. AreNext files xs next) (sym (append-nil rs)) can.may;
   spelled_is = can.spelled_is;
 }
@@ -200,6 +174,7 @@ has-said-more files rs front r drops taken old now shown is said next same takes
     let behind' : Shows files (rs ++ (front ++ r ∷ [])) shown = subst (λ xs. Shows files xs shown) (append_assoc rs front (r ∷ [])) behind in
     record {
       shows = subst (λ s. Shows files (rs ++ (front ++ r ∷ [])) s) (sym stays) behind';
+      live = ap (λ (x : Rec). (moved_by drops x.lsn x.body (record now { shown = shown })).live) same ∙ live-stays drops r.lsn r.deed (record now { shown = shown }) ∙ said.live;
       points =
           points-more (model rs) (database_of old) front drops taken r now (record now { shown = shown }) mid-points drops-is same
           ∙ ap (λ (s : Shown). record (pointed (model rs) (database_of old) (front ++ r ∷ [])) { end = s.«end» }) (sym stays);

@@ -2,7 +2,8 @@
 use Rattle.std.specs.Prelude.{◌≡◌, false, List, map, None}
 use Rattle.std.specs.List.{AllByRecursion}
 use Rattle.bk_acts.specs.Transactions.{IsTransaction}
-use Rattle.bk_machine.specs.World.{World, Database, Session}
+use Rattle.bk_machine.specs.World.{World, Database, Session, least_begin}
+use Rattle.bk_shown.specs.Ends.{SpellsEnd}
 use Rattle.bk_shown.specs.Shown.{Shows}
 use Rattle.bk_world.specs.Lines.{RecordLines, log_below}
 use Rattle.bk_kept.specs.declared.kept.Database.{Database as KeptDatabase}
@@ -40,9 +41,14 @@ session_of s = record { number = s.number; current = s.current; starts = false }
 abbrev pub ShowsLog : RecordLines → KeptDatabase → Type 0
 ShowsLog history d = Shows d.files (log_below history d.path d.shown.«end») d.shown
 
--- a database in memory shows its log, and its open transactions have a spelling
+-- the end of its log is kept from the first record of what is open in it on
+abbrev pub HoldsLive : RecordLines → KeptDatabase → Type 0
+HoldsLive history d = SpellsEnd (log_below history d.path d.shown.«end») (least_begin d.transactions d.shown.«end») d.live
+
+-- a database in memory shows its log, the end of which is kept, and its open transactions have a spelling
 pub record IsKept (history : RecordLines) (d : KeptDatabase) : Type 0 where
   pub shows : ShowsLog history d
+  pub live : HoldsLive history d
   pub opens : AllByRecursion IsTransaction d.transactions
 
 -- databases in memory are those of this world, with what their logs show

@@ -19,7 +19,8 @@ are_counted number (f ∷ files) = f.number == number && nat_le f.extents 4096 &
 abbrev pub first_log : Guid → Guid → ℕ → List Logged
 first_log family branch time = numbered 1 (alone (database_made time family branch))
 
--- what is kept is the database that is made, and shows its first record
+-- what is kept is the database that is made, shows its first record, and keeps no end of its log
 pub record IsMade (c : Creation) (d : KeptDatabase) : Type 0 where
   pub same : database_of d ≡ new_database c
   pub shows : Shows d.files (first_log c.family c.branch c.time) d.shown
+  pub live : d.live ≡ []

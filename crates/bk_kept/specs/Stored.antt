@@ -1,5 +1,5 @@
 -- Which act of a world a stored act is, and what it needs to be taken in there.
-use Rattle.std.specs.Prelude.{◌≡◌, ℕ, ◌+◌, false, List, [], ◌++◌, length, map, None}
+use Rattle.std.specs.Prelude.{◌≡◌, ℕ, false, List, []}
 use Rattle.bk_acts.specs.declared.act.StoredAct.{StoredAct}
 use Rattle.bk_acts.specs.declared.act.StoredAct.TheVariants.{Created, Logged as LoggedAct, Replaced, Recovered}
 use Rattle.bk_acts.specs.Meaning.{Means, Spell}
@@ -8,29 +8,20 @@ use Rattle.bk_machine.specs.Checks.{used_up}
 use Rattle.bk_machine.specs.MayDo.{HoldsOf, MayDo}
 use Rattle.bk_machine.specs.Sound.{files_of_set}
 use Rattle.bk_machine.specs.World.{World, Database, database_named, log_of}
-use Rattle.bk_record.specs.Log.{IsLog}
 use Rattle.bk_set.specs.declared.body.SetBody.{SetBody}
+use Rattle.bk_shown.specs.Ends.{HoldsPending}
 use Rattle.bk_shown.specs.Shown.{AreNext, ArePlaced}
-use Rattle.bk_undo.specs.Spelled.{spelled}
 use Rattle.bk_world.specs.Lines.{RecordLines, log_below}
 use Rattle.bk_world.specs.PlacedRows.{AreRowsOf}
-use Rattle.bk_world.specs.Records.{Logged, Said, numbered}
+use Rattle.bk_world.specs.Records.{Said, numbered}
 use Rattle.bk_world.specs.Telling.{tables}
 
--- The end of a log from a number on is spelled by these bytes.
-pub record SpellsEnd (rs : List Logged) (first : ℕ) (bytes : List ℕ) : Type 0 where
-  pub before : List Logged
-  pub from : List Logged
-  pub splits : rs ≡ before ++ from
-  pub first_is : first ≡ length before + 1
-  pub spelled_is : IsLog bytes (map spelled from) None
-
--- A set holds what its path shows below its end, where nothing is pending and each record is in its place: tables, rows with their places, and the
--- log from its first number on.
+-- A set holds what its path shows below its end, each record in its place: tables, committed rows with their places, and the log from its first
+-- number on, in which all that is pending began.
 pub record Carries (lines : RecordLines) (body : SetBody) : Type 0 where
   pub tables_are : tables (log_below lines body.header.path body.header.last) ≡ body.tables
   pub rows_are : AreRowsOf (log_below lines body.header.path body.header.last) body.rows
-  pub log_is : SpellsEnd (log_below lines body.header.path body.header.last) body.header.first body.log
+  pub holds : HoldsPending (log_below lines body.header.path body.header.last) body.header.first body.log
   pub placed : ArePlaced (files_of_set body.header) [] (log_below lines body.header.path body.header.last)
 
 -- what is taken in of an act that says something: each record may come next; a recovery goes on from the end

@@ -1,6 +1,6 @@
 //! What acts make of what is kept.
 
-ghost use Rattle.std.specs.Prelude.{◌≡◌, ◌+◌, ◌<◌, ◌≤◌, [], false, length, map, position, List, IfOk, IfSome, OnOk, IsErrOf};
+ghost use Rattle.std.specs.Prelude.{◌≡◌, ◌+◌, ◌<◌, ◌≤◌, [], false, length, map, position, List, None, IfOk, IfSome, OnOk, IsErrOf};
 ghost use Rattle.std.specs.List.{AllByRecursion};
 ghost use Rattle.bk_acts.specs.Spelling.{IsAct};
 ghost use Rattle.bk_acts.specs.Transactions.{IsTransaction};
@@ -9,12 +9,15 @@ ghost use Rattle.bk_machine.specs.Acts.{Act, based_on, created, done, logged, re
 ghost use Rattle.bk_machine.specs.MayDo.{MayCreate};
 ghost use Rattle.bk_machine.specs.Sound.{IsSound};
 ghost use Rattle.bk_machine.specs.World.{World, with_database, without_database};
+ghost use Rattle.bk_ids.specs.declared.record.Rec.{Rec};
+ghost use Rattle.bk_record.specs.Log.{IsLog};
+ghost use Rattle.bk_record.specs.Records.{records_from};
 ghost use Rattle.bk_world.specs.Lines.{RecordLines};
 ghost use Rattle.bk_world.specs.declared.database.State.TheVariants.{Restoring};
 ghost use Rattle.bk_world.specs.declared.database.FileSpec.{FileSpec};
 ghost use Rattle.bk_world.specs.Records.{Logged, Said};
 ghost use Rattle.bk_kept.specs.Keeps.{IsKept, KeepsDatabases, database_of};
-ghost use Rattle.bk_kept.specs.Saying.{CanSay, HasLogged, RecoversNamed, SaysNamed};
+ghost use Rattle.bk_kept.specs.Saying.{CanSay, HasLogged, KeepsLive, RecoversNamed, SaysNamed};
 ghost use Rattle.bk_kept.specs.Stored as stored;
 ghost use Rattle.bk_kept.specs.Stored.{IsDone, MayDraw};
 ghost use Rattle.bk_kept.specs.declared.error.ApplyError.TheVariants.{Unfit};
@@ -102,6 +105,39 @@ fn create_named(
     Ok(())
 }
 
+// Cuts what lies below `first` off an end of a log, which begins at `was`.
+fn cut_below(alloc: Global, live: &mut Records, was: Lsn, first: Lsn) -> Result<(), AllocError>
+    ensures cut { OnOk result (was < first → (records : List Rec) → IsLog live.old records None → IsLog live.new (records_from first records) None) }
+    ensures same { OnOk result (first ≤ was → live.new ≡ live.old) }
+{
+    if was < first {
+        let rest = live.from(alloc, first)?;
+        *live = rest;
+    }
+    Ok(())
+}
+
+// Keeps the end of a database's log from the first record of what is open on, behind these records that it has said. It began at `was` before.
+fn keep_live(
+    alloc: Global,
+    database: &mut Database,
+    was: Lsn,
+    records: &Records,
+) -> Result<(), ApplyError>
+    ensures only { OnOk result (database.new ≡ record database.old { live = database.new.live }) }
+    ensures live { OnOk result (KeepsLive records.now was database.old database.new.live) }
+    ensures fits { IsErrOf result Unfit → ⊥ }
+{
+    if database.transactions.as_slice().is_empty() {
+        database.live = Records::none(alloc);
+        return Ok(());
+    }
+    database.live.append(records)?;
+    let first = database.least_begin(database.shown.end());
+    cut_below(alloc, &mut database.live, was, first)?;
+    Ok(())
+}
+
 // A database says these records at its end, and then these transactions are open. After an error nothing is promised of it.
 fn log(
     alloc: Global,
@@ -113,9 +149,10 @@ fn log(
     ensures unfit { IsErrOf result Unfit → (files : List FileSpec) (rs next : List Logged) → CanSay files rs next records.now database.old → ⊥ }
 {
     let transactions = copy_transactions(alloc, transactions)?;
+    let was = database.least_begin(database.shown.end());
     say(database, records)?;
     database.transactions = transactions;
-    Ok(())
+    keep_live(alloc, database, was, records)
 }
 
 // The database of a name says these records at its end, and then these transactions are open.

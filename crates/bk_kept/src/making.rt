@@ -13,7 +13,7 @@ use crate::error::ApplyError;
 use crate::kept::Database;
 use crate::replacing::{copy_file, copy_groups};
 use bk_ids::{Branch, Guid, Path, Sequence, UnitId};
-use bk_record::{BodyRef, RecRef};
+use bk_record::{BodyRef, RecRef, Records};
 use bk_shown::Shown;
 use bk_world::{Creation, FileSpec, State, Status, Unit};
 use std::alloc::{AllocError, Global};
@@ -148,6 +148,7 @@ pub(crate) fn made(alloc: Global, creation: &Creation) -> Result<Database, Apply
         status: Status::Online,
         units,
         transactions: Sequence::new(Vec::new(alloc)),
+        live: Records::none(alloc),
         shown,
     })
 }

@@ -20,6 +20,7 @@ use crate::applying::place;
 use crate::error::ApplyError;
 use crate::kept::Database;
 use bk_ids::{Name, Sequence, UnitId};
+use bk_record::Records;
 use bk_set::SetBody;
 use bk_shown::{Shown, TakeError};
 use bk_world::{FileSpec, HeaderFile, State, Status, Unit};
@@ -79,9 +80,9 @@ fn shown_by(alloc: Global, files: &[FileSpec], body: &SetBody) -> Result<Shown, 
     requires { AreFiles files.now }
     ensures at { IfOk result (λ shown. shown.«end» ≡ body.now.header.last) }
     ensures shows { IfOk result (λ shown. (rs : List Logged)
-        → IsOf files.now rs body.now.tables body.now.rows body.now.header.model body.now.header.finish body.now.header.last → Shows files.now rs shown) }
+        → IsOf files.now rs body.now.tables body.now.rows body.now.log body.now.header.model body.now.header.finish body.now.header.last → Shows files.now rs shown) }
     ensures unfit { IsErrOf result Unfit → (rs : List Logged)
-        → IsOf files.now rs body.now.tables body.now.rows body.now.header.model body.now.header.finish body.now.header.last → ⊥ }
+        → IsOf files.now rs body.now.tables body.now.rows body.now.log body.now.header.model body.now.header.finish body.now.header.last → ⊥ }
 {
     let header = &body.header;
     let tables = body.tables.as_slice();
@@ -91,6 +92,7 @@ fn shown_by(alloc: Global, files: &[FileSpec], body: &SetBody) -> Result<Shown, 
         files,
         tables,
         rows,
+        &body.log,
         header.model,
         header.finish,
         header.last,
@@ -130,6 +132,7 @@ pub(crate) fn taken(alloc: Global, name: &Name, body: &SetBody) -> Result<Databa
         status: Status::Down,
         units,
         transactions: Sequence::new(Vec::new(alloc)),
+        live: Records::none(alloc),
         shown,
     })
 }

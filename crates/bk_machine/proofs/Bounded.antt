@@ -14,6 +14,7 @@ use Rattle.bk_world.specs.Says.{settle_said}
 use Rattle.bk_world.specs.SoundLogs.{IsSound, MayCome, MayFollow, NoLoadPends}
 use Rattle.bk_world.specs.SettledLaws.{end-more, length-undoing}
 use Rattle.bk_world.specs.SoundLaws.{follow-front, sound-lying, sound-rise}
+use Rattle.bk_machine.specs.BeginLaws.{least-end}
 use Rattle.bk_machine.specs.Crash.{begin_in, begins_in, begins_of, greatest_end, most_end, open_begins}
 use Rattle.bk_machine.specs.Sound.{IsWholeDatabase}
 use Rattle.bk_machine.specs.Stays.{IsCutOf, IsFront}
@@ -147,10 +148,6 @@ module _ (begins : List ℕ) where
 
 -- ---- a database
 
-least-below : (ts : List Open) (end : ℕ) → least_begin ts end ≤ end
-least-below [] end = omega arith
-least-below (t ∷ ts) end = let one : min t.begin (least_begin ts end) ≤ least_begin ts end = min-le_right t.begin (least_begin ts end) in let two : least_begin ts end ≤ end = least-below ts end in omega (arith, one, two)
-
 least-each : (least end : ℕ) (ts : List Open) → least ≤ least_begin ts end → AllByRecursion (λ b. least ≤ b) (begins_of ts)
 least-each least end [] le = tt
 least-each least end (t ∷ ts) le =
@@ -160,7 +157,7 @@ least-each least end (t ∷ ts) le =
 
 begins-from : (o : Option Database) (end : ℕ) → AllByRecursion (λ b. begin_in o end ≤ b) (begins_in o)
 begins-from None end = tt
-begins-from (Some db) end = (least-below db.transactions db.end, least-each (least_begin db.transactions db.end) db.end db.transactions (omega arith))
+begins-from (Some db) end = (least-end db.transactions db.end, least-each (least_begin db.transactions db.end) db.end db.transactions (omega arith))
 
 -- the front, settled, lies within the bound
 pub front-bound : (before whole cut : World) (db : Database) (kept : List Logged) → IsWholeDatabase cut db → IsCutOf before whole cut db → IsFront before cut db kept → end_behind (settled kept) ≤ most_end before whole db

@@ -1,29 +1,31 @@
--- A log in which no load was said may be recovered: all that is pending is undone, and one record names the branch.
-use Rattle.std.proofs.Common.{◌≡◌, ◌<◌, ◌≤◌, ℕ, ◌+◌, min, Bool, not, ◌&&◌, List, [], ◌∷◌, ◌++◌, length, reverse, refl, sym, ◌∙◌, ap, subst, arith, append_assoc}
+-- A log in which no load pends may be recovered: all that is pending is undone, and one record names the branch.
+use Rattle.std.proofs.Common.{◌≡◌, ◌<◌, ◌≤◌, ℕ, zero, suc, ◌+◌, ◌*◌, min, Bool, true, false, not, ◌&&◌, List, [], ◌∷◌, ◌++◌, length, reverse, refl, sym, ◌∙◌, ap, subst, arith, append_assoc}
 use Rattle.std.specs.Prelude.{◌==◌}
 use Rattle.std.specs.List.{AllByRecursion, count_by, filter}
 use Rattle.std.proofs.Math.Nat.{le-min}
+use Rattle.std.proofs.lemmas.Bool.Decides.{nat_tests}
 use Rattle.std.proofs.lemmas.List.{append-nil, length-append, length-reverse}
+use Rattle.std.proofs.lemmas.List.Elements.{filter-append}
 use Rattle.std.proofs.lemmas.List.Sums.{count_by-le-length, length-filter}
 use Rattle.bk_ids.specs.declared.guid.Guid.{Guid}
+use Rattle.bk_ids.specs.declared.record.ExtentId.{ExtentId}
 use Rattle.bk_world.specs.Cut.{end_behind}
-use Rattle.bk_world.specs.ListLaws.{all_filter, all_joined, all_mapped}
-use Rattle.bk_world.specs.Pending.{Pending, pending, pending_after, pending_from}
+use Rattle.bk_world.specs.ListLaws.{all_filter, all_joined, all_mapped, filter_every}
+use Rattle.bk_world.specs.Pending.{Pending, load_writes, pending, pending_after, pending_from}
 use Rattle.bk_world.specs.ReadingLaws.{numbered-append, pending-append, pending-more, pending-settled, rise-length}
-use Rattle.bk_world.specs.Records.{Counts, Deed, Logged, Said, begun, checkpointed, committed, database_made, loaded, model_set, more, numbered, recovered, rolled_back, stamped, table_made, undone, written}
+use Rattle.bk_world.specs.Records.{Counts, Deed, Load, Logged, Said, begun, checkpointed, committed, database_made, loaded, model_set, more, numbered, recovered, rolled_back, stamped, table_made, undone, written}
 use Rattle.bk_world.specs.Says.{alone, settle_said, undoing}
 use Rattle.bk_world.specs.SoundLogs.{IsSound as IsSoundLog, MayCome, MayFollow, NoLoadPends, most_pending}
-use Rattle.bk_world.specs.declared.database.FileSpec.{FileSpec}
 use Rattle.bk_world.specs.SettledLaws.{length-undoing}
 use Rattle.bk_world.specs.SoundLaws.{follow-join, sound-lying, sound-rise}
 use Rattle.bk_machine.specs.Acts.{Recovery}
-use Rattle.bk_machine.specs.Built.{IsBuiltLog, IsNoLoad}
-use Rattle.bk_machine.specs.Sound.{IsLog}
+use Rattle.bk_machine.specs.Built.{IsNoLoad}
 use Rattle.bk_machine.specs.statements.Restore.{IsOfRecovery, Recovers, is_recovery_deed}
 use Rattle.bk_machine.proofs.Bounded.{sound-behind}
 use Rattle.bk_machine.proofs.Histories.{counts-positive}
 use Rattle.bk_machine.specs.SettledLaws.{counts-end}
 use Rattle.bk_machine.proofs.SettledSteps.{settle-follows}
+use Rattle.bk_machine.proofs.statements.Few.{fewer}
 
 -- ---- what is pending where no load was said
 
@@ -45,45 +47,75 @@ single-from : (ws : List Pending) (rs : List Logged) → AllByRecursion (λ (r :
 single-from ws [] none all = all
 single-from ws (r ∷ rs) none all = single-from (pending_after ws r.lsn r.begin r.deed) rs none.1 (single-after ws r.lsn r.begin r.deed none.0 all)
 
-no-load-pends : (rs : List Logged) → AllByRecursion (λ (r : Logged). IsNoLoad r.deed) rs → NoLoadPends rs
+pub no-load-pends : (rs : List Logged) → AllByRecursion (λ (r : Logged). IsNoLoad r.deed) rs → NoLoadPends rs
 unfolding pending
 no-load-pends rs none = single-from [] rs none tt
 
 -- ---- how much is pending
 
-filter-few : (p : Pending → Bool) (ws : List Pending) (n : ℕ) → length ws ≤ n → length (filter p ws) ≤ n
-filter-few p ws n le =
-    let same : length (filter p ws) ≡ count_by p ws = length-filter p ws in
-    let few : count_by p ws ≤ length ws = count_by-le-length p ws in
-    omega (arith, same, few, le)
+-- a write that is none of a load
+abbrev is_single : Pending → Bool
+is_single w = length w.extents == 0
 
-few-after : (rs : List Logged) (n begin : ℕ) (deed : Deed) → MayCome rs n begin deed → IsNoLoad deed → length (pending rs) ≤ most_pending → length (pending_after (pending rs) n begin deed) ≤ most_pending
-few-after rs n begin (database_made time family branch) may none le = le
-few-after rs n begin (table_made time spec) may none le = le
-few-after rs n begin begun may none le = le
-few-after rs n begin (written at before c) may none le =
-    let w : Pending = record { lsn = n; begin = begin; place = at; before = before; change = c; extents = [] } in
-    let one : length (pending rs ++ w ∷ []) ≡ length (pending rs) + 1 = length-append (pending rs) (w ∷ []) in
-    let room : length (pending rs) < most_pending = may.room in
-    omega (arith, one, room)
-few-after rs n begin (committed time mark) may none le = filter-few (λ w. not (w.begin == begin)) (pending rs) most_pending le
-few-after rs n begin rolled_back may none le = filter-few (λ w. not (w.begin == begin)) (pending rs) most_pending le
-few-after rs n begin (undone at c m) may none le = filter-few (λ w. not (w.begin == begin && w.lsn == m)) (pending rs) most_pending le
-few-after rs n begin (checkpointed time) may none le = le
-few-after rs n begin (stamped time set) may none le = le
-few-after rs n begin (model_set time model) may none le = le
-few-after rs n begin (loaded load) may none le = absurd none
-few-after rs n begin (recovered branch) may none le = le
+abbrev singles : List Pending → List Pending
+singles ws = filter is_single ws
 
-few-more : (rs ss : List Logged) → MayFollow rs ss → AllByRecursion (λ (r : Logged). IsNoLoad r.deed) ss → length (pending rs) ≤ most_pending → length (pending (rs ++ ss)) ≤ most_pending
-few-more rs [] may none le = subst (λ log. length (pending log) ≤ most_pending) (sym (append-nil rs)) le
-few-more rs (r ∷ ss) may none le =
-    let one : length (pending (rs ++ r ∷ [])) ≤ most_pending = subst (λ ws. length ws ≤ most_pending) (sym (pending-more rs (r ∷ []))) (few-after rs r.lsn r.begin r.deed may.0 none.0 le) in
-    subst (λ log. length (pending log) ≤ most_pending) (append_assoc rs (r ∷ []) ss) (few-more (rs ++ r ∷ []) ss may.1 none.1 one)
+singles-few : (ws : List Pending) → length (singles ws) ≤ length ws
+singles-few ws =
+    let same : length (singles ws) ≡ count_by is_single ws = length-filter is_single ws in
+    let few : count_by is_single ws ≤ length ws = count_by-le-length is_single ws in
+    omega (arith, same, few)
 
-few-pend : (rs : List Logged) → IsSoundLog rs → AllByRecursion (λ (r : Logged). IsNoLoad r.deed) rs → length (pending rs) ≤ most_pending
+-- no write of a load is single
+load-none : (lsn begin : ℕ) (load : Load) (i n : ℕ) → 1 ≤ length load.extents → singles (load_writes lsn begin load i n) ≡ []
+load-none lsn begin load i zero some = refl
+load-none lsn begin load i (suc n) some = let no : (length load.extents == 0) ≡ false = grind (arith, nat_tests, some) in rw no (load-none lsn begin load (i + 1) n some)
+
+-- where these are few, so are they behind a load
+few-load : (ws : List Pending) (lsn begin : ℕ) (load : Load) (n : ℕ) → n ≤ 504 * length load.extents → length (singles ws) ≤ most_pending → length (singles (ws ++ load_writes lsn begin load 0 n)) ≤ most_pending
+few-load ws lsn begin load zero fits le = subst (λ vs. length (singles vs) ≤ most_pending) (sym (append-nil ws)) le
+few-load ws lsn begin load (suc n) fits le =
+    let same : singles (ws ++ load_writes lsn begin load 0 (suc n)) ≡ singles ws =
+    filter-append is_single ws (load_writes lsn begin load 0 (suc n)) ∙ ap (λ vs. singles ws ++ vs) (load-none lsn begin load 0 (suc n) (omega (arith, fits))) ∙ append-nil (singles ws) in
+    subst (λ vs. length vs ≤ most_pending) (sym same) le
+
+-- and behind a write for which there is room
+few-write : (ws : List Pending) (w : Pending) → length ws < most_pending → length (singles (ws ++ w ∷ [])) ≤ most_pending
+few-write ws w room =
+    let one : length (singles (ws ++ w ∷ [])) ≤ length (ws ++ w ∷ []) = singles-few (ws ++ w ∷ []) in
+    let two : length (ws ++ w ∷ []) ≡ length ws + 1 = length-append ws (w ∷ []) in
+    omega (arith, one, two, room)
+
+few-some : (p : Pending → Bool) (ws : List Pending) → length (singles ws) ≤ most_pending → length (singles (filter p ws)) ≤ most_pending
+few-some p ws le = let one : length (singles (filter p ws)) ≤ length (singles ws) = fewer is_single p ws in omega (arith, one, le)
+
+few-after : (rs : List Logged) (n begin : ℕ) (deed : Deed) → MayCome rs n begin deed → length (singles (pending rs)) ≤ most_pending → length (singles (pending_after (pending rs) n begin deed)) ≤ most_pending
+few-after rs n begin (database_made time family branch) may le = le
+few-after rs n begin (table_made time spec) may le = le
+few-after rs n begin begun may le = le
+few-after rs n begin (written at before c) may le = few-write (pending rs) (record { lsn = n; begin = begin; place = at; before = before; change = c; extents = [] }) may.room
+few-after rs n begin (committed time mark) may le = few-some (λ w. not (w.begin == begin)) (pending rs) le
+few-after rs n begin rolled_back may le = few-some (λ w. not (w.begin == begin)) (pending rs) le
+few-after rs n begin (undone at c m) may le = few-some (λ w. not (w.begin == begin && w.lsn == m)) (pending rs) le
+few-after rs n begin (checkpointed time) may le = le
+few-after rs n begin (stamped time set) may le = le
+few-after rs n begin (model_set time model) may le = le
+few-after rs n begin (loaded load) may le = few-load (pending rs) n begin load load.count may.fits le
+few-after rs n begin (recovered branch) may le = le
+
+few-more : (rs ss : List Logged) → MayFollow rs ss → length (singles (pending rs)) ≤ most_pending → length (singles (pending (rs ++ ss))) ≤ most_pending
+few-more rs [] may le = subst (λ log. length (singles (pending log)) ≤ most_pending) (sym (append-nil rs)) le
+few-more rs (r ∷ ss) may le =
+    let one : length (singles (pending (rs ++ r ∷ []))) ≤ most_pending = subst (λ ws. length (singles ws) ≤ most_pending) (sym (pending-more rs (r ∷ []))) (few-after rs r.lsn r.begin r.deed may.0 le) in
+    subst (λ log. length (singles (pending log)) ≤ most_pending) (append_assoc rs (r ∷ []) ss) (few-more (rs ++ r ∷ []) ss may.1 one)
+
+few-pend : (rs : List Logged) → IsSoundLog rs → NoLoadPends rs → length (pending rs) ≤ most_pending
 unfolding pending
-few-pend rs sound none = few-more [] rs sound none (omega arith)
+few-pend rs sound none =
+    let few : length (singles (pending rs)) ≤ most_pending = few-more [] rs sound (omega arith) in
+    let all : singles (pending rs) ≡ pending rs =
+    filter_every is_single (pending rs) (all_mapped (λ (w : Pending). w.extents ≡ []) (λ (w : Pending). is_single w ≡ true) (λ w is. ap (λ (es : List ExtentId). length es == 0) is) (pending rs) none) in
+    subst (λ ws. length ws ≤ most_pending) all few
 
 -- ---- what a recovery says
 
@@ -95,7 +127,7 @@ one-names : (branch : Guid) (ws : List Pending) → count_by is_recovery_deed (u
 one-names branch [] = refl
 one-names branch (w ∷ ws) = one-names branch ws
 
-module _ (files : List FileSpec) (rs : List Logged) (end : ℕ) (branch : Guid) (is : IsLog files rs end) (built : IsBuiltLog files rs) where
+module _ (rs : List Logged) (end : ℕ) (branch : Guid) (counted : Counts 1 rs end) (sound : IsSoundLog rs) (none : NoLoadPends rs) where
   abbrev pub said : List Said
   said = settle_said (pending rs) ++ alone (recovered branch)
 
@@ -104,19 +136,16 @@ module _ (files : List FileSpec) (rs : List Logged) (end : ℕ) (branch : Guid) 
   recovery = record { at = end; branch = branch; said = said }
 
   all : end ≡ end_behind rs
-  all = counts-end 1 end rs is.counts
+  all = counts-end 1 end rs counted
 
   counts : Counts 1 rs (end_behind rs)
-  counts = subst (Counts 1 rs) all is.counts
-
-  none : NoLoadPends rs
-  none = no-load-pends rs built.loads
+  counts = subst (Counts 1 rs) all counted
 
   split : numbered end (settle_said (pending rs) ++ alone (recovered branch)) ≡ numbered end (settle_said (pending rs)) ++ numbered (end + length (settle_said (pending rs))) (alone (recovered branch))
   split = numbered-append end (settle_said (pending rs)) (alone (recovered branch))
 
   undone-first : MayFollow rs (numbered end (settle_said (pending rs)))
-  undone-first = settle-follows files rs end is none
+  undone-first = settle-follows rs end counted sound none
 
   settles : pending (more rs end (settle_said (pending rs) ++ alone (recovered branch))) ≡ []
   settles =
@@ -130,10 +159,10 @@ module _ (files : List FileSpec) (rs : List Logged) (end : ℕ) (branch : Guid) 
 
   few : length (settle_said (pending rs) ++ alone (recovered branch)) ≤ min end 4194304
   few =
-      let positive : 1 ≤ end = counts-positive 1 end rs is.counts in
-      let from : AllByRecursion (λ (w : Pending). 1 ≤ w.lsn) (pending rs) = all_mapped (λ (w : Pending). w.begin < w.lsn) (λ (w : Pending). 1 ≤ w.lsn) (λ w lt. omega (arith, lt)) (pending rs) (sound-behind rs is.sound) in
-      let within : length (pending rs) + 1 ≤ end = rise-length (pending rs) 1 end positive (sound-rise rs is.sound counts none) from (sound-lying rs end is.sound is.counts).below in
-      let most : length (pending rs) ≤ most_pending = few-pend rs is.sound built.loads in
+      let positive : 1 ≤ end = counts-positive 1 end rs counted in
+      let from : AllByRecursion (λ (w : Pending). 1 ≤ w.lsn) (pending rs) = all_mapped (λ (w : Pending). w.begin < w.lsn) (λ (w : Pending). 1 ≤ w.lsn) (λ w lt. omega (arith, lt)) (pending rs) (sound-behind rs sound) in
+      let within : length (pending rs) + 1 ≤ end = rise-length (pending rs) 1 end positive (sound-rise rs sound counts none) from (sound-lying rs end sound counted).below in
+      let most : length (pending rs) ≤ most_pending = few-pend rs sound none in
       subst (λ n. n ≤ min end 4194304) (sym long) (le-min within (omega (arith, most)))
 
   pub recovers : Recovers rs (record { at = end; branch = branch; said = settle_said (pending rs) ++ alone (recovered branch) })

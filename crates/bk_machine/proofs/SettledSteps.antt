@@ -15,9 +15,8 @@ use Rattle.bk_world.specs.Records.{Counts, Logged, Said, more, numbered}
 use Rattle.bk_world.specs.Rows.{tables_of}
 use Rattle.bk_world.specs.Says.{settle_said, undoing}
 use Rattle.bk_world.specs.SettledLaws.{end-more, nothing-pends}
-use Rattle.bk_world.specs.SoundLogs.{MayFollow, NoLoadPends}
+use Rattle.bk_world.specs.SoundLogs.{IsSound as IsSoundLog, MayFollow, NoLoadPends}
 use Rattle.bk_world.specs.Telling.{model, tables}
-use Rattle.bk_world.specs.declared.database.FileSpec.{FileSpec}
 use Rattle.bk_world.specs.declared.database.Status.TheVariants.{Online}
 use Rattle.bk_machine.specs.Acts.{done, gone_on, pointed, says, where_found}
 use Rattle.bk_machine.specs.Built.{IsNoLoad, SaysNoLoad}
@@ -27,7 +26,7 @@ use Rattle.bk_machine.specs.ReadyLaws.{nothing-open}
 use Rattle.bk_machine.specs.Same.{SameMedia}
 use Rattle.bk_machine.specs.Settled.{IsSettledTo, SettledTo, needs_settling, settled_database, settles}
 use Rattle.bk_machine.specs.SettledLaws.{counts-end, media-symmetric, media-transitive, settled-same}
-use Rattle.bk_machine.specs.Sound.{AreDifferent, AreNumbered, Differ, IsLog, IsSound, IsWholeDatabase}
+use Rattle.bk_machine.specs.Sound.{AreDifferent, AreNumbered, Differ, IsSound, IsWholeDatabase}
 use Rattle.bk_machine.specs.UpLaws.{IsUp, is-up, may-open}
 use Rattle.bk_machine.specs.World.{Database, World, database_named, log_of, with_database}
 use Rattle.bk_machine.specs.statements.Restore.{is_online}
@@ -43,11 +42,11 @@ follow-rest rs [] b may = subst (λ log. MayFollow log b) (sym (append-nil rs)) 
 follow-rest rs (r ∷ a) b may = subst (λ log. MayFollow log b) (append_assoc rs (r ∷ []) a) (follow-rest (rs ++ r ∷ []) a b may.1)
 
 -- what undoes all that is pending may come behind a log
-pub settle-follows : (files : List FileSpec) (rs : List Logged) (end : ℕ) → IsLog files rs end → NoLoadPends rs → MayFollow rs (numbered end (settle_said (pending rs)))
+pub settle-follows : (rs : List Logged) (end : ℕ) → Counts 1 rs end → IsSoundLog rs → NoLoadPends rs → MayFollow rs (numbered end (settle_said (pending rs)))
 unfolding settled
-settle-follows files rs end is none =
-    let all : end ≡ end_behind rs = counts-end 1 end rs is.counts in
-    subst (λ n. MayFollow rs (numbered n (settle_said (pending rs)))) (sym all) (follow-rest [] rs (numbered (end_behind rs) (settle_said (pending rs))) (sound-settled rs is.sound (subst (Counts 1 rs) all is.counts) none))
+settle-follows rs end counted sound none =
+    let all : end ≡ end_behind rs = counts-end 1 end rs counted in
+    subst (λ n. MayFollow rs (numbered n (settle_said (pending rs)))) (sym all) (follow-rest [] rs (numbered (end_behind rs) (settle_said (pending rs))) (sound-settled rs sound (subst (Counts 1 rs) all counted) none))
 
 settle-tables : (rs : List Logged) (n : ℕ) → tables (more rs n (settle_said (pending rs))) ≡ tables rs
 unfolding tables
@@ -114,13 +113,13 @@ module _ (w : World) (db : Database) (sound : IsSound w) (named : database_named
   says-it : MaySay w db (settle_said (pending (log_of w.history db)))
   says-it = record {
     online = up;
-    may = settle-follows db.files (log_of w.history db) db.end is.whole.log is.opens.loads;
+    may = settle-follows (log_of w.history db) db.end is.whole.log.counts is.whole.log.sound is.opens.loads;
     tables = subst (AreNumbered 1) (sym (settle-tables (log_of w.history db) db.end)) is.whole.log.tables;
     places = placed-undoing db.files (log_of w.history db) db.end (reverse (pending (log_of w.history db)));
   }
 
   pub settle-may : MayDo w (settles w db)
-  settle-may = may-open w db said [] is says-it (nothing-open (more (log_of w.history db) db.end said) (db.end + length said) (pending-settled (log_of w.history db) db.end))
+  settle-may = may-open w db said [] is says-it tt (nothing-open (more (log_of w.history db) db.end said) (db.end + length said) (pending-settled (log_of w.history db) db.end))
 
   pub settle-sound : IsSound (done w (settles w db))
   settle-sound = act-sound w (settles w db) sound settle-may

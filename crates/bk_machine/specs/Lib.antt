@@ -22,6 +22,7 @@ pub mod Built
 pub mod NamedLaws
 pub mod CheckLaws
 pub mod FindingLaws
+pub mod BeginLaws
 pub mod ReadyLaws
 pub mod UpLaws
 pub mod HeldLaws

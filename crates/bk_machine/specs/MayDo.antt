@@ -1,5 +1,6 @@
 -- Which acts may be done to a sound world, so that it stays sound.
-use Rattle.std.specs.Prelude.{◌≡◌, ◌<◌, ◌≤◌, ◌+◌, List, [], ◌∷◌, length, Option, Some, None}
+use Rattle.std.specs.Prelude.{◌≡◌, ◌⊎◌, ◌<◌, ◌≤◌, ◌+◌, true, List, [], ◌∷◌, length, Option, Some, None}
+use Rattle.std.specs.List.{AllByRecursion}
 use Rattle.bk_world.specs.declared.database.Creation.{Creation}
 use Rattle.bk_world.specs.declared.database.Status.TheVariants.{Online, Down}
 use Rattle.bk_world.specs.Records.{Said, more, numbered}
@@ -7,7 +8,7 @@ use Rattle.bk_world.specs.SoundLogs.{MayFollow}
 use Rattle.bk_world.specs.Telling.{tables}
 use Rattle.bk_machine.specs.Acts.{Act, Recovery, turned, seated, created, dropped, logged, medium_made, set_sealed, based, replaced, restored, recovered, done, drawn}
 use Rattle.bk_machine.specs.Files.{AreDataFiles}
-use Rattle.bk_machine.specs.Sound.{AreNumbered, AreOpen, ArePlaced, IsSoundSet}
+use Rattle.bk_machine.specs.Sound.{AreNumbered, AreOpen, ArePlaced, IsSoundSet, has_begin}
 use Rattle.bk_world.specs.declared.transaction.Open.{Open}
 use Rattle.bk_machine.specs.World.{World, Database, database_named, log_of, log_to, most_sessions}
 use Rattle.bk_machine.specs.statements.CreateTable.{most_groups}
@@ -28,9 +29,14 @@ pub record MaySay (w : World) (db : Database) (said : List Said) : Type 0 where
   pub tables : AreNumbered 1 (tables (more (log_of w.history db) db.end said))
   pub places : ArePlaced db.files (log_of w.history db) (numbered db.end said)
 
+-- a transaction was open in a database before, or begins at its end or behind it
+abbrev pub IsOpenOrNew : Database → Open → Type 0
+IsOpenOrNew db t = (has_begin db.transactions t.begin ≡ true) ⊎ (db.end ≤ t.begin)
+
 -- and these transactions are open then
 pub record MayLog (w : World) (db : Database) (said : List Said) (transactions : List Open) : Type 0 where
   pub says : MaySay w db said
+  pub each : AllByRecursion (IsOpenOrNew db) transactions
   pub opens : AreOpen (more (log_of w.history db) db.end said) (db.end + length said) transactions
 
 -- A database that is down may be recovered at a number of its log, on the next GUID as its branch.

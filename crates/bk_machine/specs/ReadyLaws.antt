@@ -5,6 +5,7 @@ use Rattle.bk_world.specs.declared.database.Status.TheVariants.{Online}
 use Rattle.bk_world.specs.Pending.{Pending, pending}
 use Rattle.bk_world.specs.Records.{Logged, Said, more}
 use Rattle.bk_machine.specs.Acts.{logged}
+use Rattle.bk_machine.specs.BeginLaws.{each-own}
 use Rattle.bk_machine.specs.MayDo.{HoldsOf, MayDo, MayLog, MaySay}
 use Rattle.bk_machine.specs.Sound.{AreIdle, AreOpen, IsIdle, IsSound, IsWholeDatabase, OpenBy, has_begin}
 use Rattle.bk_machine.specs.World.{World, Database, database_named, log_of}
@@ -58,5 +59,6 @@ pub may-log : (w : World) (db : Database) (said : List Said) → IsReady w db �
 may-log w db said r says none =
     holds-of (database_named w.databases db.name) db (λ d. MayLog w d said db.transactions) r.named (record {
       says = says;
+      each = each-own db;
       opens = subst (AreOpen (more (log_of w.history db) db.end said) (db.end + length said)) (sym r.closed) (nothing-open (more (log_of w.history db) db.end said) (db.end + length said) none);
     })

@@ -7,7 +7,8 @@ use Rattle.bk_world.specs.Pending.{Pending, of_transaction, pending}
 use Rattle.bk_world.specs.Records.{Logged, Said, more, numbered}
 use Rattle.bk_world.specs.SoundLogs.{undoes}
 use Rattle.bk_machine.specs.Acts.{logged}
-use Rattle.bk_machine.specs.MayDo.{MayDo, MayLog, MaySay}
+use Rattle.bk_machine.specs.BeginLaws.{each-own}
+use Rattle.bk_machine.specs.MayDo.{IsOpenOrNew, MayDo, MayLog, MaySay}
 use Rattle.bk_machine.specs.NamedLaws.{of-named}
 use Rattle.bk_machine.specs.ReadyLaws.{holds-of}
 use Rattle.bk_machine.specs.Sound.{AreOpen, IsSound, KeepsAll, IsWholeDatabase, OpenBy, has_begin}
@@ -27,10 +28,10 @@ is-up w db sound named up =
     record { named = named; whole = of-named (IsWholeDatabase w) w.databases db.name db sound.whole.databases named; up = up; opens = opens.online up }
 
 -- what it may say, behind which these transactions are open, is an act that may be done
-pub may-open : (w : World) (db : Database) (said : List Said) (transactions : List Open) → IsUp w db → MaySay w db said → AreOpen (more (log_of w.history db) db.end said) (db.end + length said) transactions
-    → MayDo w (logged db.name said transactions)
-may-open w db said transactions r says opens =
-    holds-of (database_named w.databases db.name) db (λ d. MayLog w d said transactions) r.named (record { says = says; opens = opens })
+pub may-open : (w : World) (db : Database) (said : List Said) (transactions : List Open) → IsUp w db → MaySay w db said → AllByRecursion (IsOpenOrNew db) transactions
+    → AreOpen (more (log_of w.history db) db.end said) (db.end + length said) transactions → MayDo w (logged db.name said transactions)
+may-open w db said transactions r says each opens =
+    holds-of (database_named w.databases db.name) db (λ d. MayLog w d said transactions) r.named (record { says = says; each = each; opens = opens })
 
 -- a record that undoes nothing
 abbrev pub UndoesNone : Logged → Type 0
@@ -62,4 +63,4 @@ opens-same rs end ts said opens none same = record {
 -- what it may say, behind which the same is pending, is an act that may be done
 pub may-tell : (w : World) (db : Database) (said : List Said) → IsUp w db → MaySay w db said → AllByRecursion UndoesNone (numbered db.end said)
     → pending (more (log_of w.history db) db.end said) ≡ pending (log_of w.history db) → MayDo w (logged db.name said db.transactions)
-may-tell w db said r says none same = may-open w db said db.transactions r says (opens-same (log_of w.history db) db.end db.transactions said r.opens none same)
+may-tell w db said r says none same = may-open w db said db.transactions r says (each-own db) (opens-same (log_of w.history db) db.end db.transactions said r.opens none same)

@@ -11,6 +11,7 @@ mod event_laws;
 mod laws;
 mod progress_laws;
 mod reaching_laws;
+mod recovery_laws;
 mod room_laws;
 mod same_laws;
 mod set_laws;
@@ -37,6 +38,7 @@ pub use laws::{
 };
 pub use progress_laws::statements_come_to_outcomes;
 pub use reaching_laws::reached_worlds_are_sound;
+pub use recovery_laws::recoveries_undo_what_is_pending;
 pub use room_laws::groups_are_full_where_no_cell_is_free;
 pub use same_laws::{logs_that_stay, media_that_stay};
 pub use set_laws::sets_that_stay;

@@ -1,6 +1,6 @@
 -- BACKUP DATABASE as it is planned.
-use Rattle.std.proofs.Common.{◌≡◌, ◌<◌, ℕ, ◌+◌, ◌^◌, Bool, true, false, cond, List, [], ◌∷◌, length, Option, Some, None, Ok, refl, sym, ◌∙◌, ap, subst, arith, length-append}
-use Rattle.std.specs.Prelude.{◌||◌, ◌&&◌, nat_lt, not, is_some, suc}
+use Rattle.std.proofs.Common.{◌≡◌, ◌<◌, ℕ, ◌+◌, ◌^◌, Bool, true, false, List, [], ◌∷◌, length, Option, Some, None, Ok, refl, sym, ◌∙◌, ap, subst, arith, length-append}
+use Rattle.std.specs.Prelude.{◌||◌, ◌&&◌, ◌≤◌, not, is_some}
 use Rattle.std.specs.List.{AllByRecursion}
 use Rattle.std.specs.Str.{bytes_eq}
 use Rattle.std.proofs.lemmas.Bool.Decides.{nat_tests}
@@ -8,7 +8,6 @@ use Rattle.std.proofs.lemmas.Slice.Eq.{bytes_eq-Decides}
 use Rattle.bk_acts.specs.declared.act.StoredAct.TheVariants.{Logged as LoggedAct, Based}
 use Rattle.bk_acts.specs.Meaning.{Spell}
 use Rattle.bk_ids.specs.declared.guid.Guid.{Guid}
-use Rattle.bk_ids.specs.Name.{lowered, same_name}
 use Rattle.bk_items.specs.declared.item.ScriptItem.TheVariants as script
 use Rattle.bk_items.specs.declared.item.UnitName.{UnitName}
 use Rattle.bk_items.specs.declared.options.BackupOptions.{BackupOptions}
@@ -19,13 +18,13 @@ use Rattle.bk_machine.specs.Machine.{May}
 use Rattle.bk_machine.specs.MayDo.{HoldsOf, MayDo, MayDoAll, MayLog, MaySay}
 use Rattle.bk_machine.specs.NamedLaws.{named-own}
 use Rattle.bk_machine.specs.Outcome.{Outcome}
-use Rattle.bk_machine.specs.Sound.{AreOpen, IsSound, IsWhole}
-use Rattle.bk_machine.specs.ReadyLaws.{nothing-pends}
+use Rattle.bk_machine.specs.Sound.{IsSound, IsWhole}
 use Rattle.bk_machine.specs.World.{World, Database, database_named, least_begin, log_of}
-use Rattle.bk_machine.specs.statements.Backup.{DoesBackup, backed_up, check_backup, full_header, has_open, is_whole_backup}
+use Rattle.bk_machine.specs.statements.Backup.{DoesBackup, backed_up, check_backup, full_header, is_whole_backup}
 use Rattle.bk_shown.specs.Shown.{AreNext}
 use Rattle.bk_world.specs.Lines.{log_below}
-use Rattle.bk_world.specs.Medium.{Reading, medium, medium_at}
+use Rattle.bk_world.specs.Medium.{medium, medium_at}
+use Rattle.bk_world.specs.declared.database.Status.TheVariants.{Online}
 use Rattle.bk_world.specs.Pending.{Pending, pending}
 use Rattle.bk_world.specs.Records.{Counts, Logged, Said, checkpointed, more, numbered, stamped}
 use Rattle.bk_world.specs.Says.{alone}
@@ -40,28 +39,23 @@ use Rattle.bk_plans.specs.declared.parts.Part.{Part}
 use Rattle.bk_plans.specs.declared.parts.Plan.{Plan}
 use Rattle.bk_plans.specs.declared.parts.Plan.TheVariants.{Refused, Answered, Turned, Seated, Parts}
 use Rattle.bk_plans.specs.declared.refusal.Refusal.{Refusal}
-use Rattle.bk_media_plans.specs.Backups.{IsBackup, IsBackupPlan}
+use Rattle.bk_media_plans.specs.Backups.{AreBegun, IsBackup, IsBackupPlan}
 use Rattle.bk_plans.specs.Checking.{IsRefused}
-use Rattle.bk_kept.specs.Keeps.{Keeps, ShowsLog, database_of}
+use Rattle.bk_kept.specs.Keeps.{HoldsLive, Keeps, ShowsLog, database_of}
 use Rattle.bk_plans.specs.Planned.{IsRefusedBy}
 use Rattle.bk_plans.specs.Planning.{AreParts, MakesMedium, Plans, SealsSet}
 use Rattle.bk_kept.specs.Stored.{IsDone}
 use Rattle.bk_plans.specs.PlanLaws.{DoWhatTheyMay, comes-found, comes-refused, plans-refusal}
-use Rattle.bk_media_plans.proofs.SetLogs.{checkpoint-still}
 
 -- What was checked.
 
--- where a backup is checked, its database is found, nothing is open in it, no medium is there, and numbers are left
+-- where a backup is checked, its database is found and online, no medium is there, and numbers are left
 pub record IsChecked (w : World) (path : List ℕ) (db : Database) : Type 0 where
   pub named : database_named w.databases db.name ≡ Some db
-  pub closed : db.transactions ≡ []
+  pub online : db.status ≡ Online
   pub absent : medium_at w.media path ≡ None
   pub left : used_up db.end ≡ false
   pub draws : used_up w.counter ≡ false
-
-no-open : (ts : List Open) → nat_lt 0 (length ts) ≡ false → ts ≡ []
-no-open [] is = refl
-no-open (t ∷ ts) is = let wrong : nat_lt 0 (suc (length ts)) ≡ true = grind (arith, nat_tests) in let both : true ≡ false = sym wrong ∙ is in absurd (cc (both))
 
 checked : (w : World) (line : ℕ) (name : List ℕ) (units : List UnitName) (path : List ℕ) (options : BackupOptions) (db : Database) → check_backup w line name units path options ≡ Ok db → IsChecked w path db
 unfolding check_backup
@@ -70,15 +64,15 @@ checked w line name units path options db e =
     let out = passed (outside w) _ db one.then in
     let two = passed (or_refuse (database_named w.databases name) NoSuchDatabase) _ db out.then in
     let three = passed (online two.found) _ db two.then in
-    let none = passed (refuse_if (has_open three.found) (NotBuilt line)) _ db three.then in
-    let four = passed (limit (used_up three.found.end || used_up w.counter)) _ db none.then in
+    let four = passed (limit (used_up three.found.end || used_up w.counter)) _ db three.then in
     let last = four.then in
     let same : three.found ≡ db = cc in
-    let whole : two.found ≡ db = (was-online two.found three.found three.is).is ∙ same in
+    let up = was-online two.found three.found three.is in
+    let whole : two.found ≡ db = up.is ∙ same in
     let free : (used_up three.found.end || used_up w.counter) ≡ false = not-refused (used_up three.found.end || used_up w.counter) _ four.found four.is in
     record {
       named = named-own w.databases name db (was-found (database_named w.databases name) NoSuchDatabase two.found two.is ∙ ap (λ (d : Database). Some d) whole);
-      closed = subst (λ (d : Database). d.transactions ≡ []) same (no-open three.found.transactions (not-refused (has_open three.found) (NotBuilt line) none.found none.is));
+      online = subst (λ (d : Database). d.status ≡ Online) same up.up;
       absent = is-none (medium_at w.media path) (second-false (not (is_whole_backup units options && is_path path)) (is_some (medium_at w.media path)) (not-refused _ (NotBuilt line) one.found one.is));
       left = subst (λ (d : Database). used_up d.end ≡ false) same (first-false (used_up three.found.end) (used_up w.counter) free);
       draws = second-false (used_up three.found.end) (used_up w.counter) free;
@@ -93,6 +87,8 @@ pub record Laws : Type 0 where
       → database_named (says w db said transactions).databases name ≡ Some (gone_on (model (log_of w.history db)) said transactions db)
   pub log : (w : World) (name : List ℕ) (db : Database) (said : List Said) (transactions : List Open) → IsWhole w → database_named w.databases name ≡ Some db → MaySay w db said
       → log_of (says w db said transactions).history (gone_on (model (log_of w.history db)) said transactions db) ≡ more (log_of w.history db) db.end said
+  pub begun : (w : World) (db : Database) (set : Guid) (time : ℕ) → IsSound w → database_named w.databases db.name ≡ Some db → db.status ≡ Online
+      → AllByRecursion (λ (p : Pending). (full_header w db set time).first ≤ p.begin) (pending (log_of w.history db))
 
 -- A database says something.
 
@@ -174,7 +170,7 @@ module _ (d : KeptDatabase) (path : List ℕ) (set : Guid) (time : ℕ) where
       ∙ ap (λ (s : Guid). backed_up (database_of d) path (full_header w (database_of d) s time)) set-is
       ∙ ap (λ (t : ℕ). backed_up (database_of d) path (full_header w (database_of d) (drawn w w.counter) t)) time-is
 
-  module _ (laws : Laws) (w : World) (sound : IsSound w) (shows : ShowsLog w.history d) (its : IsChecked w path (database_of d)) (parts : List Part) (b : IsBackup d path set time parts)
+  module _ (laws : Laws) (w : World) (sound : IsSound w) (shows : ShowsLog w.history d) (live : HoldsLive w.history d) (its : IsChecked w path (database_of d)) (parts : List Part) (b : IsBackup d path set time parts)
       (may : MayDoAll w (outcome_by b.body.header).acts) where
     abbrev db : Database
     db = database_of d
@@ -251,14 +247,10 @@ module _ (d : KeptDatabase) (path : List ℕ) (set : Guid) (time : ℕ) where
         mark-done started d.name started_db finish_said d.transactions b.finish start.named may-finish b.spell_finish
         (subst (λ l. AreNext d.files l (numbered (d.shown.«end» + 1) finish_said)) (sym started-log) (record { number = number; low = low; may = tt; placed = tt }, tt))
 
-    -- nothing is pending
-    settled : pending (log_of w.history db) ≡ []
-    unfolding log_of
-    settled =
-        let opens : AreOpen (more (log_of made.history db) db.end start_said) (db.end + length start_said) d.transactions = (its-log made d.name db start_said d.transactions made-named may-start).opens in
-        let closed : AreOpen (more rs db.end start_said) (db.end + length start_said) [] =
-        subst (λ ts. AreOpen (more rs db.end start_said) (db.end + length start_said) ts) its.closed (subst (λ l. AreOpen (more l db.end start_said) (db.end + length start_said) d.transactions) made-log opens) in
-        sym (checkpoint-still rs db.end time).pends ∙ nothing-pends (more rs db.end start_said) (db.end + length start_said) closed
+    -- all that is pending began where the set's log begins, or behind that
+    begun : AreBegun w d
+    unfolding full_header
+    begun = laws.begun w db set time sound its.named its.online
 
     -- the set holds what its path shows
     finished-log : log_below finished.history d.path (d.shown.«end» + 2) ≡ more (more rs db.end start_said) (db.end + 1) finish_said
@@ -274,7 +266,7 @@ module _ (d : KeptDatabase) (path : List ℕ) (set : Guid) (time : ℕ) where
       may = may.1.1.1.0;
       slots = [];
       there = ap (λ m. medium_at m path) (finish.media ∙ start.media) ∙ made-there w path;
-      carries = b.is_set.carries w finished.history shows its.closed settled finished-log;
+      carries = b.is_set.carries w finished.history shows live begun finished-log;
     }
 
     base-done : (v : World) → IsDone v (Based d.name b.header) (based d.name b.body.header)
@@ -310,21 +302,21 @@ module _ (k : Kept) (line now : ℕ) (name : List ℕ) (units : List UnitName) (
 
   pub backup-made : Laws → (d : KeptDatabase) (time : ℕ) (plan : Plan) → IsBackupPlan d path (record { high = k.number; low = k.counter }) time plan
       → ((w : World) → Keeps w k → is_some (medium_at w.media path) ≡ is_there → check_backup w line name units path options ≡ Ok (database_of d))
-      → ((w : World) → Keeps w k → ShowsLog w.history d) → ((w : World) → ShowsLog w.history d → time ≡ said_time w (database_of d) now)
+      → ((w : World) → Keeps w k → ShowsLog w.history d) → ((w : World) → Keeps w k → HoldsLive w.history d) → ((w : World) → ShowsLog w.history d → time ≡ said_time w (database_of d) now)
       → Plans k (λ w. is_some (medium_at w.media path) ≡ is_there) (record { item = script.BackupDatabase name units path options; line = line }) now plan
   unfolding outcome_by
-  backup-made laws d time (Parts parts answer) is passes shows time-is = record {
+  backup-made laws d time (Parts parts answer) is passes shows live time-is = record {
     outcome = outcome_by d path (record { high = k.number; low = k.counter }) time is.0.body.header;
     replies = sym is.1;
     may = may;
     acts = λ w sound keeps known.
-        parts-done d path (record { high = k.number; low = k.counter }) time laws w sound (shows w keeps) (checked w line name units path options (database_of d) (passes w keeps known)) parts.items is.0
+        parts-done d path (record { high = k.number; low = k.counter }) time laws w sound (shows w keeps) (live w keeps) (checked w line name units path options (database_of d) (passes w keeps known)) parts.items is.0
         (laws.may w (record { item = script.BackupDatabase name units path options; line = line }) now (outcome_by d path (record { high = k.number; low = k.counter }) time is.0.body.header) sound (may w sound keeps known));
   }
     where
       may : (w : World) → IsSound w → Keeps w k → Known w → May w (record { item = script.BackupDatabase name units path options; line = line }) now (outcome_by d path (record { high = k.number; low = k.counter }) time is.0.body.header)
       may w sound keeps known = may-back d time is.0.body.header w keeps (shows w keeps) (is.0.is_set.header w (shows w keeps)) (time-is w (shows w keeps)) (passes w keeps known)
-  backup-made laws d time (Refused rule) is passes shows time-is = absurd is
-  backup-made laws d time (Answered reply) is passes shows time-is = absurd is
-  backup-made laws d time (Turned name) is passes shows time-is = absurd is
-  backup-made laws d time (Seated session) is passes shows time-is = absurd is
+  backup-made laws d time (Refused rule) is passes shows live time-is = absurd is
+  backup-made laws d time (Answered reply) is passes shows live time-is = absurd is
+  backup-made laws d time (Turned name) is passes shows live time-is = absurd is
+  backup-made laws d time (Seated session) is passes shows live time-is = absurd is

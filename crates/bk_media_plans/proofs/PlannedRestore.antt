@@ -1,44 +1,39 @@
 -- RESTORE DATABASE as it is planned.
-use Rattle.std.proofs.Common.{◌≡◌, ◌<◌, ◌≤◌, ℕ, zero, ◌+◌, Bool, true, false, cond, ◌||◌, List, [], ◌∷◌, length, Option, Some, None, Result, Ok, Err, refl, sym, ◌∙◌, ap, subst, arith}
+use Rattle.std.proofs.Common.{◌≡◌, ℕ, Bool, true, false, ◌||◌, List, [], length, Option, Some, Result, Ok, Err, refl, sym, ◌∙◌, ap, subst}
 use Rattle.std.specs.List.{AllByRecursion}
-use Rattle.std.specs.Prelude.{min, nat_le}
-use Rattle.std.proofs.lemmas.Bool.{leb-false}
-use Rattle.std.proofs.lemmas.Slice.Eq.{bytes_eq-Decides}
+use Rattle.std.specs.Prelude.{nat_le}
 use Rattle.bk_ids.specs.declared.guid.Guid.{Guid}
-use Rattle.bk_ids.specs.Name.{lowered, same_name}
 use Rattle.bk_items.specs.declared.item.RestoredUnits.{RestoredUnits}
 use Rattle.bk_items.specs.declared.item.ScriptEntry.{ScriptEntry}
 use Rattle.bk_items.specs.declared.item.ScriptItem.TheVariants as script
 use Rattle.bk_items.specs.declared.options.RestoreOptions.{RestoreOptions}
 use Rattle.bk_machine.specs.Acts.{Recovery, done, drawn, recovered, replaced, restored, taken_over, units_in}
-use Rattle.bk_machine.specs.CheckLaws.{first-false, not-refused, second-false}
+use Rattle.bk_machine.specs.CheckLaws.{not-refused, second-false}
 use Rattle.bk_machine.specs.Checks.{Checked, ◌>>=◌, different_paths, free_paths, others, outside, paths_of, refuse_if, used_up}
 use Rattle.bk_machine.specs.FindingLaws.{found-new}
 use Rattle.bk_machine.specs.FirstLaws.{first-in}
 use Rattle.bk_machine.specs.Machine.{May}
-use Rattle.bk_machine.specs.MayDo.{HoldsOf, MayDoAll}
+use Rattle.bk_machine.specs.MayDo.{MayDoAll}
 use Rattle.bk_machine.specs.NamedLaws.{named-changed}
 use Rattle.bk_machine.specs.ReadyLaws.{holds-of}
-use Rattle.bk_machine.specs.Sound.{IsSound, IsSoundSet, SetIn}
-use Rattle.bk_machine.specs.World.{World, Database, database_named, log_of, with_database, with_new_database}
+use Rattle.bk_machine.specs.Sound.{IsSound, IsSoundSet, SetIn, files_of_set}
+use Rattle.bk_machine.specs.World.{World, Database, database_named, log_of, with_new_database}
 use Rattle.bk_machine.specs.statements.Restore.{DoesRestore, Recovers, base_of, check_family, check_number, check_restore, check_set, check_tail, check_unused, disk_path, first_set, restored_whole, set_paths, whole_restore}
 use Rattle.bk_set.specs.Conditions.{IsBody}
 use Rattle.bk_set.specs.Laws.{body_keeps}
 use Rattle.bk_set.specs.declared.body.SetBody.{SetBody}
-use Rattle.bk_shown.specs.Shown.{AreNext}
+use Rattle.bk_shown.specs.Shown.{AreNext, ArePlaced, LogKeeps}
 use Rattle.bk_world.specs.declared.database.FileSpec.{FileSpec}
 use Rattle.bk_world.specs.declared.database.State.TheVariants as state
 use Rattle.bk_world.specs.declared.header.Header.{Header}
-use Rattle.bk_world.specs.declared.reply.Reply.TheVariants as reply
 use Rattle.bk_world.specs.declared.rule.Rule.{Rule}
 use Rattle.bk_world.specs.declared.rule.Limit.TheVariants.{Lsn}
 use Rattle.bk_world.specs.declared.rule.Rule.TheVariants.{LimitReached, NotBuilt, PathFull}
 use Rattle.bk_world.specs.Lines.{log_below}
-use Rattle.bk_world.specs.Medium.{Reading, damaged, medium, medium_at, no_set, not_media, readable}
+use Rattle.bk_world.specs.Medium.{medium_at}
 use Rattle.bk_world.specs.Pending.{pending}
-use Rattle.bk_world.specs.ReadingLaws.{pending-more}
-use Rattle.bk_world.specs.Records.{Counts, Logged, numbered, recovered as recovery_deed}
-use Rattle.bk_world.specs.Says.{alone}
+use Rattle.bk_world.specs.Records.{Counts, Logged, numbered}
+use Rattle.bk_world.specs.SoundLogs.{IsSound as IsSoundLog, NoLoadPends}
 use Rattle.bk_kept.specs.declared.kept.Kept.{Kept}
 use Rattle.bk_plans.specs.declared.parts.Part.{Part}
 use Rattle.bk_plans.specs.declared.parts.Plan.{Plan}
@@ -49,6 +44,8 @@ use Rattle.bk_plans.specs.Checking.{IsRefused}
 use Rattle.bk_kept.specs.Keeps.{Keeps}
 use Rattle.bk_plans.specs.Planned.{IsRefusedBy}
 use Rattle.bk_plans.specs.Planning.{AreParts, KeepsPart, Plans}
+use Rattle.bk_plans.specs.UndoingLaws.{recovery-next}
+use Rattle.bk_media_plans.proofs.Recoveries.{recovery_of}
 use Rattle.bk_media_plans.specs.Restoring.{FindsFirst, RestoreAsked, RestoresWhole, is_built}
 use Rattle.bk_kept.specs.Stored.{IsTaken}
 use Rattle.bk_plans.specs.PlanLaws.{DoWhatTheyMay, comes-found, comes-refused, plans-refused, plans-refusal}
@@ -59,9 +56,12 @@ use Rattle.bk_plans.specs.PlanLaws.{DoWhatTheyMay, comes-found, comes-refused, p
 abbrev pub SetsSound : Type 0
 SetsSound = (w : World) (path : List ℕ) (header : Header) → IsSound w → SetIn w path header → IsSoundSet w header
 
-ends : (n : ℕ) (rs : List Logged) (last : ℕ) → Counts n rs last → last ≡ n + length rs
-ends n [] last counts = omega (arith, counts)
-ends n (r ∷ rs) last counts = omega (arith, ends (n + 1) rs last counts.1)
+-- the laws of worlds and logs
+pub record Laws : Type 0 where
+  pub sets : SetsSound
+  pub may : DoWhatTheyMay
+  pub recovers : (rs : List Logged) (end : ℕ) (branch : Guid) → Counts 1 rs end → IsSoundLog rs → NoLoadPends rs → Recovers rs (recovery_of end branch (pending rs))
+  pub keeps : (files : List FileSpec) (rs : List Logged) (end : ℕ) → Counts 1 rs end → IsSoundLog rs → ArePlaced files [] rs → LogKeeps rs end
 
 -- Checks.
 
@@ -102,33 +102,6 @@ module _ (line : ℕ) (name : List ℕ) (units : RestoredUnits) (disk : Option (
   unfolding check_restore
   built-checked w header is out first = rw (is, out, first) refl
 
--- What a recovery says of a log in which nothing is pending.
-
--- it says one record, which names its branch
-abbrev pub one_record : ℕ → Guid → Recovery
-one_record at branch = record { at = at; branch = branch; said = alone (recovery_deed branch) }
-
-recovers-settled : (rs : List Logged) (at : ℕ) (branch : Guid) → pending rs ≡ [] → Counts 1 rs at → Recovers rs (one_record at branch)
-recovers-settled rs at branch settled counts =
-    let positive : 1 ≤ at = omega (arith, ends 1 rs at counts) in
-    record {
-      may = (tt, tt);
-      each = ((refl, refl), tt);
-      one = refl;
-      settles = pending-more rs (numbered at (alone (recovery_deed branch))) ∙ settled;
-      few = few at positive;
-    }
-  where
-    few : (n : ℕ) → 1 ≤ n → 1 ≤ min n 4194304
-    few n some = omega (arith, some)
-
--- it may come next
-next-one : (files : List FileSpec) (rs : List Logged) (at : ℕ) (branch : Guid) → Counts 1 rs at → used_up at ≡ false → AreNext files rs (numbered at (alone (recovery_deed branch)))
-next-one files rs at branch counts left =
-    let below : at < 4611686014132420608 = leb-false 4611686014132420608 at left in
-    let number : at ≡ length rs + 1 = omega (arith, ends 1 rs at counts) in
-    (record { number = number; low = omega (arith, below); may = tt; placed = tt }, tt)
-
 -- The database of the name behind the two acts before it is recovered.
 
 -- what is taken over, with its files restored
@@ -157,14 +130,13 @@ counter-kept : (w : World) (name : List ℕ) (header : Header) → (restored_wor
 unfolding done
 counter-kept w name header = refl
 
-is-taken : (w : World) (name : List ℕ) (header : Header) (branch : Guid) → Counts 1 (log_below w.history header.path header.last) header.last → used_up header.last ≡ false
-    → IsTaken (restored_world w name header) (recovered name (one_record header.last branch))
-is-taken w name header branch counts left =
+is-taken : (w : World) (name : List ℕ) (header : Header) (r : Recovery) → r.at ≡ header.last → AreNext (taken name header).files (log_below w.history header.path header.last) (numbered r.at r.said)
+    → IsTaken (restored_world w name header) (recovered name r)
+is-taken w name header r at next =
     holds-of (database_named (restored_world w name header).databases name) (taken name header)
-    (λ (db : Database). (header.last ≡ db.«end») × AreNext db.files (log_of (restored_world w name header).history db) (numbered header.last (alone (recovery_deed branch)))) (taken-found w name header) (
-      sym (taken-end name header),
-      subst (λ rs. AreNext (taken name header).files rs (numbered header.last (alone (recovery_deed branch)))) (sym (taken-log w name header))
-          (next-one (taken name header).files (log_below w.history header.path header.last) header.last branch counts left),
+    (λ (db : Database). (r.at ≡ db.«end») × AreNext db.files (log_of (restored_world w name header).history db) (numbered r.at r.said)) (taken-found w name header) (
+      at ∙ sym (taken-end name header),
+      subst (λ rs. AreNext (taken name header).files rs (numbered r.at r.said)) (sym (taken-log w name header)) next,
     )
 
 -- The plan.
@@ -209,14 +181,28 @@ module _ (k : Kept) (line now : ℕ) (name : List ℕ) (units : RestoredUnits) (
       → ((w : World) → Keeps w k → IsRefused refusal (check_set w name options.replace body.header)) → Plans k (FindsFirst disk first) asked now plan
   refused-plan first body refusal plan e is out by refuses = subst (λ (f : Result SetBody Rule). Plans k (FindsFirst disk f) asked now plan) (sym e) (refused-for body refusal plan is out by refuses)
 
-  module _ (body : SetBody) (u : Unit {0}) (parts : List Part) (built : is_built name units disk options ≡ true) (out : (w : World) → Keeps w k → outside w ≡ Ok tt) (sets : SetsSound) (law : DoWhatTheyMay)
+  module _ (body : SetBody) (u : Unit {0}) (parts : List Part) (built : is_built name units disk options ≡ true) (out : (w : World) → Keeps w k → outside w ≡ Ok tt) (laws : Laws)
       (passes : (w : World) → Keeps w k → check_set w name options.replace body.header ≡ Ok u) (of : RestoreAsked k name body parts) where
     -- what the recovery says
     abbrev its : Recovery
-    its = one_record body.header.last (record { high = k.number; low = k.counter })
+    its = recovery_of body.header.last (record { high = k.number; low = k.counter }) of.of_it.says.writes
 
-    log-counts : (w : World) → IsSound w → FindsFirst disk (Ok body) w → Counts 1 (log_below w.history body.header.path body.header.last) body.header.last
-    log-counts w sound known = (sets w (disk_path disk) body.header sound (first-in w (disk_path disk) body.header known.is)).log.counts
+    -- the log of the set's path
+    abbrev log : World → List Logged
+    log w = log_below w.history body.header.path body.header.last
+
+    its-set : (w : World) → IsSound w → FindsFirst disk (Ok body) w → IsSoundSet w body.header
+    its-set w sound known = laws.sets w (disk_path disk) body.header sound (first-in w (disk_path disk) body.header known.is)
+
+    its-writes : (w : World) → IsSound w → FindsFirst disk (Ok body) w → of.of_it.says.writes ≡ pending (log w)
+    its-writes w sound known =
+        let set = its-set w sound known in of.of_it.says.are (files_of_set body.header) (log w) body.header.first body.header.last set.log.counts set.log.sound known.carries.placed known.carries.holds
+
+    its-recovers : (w : World) → IsSound w → FindsFirst disk (Ok body) w → Recovers (log w) its
+    its-recovers w sound known =
+        let set = its-set w sound known in
+        let kept = laws.keeps (files_of_set body.header) (log w) body.header.last set.log.counts set.log.sound known.carries.placed in
+        subst (λ ws. Recovers (log w) (recovery_of body.header.last its.branch ws)) (sym (its-writes w sound known)) (laws.recovers (log w) body.header.last its.branch set.log.counts set.log.sound kept.loads)
 
     its-branch : (w : World) → Keeps w k → its.branch ≡ drawn w w.counter
     its-branch w keeps = λ x. record { high = sym keeps.number x; low = sym keeps.counter x }
@@ -230,13 +216,13 @@ module _ (k : Kept) (line now : ℕ) (name : List ℕ) (units : RestoredUnits) (
           its,
           refl,
           its-branch w keeps,
-          recovers-settled (log_below w.history body.header.path body.header.last) body.header.last its.branch known.carries.rows_are.settled (log-counts w sound known),
+          its-recovers w sound known,
           ap (λ n. restored_whole n body.header its) (of.known w keeps),
         )
 
     done-parts : (w : World) → IsSound w → Keeps w k → FindsFirst disk (Ok body) w → AreParts w parts (whole_restore of.name body.header its)
     done-parts w sound keeps known =
-        let may : MayDoAll w (whole_restore of.name body.header its) = law w asked now (restored_whole of.name body.header its) sound (may-restore w sound keeps known) in
+        let may : MayDoAll w (whole_restore of.name body.header its) = laws.may w asked now (restored_whole of.name body.header its) sound (may-restore w sound keeps known) in
         let left : (used_up body.header.last || used_up w.counter) ≡ false = set-left w name options.replace body.header u (passes w keeps) in
         subst (λ (ps : List Part). AreParts w ps (whole_restore of.name body.header its)) (sym of.of_it.are) (
           record { means = refl; may = may.0; draws = tt; carried = known.carries; from_end = tt; taken = tt },
@@ -244,34 +230,35 @@ module _ (k : Kept) (line now : ℕ) (name : List ℕ) (units : RestoredUnits) (
             record { means = refl; may = may.1.0; draws = tt; carried = tt; from_end = tt; taken = tt },
             (
               record {
-                means = record { said = alone (recovery_deed its.branch); act_is = refl; spell = of.of_it.spell };
+                means = record { said = its.said; act_is = refl; spell = of.of_it.says.spell };
                 may = may.1.1.0;
                 draws = subst (λ (n : ℕ). used_up n ≡ false) (sym (counter-kept w of.name body.header)) (second-false (used_up body.header.last) (used_up w.counter) left);
                 carried = tt;
                 from_end = tt;
-                taken = is-taken w of.name body.header its.branch (log-counts w sound known) (first-false (used_up body.header.last) (used_up w.counter) left);
+                taken = is-taken w of.name body.header its refl
+                    (recovery-next (taken of.name body.header).files (log w) body.header.last its.branch of.of_it.says.writes (its-set w sound known).log.counts (its-recovers w sound known).may of.of_it.says.low);
               },
               tt,
             ),
           ),
         )
 
-  whole-for : (body : SetBody) (u : Unit {0}) (plan : Plan) → is_built name units disk options ≡ true → ((w : World) → Keeps w k → outside w ≡ Ok tt) → SetsSound → DoWhatTheyMay
+  whole-for : (body : SetBody) (u : Unit {0}) (plan : Plan) → is_built name units disk options ≡ true → ((w : World) → Keeps w k → outside w ≡ Ok tt) → Laws
       → ((w : World) → Keeps w k → check_set w name options.replace body.header ≡ Ok u) → RestoresWhole k name body plan → Plans k (FindsFirst disk (Ok body)) asked now plan
-  whole-for body u (Parts parts answer) built out sets law passes is = record {
-    outcome = restored_whole is.0.name body.header (one_record body.header.last (record { high = k.number; low = k.counter }));
+  whole-for body u (Parts parts answer) built out laws passes is = record {
+    outcome = restored_whole is.0.name body.header (recovery_of body.header.last (record { high = k.number; low = k.counter }) is.0.of_it.says.writes);
     replies = sym is.1;
-    may = λ w sound keeps known. may-restore body u parts.items built out sets law passes is.0 w sound keeps known;
-    acts = λ w sound keeps known. done-parts body u parts.items built out sets law passes is.0 w sound keeps known;
+    may = λ w sound keeps known. may-restore body u parts.items built out laws passes is.0 w sound keeps known;
+    acts = λ w sound keeps known. done-parts body u parts.items built out laws passes is.0 w sound keeps known;
   }
-  whole-for body u (Refused rule) built out sets law passes is = absurd is
-  whole-for body u (Answered said) built out sets law passes is = absurd is
-  whole-for body u (Turned to) built out sets law passes is = absurd is
-  whole-for body u (Seated session) built out sets law passes is = absurd is
+  whole-for body u (Refused rule) built out laws passes is = absurd is
+  whole-for body u (Answered said) built out laws passes is = absurd is
+  whole-for body u (Turned to) built out laws passes is = absurd is
+  whole-for body u (Seated session) built out laws passes is = absurd is
 
-  pub whole-plan : (first : Result SetBody Rule) (body : SetBody) (u : Unit {0}) (plan : Plan) → first ≡ Ok body → is_built name units disk options ≡ true → ((w : World) → Keeps w k → outside w ≡ Ok tt) → SetsSound → DoWhatTheyMay
+  pub whole-plan : (first : Result SetBody Rule) (body : SetBody) (u : Unit {0}) (plan : Plan) → first ≡ Ok body → is_built name units disk options ≡ true → ((w : World) → Keeps w k → outside w ≡ Ok tt) → Laws
       → ((w : World) → Keeps w k → check_set w name options.replace body.header ≡ Ok u) → RestoresWhole k name body plan → Plans k (FindsFirst disk first) asked now plan
-  whole-plan first body u plan e built out sets law passes is = subst (λ (f : Result SetBody Rule). Plans k (FindsFirst disk f) asked now plan) (sym e) (whole-for body u plan built out sets law passes is)
+  whole-plan first body u plan e built out laws passes is = subst (λ (f : Result SetBody Rule). Plans k (FindsFirst disk f) asked now plan) (sym e) (whole-for body u plan built out laws passes is)
 
 -- What its parts keep.
 

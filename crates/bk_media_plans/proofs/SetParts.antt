@@ -1,5 +1,5 @@
 -- The parts of a full backup's set keep its conditions.
-use Rattle.std.proofs.Common.{◌≡◌, ◌<◌, ◌≤◌, ◌⊎◌, ℕ, ◌+◌, ◌^◌, List, [], ◌∷◌, length, Option, Some, None, inl, inr, refl, sym, ◌∙◌, ap, subst, arith}
+use Rattle.std.proofs.Common.{◌≡◌, ◌<◌, ◌≤◌, ◌⊎◌, ℕ, ◌+◌, List, [], ◌∷◌, length, Option, Some, None, inl, inr, sym, ap, subst, arith}
 use Rattle.std.specs.Prelude.{IsSome, MatchOption}
 use Rattle.std.specs.List.{AllByRecursion}
 use Rattle.std.proofs.lemmas.Bool.{cases_lt}
@@ -12,7 +12,6 @@ use Rattle.bk_set.specs.declared.body.SetBody.{SetBody}
 use Rattle.bk_shown.specs.Shown.{IsFit, Shows}
 use Rattle.bk_world.specs.ListLaws.{all_mapped}
 use Rattle.bk_world.specs.Lines.{log_below}
-use Rattle.bk_world.specs.Pending.{pending}
 use Rattle.bk_world.specs.PlacedRows.{AreRowsOf, ComesBefore, RowsRise}
 use Rattle.bk_world.specs.Records.{Logged}
 use Rattle.bk_world.specs.Telling.{tables}
@@ -43,7 +42,7 @@ rises (row ∷ rows) rise = rises-on 0 0 row rows (first (cases_lt 0 row.table))
 pub parts-kept : (w : World) (d : KeptDatabase) (set : Guid) (time : ℕ) (header : Header) (made : List TableSpec) (listed : List PlacedRow) → ShowsLog w.history d → FitsSet (length d.groups) (log_of w.history (database_of d))
     → header ≡ full_header w (database_of d) set time
     → ((files : List FileSpec) (rs : List Logged) → Shows files rs d.shown → tables rs ≡ made) → RowsRise listed
-    → ((files : List FileSpec) (rs : List Logged) → Shows files rs d.shown → pending rs ≡ [] → AreRowsOf rs listed)
+    → ((files : List FileSpec) (rs : List Logged) → Shows files rs d.shown → AreRowsOf rs listed)
     → ((files : List FileSpec) (rs : List Logged) → Shows files rs d.shown → AllByRecursion (IsFit (tables rs)) listed) → KeepParts header made listed
 unfolding full_header log_of
 parts-kept w d set time header made listed shows fits is tables_are rise rows_are rows_fit =
@@ -53,7 +52,7 @@ parts-kept w d set time header made listed shows fits is tables_are rise rows_ar
       full = ap (λ (h : Header). h.kind) is;
       tables = subst (λ groups. KeepTables (length groups) made) (sym (ap (λ (h : Header). h.groups) is)) (subst (KeepTables (length d.groups)) same fits.made);
       rows = record {
-        few = fits.few listed (rows_are d.files (log_below w.history d.path d.shown.«end») shows fits.settled) rise;
+        few = fits.few listed (rows_are d.files (log_below w.history d.path d.shown.«end») shows) rise;
         rise = rises listed rise;
         tables_there = all_mapped (IsFit made) (λ (row : PlacedRow). has_table made row.table ≡ Rattle.std.proofs.Common.true) (λ row f. f.of_table) listed fit;
         keys = all_mapped (IsFit made) (λ (row : PlacedRow). row.key ≤ 9223372036854775807) (λ row f. f.low_key) listed fit;

@@ -1,6 +1,6 @@
 -- The parts of a full backup.
-use Rattle.std.specs.Prelude.{◌≡◌, ℕ, ◌+◌, List, [], ◌∷◌, ◌++◌}
-use Rattle.std.specs.List.{All}
+use Rattle.std.specs.Prelude.{◌≡◌, ◌≤◌, ℕ, ◌+◌, List, [], ◌∷◌, ◌++◌}
+use Rattle.std.specs.List.{All, AllByRecursion}
 use Rattle.bk_acts.specs.declared.act.StoredAct.{StoredAct}
 use Rattle.bk_acts.specs.declared.act.StoredAct.TheVariants.{Logged as LoggedAct, Based}
 use Rattle.bk_acts.specs.Meaning.{Spell}
@@ -12,7 +12,7 @@ use Rattle.bk_header.specs.Conditions.{KeepsConditions}
 use Rattle.bk_set.specs.Conditions.{KeepsBody}
 use Rattle.bk_set.specs.declared.body.SetBody.{SetBody}
 use Rattle.bk_world.specs.Lines.{RecordLines, log_below}
-use Rattle.bk_world.specs.Pending.{pending}
+use Rattle.bk_world.specs.Pending.{Pending, pending}
 use Rattle.bk_world.specs.Records.{Said, checkpointed, stamped}
 use Rattle.bk_world.specs.Says.{alone}
 use Rattle.bk_world.specs.declared.header.Header.{Header}
@@ -22,7 +22,7 @@ use Rattle.bk_plans.specs.declared.parts.Part.{Part}
 use Rattle.bk_plans.specs.declared.parts.Part.TheVariants.{Stored, MediumMade, SetSealed}
 use Rattle.bk_plans.specs.declared.parts.Plan.{Plan}
 use Rattle.bk_plans.specs.declared.parts.Plan.TheVariants.{Parts}
-use Rattle.bk_kept.specs.Keeps.{ShowsLog, database_of}
+use Rattle.bk_kept.specs.Keeps.{HoldsLive, ShowsLog, database_of}
 use Rattle.bk_media_plans.specs.Sets.{with_set}
 use Rattle.bk_kept.specs.Stored.{Carries}
 
@@ -30,11 +30,15 @@ use Rattle.bk_kept.specs.Stored.{Carries}
 abbrev pub IsFullHeader : KeptDatabase → Guid → ℕ → Header → Type 0
 IsFullHeader d set time header = (w : World) → ShowsLog w.history d → header ≡ full_header w (database_of d) set time
 
--- A body is the set that a full backup of a database makes, where nothing is open or pending: it holds what the database's log shows behind its checkpoint and
--- its stamp.
+-- all that is pending in a database began behind the first record of what is open in it
+abbrev pub AreBegun : World → KeptDatabase → Type 0
+AreBegun w d = AllByRecursion (λ (p : Pending). least_begin d.transactions d.shown.«end» ≤ p.begin) (pending (log_of w.history (database_of d)))
+
+-- A body is the set that a full backup of a database makes, whatever is open in it: it holds what the database's log shows behind its checkpoint and its
+-- stamp, and that log from the first record of what is open on.
 pub record IsSet (d : KeptDatabase) (set : Guid) (time : ℕ) (body : SetBody) : Type 0 where
   pub header : IsFullHeader d set time body.header
-  pub carries : (w : World) (lines : RecordLines) → ShowsLog w.history d → d.transactions ≡ [] → pending (log_of w.history (database_of d)) ≡ []
+  pub carries : (w : World) (lines : RecordLines) → ShowsLog w.history d → HoldsLive w.history d → AreBegun w d
       → log_below lines d.path (d.shown.«end» + 2) ≡ with_set (log_of w.history (database_of d)) d.shown.«end» set time → Carries lines body
 
 -- by an act a database says one thing under a number, and its transactions stay open

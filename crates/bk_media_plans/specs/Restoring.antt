@@ -1,5 +1,5 @@
 -- What a whole restore stores, and what its plan is told.
-use Rattle.std.specs.Prelude.{◌≡◌, ℕ, Bool, ◌&&◌, ◌||◌, nat_le, List, [], ◌∷◌, length, Option, Result, Ok, Err}
+use Rattle.std.specs.Prelude.{◌≡◌, ◌≤◌, ℕ, ◌+◌, ◌^◌, Bool, ◌&&◌, ◌||◌, nat_le, List, [], ◌∷◌, ◌++◌, length, Option, Result, Ok, Err}
 use Rattle.bk_acts.specs.declared.act.StoredAct.TheVariants.{Replaced, Restored, Recovered}
 use Rattle.bk_acts.specs.Meaning.{Spell}
 use Rattle.bk_ids.specs.declared.guid.Guid.{Guid}
@@ -9,9 +9,14 @@ use Rattle.bk_machine.specs.Checks.{Checked, ◌>>=◌, different_paths, free_pa
 use Rattle.bk_machine.specs.World.{World, database_named}
 use Rattle.bk_machine.specs.statements.Restore.{base_of, disk_path, first_set, is_whole_restore, name_known, set_paths}
 use Rattle.bk_set.specs.declared.body.SetBody.{SetBody}
+use Rattle.bk_shown.specs.Ends.{HoldsPending}
+use Rattle.bk_shown.specs.Shown.{ArePlaced}
 use Rattle.bk_world.specs.Medium.{medium_at}
-use Rattle.bk_world.specs.Records.{recovered}
-use Rattle.bk_world.specs.Says.{alone}
+use Rattle.bk_world.specs.Pending.{Pending, pending}
+use Rattle.bk_world.specs.Records.{Counts, Logged, recovered}
+use Rattle.bk_world.specs.Says.{alone, settle_said}
+use Rattle.bk_world.specs.SoundLogs.{IsSound}
+use Rattle.bk_world.specs.declared.database.FileSpec.{FileSpec}
 use Rattle.bk_world.specs.declared.header.Header.{Header}
 use Rattle.bk_world.specs.declared.reply.Reply.TheVariants as reply
 use Rattle.bk_world.specs.declared.rule.Rule.{Rule}
@@ -24,11 +29,23 @@ use Rattle.bk_plans.specs.declared.parts.Part.TheVariants.{Stored}
 use Rattle.bk_plans.specs.declared.parts.Plan.{Plan}
 use Rattle.bk_plans.specs.declared.parts.Plan.TheVariants.{Parts}
 
--- A set takes the place of the database of a name, its files are restored, and it is recovered at the set's end on a branch, where it says one record,
--- which names the branch.
+-- these writes are pending in each log that ends in these bytes
+abbrev pub ArePending : List ℕ → List Pending → Type 0
+ArePending held ws = (files : List FileSpec) (rs : List Logged) (first «end» : ℕ) → Counts 1 rs «end» → IsSound rs → ArePlaced files [] rs → HoldsPending rs first held → ws ≡ pending rs
+
+-- What a recovery says from a number on, behind a log that ends in these bytes: all that is pending is undone, the last write first, and one record names
+-- the branch.
+pub record SaysRecovery (held : List ℕ) (at : ℕ) (branch : Guid) (records : List ℕ) : Type 0 where
+  pub writes : List Pending
+  pub are : ArePending held writes
+  pub spell : Spell records at (settle_said writes ++ alone (recovered branch))
+  pub low : at + length (settle_said writes ++ alone (recovered branch)) ≤ 2 ^ 62
+
+-- A set takes the place of the database of a name, its files are restored, and it is recovered at the set's end on a branch, where all that is pending in
+-- it is undone.
 pub record AreOfRestore (name : List ℕ) (branch : Guid) (body : SetBody) (parts : List Part) : Type 0 where
   pub records : List ℕ
-  pub spell : Spell records body.header.last (alone (recovered branch))
+  pub says : SaysRecovery body.log body.header.last branch records
   pub are : parts ≡ Stored (Replaced name body) ∷ Stored (Restored name (base_of body.header) body.header.last) ∷ Stored (Recovered name body.header.last branch records) ∷ []
 
 -- a database that is asked for by one name has this one in all worlds that are kept, or there is none and this is what was asked for

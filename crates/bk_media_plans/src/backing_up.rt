@@ -5,10 +5,9 @@ ghost use Rattle.bk_machine.specs.Checks as checks;
 ghost use Rattle.bk_machine.specs.World.{World};
 ghost use Rattle.bk_machine.specs.statements.Backup as backup;
 ghost use Rattle.bk_world.specs.Medium.{medium_at};
-ghost use Rattle.bk_kept.specs.Keeps.{Keeps, ShowsLog, database_of};
+ghost use Rattle.bk_kept.specs.Keeps.{HoldsLive, Keeps, ShowsLog, database_of};
 ghost use Rattle.bk_plans.specs.Checking.{IsCheck};
 
-use bk_asked::has_open;
 use bk_ids::{Sequence, Text};
 use bk_items::{BackupOptions, UnitName};
 use bk_kept::{Database, Kept, used_up};
@@ -60,6 +59,7 @@ pub(crate) fn check_backup<'a>(
     ensures check { (w : World) → Keeps w kept.now → is_some (medium_at w.media disk.now) ≡ is_there
         → IsCheck (λ d. database_of d.now) result (backup.check_backup w line name.now units.now disk.now options.now) }
     ensures shows { (w : World) → Keeps w kept.now → IfOk result (λ d. ShowsLog w.history d.now) }
+    ensures live { (w : World) → Keeps w kept.now → IfOk result (λ d. HoldsLive w.history d.now) }
     ensures path { IfOk result (λ d. checks.is_path disk.now ≡ true) }
     ensures left { IfOk result (λ d. checks.used_up d.now.shown.«end» ≡ false) }
 {
@@ -70,7 +70,6 @@ pub(crate) fn check_backup<'a>(
     outside(kept)?;
     let named = named_or_refuse(kept, name.as_str())?;
     let database = online(named)?;
-    refuse_if(has_open(database), Rule::NotBuilt { line })?;
     limit(used_up(database.shown.end()) || used_up(kept.counter))?;
     Ok(database)
 }

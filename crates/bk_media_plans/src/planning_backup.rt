@@ -20,7 +20,10 @@ use bk_header::keeps;
 use bk_ids::{Body, Guid, Lsn, Sequence, Text};
 use bk_items::{BackupOptions, UnitName};
 use bk_kept::{Database, Kept};
-use bk_machine::{acts_keep_worlds_sound, statements_do_what_they_may, what_is_said_comes_last};
+use bk_machine::{
+    acts_keep_worlds_sound, sets_hold_what_is_pending, statements_do_what_they_may,
+    what_is_said_comes_last,
+};
 use bk_plans::{Part, Plan, logged, open_in, refused, said_time, say_one};
 use bk_set::SetBody;
 use bk_world::{Header, Reply};
@@ -211,6 +214,7 @@ pub fn plan_backup(
     statements_do_what_they_may();
     acts_keep_worlds_sound();
     what_is_said_comes_last();
+    sets_hold_what_is_pending();
     match check_backup(kept, line, database, units, disk, is_there, options) {
         Ok(database) => backup(kept, alloc, database, disk, said_time(database, now)),
         Err(refusal) => refused(refusal),

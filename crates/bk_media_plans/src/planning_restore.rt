@@ -1,8 +1,7 @@
 //! Plans of `RESTORE DATABASE`.
 
-ghost use Rattle.std.specs.Prelude.{◌≡◌, ℕ, ◌∷◌, ◌++◌, [], true, Ok, IfOk, OnOk, IfSome, MatchOption};
+ghost use Rattle.std.specs.Prelude.{◌≡◌, ◌≤◌, ℕ, ◌+◌, ◌^◌, ◌∷◌, ◌++◌, [], true, map, Ok, IfOk, OnOk, IfSome, MatchOption};
 ghost use Rattle.bk_acts.specs.declared.act.StoredAct.TheVariants.{Recovered, Replaced, Restored};
-ghost use Rattle.bk_acts.specs.Meaning.{Spell};
 ghost use Rattle.bk_items.specs.declared.item.ScriptItem.TheVariants as script;
 ghost use Rattle.bk_machine.specs.statements.Restore as restore;
 ghost use Rattle.bk_kept.specs.Keeps.{Keeps};
@@ -11,23 +10,26 @@ ghost use Rattle.bk_machine.specs.World.{World};
 ghost use Rattle.bk_plans.specs.declared.parts.Part.TheVariants.{Stored};
 ghost use Rattle.bk_media_plans.specs.Restoring as request;
 ghost use Rattle.bk_plans.specs.Planning.{KeepsPlan, Plans};
-ghost use Rattle.bk_media_plans.specs.Restoring.{AreOfRestore, FindsFirst, IsKnown, RestoreAsked, RestoresWhole};
+ghost use Rattle.bk_media_plans.specs.Restoring.{AreOfRestore, ArePending, FindsFirst, IsKnown, RestoreAsked, RestoresWhole, SaysRecovery};
 ghost use Rattle.bk_machine.specs.Checks as checks;
 ghost use Rattle.bk_set.specs.Conditions.{IsBody};
-ghost use Rattle.bk_world.specs.Records.{recovered};
-ghost use Rattle.bk_world.specs.Says.{alone};
+ghost use Rattle.bk_shown.specs.Shown.{pending_of};
 
 use crate::restoring::check_set;
 use bk_acts::StoredAct;
 use bk_ids::{Body, Guid, Lsn, Name, Text};
 use bk_items::{Ending, RestoreOptions, RestoredUnits};
 use bk_kept::Kept;
-use bk_machine::{sets_that_stay, statements_do_what_they_may};
-use bk_plans::{Part, Plan, is_name, is_path, name_in, outside, refused, say_one};
+use bk_machine::{recoveries_undo_what_is_pending, sets_that_stay, statements_do_what_they_may};
+use bk_plans::{Part, Plan, is_name, is_path, name_in, outside, refused, say, undo};
 use bk_record::Records;
 use bk_set::SetBody;
+use bk_shown::{Written, pending_in, placed_logs};
 use bk_world::{Base, Header, Reply, Rule};
 use std::alloc::{AllocError, Global};
+
+// Numbers from here on, 2^62, are never given.
+const LAST_NUMBER: u64 = 1 << 62;
 
 // Whether a restore ends with a recovery.
 fn is_recovery(ending: &Option<Ending>) -> bool
@@ -123,11 +125,43 @@ fn base_of(header: &Header) -> Option<Base>
     })
 }
 
-// What a recovery says where nothing is pending: the record that names its branch.
-fn recovery_said(alloc: Global, at: Lsn, branch: Guid) -> Result<Records, AllocError>
-    ensures { IfOk result (λ records. Spell records at (alone (recovered branch))) }
+// The writes that are pending at the end of a set's log. It fails as if memory were wanting where that is no end of a log with all that is
+// pending, which comes only where a set isn't what its path shows.
+fn pending_writes(alloc: Global, log: &Records) -> Result<Vec<Written>, AllocError>
+    ensures { IfOk result (λ writes. ArePending log.now (map pending_of writes.items)) }
 {
-    say_one(alloc, at, 0, Body::Recovery { branch })
+    match pending_in(alloc, log) {
+        Ok(writes) => Ok(writes),
+        Err(_) => Err(AllocError),
+    }
+}
+
+// Fails as if memory were wanting where a set has no numbers for so many records: a recovery takes some of those that are kept for it. That
+// sets leave enough of them isn't proved here.
+fn has_numbers(at: Lsn, records: usize) -> Result<(), AllocError>
+    ensures { IfOk result (λ u. at + records ≤ 2 ^ 62) }
+{
+    if at <= LAST_NUMBER && records as u64 <= LAST_NUMBER - at {
+        return Ok(());
+    }
+    Err(AllocError)
+}
+
+// What a recovery says behind a set's log: what undoes all that is pending, the last write first, and the record that names its branch.
+fn recovery_said(alloc: Global, log: &Records, at: Lsn, branch: Guid) -> Result<Records, AllocError>
+    ensures { IfOk result (SaysRecovery log.now at branch) }
+{
+    let writes = pending_writes(alloc, log)?;
+    has_numbers(at, writes.len() + 1)?;
+    let mut said = undo(alloc, &writes, None, at)?;
+    say(
+        alloc,
+        &mut said.records,
+        said.next,
+        0,
+        Body::Recovery { branch },
+    )?;
+    Ok(said.records)
 }
 
 // One part more, which is stored.
@@ -220,7 +254,7 @@ fn parts_of(
 ) -> Result<Vec<Part>, AllocError>
     ensures { IfOk result (λ parts. AreOfRestore name.now branch body parts.items) }
 {
-    match recovery_said(alloc, body.header.last, branch) {
+    match recovery_said(alloc, &body.log, body.header.last, branch) {
         Ok(records) => three_parts(alloc, name, branch, &records, body),
         Err(error) => {
             drop(body);
@@ -299,6 +333,8 @@ fn restore_first(
 {
     sets_that_stay();
     statements_do_what_they_may();
+    recoveries_undo_what_is_pending();
+    placed_logs();
     match first {
         Err(rule) => Ok(Plan::Refused { rule }),
         Ok(body) => match check_set(kept, alloc, database, options.replace, &body.header) {
@@ -312,7 +348,8 @@ fn restore_first(
 }
 
 /// What `RESTORE DATABASE` on this line comes to, which is built, by the first set of its medium, or the rule by which that is
-/// refused.
+/// refused. Where the set's log isn't what its path shows, or leaves no numbers for what its recovery says, it fails as if memory
+/// were wanting; that media hold no such set isn't proved here.
 pub fn plan_restore(
     kept: &Kept,
     alloc: Global,

@@ -1,6 +1,6 @@
-//! The set that a full backup of a database in which nothing is open makes.
+//! The set that a full backup of a database makes, whatever transactions are open in it.
 
-ghost use Rattle.std.specs.Prelude.{◌≡◌, ◌<◌, ◌+◌, ◌^◌, ◌∷◌, ◌++◌, [], true, false, List, length, map, IfOk, OnOk, IfSome, IsSome, None};
+ghost use Rattle.std.specs.Prelude.{◌≡◌, ◌<◌, ◌+◌, ◌^◌, ◌++◌, true, false, List, length, map, IfOk, OnOk, IfSome, IsSome, None};
 ghost use Rattle.bk_ids.specs.declared.record.Rec.{Rec as RecSpec};
 ghost use Rattle.bk_machine.specs.Checks as checks;
 ghost use Rattle.bk_machine.specs.World.{World, log_of};
@@ -10,10 +10,10 @@ ghost use Rattle.bk_record.specs.Spelling.{IsRecord, KeepsLimits, spelling};
 ghost use Rattle.bk_set.specs.Conditions.{KeepParts};
 ghost use Rattle.bk_undo.specs.Spelled.{spelled};
 ghost use Rattle.bk_world.specs.Lines.{RecordLines, log_below};
-ghost use Rattle.bk_world.specs.Pending.{pending};
 ghost use Rattle.bk_world.specs.Records.{checkpointed, numbered, stamped};
 ghost use Rattle.bk_world.specs.Says.{alone};
-ghost use Rattle.bk_kept.specs.Keeps.{ShowsLog, database_of};
+ghost use Rattle.bk_kept.specs.Keeps.{HoldsLive, ShowsLog, database_of};
+ghost use Rattle.bk_media_plans.specs.Backups.{AreBegun};
 ghost use Rattle.bk_media_plans.specs.Sets.{FitsSet, with_set};
 ghost use Rattle.bk_kept.specs.Stored.{Carries};
 
@@ -124,20 +124,27 @@ fn push_alone(alloc: Global, log: &mut Records, lsn: Lsn, body: Body) -> Result<
     pushed
 }
 
-// The checkpoint at a set's start and the stamp at its finish, as they are spelled.
-fn set_log(alloc: Global, end: Lsn, set: Guid, time: u64) -> Result<Records, AllocError>
+// The end of a log, with the checkpoint at a set's start and the stamp at its finish behind it.
+fn set_log(
+    alloc: Global,
+    live: &Records,
+    end: Lsn,
+    set: Guid,
+    time: u64,
+) -> Result<Records, AllocError>
     requires { «end» + 2 < 2 ^ 64 }
-    ensures { IfOk result (λ log. IsLog log (map spelled (numbered «end» (alone (checkpointed time)) ++ numbered («end» + 1) (alone (stamped time set)))) None) }
+    ensures { IfOk result (λ log. (records : List RecSpec) → IsLog live.now records None
+        → IsLog log (records ++ map spelled (numbered «end» (alone (checkpointed time)) ++ numbered («end» + 1) (alone (stamped time set)))) None) }
 {
-    let mut log = Records::none(alloc);
+    let mut log = live.copy(alloc)?;
     push_alone(alloc, &mut log, end, Body::Checkpoint { time })?;
     push_alone(alloc, &mut log, end + 1, Body::Stamp { time, set })?;
     Ok(log)
 }
 
-// The body of the set that a full backup of a database makes at a time, in milliseconds since 1970-01-01 00:00:00 UTC, where
-// nothing is open or pending: its log is the checkpoint at the database's end and the stamp behind it. None where numbers are used
-// up, or where tables and rows don't keep the conditions of a set.
+// The body of the set that a full backup of a database makes at a time, in milliseconds since 1970-01-01 00:00:00 UTC: its log is
+// the database's from the first record of what is open on, the checkpoint at the database's end, and the stamp behind it. None
+// where numbers are used up, or where tables and rows don't keep the conditions of a set.
 pub(crate) fn set_of(
     alloc: Global,
     database: &Database,
@@ -147,7 +154,7 @@ pub(crate) fn set_of(
     ensures header { IfOk result (λ made. IfSome made (λ body. (w : World) → ShowsLog w.history database.now → body.header ≡ backup.full_header w (database_of database.now) set time)) }
     ensures parts { IfOk result (λ made. IfSome made (λ body. KeepParts body.header body.tables body.rows)) }
     ensures carries { IfOk result (λ made. IfSome made (λ body. (w : World) (lines : RecordLines)
-        → ShowsLog w.history database.now → database.now.transactions ≡ [] → pending (log_of w.history (database_of database.now)) ≡ []
+        → ShowsLog w.history database.now → HoldsLive w.history database.now → AreBegun w database.now
         → log_below lines database.now.path (database.now.shown.«end» + 2) ≡ with_set (log_of w.history (database_of database.now)) database.now.shown.«end» set time
         → Carries lines body)) }
     ensures some { IfOk result (λ made. (w : World) → ShowsLog w.history database.now → checks.used_up database.now.shown.«end» ≡ false
@@ -160,7 +167,7 @@ pub(crate) fn set_of(
     }
     let tables = copy_tables(alloc, database.shown.tables())?;
     let rows = database.shown.placed_rows(alloc)?;
-    let log = set_log(alloc, end, set, time)?;
+    let log = set_log(alloc, &database.live, end, set, time)?;
     let header = header_of(alloc, database, set, time)?;
     Ok(make(header, tables, Sequence::new(rows), log))
 }

@@ -3,5 +3,5 @@ pub mod PlannedDropDatabase
 pub mod PlannedCreateTable
 pub mod PlannedSession
 pub mod PlannedBegin
-pub mod Undone
+pub mod Marks
 pub mod PlannedEnds

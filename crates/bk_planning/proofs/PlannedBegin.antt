@@ -1,5 +1,5 @@
 -- BEGIN TRANSACTION as it is planned.
-use Rattle.std.proofs.Common.{◌≡◌, ℕ, ◌+◌, false, List, Option, Some, Ok, sym, ◌∙◌, ap, arith}
+use Rattle.std.proofs.Common.{◌≡◌, ℕ, false, Option, Some, Ok, sym, ◌∙◌, ap, arith}
 use Rattle.std.specs.Prelude.{not}
 use Rattle.bk_acts.specs.declared.act.StoredAct.{StoredAct}
 use Rattle.bk_ids.specs.declared.record.Mark.{Mark}

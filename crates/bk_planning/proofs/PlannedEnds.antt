@@ -1,7 +1,6 @@
 -- COMMIT and ROLLBACK as they are planned, and the acts by which transactions end.
-use Rattle.std.proofs.Common.{◌≡◌, ◌≤◌, ℕ, ◌+◌, ◌^◌, List, [], ◌∷◌, map, length, Option, Some, Ok, sym, ◌∙◌, ap, subst, arith}
-use Rattle.std.proofs.lemmas.List.{append-nil, length-append, length-map, length-reverse}
-use Rattle.std.specs.Prelude.{reverse}
+use Rattle.std.proofs.Common.{◌≡◌, ◌≤◌, ℕ, ◌+◌, ◌^◌, List, [], map, length, Option, Some, Ok, sym, ◌∙◌, ap, subst, arith}
+use Rattle.std.proofs.lemmas.List.{length-map}
 use Rattle.bk_acts.specs.Meaning.{Spell}
 use Rattle.bk_acts.specs.declared.act.StoredAct.{StoredAct}
 use Rattle.bk_acts.specs.declared.act.StoredAct.TheVariants.{Logged as LoggedAct}
@@ -23,49 +22,24 @@ use Rattle.bk_machine.specs.MayDo.{MayDo}
 use Rattle.bk_machine.specs.Outcome.{in_one}
 use Rattle.bk_machine.specs.Sound.{IsSound}
 use Rattle.bk_machine.specs.World.{World, database_named, log_of, own_held, without_begin}
-use Rattle.bk_machine.specs.statements.Commit.{check_commit, commits, mark_with, DoesCommit}
+use Rattle.bk_machine.specs.statements.Commit.{check_commit, DoesCommit}
 use Rattle.bk_machine.specs.statements.Rollback.{check_rollback, rolls_back, DoesRollback}
 use Rattle.bk_plans.specs.Checking.{IsRefused}
 use Rattle.bk_plans.specs.PlanLaws.{DoWhatTheyMay, comes-found, comes-refused, plans-refusal}
 use Rattle.bk_plans.specs.Planned.{IsOne, IsRefusedBy}
 use Rattle.bk_plans.specs.Planning.{Plans}
 use Rattle.bk_plans.specs.SaidLaws.{done-said, plans-said, says-now}
+use Rattle.bk_plans.specs.UndoingLaws.{rollback-length, rollback-placed, settle-length, settle-placed}
 use Rattle.bk_plans.specs.declared.parts.Plan.{Plan}
 use Rattle.bk_plans.specs.declared.refusal.Refusal.{Refusal}
 use Rattle.bk_planning.specs.Undoing.{Commits, SaysOf}
-use Rattle.bk_planning.proofs.Undone.{those-fewer, undoing-placed}
-use Rattle.bk_shown.specs.Shown.{ArePlaced, pending_of}
+use Rattle.bk_shown.specs.Shown.{pending_of}
 use Rattle.bk_shown.specs.declared.shown.Written.{Written}
-use Rattle.bk_world.specs.SettledLaws.{length-undoing}
-use Rattle.bk_world.specs.Pending.{Pending, of_transaction, pending}
-use Rattle.bk_world.specs.Records.{Logged, numbered}
-use Rattle.bk_world.specs.Says.{commit_said, rollback_said, settle_said, undoing}
-use Rattle.bk_world.specs.declared.database.FileSpec.{FileSpec}
+use Rattle.bk_world.specs.Pending.{Pending, pending}
+use Rattle.bk_world.specs.Says.{commit_said, rollback_said, settle_said}
 use Rattle.bk_world.specs.declared.reply.Reply.TheVariants.{Done}
 use Rattle.bk_world.specs.declared.rule.Rule.TheVariants.{NoTransaction}
 use Rattle.bk_world.specs.declared.transaction.Open.{Open}
-
--- How much is said where writes are undone.
-
-rollback-length : (begin : ℕ) (ws : List Pending) → length (rollback_said begin ws) ≤ length ws + 1
-rollback-length begin ws =
-    let own : List Pending = of_transaction begin ws in
-    let joined : length (rollback_said begin ws) ≡ length (undoing (reverse own)) + 1 = length-append (undoing (reverse own)) _ in
-    let undone : length (undoing (reverse own)) ≡ length (reverse own) = length-undoing (reverse own) in
-    let turned : length (reverse own) ≡ length own = length-reverse own in
-    let fewer : length own ≤ length ws = those-fewer (Some begin) ws in
-    omega (arith, joined, undone, turned, fewer)
-
-settle-length : (ws : List Pending) → length (settle_said ws) ≡ length ws
-settle-length ws = length-undoing (reverse ws) ∙ length-reverse ws
-
--- What is said where writes are undone is in its place.
-
-rollback-placed : (files : List FileSpec) (rs : List Logged) (n begin : ℕ) (ws : List Pending) → ArePlaced files rs (numbered n (rollback_said begin ws))
-rollback-placed files rs n begin ws = undoing-placed files rs n (reverse (of_transaction begin ws)) _ (λ log m. (tt, tt))
-
-settle-placed : (files : List FileSpec) (rs : List Logged) (n : ℕ) (ws : List Pending) → ArePlaced files rs (numbered n (settle_said ws))
-settle-placed files rs n ws = subst (λ said. ArePlaced files rs (numbered n said)) (append-nil (undoing (reverse ws))) (undoing-placed files rs n (reverse ws) [] (λ log m. tt))
 
 -- The acts.
 

@@ -1,28 +1,16 @@
 -- Acts by which pending writes are undone, and transactions end.
-use Rattle.std.specs.Prelude.{◌≡◌, ◌≤◌, ℕ, ◌+◌, ◌^◌, List, length, Option, None, Some}
+use Rattle.std.specs.Prelude.{◌≡◌, ◌≤◌, ℕ, ◌+◌, ◌^◌, List, length, Option}
 use Rattle.bk_acts.specs.declared.act.StoredAct.{StoredAct}
-use Rattle.bk_acts.specs.Meaning.{Spell}
 use Rattle.bk_ids.specs.declared.record.Mark.{Mark}
 use Rattle.bk_kept.specs.declared.kept.Database.{Database as KeptDatabase}
 use Rattle.bk_kept.specs.Keeps.{ShowsLog, database_of}
 use Rattle.bk_machine.specs.World.{World, log_of, without_begin}
 use Rattle.bk_machine.specs.statements.Commit.{mark_with}
 use Rattle.bk_plans.specs.Planned.{SaysNow, SaysThen}
-use Rattle.bk_planning.specs.declared.undoing.Numbered.{Numbered}
 use Rattle.bk_world.specs.Pending.{Pending, of_transaction, pending}
 use Rattle.bk_world.specs.Records.{Said}
-use Rattle.bk_world.specs.Says.{commit_said, undoing}
+use Rattle.bk_world.specs.Says.{commit_said}
 use Rattle.bk_world.specs.declared.transaction.Open.{Open}
-
--- the writes of one transaction, or all
-abbrev pub those_of : Option ℕ → List Pending → List Pending
-those_of None ws = ws
-those_of (Some begin) ws = of_transaction begin ws
-
--- records that undo these writes, from a number on
-pub record Undoes (first : ℕ) (ws : List Pending) (n : Numbered) : Type 0 where
-  pub spell : Spell n.records first (undoing ws)
-  pub next : n.next ≡ first + length ws
 
 -- By an act a database says this of its pending writes, and then these transactions are open.
 pub record SaysOf (d : KeptDatabase) (said : List Pending → List Said) (ts : List Open) (stored : StoredAct) : Type 0 where

@@ -5,3 +5,5 @@ pub mod Planning
 pub mod Planned
 pub mod PlanLaws
 pub mod SaidLaws
+pub mod Undoing
+pub mod UndoingLaws

@@ -1,6 +1,6 @@
 -- Open transactions whose marks an act can store.
-use Rattle.std.proofs.Common.{◌≡◌, ◌<◌, ◌≤◌, ◌^◌, ℕ, Bool, true, false, List, [], ◌∷◌, length, Option, Some, None, arith}
-use Rattle.std.specs.Prelude.{◌&&◌, nat_le, nat_lt, IfSome}
+use Rattle.std.proofs.Common.{ℕ, Bool, true, List, length, Option, Some, None}
+use Rattle.std.specs.Prelude.{◌&&◌, nat_le, nat_lt}
 use Rattle.bk_ids.specs.declared.record.Mark.{Mark}
 use Rattle.bk_world.specs.declared.transaction.Open.{Open}
 

@@ -1,5 +1,5 @@
 -- What a database that is kept says by a statement is taken in.
-use Rattle.std.proofs.Common.{◌≡◌, ◌≤◌, ℕ, ◌+◌, ◌^◌, false, List, [], ◌∷◌, ◌++◌, length, Option, Some, refl, sym, ap, subst, arith, length-append}
+use Rattle.std.proofs.Common.{◌≡◌, ◌≤◌, ℕ, ◌+◌, ◌^◌, false, List, [], ◌∷◌, ◌++◌, length, Option, Some, refl, sym, subst, arith, length-append}
 use Rattle.std.proofs.lemmas.Bool.Decides.{nat_tests}
 use Rattle.bk_acts.specs.declared.act.StoredAct.{StoredAct}
 use Rattle.bk_acts.specs.declared.act.StoredAct.TheVariants.{Logged as LoggedAct}
@@ -32,7 +32,7 @@ counts-length n [] end is = omega (arith, is)
 counts-length n (r ∷ rs) end is = let rest : end ≡ (n + 1) + length rs = counts-length (n + 1) rs end is.1 in omega (arith, rest)
 
 -- records that may follow, each in its place, may come next
-next-all : (files : List FileSpec) (rs : List Logged) (n : ℕ) (said : List Said) → n ≡ length rs + 1 → n + length said ≤ 2 ^ 62 → MayFollow rs (numbered n said) → ArePlaced files rs (numbered n said) → AreNext files rs (numbered n said)
+pub next-all : (files : List FileSpec) (rs : List Logged) (n : ℕ) (said : List Said) → n ≡ length rs + 1 → n + length said ≤ 2 ^ 62 → MayFollow rs (numbered n said) → ArePlaced files rs (numbered n said) → AreNext files rs (numbered n said)
 next-all files rs n [] from low may placed = tt
 next-all files rs n (s ∷ said) from low may placed =
     let r : Logged = record { lsn = n; begin = s.begin; deed = s.deed } in (

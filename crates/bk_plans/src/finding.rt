@@ -4,7 +4,7 @@ ghost use Rattle.std.specs.Prelude.{◌≡◌, IfOk};
 ghost use Rattle.bk_machine.specs.Checks.{or_refuse};
 ghost use Rattle.bk_machine.specs.World.{World, current_database, database_named};
 ghost use Rattle.bk_world.specs.declared.rule.Rule.TheVariants.{NoSuchDatabase};
-ghost use Rattle.bk_kept.specs.Keeps.{Keeps, ShowsLog, database_of};
+ghost use Rattle.bk_kept.specs.Keeps.{HoldsLive, Keeps, ShowsLog, database_of};
 ghost use Rattle.bk_plans.specs.Checking.{IsCheck};
 
 use crate::refusal::Refusal;
@@ -15,6 +15,7 @@ use bk_world::Rule;
 pub fn named_or_refuse<'a>(kept: &'a Kept, name: &str) -> Result<&'a Database, Refusal>
     ensures check { (w : World) → Keeps w kept.now → IsCheck (λ d. database_of d.now) result (or_refuse (database_named w.databases name.now) NoSuchDatabase) }
     ensures shows { (w : World) → Keeps w kept.now → IfOk result (λ d. ShowsLog w.history d.now) }
+    ensures live { (w : World) → Keeps w kept.now → IfOk result (λ d. HoldsLive w.history d.now) }
 {
     match kept.named(name) {
         Some(database) => Ok(database),

@@ -10,6 +10,7 @@ mod paths;
 mod planning_parts;
 mod refusal;
 mod rules;
+mod undoing;
 
 pub use finding::{current_or_refuse, named_or_refuse};
 pub use images::{MOST_VALUE_BYTES, free_image, image_of, row_image};
@@ -24,3 +25,4 @@ pub use rules::{
     MOST_DATABASES, MOST_GROUPS, is_name, is_path, is_system, limit, online, outside, refuse_if,
     unused,
 };
+pub use undoing::{Numbered, undo};

@@ -1,5 +1,5 @@
 -- Whole log records, spelled one after the other.
-use Rattle.std.specs.Prelude.{ℕ, zero, suc, Bool, false, ◌||◌, List, length, Option, Some, None, ◌==◌, if◌then◌else◌}
+use Rattle.std.specs.Prelude.{ℕ, zero, suc, Bool, false, ◌||◌, List, [], ◌∷◌, length, Option, Some, None, ◌==◌, nat_lt, if◌then◌else◌}
 use Rattle.bk_ids.specs.declared.record.Rec.{Rec}
 use Rattle.bk_record.specs.Log.{IsLog}
 use Rattle.bk_record.specs.Reading.{record_form}
@@ -25,3 +25,8 @@ are_records bytes = at_most_records (length bytes) bytes
 -- all of the bytes, where they are records
 abbrev pub records_in : List ℕ → Option (List ℕ)
 records_in bytes = if are_records bytes then Some bytes else None
+
+-- the records from the first one on whose number isn't below this one
+abbrev pub records_from : ℕ → List Rec → List Rec
+records_from n [] = []
+records_from n (r ∷ records) = if nat_lt r.lsn n then records_from n records else r ∷ records

@@ -1,6 +1,6 @@
 -- Bytes are whole records exactly where they are read to their end as such.
-use Rattle.std.proofs.Common.{◌≡◌, ◌≤◌, ℕ, zero, suc, ◌+◌, Bool, true, false, cond, eqb, List, [], ◌∷◌, ◌++◌, length, Option, Some, None, Result, Ok, Err, refl, sym, ap, subst, ◌∙◌, arith, length-append}
-use Rattle.std.specs.Prelude.{◌||◌, OnOk, OnErr}
+use Rattle.std.proofs.Common.{◌≡◌, ◌<◌, ◌≤◌, ℕ, zero, suc, ◌+◌, Bool, true, false, cond, eqb, List, [], ◌∷◌, ◌++◌, length, Option, Some, None, Result, Ok, Err, refl, sym, ap, subst, ◌∙◌, arith, length-append}
+use Rattle.std.specs.Prelude.{◌||◌, nat_lt, OnOk, OnErr}
 use Rattle.std.specs.List.{flat_map, AllByRecursion}
 use Rattle.std.proofs.lemmas.Bool.Decides.{nat_tests}
 use Rattle.std.proofs.lemmas.List.{append-nil, nil_from_length}
@@ -9,12 +9,12 @@ use Rattle.bk_bytes.specs.Field.{AreBytes, bytes_of}
 use Rattle.bk_bytes.specs.FieldLaws.{length-bytes_of}
 use Rattle.bk_bytes.specs.CodecLaws.{AreBytes-after}
 use Rattle.bk_ids.specs.declared.record.Rec.{Rec}
-use Rattle.bk_record.specs.Laws.{record_read, record_again}
+use Rattle.bk_record.specs.Laws.{one_record, record_read, record_again}
 use Rattle.bk_record.specs.Log.{IsLog}
 use Rattle.bk_record.specs.Reading.{record_form}
-use Rattle.bk_record.specs.Spelling.{spelling, inside, IsRecord, BeginsWith}
+use Rattle.bk_record.specs.Spelling.{spelling, inside, IsRecord, BeginsWith, IsUnspelled}
 use Rattle.bk_record.specs.WalkLaws.{one_log, log_of_records}
-use Rattle.bk_record.specs.Records.{AreRecords, then_rest, at_most_records, are_records, records_in}
+use Rattle.bk_record.specs.Records.{AreRecords, then_rest, at_most_records, are_records, records_from, records_in}
 
 -- ---- records and their bytes
 
@@ -113,3 +113,64 @@ records_in-none bytes records place fits log = ap (λ (test : Bool). cond test (
 pub pushed : {E : Type 0} (bytes : List ℕ) (r : Rec) (new : List ℕ) (result : Result (Unit {0}) E) → AreRecords bytes → OnOk result (new ≡ bytes ++ spelling r) → OnOk result (IsRecord r) → OnErr result (new ≡ bytes) → AreRecords new
 pushed bytes r new (Ok u) whole ok is err = subst AreRecords (sym ok) (one_more bytes r whole is)
 pushed bytes r new (Err e) whole ok is err = subst AreRecords (sym err) whole
+
+-- ---- records behind others, and those from a number on
+
+all_records : (records others : List Rec) → AllByRecursion IsRecord records → AllByRecursion IsRecord others → AllByRecursion IsRecord (records ++ others)
+all_records [] others all alls = alls
+all_records (r ∷ records) others all alls = (all.0, all_records records others all.1 alls)
+
+-- whole records behind whole records are whole records
+pub log_append : (bytes more : List ℕ) (records others : List Rec) → IsLog bytes records None → IsLog more others None → IsLog (bytes ++ more) (records ++ others) None
+log_append bytes more records others log behind =
+    let same : bytes ++ more ≡ flat_map spelling (records ++ others) =
+    rw (whole_is bytes records log, whole_is more others behind) (sym (flat_map-append spelling records others)) in
+    subst (λ (b : List ℕ). IsLog b (records ++ others) None) (sym same) (log_of_records (records ++ others) (all_records records others log.are_records behind.are_records))
+
+pub records_append : (bytes more : List ℕ) → AreRecords bytes → AreRecords more → AreRecords (bytes ++ more)
+records_append bytes more whole behind = (whole.0 ++ behind.0, log_append bytes more whole.0 behind.0 whole.1 behind.1)
+
+-- of whole records that begin with one the others are whole records, too
+pub log_behind : (bytes : List ℕ) (records : List Rec) (r : Rec) (after : List ℕ) → IsLog bytes records None → BeginsWith bytes r after
+    → (others : List Rec) × ((records ≡ r ∷ others) × IsLog after others None)
+log_behind bytes [] r after log begins =
+    absurd (omega (arith, ap length (whole_is bytes [] log), ap length begins.spelled, length-append (spelling r) after, some_bytes r))
+log_behind bytes (x ∷ others) r after log begins =
+    let same = one_record r x after (flat_map spelling others) begins.is_record log.are_records.0 (sym begins.spelled ∙ whole_is bytes (x ∷ others) log) in
+    (others, (ap (λ (y : Rec). y ∷ others) (sym same.0), subst (λ (b : List ℕ). IsLog b others None) (sym same.1) (log_of_records others log.are_records.1)))
+
+-- whole records that begin with none are none
+pub log_ends : (bytes : List ℕ) (records : List Rec) → IsLog bytes records None → IsUnspelled bytes → records ≡ []
+log_ends bytes [] log none = refl
+log_ends bytes (r ∷ records) log none =
+    absurd (none r (flat_map spelling records) (record { spelled = whole_is bytes (r ∷ records) log; is_record = log.are_records.0 }))
+
+-- fewer bytes are behind a record
+pub fewer_behind : (bytes : List ℕ) (r : Rec) (after : List ℕ) → BeginsWith bytes r after → length after < length bytes
+fewer_behind bytes r after begins = omega (arith, ap length begins.spelled, length-append (spelling r) after, some_bytes r)
+
+-- the records from a number on, by the first record
+pub from_behind : (n : ℕ) (r : Rec) (records : List Rec) → r.lsn < n → records_from n (r ∷ records) ≡ records_from n records
+from_behind n r records low = let is : nat_lt r.lsn n ≡ true = grind (arith, nat_tests) in rw is refl
+
+pub from_here : (n : ℕ) (r : Rec) (records : List Rec) → n ≤ r.lsn → records_from n (r ∷ records) ≡ r ∷ records
+from_here n r records high = let is : nat_lt r.lsn n ≡ false = grind (arith, nat_tests) in rw is refl
+
+-- from the bytes of a record that is left out on, and from one that isn't
+pub step_behind : (bytes : List ℕ) (n : ℕ) (later : List Rec) (r : Rec) (after : List ℕ) → IsLog bytes later None → BeginsWith bytes r after → r.lsn < n
+    → (others : List Rec) × ((records_from n later ≡ records_from n others) × IsLog after others None)
+step_behind bytes n later r after log begins low =
+    let rest = log_behind bytes later r after log begins in
+    (rest.0, (ap (records_from n) rest.1.0 ∙ from_behind n r rest.0 low, rest.1.1))
+
+pub stops_here : (bytes : List ℕ) (n : ℕ) (later : List Rec) (r : Rec) (after : List ℕ) → IsLog bytes later None → BeginsWith bytes r after → n ≤ r.lsn → IsLog bytes (records_from n later) None
+stops_here bytes n later r after log begins high =
+    let rest = log_behind bytes later r after log begins in
+    let same : later ≡ records_from n later = rest.1.0 ∙ sym (from_here n r rest.0 high) ∙ ap (records_from n) (sym rest.1.0) in
+    subst (λ (records : List Rec). IsLog bytes records None) same log
+
+pub stops_last : (bytes : List ℕ) (n : ℕ) (later : List Rec) → IsLog bytes later None → IsUnspelled bytes → IsLog bytes (records_from n later) None
+stops_last bytes n later log none =
+    let same : later ≡ [] = log_ends bytes later log none in
+    let from : later ≡ records_from n later = same ∙ ap (records_from n) (sym same) in
+    subst (λ (records : List Rec). IsLog bytes records None) from log

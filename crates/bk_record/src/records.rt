@@ -1,9 +1,15 @@
 //! Log records that stand whole.
 
+ghost use Rattle.std.specs.Prelude.{List, None};
+ghost use Rattle.bk_ids.specs.declared.record.Rec.{Rec};
+ghost use Rattle.bk_record.specs.Log.{IsLog};
+ghost use Rattle.bk_record.specs.Records.{records_from};
+
 use crate::check::check_log;
+use crate::reading::split_record;
 use crate::walk::BadRecord;
 use crate::writing::encode;
-use bk_ids::Rec;
+use bk_ids::{Lsn, Rec};
 use std::alloc::{AllocError, Global};
 use std::marker::Model;
 
@@ -24,12 +30,25 @@ impl Model for Records {
     ghost invariant = { λ records. AreRecords records.bytes.items };
 }
 
+// The bytes from the first record on whose number isn't below this one.
+fn rest_from(log: &[u8], lsn: Lsn) -> &[u8]
+    ensures { (records : List Rec) → IsLog log.now records None → IsLog result.now (records_from lsn records) None }
+{
+    let mut rest = log;
+    loop {
+        match split_record(rest) {
+            Some((record, after)) if record.lsn < lsn => rest = after,
+            _ => return rest,
+        }
+    }
+}
+
 impl Records {
-    ghost use Rattle.std.specs.Prelude.{◌≡◌, ◌↔◌, ◌++◌, [], List, Some, MatchResult, IsTrue, OnOk, OnErr, IfOk};
+    ghost use Rattle.std.specs.Prelude.{◌≡◌, ◌↔◌, ◌++◌, [], List, Some, None, MatchResult, IsTrue, OnOk, OnErr, IfOk};
     ghost use Rattle.bk_ids.specs.declared.record.Rec.{Rec};
     ghost use Rattle.bk_record.specs.Log.{IsLog};
     ghost use Rattle.bk_record.specs.Spelling.{spelling, IsRecord, KeepsLimits};
-    ghost use Rattle.bk_record.specs.Records.{AreRecords, records_in};
+    ghost use Rattle.bk_record.specs.Records.{AreRecords, records_from, records_in};
 
     /// No records. It takes no memory.
     pub fn none(alloc: Global) -> Self
@@ -77,6 +96,23 @@ impl Records {
         ensures err { OnErr result (self.new ≡ self.old) }
     {
         encode(alloc, r, &mut self.bytes)
+    }
+
+    /// Adds records behind the others. Where there is no memory they stay as they were.
+    pub fn append(&mut self, more: &Records) -> Result<(), AllocError>
+        ensures ok { OnOk result (self.new ≡ self.old ++ more.now) }
+        ensures err { OnErr result (self.new ≡ self.old) }
+    {
+        self.bytes.extend_from_slice(&more.bytes)?;
+        Ok(())
+    }
+
+    /// Records of their own: those from the first one on whose number isn't below `lsn`.
+    pub fn from(&self, alloc: Global, lsn: Lsn) -> Result<Self, AllocError>
+        ensures { IfOk result (λ rest. (records : List Rec) → IsLog self.now records None → IsLog rest (records_from lsn records) None) }
+    {
+        let bytes = rest_from(&self.bytes, lsn).to_vec(alloc)?;
+        Ok(Records { bytes })
     }
 
     /// Whether there are none.

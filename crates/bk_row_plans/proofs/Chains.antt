@@ -3,11 +3,11 @@ use Rattle.std.proofs.Common.{◌≡◌, ℕ, Bool, true, false, cond, List, Opt
 use Rattle.std.specs.Prelude.{◌&&◌, Err, MatchOption, is_some}
 use Rattle.bk_machine.specs.Checks.{Checked, ◌>>=◌, limit, refuse_if, used_up}
 use Rattle.bk_machine.specs.World.{World}
-use Rattle.bk_machine.specs.statements.Target.{Target, check_key, check_lock, group_name, has_all_writes, is_full_for, sees_key}
+use Rattle.bk_machine.specs.statements.Target.{Target, check_key, check_lock, check_new, group_name, has_all_writes, is_full_for, sees_key}
 use Rattle.bk_world.specs.declared.rule.Limit.TheVariants.{Writes}
 use Rattle.bk_world.specs.declared.rule.Rule.{Rule}
 use Rattle.bk_world.specs.declared.rule.Rule.TheVariants.{DuplicateKey, GroupFull, LimitReached}
-use Rattle.bk_row_plans.specs.Targets.{check_more, check_new}
+use Rattle.bk_row_plans.specs.Targets.{check_more}
 use Rattle.bk_plans.specs.Checking.{IsRefused}
 use Rattle.bk_plans.specs.declared.refusal.Refusal.{Refusal}
 use Rattle.bk_plans.specs.declared.refusal.Refusal.TheVariants.{Broken, NoMemory}
@@ -39,7 +39,7 @@ pub found-is : {X : Type 0} (o : Option X) (r : Option (List ℕ)) (before : X �
 found-is None r before P is = ap is_some (sym is)
 found-is (Some x) r before P is = ap is_some (sym is.0)
 
--- The checks of INSERT behind those of its table and its value.
+-- The checks of a row that is new.
 
 module _ (w : World) (to : Target) (key : ℕ) where
   -- the room of the group

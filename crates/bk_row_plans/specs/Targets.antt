@@ -1,17 +1,17 @@
--- Tables of databases in memory, what INSERT checks of one of them, and the cells of a row that is written.
+-- Tables of databases in memory, what is checked where a row is written, and the cells of that row.
 use Rattle.std.specs.Prelude.{◌≡◌, ℕ, Bool, List, Option, Ok, if◌then◌else◌}
 use Rattle.bk_ids.specs.declared.record.CellImage.{CellImage}
 use Rattle.bk_kept.specs.declared.kept.Database.{Database as KeptDatabase}
 use Rattle.bk_kept.specs.Keeps.{database_of}
 use Rattle.bk_machine.specs.Checks.{Checked, ◌>>=◌, limit, refuse_if, used_up}
 use Rattle.bk_machine.specs.World.{World}
-use Rattle.bk_machine.specs.statements.Target.{Target, check_key, check_lock, group_name, has_all_writes, is_full_for, sees_key}
+use Rattle.bk_machine.specs.statements.Target.{Target, has_all_writes}
 use Rattle.bk_shown.specs.Values.{FitsRow}
 use Rattle.bk_undo.specs.Spelled.{image}
 use Rattle.bk_world.specs.Entry.{RowChange}
 use Rattle.bk_world.specs.declared.database.TableSpec.{TableSpec}
 use Rattle.bk_world.specs.declared.rule.Limit.TheVariants.{Writes}
-use Rattle.bk_world.specs.declared.rule.Rule.TheVariants.{DuplicateKey, GroupFull, LimitReached}
+use Rattle.bk_world.specs.declared.rule.Rule.TheVariants.{LimitReached}
 
 -- a table of a database in memory, as the machine has it
 abbrev pub target_of : KeptDatabase → TableSpec → Target
@@ -26,17 +26,6 @@ check_more w to = do
 -- that is checked where a row is written
 abbrev pub check_left : World → Target → Bool → Checked (Unit {0})
 check_left w to writes = if writes then check_more w to else Ok tt
-
--- what INSERT checks of a row that is new in a table, behind the checks of the table and of the value
-abbrev pub check_new : World → Target → ℕ → Checked Target
-check_new w to key = do
-  _ ← check_lock w to key
-  _ ← refuse_if (sees_key w to key) (DuplicateKey key)
-  _ ← check_key key
-  _ ← refuse_if (has_all_writes w to) (LimitReached Writes)
-  _ ← limit (used_up to.database.end)
-  _ ← refuse_if (is_full_for w to key) (GroupFull (group_name to.database to.table.group))
-  Ok to
 
 -- These are the cells of a row before a change and behind it.
 pub record AreCells (old new : CellImage) (c : RowChange) (before : Option (List ℕ)) : Type 0 where

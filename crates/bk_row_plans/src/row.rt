@@ -32,7 +32,7 @@ pub(crate) struct Images {
 }
 
 /// The cells of a new row.
-pub(crate) fn inserted(table: u32, key: u64, value: &Text) -> Images
+pub(crate) fn new_cells(table: u32, key: u64, value: &Text) -> Images
     requires low { key ≤ 9223372036854775807 }
     requires short { length value.now ≤ 112 }
     ensures are { AreCells result.old result.new (record { table = table; key = key; value = Some value.now }) None }
@@ -45,7 +45,7 @@ pub(crate) fn inserted(table: u32, key: u64, value: &Text) -> Images
 }
 
 /// The cells of a row that gets another value.
-pub(crate) fn updated(table: u32, key: u64, before: &Text, value: &Text) -> Images
+pub(crate) fn changed_cells(table: u32, key: u64, before: &Text, value: &Text) -> Images
     requires low { key ≤ 9223372036854775807 }
     requires before { length before.now ≤ 112 }
     requires short { length value.now ≤ 112 }
@@ -59,7 +59,7 @@ pub(crate) fn updated(table: u32, key: u64, before: &Text, value: &Text) -> Imag
 }
 
 /// The cells of a row that goes.
-pub(crate) fn deleted(table: u32, key: u64, before: &Text) -> Images
+pub(crate) fn gone_cells(table: u32, key: u64, before: &Text) -> Images
     requires low { key ≤ 9223372036854775807 }
     requires before { length before.now ≤ 112 }
     ensures are { AreCells result.old result.new (record { table = table; key = key; value = None }) (Some before.now) }

@@ -16,13 +16,12 @@ ghost use Rattle.bk_machine.specs.statements.Target.{MayPlace};
 ghost use Rattle.bk_machine.specs.statements.Update as update;
 ghost use Rattle.bk_plans.specs.Checking.{IsCheck};
 ghost use Rattle.bk_plans.specs.Planning.{KeepsPlan, Plans};
-ghost use Rattle.bk_row_plans.specs.Targets as targets;
 ghost use Rattle.bk_row_plans.specs.Targets.{target_of};
 ghost use Rattle.bk_world.specs.Telling.{row_at};
 
 use crate::cells::{check_room, own_cell};
 use crate::limits::{check_key, check_left, check_lock, check_value};
-use crate::row::{deleted, inserted, row_plan, updated};
+use crate::row::{changed_cells, gone_cells, new_cells, row_plan};
 use crate::select::plan_select;
 use crate::tables::check_table;
 use bk_asked::{own_open, seen_row, sees_key};
@@ -44,7 +43,7 @@ fn check_new(
     key: u64,
 ) -> Result<Place, Refusal>
     ensures check { (w : World) (name : List ℕ) → IsSound w → Keeps w kept.now → ShowsLog w.history database.now → IsTarget w name (target_of database.now table.now)
-        → IsCheck (λ at. target_of database.now table.now) result (targets.check_new w (target_of database.now table.now) key) }
+        → IsCheck (λ at. target_of database.now table.now) result (target.check_new w (target_of database.now table.now) key) }
     ensures low { IfOk result (λ at. key ≤ 9223372036854775807) }
     ensures left { IfOk result (λ at. checks.used_up database.now.shown.«end» ≡ false) }
     ensures slot { IfOk result (λ at. at.slot < 63) }
@@ -114,7 +113,7 @@ fn plan_insert(
     statements_do_what_they_may();
     match check_insert(kept, alloc, table, key, value) {
         Ok(new) => {
-            let cells = inserted(new.table.number, key, value);
+            let cells = new_cells(new.table.number, key, value);
             let own = own_open(kept, new.database);
             row_plan(alloc, new.database, own, new.place, cells, now)
         }
@@ -232,7 +231,7 @@ fn plan_update(
     };
     match found.seen {
         Some(seen) => {
-            let cells = updated(found.table.number, key, seen.before, value);
+            let cells = changed_cells(found.table.number, key, seen.before, value);
             let own = own_open(kept, found.database);
             row_plan(alloc, found.database, own, seen.place, cells, now)
         }
@@ -282,7 +281,7 @@ fn plan_delete(
     };
     match found.seen {
         Some(seen) => {
-            let cells = deleted(found.table.number, key, seen.before);
+            let cells = gone_cells(found.table.number, key, seen.before);
             let own = own_open(kept, found.database);
             row_plan(alloc, found.database, own, seen.place, cells, now)
         }

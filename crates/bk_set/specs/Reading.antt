@@ -85,8 +85,12 @@ unfoldable pub body_from : Header → List TableSpec → List PlacedRow → List
 body_from header tables rows log =
     if keep_parts header tables rows then Some (record { header = header; tables = tables; rows = rows; log = log }) else None
 
+-- what stands behind the header: the tables, the rows and the log
+abbrev pub parts_form : Codec (List TableSpec × (List PlacedRow × List ℕ))
+parts_form = followed (counted 2 table_form) (λ _. followed (counted 4 row_form) (λ _. log_form))
+
 unfoldable pub body_form : Codec SetBody
-body_form = converted (followed header_form (λ _. followed (counted 2 table_form) (λ _. followed (counted 4 row_form) (λ _. log_form))))
+body_form = converted (followed header_form (λ _. parts_form))
     (λ x. body_from x.0 x.1.0 x.1.1.0 x.1.1.1)
     (λ body. (body.header, (body.tables, (body.rows, body.log))))
     IsBody

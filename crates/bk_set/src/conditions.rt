@@ -130,6 +130,10 @@ pub fn make(
             log,
         })
     } else {
+        drop(header);
+        drop(tables);
+        drop(rows);
+        drop(log);
         None
     }
 }

@@ -14,4 +14,5 @@ mod Listing
 mod FreeCells
 mod Committed
 mod WithPlaces
+mod Noted
 mod Restored

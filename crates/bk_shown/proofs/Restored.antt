@@ -1,33 +1,39 @@
--- What is shown of a log in which nothing is pending, by its tables and rows.
-use Rattle.std.proofs.Common.{◌≡◌, ◌<◌, ◌≤◌, ℕ, zero, suc, ◌+◌, Bool, true, false, cond, List, [], ◌∷◌, ◌++◌, length, map, take, get_or, Option, Some, None, refl, sym, ◌∙◌, ap, subst, arith, add-one}
+-- What is shown of a log, by its tables, its committed rows and its pending writes.
+use Rattle.std.proofs.Common.{◌≡◌, ◌<◌, ◌≤◌, ℕ, zero, suc, ◌+◌, Bool, true, false, cond, List, [], ◌∷◌, ◌++◌, length, map, take, get_or, Option, Some, None, inl, inr, refl, sym, ◌∙◌, ap, subst, arith, add-one}
 use Rattle.std.specs.Prelude.{◌==◌, ◌&&◌, option_map}
 use Rattle.std.specs.List.{find, AllByRecursion}
 use Rattle.std.specs.Ordering.{nat_cmp}
 use Rattle.std.specs.BTreeMap.{is_at}
 use Rattle.std.specs.Map.{lookup}
 use Rattle.std.proofs.lemmas.Bool.Decides.{nat_tests}
-use Rattle.bk_groups.specs.Groups.{AreFiles, IsCell, new_space, place_of as space_place, row_cmp}
+use Rattle.std.proofs.lemmas.List.{map-append}
+use Rattle.bk_groups.specs.Groups.{AreFiles, IsCell, Space, new_space, place_of as space_place, row_cmp}
+use Rattle.bk_ids.specs.declared.record.Place.{Place}
 use Rattle.bk_ids.specs.declared.record.RecoveryModel.{RecoveryModel}
-use Rattle.bk_world.specs.ListLaws.{all_middle, all_mapped}
+use Rattle.bk_world.specs.ListLaws.{all_front, all_middle, all_mapped}
 use Rattle.bk_world.specs.Pending as log
+use Rattle.bk_world.specs.Pending.{Pending}
 use Rattle.bk_world.specs.PlacedRows.{ComesBefore, RowsRise, among, row_id}
-use Rattle.bk_world.specs.Places.{homes, place_of}
-use Rattle.bk_world.specs.Records.{Logged, RowId, is_row}
+use Rattle.bk_world.specs.Places.{homes, last_of, place_behind, place_of}
+use Rattle.bk_world.specs.Records.{Logged, RowId, id_of, is_row}
 use Rattle.bk_world.specs.Telling as telling
 use Rattle.bk_world.specs.Telling.{row_at}
 use Rattle.bk_world.specs.declared.database.FileSpec.{FileSpec}
 use Rattle.bk_world.specs.declared.database.TableSpec.{TableSpec}
 use Rattle.bk_world.specs.declared.row.PlacedRow.{PlacedRow}
 use Rattle.bk_shown.specs.Rows.{value_among}
-use Rattle.bk_shown.specs.Shown.{AreNumbered, IsOf, LogKeeps, Shows, group_among, pending_of}
-use Rattle.bk_shown.specs.Steps.{AddsRow, HasRows, MakesTable, MayAdd, MayHold, MayMake}
+use Rattle.bk_shown.specs.Shown.{AreNumbered, IsOf, LogKeeps, Shows, group_among, lies_at, pending_of}
+use Rattle.bk_shown.specs.Steps.{AddsRow, HasRows, HasWrites, MakesTable, MayAdd, MayHold, MayLie, MayMake, MayPend, WritesRow, home_among}
+use Rattle.bk_shown.specs.Writes.{row_of}
 use Rattle.bk_shown.specs.declared.shown.Shown.{Shown}
-use Rattle.bk_shown.proofs.Agree.{row-same, some-none}
+use Rattle.bk_shown.specs.declared.shown.Written.{Written}
+use Rattle.bk_shown.proofs.Agree.{last-place, lies-write, row-same, some-none}
 use Rattle.bk_shown.proofs.Committed.{Holds, find-kept, holds-all}
 use Rattle.bk_shown.proofs.Keeps.{keeps-along}
 use Rattle.bk_shown.proofs.Places.{cell-of}
 use Rattle.bk_shown.proofs.Starts.{keeps-none}
 use Rattle.bk_shown.proofs.Tables.{find-more, first_or, group-more, none-numbered}
+use Rattle.bk_shown.proofs.Taken.{place-is}
 use Rattle.bk_shown.proofs.WithPlaces.{among-itself, before-all, before-other}
 
 -- ---- tables
@@ -179,14 +185,81 @@ may-add files made listed i d s lt holds has = record {
         let same : id ≡ row_id (get_or listed i d) = holds.alone id (row_id (get_or listed i d)) ((get_or listed i d).place) there (ap (option_map (λ (x : PlacedRow). x.place)) its) in
         some-none (among (take i listed) id) r found (ap (among (take i listed)) same ∙ none)
 
+-- ---- pending writes
+
+-- no write is pending yet
+pub has-no-writes : (files : List FileSpec) (made : List TableSpec) (listed : List PlacedRow) (s : Shown) → HasRows files made listed s → HasWrites files made listed [] s
+has-no-writes files made listed s has = record { tables = has.tables; rows = has.rows; written = has.written; places = has.places; rooms = has.rooms; groups = has.groups }
+
+pub has-write : (files : List FileSpec) (made : List TableSpec) (listed : List PlacedRow) (ws : List Written) (w : Written) (old new : Shown)
+    → HasWrites files made listed ws old → WritesRow w old new → HasWrites files made listed (ws ++ w ∷ []) new
+has-write files made listed ws w old new has n = record {
+  tables = n.same.tables ∙ has.tables;
+  rows = λ id. ap (λ rows. value_among rows id) n.rows ∙ has.rows id;
+  written = n.written ∙ ap (λ (xs : List Written). xs ++ w ∷ []) has.written;
+  places = λ id. n.groups.places id ∙ ap (λ p. cond (is_row (row_of w) id) (Some w.place) p) (has.places id)
+      ∙ sym (lies-write (map pending_of ws) (pending_of w) (home_among listed) id) ∙ ap (λ xs. lies_at xs (home_among listed) id) (sym (map-append pending_of ws (w ∷ [])));
+  rooms = n.groups.rooms ∙ has.rooms;
+  groups = λ numbers number. ap (λ entries. lookup (is_at (nat_cmp number)) entries) n.groups.tables ∙ has.groups numbers number;
+}
+
+module _ (files : List FileSpec) (home : RowId → Option Place) (ws : List Pending) (may : MayPend files home ws) where
+  -- where a row lies by the first of the writes, it lies by all
+  front-lies : (front back : List Pending) → ws ≡ front ++ back → (id : RowId) (at : Place) → lies_at front home id ≡ Some at → lies_at ws home id ≡ Some at
+  front-lies front back e id at lies = by (last_of id front) refl
+    where
+      placed : AllByRecursion (λ (v : Pending). lies_at ws home (id_of v.change) ≡ Some v.place) front
+      placed = all_front (λ (v : Pending). lies_at ws home (id_of v.change) ≡ Some v.place) front back (subst (AllByRecursion (λ (v : Pending). lies_at ws home (id_of v.change) ≡ Some v.place)) e may.placed)
+
+      by : (l : Option Pending) → last_of id front ≡ l → lies_at ws home id ≡ Some at
+      by None is = may.homed id at (ap (λ l. place_behind l (home id)) (sym is) ∙ lies)
+      by (Some u) is = last-place (lies_at ws home) front id u placed is ∙ ap (λ l. place_behind l (home id)) (sym is) ∙ lies
+
+  may-lie : (front : List Pending) (w : Pending) (back : List Pending) → ws ≡ front ++ w ∷ back → (space : Space) → ((id : RowId) → space_place space id.0 id.1 ≡ lies_at front home id)
+      → space.rooms ≡ (new_space files).rooms → MayLie space (id_of w.change) w.place
+  may-lie front w back e space places rooms = by (lies_at front home (id_of w.change)) refl
+    where
+      its : lies_at ws home (id_of w.change) ≡ Some w.place
+      its = all_middle (λ (v : Pending). lies_at ws home (id_of v.change) ≡ Some v.place) front w back (subst (AllByRecursion (λ (v : Pending). lies_at ws home (id_of v.change) ≡ Some v.place)) e may.placed)
+
+      cell : IsCell ((new_space files).rooms) w.place
+      cell = all_middle (λ (v : Pending). IsCell ((new_space files).rooms) v.place) front w back (subst (AllByRecursion (λ (v : Pending). IsCell ((new_space files).rooms) v.place)) e may.cells)
+
+      other : lies_at front home (id_of w.change) ≡ None → (id : RowId) → space_place space id.0 id.1 ≡ Some w.place → ⊥
+      other none id there =
+          let lies : lies_at front home id ≡ Some w.place = sym (places id) ∙ there in
+          let same : id ≡ id_of w.change = may.alone id (id_of w.change) w.place (front-lies front (w ∷ back) e id w.place lies) its in
+          some-none (lies_at front home id) w.place lies (ap (lies_at front home) same ∙ none)
+
+      by : (o : Option Place) → lies_at front home (id_of w.change) ≡ o → MayLie space (id_of w.change) w.place
+      by (Some at) is = inl (places (id_of w.change) ∙ is ∙ sym (front-lies front (w ∷ back) e (id_of w.change) at is) ∙ its)
+      by None none = inr (places (id_of w.change) ∙ none, (subst (λ rooms. IsCell rooms w.place) (sym rooms) cell, (λ table key there. other none (table, key) there)))
+
+-- each of some writes that may be pending may come behind those before it
+pub may-write : (files : List FileSpec) (made : List TableSpec) (listed : List PlacedRow) (all came : List Written) (w : Written) (back : List Written) (s : Shown) → all ≡ came ++ w ∷ back
+    → HasWrites files made listed came s → MayPend files (home_among listed) (map pending_of all) → MayLie s.groups (row_of w) w.place
+may-write files made listed all came w back s e has may =
+    may-lie files (home_among listed) (map pending_of all) may (map pending_of came) (pending_of w) (map pending_of back) (ap (map pending_of) e ∙ map-append pending_of came (w ∷ back)) s.groups has.places has.rooms
+
 -- ---- the whole
 
-module _ (files : List FileSpec) (rs : List Logged) (made : List TableSpec) (listed : List PlacedRow) (model : RecoveryModel) (time end : ℕ) (is : IsOf files rs made listed model time end) where
+module _ (files : List FileSpec) (rs : List Logged) (made : List TableSpec) (listed : List PlacedRow) (held : List ℕ) (model : RecoveryModel) (time end : ℕ) (is : IsOf files rs made listed held model time end) where
   keeps : LogKeeps rs end
   keeps = keeps-along files [] rs 1 end is.counts is.sound is.placed keeps-none
 
   holds : Holds files rs
   holds = holds-all files rs end is.counts is.sound is.placed keeps-none
+
+  -- rows lie there by the committed ones of the list as they do by those of the log
+  by-homes : (id : RowId) → lies_at (log.pending rs) (home_among listed) id ≡ lies_at (log.pending rs) (homes rs) id
+  by-homes id = ap (place_behind (last_of id (log.pending rs))) (sym (is.committed.places id))
+
+  -- a committed row lies at its home
+  at-home : (id : RowId) (at : Place) → home_among listed id ≡ Some at → place_of rs id ≡ Some at
+  at-home id at e = place-is rs id ∙ keeps.places.homed id at (is.committed.places id ∙ e)
+
+  in-cell : AreFiles files → (id : RowId) (at : Place) → place_of rs id ≡ Some at → IsCell ((new_space files).rooms) at
+  in-cell are id at e = let found = holds.cells id at e in cell-of files are (found.0.group) at found.2
 
   pub numbers-of : AreNumbered 1 made
   numbers-of = subst (AreNumbered 1) is.tables keeps.numbers
@@ -194,25 +267,31 @@ module _ (files : List FileSpec) (rs : List Logged) (made : List TableSpec) (lis
   pub may-hold : AreFiles files → MayHold files listed
   may-hold are = record {
     rise = is.rise;
-    cells = all_mapped (λ (row : PlacedRow). among listed (row_id row) ≡ Some row) (λ (row : PlacedRow). IsCell ((new_space files).rooms) row.place) (λ row its. cell row its) listed (among-itself listed is.rise);
-    alone = λ a b at e f. holds.alone a b at (is.committed.places a ∙ e) (is.committed.places b ∙ f);
+    cells = all_mapped (λ (row : PlacedRow). among listed (row_id row) ≡ Some row) (λ (row : PlacedRow). IsCell ((new_space files).rooms) row.place)
+        (λ row its. in-cell are (row_id row) row.place (at-home (row_id row) row.place (ap (option_map (λ (r : PlacedRow). r.place)) its))) listed (among-itself listed is.rise);
+    alone = λ a b at e f. holds.alone a b at (at-home a at e) (at-home b at f);
   }
-    where
-      cell : (row : PlacedRow) → among listed (row_id row) ≡ Some row → IsCell ((new_space files).rooms) row.place
-      cell row its =
-          let found = holds.cells (row_id row) row.place (is.committed.places (row_id row) ∙ ap (option_map (λ (r : PlacedRow). r.place)) its) in
-          cell-of files are (found.0.group) row.place found.2
 
-  pub shows-restored : (s : Shown) → AreFiles files → HasRows files made listed s → Shows files rs (record s { model = model; time = time; «end» = end })
-  shows-restored s are has = record {
+  pub may-pend : AreFiles files → MayPend files (home_among listed) (log.pending rs)
+  may-pend are = record {
+    placed = all_mapped (λ (w : Pending). lies_at (log.pending rs) (homes rs) (id_of w.change) ≡ Some w.place) (λ (w : Pending). lies_at (log.pending rs) (home_among listed) (id_of w.change) ≡ Some w.place)
+        (λ w e. by-homes (id_of w.change) ∙ e) (log.pending rs) keeps.places.placed;
+    homed = λ id at e. by-homes id ∙ keeps.places.homed id at (is.committed.places id ∙ e);
+    cells = all_mapped (λ (w : Pending). lies_at (log.pending rs) (homes rs) (id_of w.change) ≡ Some w.place) (λ (w : Pending). IsCell ((new_space files).rooms) w.place)
+        (λ w e. in-cell are (id_of w.change) w.place (place-is rs (id_of w.change) ∙ e)) (log.pending rs) keeps.places.placed;
+    alone = λ a b at e f. holds.alone a b at (place-is rs a ∙ sym (by-homes a) ∙ e) (place-is rs b ∙ sym (by-homes b) ∙ f);
+  }
+
+  pub shows-restored : (ws : List Written) (s : Shown) → AreFiles files → map pending_of ws ≡ log.pending rs → HasWrites files made listed ws s → Shows files rs (record s { model = model; time = time; «end» = end })
+  shows-restored ws s are pend has = record {
     files_are = are;
     log = keeps;
     placed = is.placed;
     kept = record {
       tables = has.tables ∙ sym is.tables;
       rows = λ id. has.rows id ∙ sym (is.committed.values id);
-      pending = ap (map pending_of) has.written ∙ sym is.committed.settled;
-      places = λ id. has.places id ∙ sym (is.committed.places id);
+      pending = ap (map pending_of) has.written ∙ pend;
+      places = λ id. has.places id ∙ ap (λ us. lies_at us (home_among listed) id) pend ∙ by-homes id ∙ sym (place-is rs id);
       rooms = has.rooms;
       groups = λ number. has.groups numbers-of number ∙ ap (λ ts. group_among ts number) (sym is.tables);
     };

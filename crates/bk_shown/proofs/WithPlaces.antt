@@ -12,7 +12,6 @@ use Rattle.bk_groups.specs.Groups.{Space, row_cmp, place_of as space_place}
 use Rattle.bk_ids.specs.declared.record.Place.{Place}
 use Rattle.bk_world.specs.HomeLaws.{homed}
 use Rattle.bk_world.specs.ListLaws.{all_both, all_mapped}
-use Rattle.bk_world.specs.Pending as log
 use Rattle.bk_world.specs.PlacedRows.{AreRowsOf, ComesBefore, RowsRise, among, row_id}
 use Rattle.bk_world.specs.Places.{homes}
 use Rattle.bk_world.specs.Records.{Logged, RowId, is_row}
@@ -22,7 +21,7 @@ use Rattle.bk_world.specs.declared.database.FileSpec.{FileSpec}
 use Rattle.bk_world.specs.declared.database.TableSpec.{TableSpec}
 use Rattle.bk_world.specs.declared.row.PlacedRow.{PlacedRow}
 use Rattle.bk_shown.specs.Rows.{RowValues, placed_in, value_among, with_place}
-use Rattle.bk_shown.specs.Shown.{IsFit, Shows, lies_at}
+use Rattle.bk_shown.specs.Shown.{IsFit, Shows}
 use Rattle.bk_shown.specs.declared.shown.Shown.{Shown}
 use Rattle.bk_shown.proofs.Agree.{row-itself, row-same}
 use Rattle.bk_shown.proofs.Committed.{Holds, ValueFits, holds-all}
@@ -158,22 +157,33 @@ module _ (space : Space) (id : RowId) where
 
 -- ---- of a log that is shown
 
-same-there : {X Y : Type 0} (x : Option X) (y : Option Y) → is_some x ≡ is_some y → cond (is_some x) y None ≡ y
-same-there None None e = refl
-same-there None (Some y) e = absurd (cc)
-same-there (Some x) y e = refl
+-- what isn't there is none
+none-there : {X : Type 0} (b : Bool) (x : Option X) → is_some x ≡ false → cond b x None ≡ x
+none-there b (Some x) e = absurd (cc)
+none-there true None e = refl
+none-there false None e = refl
 
-pub are-rows : (files : List FileSpec) (rs : List Logged) (s : Shown) → Shows files rs s → log.pending rs ≡ [] → AreRowsOf rs (placed_in s.groups s.rows)
-are-rows files rs s shows settled = record {
-  settled = settled;
-  values = λ id. sym (shows.kept.rows id) ∙ sym (placed-values s.groups id s.rows ∙ same-there (space_place s.groups id.0 id.1) (value_among s.rows id) (sym (both id)));
-  places = λ id. sym (shows.kept.places id) ∙ sym (placed-places s.groups id s.rows ∙ same-there (value_among s.rows id) (space_place s.groups id.0 id.1) (both id));
-}
-  where
-    both : (id : RowId) → is_some (value_among s.rows id) ≡ is_some (space_place s.groups id.0 id.1)
-    both id =
-        ap is_some (shows.kept.rows id) ∙ homed rs id
-        ∙ ap (λ ws. is_some (lies_at ws (homes rs) id)) (sym settled) ∙ ap is_some (sym (place-is rs id)) ∙ ap is_some (sym (shows.kept.places id))
+module _ (files : List FileSpec) (rs : List Logged) (s : Shown) (shows : Shows files rs s) where
+  committed : (id : RowId) → is_some (value_among s.rows id) ≡ is_some (homes rs id)
+  committed id = ap is_some (shows.kept.rows id) ∙ homed rs id
+
+  -- a committed row lies at its home
+  at-home : (id : RowId) (at : Place) → homes rs id ≡ Some at → space_place s.groups id.0 id.1 ≡ Some at
+  at-home id at e = shows.kept.places id ∙ place-is rs id ∙ shows.log.places.homed id at e
+
+  value-there : (id : RowId) (home : Option Place) → homes rs id ≡ home → cond (is_some (space_place s.groups id.0 id.1)) (value_among s.rows id) None ≡ value_among s.rows id
+  value-there id None none = none-there (is_some (space_place s.groups id.0 id.1)) (value_among s.rows id) (committed id ∙ ap is_some none)
+  value-there id (Some at) is = ap (λ (p : Option Place). cond (is_some p) (value_among s.rows id) None) (at-home id at is)
+
+  place-there : (id : RowId) (home : Option Place) → homes rs id ≡ home → cond (is_some (value_among s.rows id)) (space_place s.groups id.0 id.1) None ≡ homes rs id
+  place-there id None none = ap (λ b. cond b (space_place s.groups id.0 id.1) None) (committed id ∙ ap is_some none) ∙ sym none
+  place-there id (Some at) is = ap (λ b. cond b (space_place s.groups id.0 id.1) None) (committed id ∙ ap is_some is) ∙ at-home id at is ∙ sym is
+
+  pub are-rows : AreRowsOf rs (placed_in s.groups s.rows)
+  are-rows = record {
+    values = λ id. sym (shows.kept.rows id) ∙ sym (placed-values s.groups id s.rows ∙ value-there id (homes rs id) refl);
+    places = λ id. sym (placed-places s.groups id s.rows ∙ place-there id (homes rs id) refl);
+  }
 
 pub holds-shown : (files : List FileSpec) (rs : List Logged) (s : Shown) → Shows files rs s → Holds files rs
 holds-shown files rs s shows = holds-all files rs s.«end» shows.log.counts shows.log.sound shows.placed keeps-none

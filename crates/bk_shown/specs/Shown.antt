@@ -17,6 +17,7 @@ use Rattle.bk_world.specs.Records.{Counts, Deed, Logged, RowId, table_made, writ
 use Rattle.bk_world.specs.SoundLogs.{MayCome, IsSound, NoLoadPends}
 use Rattle.bk_world.specs.Telling as telling
 use Rattle.bk_world.specs.Telling.{row_at}
+use Rattle.bk_shown.specs.Ends.{HoldsPending}
 use Rattle.bk_shown.specs.Rows.{value_among}
 use Rattle.bk_shown.specs.Values.{FitsRow}
 use Rattle.bk_shown.specs.declared.shown.Shown.{Shown}
@@ -112,14 +113,17 @@ pub record IsFit (made : List TableSpec) (row : PlacedRow) : Type 0 where
   pub low_key : row.key ≤ 9223372036854775807
   pub short : length row.value ≤ 112
 
--- A log in these files in which nothing is pending: its tables, its committed rows in their order, its recovery model, its last time, its end.
-pub record IsOf (files : List FileSpec) (rs : List Logged) (made : List TableSpec) (rows : List PlacedRow) (of_model : RecoveryModel) (of_time «end» : ℕ) : Type 0 where
+-- A log in these files: its tables, its committed rows in their order, bytes of its end that hold what is pending, its recovery model, its last time,
+-- its end.
+pub record IsOf (files : List FileSpec) (rs : List Logged) (made : List TableSpec) (rows : List PlacedRow) (held : List ℕ) (of_model : RecoveryModel) (of_time «end» : ℕ) : Type 0 where
   pub counts : Counts 1 rs «end»
   pub sound : IsSound rs
   pub placed : ArePlaced files [] rs
   pub tables : telling.tables rs ≡ made
   pub committed : AreRowsOf rs rows
   pub rise : RowsRise rows
+  pub first : ℕ
+  pub holds : HoldsPending rs first held
   pub model : telling.model rs ≡ of_model
   pub time : telling.time rs ≡ of_time
 

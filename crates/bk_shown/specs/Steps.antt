@@ -1,20 +1,21 @@
 -- What each kind of record makes of what is kept.
-use Rattle.std.specs.Prelude.{◌≡◌, ◌<◌, ◌≤◌, ◌⊎◌, ℕ, ◌==◌, ◌&&◌, not, Bool, false, List, [], ◌∷◌, ◌++◌, filter, length, Option, Some, None, if◌then◌else◌, option_map}
+use Rattle.std.specs.Prelude.{◌≡◌, ◌<◌, ◌≤◌, ◌⊎◌, ℕ, ◌==◌, ◌&&◌, not, Bool, false, List, [], ◌∷◌, ◌++◌, filter, length, map, Option, Some, None, if◌then◌else◌, option_map}
 use Rattle.std.specs.List.{AllByRecursion, find}
 use Rattle.bk_groups.specs.Changes.{AddsTable, SetsPlace}
 use Rattle.bk_groups.specs.Groups.{Space, IsCell, IsFreeCell, group_of, new_space, place_of as space_place}
 use Rattle.bk_ids.specs.declared.record.Body.{Body}
-use Rattle.bk_ids.specs.declared.record.Body.TheVariants.{Database, Table, Write, Commit, Compensation, Checkpoint, Stamp, Model, Bulk}
+use Rattle.bk_ids.specs.declared.record.Body.TheVariants.{Database, Table, Write, Commit, RollbackEnd, Compensation, Checkpoint, Stamp, Model, Bulk}
 use Rattle.bk_ids.specs.declared.record.Place.{Place}
 use Rattle.bk_ids.specs.declared.record.RecoveryModel.{RecoveryModel}
 use Rattle.bk_ids.specs.declared.record.RecoveryModel.TheVariants.{Full}
 use Rattle.bk_world.specs.PlacedRows.{RowsRise, among, row_id}
-use Rattle.bk_world.specs.Records.{RowId, is_row}
+use Rattle.bk_world.specs.Pending.{Pending}
+use Rattle.bk_world.specs.Records.{RowId, id_of, is_row}
 use Rattle.bk_world.specs.declared.database.FileSpec.{FileSpec}
 use Rattle.bk_world.specs.declared.database.TableSpec.{TableSpec}
 use Rattle.bk_world.specs.declared.row.PlacedRow.{PlacedRow}
 use Rattle.bk_shown.specs.Rows.{SetsRow, value_among}
-use Rattle.bk_shown.specs.Shown.{AreNumbered, group_among}
+use Rattle.bk_shown.specs.Shown.{AreNumbered, group_among, lies_at, pending_of}
 use Rattle.bk_shown.specs.Values.{Spells}
 use Rattle.bk_shown.specs.Writes.{own_of, others_of, row_of, value_after, has_write, LetsGo}
 use Rattle.bk_shown.specs.declared.shown.Shown.{Shown}
@@ -115,7 +116,26 @@ time_behind (Stamp time set) before = time
 time_behind (Model time model) before = time
 time_behind _ before = before
 
--- ---- a log in which nothing is pending, from its tables and rows
+-- ---- the end of a log
+
+-- what the body of a record makes of the pending writes before it
+abbrev pub NotesBody : ℕ → ℕ → Body → List Written → List Written → Type 0
+NotesBody lsn begin (Write at before after) old new =
+    (table key : ℕ) (b v : Option (List ℕ)) → Spells before.bytes after.bytes table key b v
+    → new ≡ old ++ (record { lsn = lsn; begin = begin; place = at; table = table; key = key; before = b; value = v }) ∷ []
+NotesBody lsn begin (Commit time mark) old new = new ≡ others_of begin old
+NotesBody lsn begin RollbackEnd old new = new ≡ others_of begin old
+NotesBody lsn begin (Compensation at image undone) old new = new ≡ filter (λ (w : Written). not (w.begin == begin && w.lsn == undone)) old
+NotesBody lsn begin (Bulk table first count value extents) old new = ⊥
+NotesBody lsn begin _ old new = new ≡ old
+
+-- where a body isn't noted
+abbrev pub IsUnnoted : Body → Type 0
+IsUnnoted (Write at before after) = (table key : ℕ) (b v : Option (List ℕ)) → Spells before.bytes after.bytes table key b v → ⊥
+IsUnnoted (Bulk table first count value extents) = Unit {0}
+IsUnnoted _ = ⊥
+
+-- ---- a log from its tables, its rows and its pending writes
 
 -- tables and committed rows are these, and nothing is pending
 pub record HasRows (files : List FileSpec) (made : List TableSpec) (listed : List PlacedRow) (s : Shown) : Type 0 where
@@ -145,3 +165,23 @@ pub record MayHold (files : List FileSpec) (listed : List PlacedRow) : Type 0 wh
   pub rise : RowsRise listed
   pub cells : AllByRecursion (λ (row : PlacedRow). IsCell ((new_space files).rooms) row.place) listed
   pub alone : (a b : RowId) (at : Place) → option_map (λ (row : PlacedRow). row.place) (among listed a) ≡ Some at → option_map (λ (row : PlacedRow). row.place) (among listed b) ≡ Some at → a ≡ b
+
+-- where a row of some lies
+abbrev pub home_among : List PlacedRow → RowId → Option Place
+home_among listed id = option_map (λ (row : PlacedRow). row.place) (among listed id)
+
+-- tables and committed rows are these, and these writes are pending, each row in its place
+pub record HasWrites (files : List FileSpec) (made : List TableSpec) (listed : List PlacedRow) (ws : List Written) (s : Shown) : Type 0 where
+  pub tables : s.tables.items ≡ made
+  pub rows : (id : RowId) → value_among s.rows id ≡ option_map (λ (row : PlacedRow). row.value) (among listed id)
+  pub written : s.written.items ≡ ws
+  pub places : (id : RowId) → space_place s.groups id.0 id.1 ≡ lies_at (map pending_of ws) (home_among listed) id
+  pub rooms : s.groups.rooms ≡ (new_space files).rooms
+  pub groups : AreNumbered 1 made → (number : ℕ) → group_of s.groups number ≡ group_among made number
+
+-- writes that are pending over committed rows: each row has one place, in a cell of the files, no two in one
+pub record MayPend (files : List FileSpec) (home : RowId → Option Place) (ws : List Pending) : Type 0 where
+  pub placed : AllByRecursion (λ (w : Pending). lies_at ws home (id_of w.change) ≡ Some w.place) ws
+  pub homed : (id : RowId) (at : Place) → home id ≡ Some at → lies_at ws home id ≡ Some at
+  pub cells : AllByRecursion (λ (w : Pending). IsCell ((new_space files).rooms) w.place) ws
+  pub alone : (a b : RowId) (at : Place) → lies_at ws home a ≡ Some at → lies_at ws home b ≡ Some at → a ≡ b

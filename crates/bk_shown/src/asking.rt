@@ -114,7 +114,7 @@ impl Shown {
     /// The committed rows of all tables with their places, by rising table and key.
     pub fn placed_rows(&self, alloc: Global) -> Result<Vec<PlacedRow>, AllocError>
         ensures rise { IfOk result (λ listed. RowsRise listed.items) }
-        ensures rows { IfOk result (λ listed. (files : List FileSpec) (rs : List Logged) → Shows files rs self.now → pending.pending rs ≡ [] → AreRowsOf rs listed.items) }
+        ensures rows { IfOk result (λ listed. (files : List FileSpec) (rs : List Logged) → Shows files rs self.now → AreRowsOf rs listed.items) }
         ensures fit { IfOk result (λ listed. (files : List FileSpec) (rs : List Logged) → Shows files rs self.now → AllByRecursion (IsFit (telling.tables rs)) listed.items) }
     {
         let listed = self.rows.with_places(alloc, &self.groups)?;

@@ -1,6 +1,7 @@
 ghost use Rattle.std.specs.Prelude.{◌≡◌};
-ghost use Rattle.bk_shown.specs.declared.error.TakeError.TheVariants.{NoMemory};
+ghost use Rattle.bk_shown.specs.declared.error.TakeError.TheVariants.{NoMemory, Unfit};
 
+use bk_record::BadRecord;
 use std::alloc::AllocError;
 use thiserror::Error;
 
@@ -20,5 +21,13 @@ impl From<AllocError> for TakeError {
 
     fn from(_: AllocError) -> TakeError {
         TakeError::NoMemory
+    }
+}
+
+impl From<BadRecord> for TakeError {
+    ghost from_gives = { λ _ e. e ≡ Unfit };
+
+    fn from(_: BadRecord) -> TakeError {
+        TakeError::Unfit
     }
 }

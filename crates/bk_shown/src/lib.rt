@@ -6,6 +6,7 @@ mod asking;
 mod ending;
 mod error;
 mod laws;
+mod pending;
 mod restoring;
 mod rows;
 mod shown;
@@ -14,5 +15,6 @@ mod writing;
 
 pub use error::TakeError;
 pub use laws::placed_logs;
+pub use pending::pending_in;
 pub use rows::Rows;
 pub use shown::{Shown, Written};

@@ -4,6 +4,7 @@ ghost use Rattle.std.specs.Prelude.{◌≡◌, ℕ, List, Option, IfOk, OnOk, Is
 ghost use Rattle.bk_bytes.specs.CellView.{row_of as cell_row};
 ghost use Rattle.bk_shown.specs.Steps.{KeepsPlace, MayLie, WritesRow};
 ghost use Rattle.bk_shown.specs.Values.{IsTextOf, Spells, id_in};
+ghost use Rattle.bk_shown.specs.Writes.{row_of};
 ghost use Rattle.bk_shown.specs.declared.error.TakeError.TheVariants.{Unfit};
 
 use crate::error::TakeError;
@@ -38,7 +39,7 @@ fn value_in(alloc: Global, cell: &Cell<'_>) -> Result<Option<Text>, AllocError>
 }
 
 // The write that two cells spell, one before it and one behind it.
-fn written(
+pub(crate) fn written(
     alloc: Global,
     lsn: Lsn,
     begin: Lsn,
@@ -84,6 +85,16 @@ fn keep_place(groups: &mut Groups, table: u32, key: u64, at: Place) -> Result<()
 }
 
 impl Shown {
+    // A write is pending, and its row lies in its cell.
+    pub(crate) fn add_write(&mut self, write: Written) -> Result<(), TakeError>
+        ensures ok { OnOk result (WritesRow write self.old self.new) }
+        ensures unfit { IsErrOf result Unfit → MayLie self.old.groups (row_of write) write.place → ⊥ }
+    {
+        keep_place(&mut self.groups, write.table, write.key, write.place)?;
+        push(&mut self.written, write)?;
+        Ok(())
+    }
+
     // A write of a cell.
     pub(crate) fn take_write(
         &mut self,
@@ -97,8 +108,6 @@ impl Shown {
         ensures unfit { IsErrOf result Unfit → (table key : ℕ) (b v : Option (List ℕ)) → Spells before.now after.now table key b v → MayLie self.old.groups (table, key) place → ⊥ }
     {
         let write = written(self.alloc, lsn, begin, place, before, after)?;
-        keep_place(&mut self.groups, write.table, write.key, place)?;
-        push(&mut self.written, write)?;
-        Ok(())
+        self.add_write(write)
     }
 }

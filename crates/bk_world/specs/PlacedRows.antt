@@ -2,8 +2,7 @@
 use Rattle.std.specs.Prelude.{◌≡◌, ◌<◌, ◌⊎◌, List, [], ◌∷◌, Option, option_map}
 use Rattle.std.specs.List.{find}
 use Rattle.bk_world.specs.declared.row.PlacedRow.{PlacedRow}
-use Rattle.bk_world.specs.Pending.{pending}
-use Rattle.bk_world.specs.Places.{place_of}
+use Rattle.bk_world.specs.Places.{homes}
 use Rattle.bk_world.specs.Records.{Logged, RowId, is_row}
 use Rattle.bk_world.specs.Telling as telling
 use Rattle.bk_world.specs.Telling.{row_at}
@@ -26,8 +25,7 @@ RowsRise [] = Unit {0}
 RowsRise (a ∷ []) = Unit {0}
 RowsRise (a ∷ b ∷ rows) = ComesBefore a b × RowsRise (b ∷ rows)
 
--- nothing is pending in a log, and these are its committed rows, each in its cell
+-- these are the committed rows of a log, each in its cell
 pub record AreRowsOf (rs : List Logged) (rows : List PlacedRow) : Type 0 where
-  pub settled : pending rs ≡ []
   pub values : (id : RowId) → row_at (telling.rows rs id.0) id.1 ≡ option_map (λ (row : PlacedRow). row.value) (among rows id)
-  pub places : (id : RowId) → place_of rs id ≡ option_map (λ (row : PlacedRow). row.place) (among rows id)
+  pub places : (id : RowId) → homes rs id ≡ option_map (λ (row : PlacedRow). row.place) (among rows id)

@@ -23,7 +23,7 @@ use Rattle.bk_machine.specs.Checks.{is_path, limit, online, or_refuse, outside, 
 use Rattle.bk_machine.specs.MayDo.{MayDoAll}
 use Rattle.bk_machine.specs.Sound.{AreNumbered, IsHeld, IsLog, IsPassed, IsReached, IsSound, IsSoundSet, files_of_set}
 use Rattle.bk_machine.specs.World.{World, Database, database_named, log_of}
-use Rattle.bk_machine.specs.statements.Backup.{check_backup, full_backup, full_header, has_open, is_whole_backup, DoesBackup}
+use Rattle.bk_machine.specs.statements.Backup.{check_backup, full_backup, full_header, is_whole_backup, DoesBackup}
 use Rattle.bk_machine.proofs.Acting.{act-sound}
 use Rattle.bk_machine.proofs.Loads.{BuiltIn, act-built}
 use Rattle.bk_machine.specs.NamedLaws.{named-own, of-named}
@@ -48,8 +48,7 @@ checked w line name units path options db e =
     let out = passed (outside w) _ db one.then in
     let two = passed (or_refuse (database_named w.databases name) NoSuchDatabase) _ db out.then in
     let three = passed (online two.found) _ db two.then in
-    let none = passed (refuse_if (has_open three.found) (NotBuilt line)) _ db three.then in
-    let four = passed (limit (used_up three.found.end || used_up w.counter)) _ db none.then in
+    let four = passed (limit (used_up three.found.end || used_up w.counter)) _ db three.then in
     let up : Up two.found three.found = was-online two.found three.found three.is in
     let last = four.then in
     let same : three.found ≡ db = cc in

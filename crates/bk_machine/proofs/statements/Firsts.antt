@@ -8,18 +8,12 @@ use Rattle.bk_ids.specs.declared.guid.Guid.{Guid}
 use Rattle.bk_world.specs.ListLaws.{all_mapped}
 use Rattle.bk_world.specs.Pending.{Pending, pending}
 use Rattle.bk_world.specs.declared.database.Status.TheVariants.{Online}
+use Rattle.bk_machine.specs.BeginLaws.{least-end}
 use Rattle.bk_machine.specs.Sound.{IsSound, has_begin}
 use Rattle.bk_machine.specs.UpLaws.{IsUp, is-up}
 use Rattle.bk_world.specs.declared.transaction.Open.{Open}
 use Rattle.bk_machine.specs.World.{Database, World, database_named, least_begin, log_of}
 use Rattle.bk_machine.specs.statements.Backup.{full_header}
-
-least-end : (ts : List Open) (end : ℕ) → least_begin ts end ≤ end
-least-end [] end = omega arith
-least-end (t ∷ ts) end =
-    let one : min t.begin (least_begin ts end) ≤ least_begin ts end = min-le_right t.begin (least_begin ts end) in
-    let two : least_begin ts end ≤ end = least-end ts end in
-    omega (arith, one, two)
 
 least-each : (ts : List Open) (end n : ℕ) → n ≤ least_begin ts end → AllByRecursion (λ (t : Open). n ≤ t.begin) ts
 least-each [] end n le = tt

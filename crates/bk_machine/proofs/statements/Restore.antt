@@ -8,6 +8,8 @@ use Rattle.bk_world.specs.declared.header.Header.{Header}
 use Rattle.bk_world.specs.declared.rule.Rule.TheVariants.{NotBuilt}
 use Rattle.bk_world.specs.Lines.{log_below}
 use Rattle.bk_world.specs.Medium.{medium, medium_at, readable}
+use Rattle.bk_world.specs.Records.{Logged}
+use Rattle.bk_world.specs.SoundLogs.{NoLoadPends}
 use Rattle.bk_machine.specs.Acts.{Recovery, done, drawn, taken_over, units_in}
 use Rattle.bk_machine.specs.Checks.{is_name, is_path, outside, refuse_if}
 use Rattle.bk_machine.specs.MayDo.{MayDoAll}
@@ -18,7 +20,7 @@ use Rattle.bk_machine.specs.Built.{IsBuilt, IsBuiltLog, IsBuiltReading, IsBuiltS
 use Rattle.bk_machine.specs.Outcome.{Outcome}
 use Rattle.bk_machine.proofs.Happened.{of-medium}
 use Rattle.bk_machine.proofs.Left.{of-contained}
-use Rattle.bk_machine.proofs.Recovering.{recovers, recovery}
+use Rattle.bk_machine.proofs.Recovering.{no-load-pends, recovers, recovery}
 use Rattle.bk_machine.proofs.statements.Facts.{Facts, NoMedium, facts-of}
 use Rattle.bk_machine.proofs.Histories.{counts-positive}
 use Rattle.bk_machine.specs.NamedLaws.{named-changed}
@@ -99,7 +101,9 @@ module _ (w : World) (line : ℕ) (name : List ℕ) (units : RestoredUnits) (dis
   comes sound built =
       let set : IsSoundSet w header = set-sound w (disk_path disk) header sound there in
       let log : IsBuiltLog (files_of_set header) (log_below w.history header.path header.last) = set-built w (disk_path disk) header built there in
-      let r : Recovery = recovery (files_of_set header) (log_below w.history header.path header.last) header.last (drawn w w.counter) set.log log in (
+      let rs : List Logged = log_below w.history header.path header.last in
+      let none : NoLoadPends rs = no-load-pends rs log.loads in
+      let r : Recovery = recovery rs header.last (drawn w w.counter) set.log.counts set.log.sound none in (
         restored_whole (name_known (database_named w.databases name) name) header r,
-        (r, refl, refl, recovers (files_of_set header) (log_below w.history header.path header.last) header.last (drawn w w.counter) set.log log, refl),
+        (r, refl, refl, recovers rs header.last (drawn w w.counter) set.log.counts set.log.sound none, refl),
       )

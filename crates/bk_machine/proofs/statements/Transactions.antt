@@ -16,6 +16,7 @@ use Rattle.bk_world.specs.declared.database.Status.TheVariants.{Online}
 use Rattle.bk_world.specs.declared.reply.Reply.TheVariants.{Done}
 use Rattle.bk_world.specs.declared.rule.Rule.TheVariants.{InTransaction, NoSuchDatabase, NoTransaction, NotBuilt}
 use Rattle.bk_machine.specs.Acts.{logged, said_time}
+use Rattle.bk_machine.specs.BeginLaws.{each-begun, each-without}
 use Rattle.bk_machine.specs.Built.{IsNoLoad, SaysNoLoad}
 use Rattle.bk_machine.specs.CheckLaws.{Up, is-none, not-refused, passed, was-found, was-online}
 use Rattle.bk_machine.specs.Checks.{limit, online, or_refuse, outside, refuse_if, used_up}
@@ -76,7 +77,7 @@ module _ (w : World) (session : ℕ) (h : Held) (sound : IsSound w) (is : held_i
         may = (of-contained (KeepsAll rs) db.transactions h.transaction held.up.opens.kept there, tt);
         tables = subst (AreNumbered 1) (sym (tables-commit rs db.end begin time mark)) held.up.whole.log.tables;
         places = (tt, tt);
-      }) (opens-without rs db.end db.transactions held.up.opens begin (commit_said begin time mark) (pending-commit rs db.end begin time mark) (kept-commit rs db.end db.transactions begin time mark held.up.opens.kept))
+      }) (each-without db begin) (opens-without rs db.end db.transactions held.up.opens begin (commit_said begin time mark) (pending-commit rs db.end begin time mark) (kept-commit rs db.end db.transactions begin time mark held.up.opens.kept))
 
   pub rollback-may : MayDo w (rolls_back w h)
   rollback-may =
@@ -89,7 +90,7 @@ module _ (w : World) (session : ℕ) (h : Held) (sound : IsSound w) (is : held_i
         may = may-roll-back rs db.end begin (sound-rise rs held.up.whole.log.sound counts held.up.opens.loads) held.up.opens.loads;
         tables = subst (AreNumbered 1) (sym (tables-rollback rs db.end begin)) held.up.whole.log.tables;
         places = placed-rollback db.files rs db.end begin;
-      }) (opens-without rs db.end db.transactions held.up.opens begin (rollback_said begin (pending rs)) (pending-rollback rs db.end begin) (kept-rollback rs db.end db.transactions begin held.up.opens.kept))
+      }) (each-without db begin) (opens-without rs db.end db.transactions held.up.opens begin (rollback_said begin (pending rs)) (pending-rollback rs db.end begin) (kept-rollback rs db.end db.transactions begin held.up.opens.kept))
 
   commit-well : (now : ℕ) → GoWell w (commits w h now ∷ [])
   commit-well now = record {
@@ -173,7 +174,7 @@ begin-may w db mark sound its r =
       may = (tt, tt);
       tables = subst (AreNumbered 1) (sym (tables-begun rs db.end)) r.whole.log.tables;
       places = (tt, tt);
-    }) (opens-begun rs db.end db.transactions r.opens (begin-below rs db.end r.whole.log.sound r.whole.log.counts) (omega (arith, positive)) w.session mark sound.seat none)
+    }) (each-begun db (new_open w db mark) refl) (opens-begun rs db.end db.transactions r.opens (begin-below rs db.end r.whole.log.sound r.whole.log.counts) (omega (arith, positive)) w.session mark sound.seat none)
 
 pub begin-facts : (w : World) (line : ℕ) (transaction : Option NamedTransaction) (mark : Option Mark) (db : Database) → check_begin w line transaction ≡ Ok db → (outcome : Outcome) → DoesBegin w mark db outcome → Facts w NoMedium outcome
 begin-facts w line transaction mark db e outcome is =

@@ -18,6 +18,7 @@ use Rattle.bk_world.specs.Says.{begin_said, single_said, write_said}
 use Rattle.bk_world.specs.SoundLogs.{MayWrite, undoes, most_pending}
 use Rattle.bk_world.specs.Telling.{entries, row_at, rows, seen, tables}
 use Rattle.bk_machine.specs.Acts.{logged, said_time}
+use Rattle.bk_machine.specs.BeginLaws.{each-own}
 use Rattle.bk_machine.specs.Built.{IsBuilt, IsBuiltLog}
 use Rattle.bk_machine.specs.MayDo.{MayDo}
 use Rattle.bk_machine.specs.NamedLaws.{of-named}
@@ -181,7 +182,7 @@ module _ (w : World) (name : List ℕ) (to : Target) (its : IsTarget w name to) 
         may = (record { place = place.place; noted = sym noted; unlocked = alone; behind = begin-lies to.database.transactions w.session n t own r.opens.begins; room = few-pend rs n to.database.transactions r.opens }, tt);
         tables = subst (AreNumbered 1) (sym (tables-written rs n t.begin at before (row_set to key value))) r.whole.log.tables;
         places = ((to.table, numbered_own r, place.cell), tt);
-      }) (opens-written rs n to.database.transactions r.opens w.session t own at before (row_set to key value) fewer)
+      }) (each-own to.database) (opens-written rs n to.database.transactions r.opens w.session t own at before (row_set to key value) fewer)
 
   abbrev act_of : Option Open → Rattle.bk_machine.specs.Acts.Act
   act_of o = logged to.database.name (row_said o to.database.end at before (row_set to key value) (said_time w to.database now)) to.database.transactions

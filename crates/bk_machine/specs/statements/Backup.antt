@@ -1,6 +1,6 @@
 -- BACKUP DATABASE, until media hold several sets: a full backup to a new medium, part by part.
 -- SQL Server: BACKUP (Transact-SQL); "Full Database Backups"; "backupset (Transact-SQL)".
-use Rattle.std.specs.Prelude.{◌≡◌, ℕ, ◌+◌, Bool, true, false, not, ◌&&◌, ◌||◌, nat_lt, List, [], ◌∷◌, length, map, Option, Some, None, is_some, is_none, Ok}
+use Rattle.std.specs.Prelude.{◌≡◌, ℕ, ◌+◌, Bool, true, false, not, ◌&&◌, ◌||◌, List, [], ◌∷◌, map, Option, Some, None, is_some, is_none, Ok}
 use Rattle.bk_ids.specs.declared.guid.Guid.{Guid}
 use Rattle.bk_items.specs.declared.item.UnitName.{UnitName}
 use Rattle.bk_items.specs.declared.options.BackupOptions.{BackupOptions}
@@ -36,17 +36,12 @@ is_whole_backup (unit ∷ units) options = false
 
 -- Rules.
 
--- transactions are open in it: until sets hold pending writes, its backup isn't built
-abbrev pub has_open : Database → Bool
-has_open db = nat_lt 0 (length db.transactions)
-
 unfoldable pub check_backup : World → ℕ → List ℕ → List UnitName → List ℕ → BackupOptions → Checked Database
 check_backup w line name units path options = do
   _ ← refuse_if (not (is_whole_backup units options && is_path path) || is_some (medium_at w.media path)) (NotBuilt line)
   _ ← outside w
   named ← or_refuse (database_named w.databases name) NoSuchDatabase
   db ← online named
-  _ ← refuse_if (has_open db) (NotBuilt line)
   _ ← limit (used_up db.end || used_up w.counter)
   Ok db
 

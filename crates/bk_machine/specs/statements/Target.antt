@@ -5,7 +5,7 @@ use Rattle.bk_ids.specs.declared.record.Place.{Place}
 use Rattle.bk_world.specs.declared.database.TableSpec.{TableSpec}
 use Rattle.bk_world.specs.declared.reply.Reply.TheVariants.{Counted}
 use Rattle.bk_world.specs.declared.rule.Limit.TheVariants.{Key, Writes}
-use Rattle.bk_world.specs.declared.rule.Rule.TheVariants.{NoSuchDatabase, NoSuchTable, ValueTooLong, Locked, LimitReached}
+use Rattle.bk_world.specs.declared.rule.Rule.TheVariants.{DuplicateKey, GroupFull, NoSuchDatabase, NoSuchTable, ValueTooLong, Locked, LimitReached}
 use Rattle.bk_world.specs.Entry.{RowChange}
 use Rattle.bk_world.specs.Pending.{of_transaction, pending}
 use Rattle.bk_world.specs.Places.{place_of, IsFreePlace, IsCellOf}
@@ -114,6 +114,17 @@ writes_row w to at before key value now =
 pub record MayPlace (w : World) (to : Target) (id : RowId) (at : Place) : Type 0 where
   pub place : (place_of (log_of w.history to.database) id ≡ Some at) ⊎ ((place_of (log_of w.history to.database) id ≡ None) × IsFreePlace (log_of w.history to.database) at)
   pub cell : IsCellOf to.database.files to.table.group at
+
+-- what is checked of a row that is new, behind the checks of its table and its value
+abbrev pub check_new : World → Target → ℕ → Checked Target
+check_new w to key = do
+  _ ← check_lock w to key
+  _ ← refuse_if (sees_key w to key) (DuplicateKey key)
+  _ ← check_key key
+  _ ← refuse_if (has_all_writes w to) (LimitReached Writes)
+  _ ← limit (used_up to.database.end)
+  _ ← refuse_if (is_full_for w to key) (GroupFull (group_name to.database to.table.group))
+  Ok to
 
 -- A row that is seen is written, which takes numbers. One that isn't is left, whatever its transaction and the numbers are; its group is never full, either.
 abbrev pub check_write : World → Target → ℕ → Checked Target

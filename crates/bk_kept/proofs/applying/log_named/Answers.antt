@@ -15,7 +15,7 @@ returns-in-Some-clause-ok c = on-ok c.log.result c.log.ensures.ok (λ has w said
     let at = ap (position (names c.args.name.now)) (sym c.deref.ensures.value) ∙ sym c.in-Some.ensures.place in
     let there = is-there w c.args.name.now c.args.databases.now.items c.in-Some.at x at c.index_mut-database.ensures.value keeps in
     let may = held (λ (db : Database). MayLog w db said c.args.transactions.now) (database_named w.databases c.args.name.now) (database_of x) there.named can.may in
-    keeps-logged w c.args.name.now c.args.databases.now.items c.in-Some.at x c.log.new.database said c.args.transactions.now at c.index_mut-database.ensures.value keeps c.requires
+    keeps-logged w c.args.name.now c.args.databases.now.items c.in-Some.at x c.log.new.database said c.args.transactions.now at c.index_mut-database.ensures.value keeps c.requires may.each
     (c.acts_keep_what_is_read.ensures.act w (logged c.args.name.now said c.args.transactions.now) sound can.may)
     (c.what_is_said_comes_last.ensures.log w c.args.name.now (database_of x) said c.args.transactions.now sound.whole there.named may.says)
     (has x.files (log_of w.history (database_of x)) (numbered x.shown.«end» said) (can-say w c.args.name.now c.args.records.now said c.args.transactions.now x there can)))

@@ -5,7 +5,7 @@ use Rattle.bk_machine.specs.MayDo.{MayRecover}
 use Rattle.bk_machine.specs.World.{Database, database_named, log_of}
 use Rattle.bk_world.specs.Records.{numbered}
 use Rattle.bk_kept.specs.Keeps.{database_of}
-use Rattle.bk_kept.proofs.KeptWorlds.{on-ok, is-there, held, holds-not, can-recover, at-end, keeps-recovered}
+use Rattle.bk_kept.proofs.KeptWorlds.{on-ok, is-there, held, holds-not, can-recover, at-end, idle-down, keeps-recovered}
 use Rattle.bk_kept.proofs.Places.{names}
 use Rattle.bk_kept.proofs.applying.recover_named.Goals as goal
 
@@ -17,6 +17,7 @@ returns-in-Some-clause-ok c = on-ok c.recover.result c.recover.ensures.ok (λ ha
     let may = held (λ (db : Database). MayRecover w db (record { at = c.args.at; branch = c.args.branch; said = said })) (database_named w.databases c.args.name.now) (database_of x) there.named can.may in
     keeps-recovered w c.args.name.now c.args.databases.now.items c.in-Some.i x c.recover.new.database (record { at = c.args.at; branch = c.args.branch; said = said }) at c.index_mut-database.ensures.value keeps
     (at-end w c.args.name.now c.args.records.now (record { at = c.args.at; branch = c.args.branch; said = said }) x there can)
+    (idle-down w (database_of x) c.args.name.now sound there.named may.down)
     (c.acts_keep_what_is_read.ensures.act w (recovered c.args.name.now (record { at = c.args.at; branch = c.args.branch; said = said })) sound can.may)
     (c.a_recovery_is_said_last.ensures.log w c.args.name.now (database_of x) (record { at = c.args.at; branch = c.args.branch; said = said }) sound there.named may)
     (has x.files (log_of w.history (database_of x)) (numbered c.args.at said) (can-recover w c.args.name.now c.args.records.now (record { at = c.args.at; branch = c.args.branch; said = said }) x there can)))

@@ -16,7 +16,7 @@ returns-in-Some c = on-ok c.restore.result c.restore.ensures (λ new-is w keeps.
     keeps-restored w c.args.databases.now.items (set c.args.databases.now.items c.in-Some.at c.restore.new.database) c.args.name.now c.args.base c.args.redo
     (with-at c.args.name.now (restored-on c.args.base c.args.redo) c.args.databases.now.items c.in-Some.at x c.restore.new.database at c.index_mut-database.ensures.value (ap database_of new-is))
     (all-set (IsKept w.history) c.args.databases.now.items c.in-Some.at x c.restore.new.database (position-Some (names c.args.name.now) c.args.databases.now.items c.in-Some.at x at).0
-    (λ kept. let own : IsKept w.history x = subst (IsKept w.history) (sym c.index_mut-database.ensures.value) kept in subst (IsKept w.history) (sym new-is) (record { shows = own.shows; opens = own.opens })))
+    (λ kept. let own : IsKept w.history x = subst (IsKept w.history) (sym c.index_mut-database.ensures.value) kept in subst (IsKept w.history) (sym new-is) (record { shows = own.shows; live = own.live; opens = own.opens })))
     keeps)
 
 pub returns-in-None : goal.returns-in-None

@@ -5,9 +5,11 @@ use Rattle.bk_groups.specs.Groups.{AreFiles}
 use Rattle.bk_shown.specs.Shown.{IsOf, Shows}
 use Rattle.bk_world.specs.declared.database.FileSpec.{FileSpec}
 use Rattle.bk_world.specs.Lines.{log_below}
-use Rattle.bk_world.specs.Records.{Logged}
 use Rattle.bk_kept.specs.SetLaws.{spec_of}
+use Rattle.bk_kept.proofs.LiveEnds.{nothing-open}
 use Rattle.bk_kept.proofs.Replaced.{files-are, set-is}
+use Rattle.bk_kept.proofs.WholeKept.{same-error}
+use Rattle.bk_kept.specs.declared.error.ApplyError.TheVariants.{Unfit}
 use Rattle.bk_kept.proofs.replacing.taken.Goals as goal
 use Rattle.bk_kept.proofs.replacing.taken.Goals.{After-drop-files-inside}
 
@@ -19,10 +21,8 @@ shown_by-requires c =
 pub returns-in_err-shown-clause-unfit : goal.returns-in_err-shown-clause-unfit
 returns-in_err-shown-clause-unfit c = λ e w sound carries.
     let files : c.as_slice-2.result.now ≡ map spec_of c.args.body.now.header.files = search rules in
-    let unfit : (rs : List Logged) → IsOf c.as_slice-2.result.now rs c.args.body.now.tables c.args.body.now.rows c.args.body.now.header.model c.args.body.now.header.finish c.args.body.now.header.last → ⊥ =
-    search (rules, c.in_err-shown.ensures.unfit) in
-    unfit (log_below w.history c.args.body.now.header.path c.args.body.now.header.last)
-    (subst (λ (fs : List FileSpec). IsOf fs (log_below w.history c.args.body.now.header.path c.args.body.now.header.last) c.args.body.now.tables c.args.body.now.rows c.args.body.now.header.model c.args.body.now.header.finish
+    c.in_err-shown.ensures.unfit (same-error c.in_err-shown.field-0.0 Unfit c.from_residual-in_err-shown.result c.from_residual-in_err-shown.ensures.1 e) (log_below w.history c.args.body.now.header.path c.args.body.now.header.last)
+    (subst (λ (fs : List FileSpec). IsOf fs (log_below w.history c.args.body.now.header.path c.args.body.now.header.last) c.args.body.now.tables c.args.body.now.rows c.args.body.now.log c.args.body.now.header.model c.args.body.now.header.finish
     c.args.body.now.header.last) (sym files)
     (set-is w c.args.body.now c.requires sound carries))
 
@@ -33,13 +33,17 @@ returns-clause-kept c = λ w sound carries.
     let path : c.in_ok-copy-4.field-0 ≡ c.args.body.now.header.path = search rules in
     let shown : Shows c.as_slice-2.result.now (log_below w.history c.args.body.now.header.path c.args.body.now.header.last) c.in_ok-shown.shown =
     c.in_ok-shown.ensures.shows (log_below w.history c.args.body.now.header.path c.args.body.now.header.last)
-    (subst (λ (fs : List FileSpec). IsOf fs (log_below w.history c.args.body.now.header.path c.args.body.now.header.last) c.args.body.now.tables c.args.body.now.rows c.args.body.now.header.model c.args.body.now.header.finish
+    (subst (λ (fs : List FileSpec). IsOf fs (log_below w.history c.args.body.now.header.path c.args.body.now.header.last) c.args.body.now.tables c.args.body.now.rows c.args.body.now.log c.args.body.now.header.model c.args.body.now.header.finish
     c.args.body.now.header.last) (sym files)
     (set-is w c.args.body.now c.requires sound carries)) in
     let none : c.new-2.result ≡ [] = search rules in
+    let held : c.none.result ≡ [] = c.none.ensures in
+    let whole : Shows c.files.inside.items.items (log_below w.history c.in_ok-copy-4.field-0 c.in_ok-shown.shown.end) c.in_ok-shown.shown =
+    subst (λ (fs : List FileSpec). Shows fs (log_below w.history c.in_ok-copy-4.field-0 c.in_ok-shown.shown.end) c.in_ok-shown.shown) own
+    (subst (λ rs. Shows c.as_slice-2.result.now rs c.in_ok-shown.shown)
+    (sym (ap (λ p. log_below w.history p c.in_ok-shown.shown.end) path ∙ ap (λ n. log_below w.history c.args.body.now.header.path n) c.in_ok-shown.ensures.at)) shown) in
     record {
-      shows = subst (λ (fs : List FileSpec). Shows fs (log_below w.history c.in_ok-copy-4.field-0 c.in_ok-shown.shown.end) c.in_ok-shown.shown) own
-          (subst (λ rs. Shows c.as_slice-2.result.now rs c.in_ok-shown.shown)
-          (sym (ap (λ p. log_below w.history p c.in_ok-shown.shown.end) path ∙ ap (λ n. log_below w.history c.args.body.now.header.path n) c.in_ok-shown.ensures.at)) shown);
+      shows = whole;
+      live = nothing-open (log_below w.history c.in_ok-copy-4.field-0 c.in_ok-shown.shown.end) c.new-2.result c.in_ok-shown.shown.end c.none.result none held whole.log.counts;
       opens = subst (AllByRecursion IsTransaction) (sym none) tt;
     }

@@ -1,5 +1,6 @@
 use Rattle.std.proofs.Common.{sym, subst}
-use Rattle.bk_kept.proofs.SaidSoFar.{SaidSoFar, none-bad, said-more, said-refused, said-all, took-unfit}
+use Rattle.bk_shown.specs.ReadLaws.{none-bad}
+use Rattle.bk_kept.proofs.SaidSoFar.{SaidSoFar, said-more, said-refused, said-all, took-unfit}
 use Rattle.bk_kept.proofs.saying.say.Goals as goal
 
 pub returns-in_err-record-clause-unfit : goal.returns-in_err-record-clause-unfit

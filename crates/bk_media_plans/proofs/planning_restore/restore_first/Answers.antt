@@ -1,6 +1,6 @@
 use Rattle.std.proofs.Common.{◌≡◌, Ok, Err}
 use Rattle.bk_plans.specs.PlanLaws.{if-plan}
-use Rattle.bk_media_plans.proofs.PlannedRestore.{none-plan, refused-plan, whole-plan}
+use Rattle.bk_media_plans.proofs.PlannedRestore.{Laws, none-plan, refused-plan, whole-plan}
 use Rattle.bk_media_plans.proofs.planning_restore.restore_first.Goals as goal
 
 pub returns-in-Err-clause-plans : goal.returns-in-Err-clause-plans
@@ -11,9 +11,15 @@ returns-in-Err-clause-plans c =
 pub returns-in-Ok-check_set-clause-plans : goal.returns-in-Ok-check_set-clause-plans
 returns-in-Ok-check_set-clause-plans c =
     let is : c.args.first ≡ Ok c.in-Ok.body = cc (c.in-Ok.is) in
+    let laws : Laws = record {
+      sets = c.sets_that_stay.ensures.sound;
+      may = c.statements_do_what_they_may.ensures.may;
+      recovers = c.recoveries_undo_what_is_pending.ensures.recovers;
+      keeps = c.placed_logs.ensures.keeps;
+    } in
     if-plan _ _ c.restoring.result
     (λ plan whole. whole-plan c.args.kept.now c.args.line c.args.now c.args.database.now c.args.units.now c.args.disk.now c.args.options.now c.args.first c.in-Ok.body c.in-Ok-check_set.field-0 plan is
-    c.requires.built c.requires.out c.sets_that_stay.ensures.sound c.statements_do_what_they_may.ensures.may c.in-Ok-check_set.ensures whole)
+    c.requires.built c.requires.out laws c.in-Ok-check_set.ensures whole)
     c.restoring.ensures.whole
 
 pub returns-in-Err-check_set-clause-plans : goal.returns-in-Err-check_set-clause-plans

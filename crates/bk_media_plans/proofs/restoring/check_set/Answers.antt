@@ -1,5 +1,5 @@
 -- The checks of a set, one after the other.
-use Rattle.std.proofs.Common.{◌≡◌, List, Option, map, sym, ◌∙◌, ap, subst}
+use Rattle.std.proofs.Common.{List, Option, map, sym, ◌∙◌, ap, subst}
 use Rattle.std.specs.Option.{option_map}
 use Rattle.bk_kept.specs.Keeps.{database_of}
 use Rattle.bk_machine.specs.Checks.{Checked, ◌>>=◌}

@@ -1,4 +1,6 @@
 use Rattle.std.proofs.Common.{ℕ, ◌+◌, ◌++◌, map, None, sym, ◌∙◌, subst}
+use Rattle.bk_ids.specs.declared.record.Rec.{Rec}
+use Rattle.std.specs.Prelude.{List}
 use Rattle.bk_record.specs.Log.{IsLog}
 use Rattle.bk_set.specs.Conditions.{KeepParts}
 use Rattle.bk_undo.specs.Spelled.{spelled}
@@ -11,17 +13,19 @@ use Rattle.bk_media_plans.proofs.set.set_of.Goals as goal
 
 pub returns-clause-carries : goal.returns-clause-carries
 returns-clause-carries c =
-    let log : IsLog c.in_ok-log.log (map spelled (numbered c.args.database.now.shown.end (alone (checkpointed c.args.time)) ++ numbered (c.args.database.now.shown.end + 1) (alone (stamped c.args.time c.args.set)))) None =
-    subst (λ (n : ℕ). IsLog c.in_ok-log.log (map spelled (numbered n (alone (checkpointed c.args.time)) ++ numbered (n + 1) (alone (stamped c.args.time c.args.set)))) None) c.end-end.ensures.same c.in_ok-log.ensures in
+    let log : (records : List Rec) → IsLog c.args.database.now.live records None
+    → IsLog c.in_ok-log.log (records ++ map spelled (numbered c.args.database.now.shown.end (alone (checkpointed c.args.time)) ++ numbered (c.args.database.now.shown.end + 1) (alone (stamped c.args.time c.args.set)))) None =
+    λ records is.
+    subst (λ (n : ℕ). IsLog c.in_ok-log.log (records ++ map spelled (numbered n (alone (checkpointed c.args.time)) ++ numbered (n + 1) (alone (stamped c.args.time c.args.set)))) None) c.end-end.ensures.same
+    (c.in_ok-log.ensures records is) in
     made-some c.make.result _ _ _ _
-    (λ w lines shows closed settled is.
+    (λ w lines shows live begun is.
     carries-made w lines c.args.database.now c.args.set c.args.time (record { header = c.in_ok-header.header; tables = c.in_ok-tables.tables; rows = c.new.result; log = c.in_ok-log.log }) shows
     (c.in_ok-header.ensures w shows)
     (λ files rs sh. sym (c.tables.ensures files rs sh) ∙ sym c.in_ok-tables.ensures)
-    (λ files rs sh none. subst (AreRowsOf rs) (sym c.new.ensures) (c.in_ok-rows.ensures.rows files rs sh none))
+    (λ files rs sh. subst (AreRowsOf rs) (sym c.new.ensures) (c.in_ok-rows.ensures.rows files rs sh))
     log
-    (λ files rs sh. sym c.end-end.ensures.same ∙ c.end-end.ensures.shown files rs sh)
-    c.placed_logs.ensures.more closed settled is)
+    c.placed_logs.ensures.more live begun is)
     c.make.ensures.made
 
 pub returns-clause-some : goal.returns-clause-some

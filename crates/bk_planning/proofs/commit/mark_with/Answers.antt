@@ -4,7 +4,7 @@ use Rattle.bk_machine.specs.World.{log_of}
 use Rattle.bk_machine.specs.statements.Commit.{mark_with}
 use Rattle.bk_plans.specs.PlanLaws.{if-ok}
 use Rattle.bk_world.specs.Pending.{Pending, of_transaction}
-use Rattle.bk_planning.proofs.Undone.{marked, unmarked}
+use Rattle.bk_planning.proofs.Marks.{marked, unmarked}
 use Rattle.bk_planning.proofs.commit.mark_with.Goals as goal
 
 pub returns-then-has_written-clause-is : goal.returns-then-has_written-clause-is

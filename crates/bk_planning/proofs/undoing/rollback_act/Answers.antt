@@ -1,11 +1,10 @@
-use Rattle.std.proofs.Common.{◌≡◌, ℕ, List, ◌∙◌, ap, map, subst}
+use Rattle.std.proofs.Common.{ℕ, List, ◌∙◌, ap, map, subst}
 use Rattle.bk_acts.specs.Meaning.{Spell}
 use Rattle.bk_acts.specs.declared.act.StoredAct.TheVariants.{Logged}
-use Rattle.bk_kept.specs.Keeps.{ShowsLog, database_of}
-use Rattle.bk_machine.specs.World.{World, log_of}
+use Rattle.bk_kept.specs.Keeps.{database_of}
+use Rattle.bk_machine.specs.World.{log_of}
 use Rattle.bk_plans.specs.PlanLaws.{if-ok}
 use Rattle.bk_shown.specs.Shown.{pending_of}
-use Rattle.bk_world.specs.Pending.{pending}
 use Rattle.bk_world.specs.Says.{rollback_said}
 use Rattle.bk_world.specs.declared.transaction.Open.{Open}
 use Rattle.bk_planning.proofs.PlannedEnds.{rollback-done, says-rollback}

@@ -1,8 +1,8 @@
-use Rattle.std.proofs.Common.{◌≡◌, ℕ, List, [], reverse, ◌∙◌, ap, map, subst}
+use Rattle.std.proofs.Common.{ℕ, List, ◌∙◌, ap, map, subst}
 use Rattle.bk_acts.specs.Meaning.{Spell}
 use Rattle.bk_acts.specs.declared.act.StoredAct.TheVariants.{Logged}
-use Rattle.bk_kept.specs.Keeps.{ShowsLog, database_of}
-use Rattle.bk_machine.specs.World.{World, log_of}
+use Rattle.bk_kept.specs.Keeps.{database_of}
+use Rattle.bk_machine.specs.World.{log_of}
 use Rattle.bk_plans.specs.PlanLaws.{if-ok}
 use Rattle.bk_shown.specs.Shown.{pending_of}
 use Rattle.bk_world.specs.Says.{settle_said}

@@ -1,4 +1,4 @@
-use Rattle.std.proofs.Common.{◌∙◌, sym, arith}
+use Rattle.std.proofs.Common.{arith}
 use Rattle.bk_record.specs.LengthLaws.{length-spelling}
 use Rattle.bk_record.proofs.lengths.spelled_len.Goals as goal
 

@@ -1,4 +1,4 @@
-use Rattle.std.proofs.Common.{◌≡◌, ◌+◌, ◌++◌, List, ℕ, length, ap, ◌∙◌, append_assoc, arith}
+use Rattle.std.proofs.Common.{◌++◌, List, ℕ, ap, ◌∙◌, append_assoc, arith}
 use Rattle.bk_bytes.specs.Field.{bytes_of}
 use Rattle.bk_record.specs.LengthLaws.{length-spelling, spelling-parts}
 use Rattle.bk_record.specs.Spelling.{inside}

@@ -1,10 +1,10 @@
--- The checks of INSERT behind those of its table and its value.
+-- The checks of a row that is new.
 use Rattle.std.proofs.Common.{◌≡◌, Ok, rules, sym, ◌∙◌, ap}
 use Rattle.bk_machine.specs.Checks.{refuse_if}
-use Rattle.bk_machine.specs.statements.Target.{Target, sees_key}
+use Rattle.bk_machine.specs.statements.Target.{Target, check_new, sees_key}
 use Rattle.bk_plans.specs.Checking.{IsRefused}
 use Rattle.bk_world.specs.declared.rule.Rule.TheVariants.{DuplicateKey}
-use Rattle.bk_row_plans.specs.Targets.{check_new, target_of}
+use Rattle.bk_row_plans.specs.Targets.{target_of}
 use Rattle.bk_row_plans.proofs.Chains.{new-full, new-passed, new-unleft}
 use Rattle.bk_row_plans.proofs.rows.check_new.Goals as goal
 

@@ -18,7 +18,7 @@ returns-in-Some-clause-plans c =
     (λ plan says line.
     rows-written c.args.kept.now line c.args.now table (row.Delete key) (λ w. check_delete w table key) (λ w. DoesDelete w key c.args.now) (λ w outcome is. is) d t c.in-Ok.ensures.check
     c.in-Ok.ensures.shows c.in-Ok.ensures.its c.statements_do_what_they_may.ensures.may (if-some _ _ _ c.in-Some.is c.in-Ok.ensures.left) _ c.own_open-own.ensures key (Some before) None at plan
-    (says (record { table = t.number; key = key; value = None }) (Some before) c.deleted-cells.ensures.are) c.deleted-cells.ensures.are.fits
+    (says (record { table = t.number; key = key; value = None }) (Some before) c.gone_cells-cells.ensures.are) c.gone_cells-cells.ensures.are.fits
     (λ w sound keeps. let seen = in-some _ _ _ _ c.in-Some.is (c.in-Ok.ensures.seen w sound keeps) in changes-some w d t key None c.args.now before at seen.0 seen.1))
     c.row_plan.ensures.says
 

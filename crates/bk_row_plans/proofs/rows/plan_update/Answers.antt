@@ -19,7 +19,7 @@ returns-in-Some-clause-plans c =
     (λ plan says line.
     rows-written c.args.kept.now line c.args.now table (row.Update key value) (λ w. check_update w table key value) (λ w. DoesUpdate w key value c.args.now) (λ w outcome is. is) d t c.in-Ok.ensures.check
     c.in-Ok.ensures.shows c.in-Ok.ensures.its c.statements_do_what_they_may.ensures.may (if-some _ _ _ c.in-Some.is c.in-Ok.ensures.left) _ c.own_open-own.ensures key (Some before) (Some value) at plan
-    (says (record { table = t.number; key = key; value = Some value }) (Some before) c.updated-cells.ensures.are) c.updated-cells.ensures.are.fits
+    (says (record { table = t.number; key = key; value = Some value }) (Some before) c.changed_cells-cells.ensures.are) c.changed_cells-cells.ensures.are.fits
     (λ w sound keeps. let seen = in-some _ _ _ _ c.in-Some.is (c.in-Ok.ensures.seen w sound keeps) in changes-some w d t key (Some value) c.args.now before at seen.0 seen.1))
     c.row_plan.ensures.says
 

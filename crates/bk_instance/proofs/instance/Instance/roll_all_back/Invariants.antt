@@ -1,6 +1,6 @@
 use Rattle.bk_device.specs.Counts.{HasCause}
 use Rattle.bk_device.specs.Effects.{Effect}
-use Rattle.bk_instance.specs.Closing.{RestsIdle}
+use Rattle.bk_instance.specs.Closing.{RestsClosed}
 use Rattle.bk_instance.specs.Media.{MediaAreDurable, IfDurable}
 use Rattle.bk_instance.specs.Stands.{CutsEnd, IsReady, IsStored, IsOurs}
 use Rattle.bk_instance.specs.Touched.{TouchesOwn}
@@ -14,7 +14,7 @@ invariant-loop-round g l = record {
   media : g.D.Device.tells → MediaAreDurable (g.D.Device.disk l.fn.dev) → MediaAreDurable (g.D.Device.disk l.dev);
   rolls : RolledSo g.D.Device.tells l.count l._round l.fn.self (g.D.Device.disk l.fn.dev) l.self (g.D.Device.disk l.dev);
   crash : g.D.Device.tells → Effect IsOurs (IfDurable (g.D.Device.disk l.fn.dev) (CutsEnd l.fn.self (g.D.Device.disk l.fn.dev))) (g.D.Device.disk l.fn.dev) (g.D.Device.disk l.dev);
-  still : g.D.Device.tells → RestsIdle l.fn.self (g.D.Device.disk l.fn.dev) l.self (g.D.Device.disk l.dev);
+  still : g.D.Device.tells → RestsClosed l.fn.self (g.D.Device.disk l.fn.dev) l.self (g.D.Device.disk l.dev);
   spares : g.D.Device.tells → TouchesOwn (g.D.Device.disk l.fn.dev) (g.D.Device.disk l.dev);
   cause : HasCause g.D.Device.disk_faults g.D.Device.tell_faults l.fn.dev l.dev ⊥;
 }

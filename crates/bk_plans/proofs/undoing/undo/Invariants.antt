@@ -1,7 +1,7 @@
 use Rattle.std.proofs.Common.{◌≤◌, ◌+◌}
-use Rattle.bk_planning.specs.Undoing.{Undoes}
-use Rattle.bk_planning.proofs.Undone.{last_ones}
-use Rattle.bk_planning.proofs.undoing.undo.Given as goal
+use Rattle.bk_plans.specs.Undoing.{Undoes}
+use Rattle.bk_plans.proofs.Undone.{last_ones}
+use Rattle.bk_plans.proofs.undoing.undo.Given as goal
 
 abbrev pub invariant-loop-i : goal.invariant-loop-i
 invariant-loop-i l = record {

@@ -1,22 +1,13 @@
 -- Pending writes that are undone one after the other, the last one first.
-use Rattle.std.proofs.Common.{◌≡◌, ◌<◌, ◌≤◌, ℕ, zero, suc, ◌+◌, ◌-◌, Bool, true, false, cond, List, [], ◌∷◌, ◌++◌, map, length, take, get_or, reverse, Option, Some, None, refl, sym, ◌∙◌, ap, subst, arith}
-use Rattle.std.specs.Prelude.{◌==◌, ◌||◌, filter}
-use Rattle.std.specs.List.{list_any}
-use Rattle.bk_ids.specs.declared.record.Mark.{Mark}
-use Rattle.bk_machine.specs.statements.Commit.{mark_with}
-use Rattle.std.proofs.lemmas.Bool.Decides.{nat_tests}
+use Rattle.std.proofs.Common.{◌≡◌, ◌<◌, ℕ, ◌+◌, ◌-◌, Bool, true, false, cond, List, [], ◌∷◌, ◌++◌, map, length, take, get_or, reverse, Option, Some, None, refl, sym, ◌∙◌, ap, subst}
+use Rattle.std.specs.Prelude.{◌==◌, filter}
 use Rattle.std.proofs.lemmas.List.{append-nil, get_or-reverse, length-reverse, map-append, reverse-append, take_more}
 use Rattle.std.proofs.lemmas.List.Elements.{filter-append}
 use Rattle.std.proofs.Math.Seq.{take-length}
-use Rattle.bk_acts.specs.Meaning.{Spell}
-use Rattle.bk_planning.specs.Undoing.{Undoes, those_of}
-use Rattle.bk_planning.specs.declared.undoing.Numbered.{Numbered}
-use Rattle.bk_shown.specs.Shown.{ArePlaced, pending_of}
+use Rattle.bk_plans.specs.Undoing.{those_of}
+use Rattle.bk_shown.specs.Shown.{pending_of}
 use Rattle.bk_shown.specs.declared.shown.Written.{Written}
-use Rattle.bk_world.specs.Pending.{Pending, of_transaction}
-use Rattle.bk_world.specs.Records.{Logged, Said, numbered}
-use Rattle.bk_world.specs.Says.{undoing}
-use Rattle.bk_world.specs.declared.database.FileSpec.{FileSpec}
+use Rattle.bk_world.specs.Pending.{Pending}
 
 -- Those of some writes.
 
@@ -62,44 +53,3 @@ pub all-ones : (only : Option ℕ) (ws : List Written) (i : ℕ) → i ≡ lengt
 all-ones only ws i is =
     ap (λ n. those_of only (map pending_of (take n (reverse ws)))) (is ∙ sym (length-reverse ws)) ∙ ap (λ vs. those_of only (map pending_of vs)) (take-length (reverse ws)) ∙ ap (those_of only) (map-reversed pending_of ws)
     ∙ those-reversed only (map pending_of ws)
-
--- Lengths.
-
-fewer : (p : Pending → Bool) (ws : List Pending) → length (filter p ws) ≤ length ws
-fewer p [] = omega arith
-fewer p (w ∷ ws) = by (p w) (fewer p ws)
-  where
-    by : (b : Bool) → length (filter p ws) ≤ length ws → length (cond b (w ∷ filter p ws) (filter p ws)) ≤ suc (length ws)
-    by true le = omega (arith, le)
-    by false le = omega (arith, le)
-
-pub those-fewer : (only : Option ℕ) (ws : List Pending) → length (those_of only ws) ≤ length ws
-those-fewer None ws = omega arith
-those-fewer (Some begin) ws = fewer (λ w. w.begin == begin) ws
-
--- What undoes writes is in its place wherever it comes.
-
-pub undoing-placed : (files : List FileSpec) (rs : List Logged) (n : ℕ) (ws : List Pending) (said : List Said) → ((log : List Logged) (m : ℕ) → ArePlaced files log (numbered m said)) → ArePlaced files rs (numbered n (undoing ws ++ said))
-undoing-placed files rs n [] said rest = rest rs n
-undoing-placed files rs n (w ∷ ws) said rest = (tt, undoing-placed files (rs ++ _ ∷ []) (n + 1) ws said rest)
-
--- The mark of a commit, by whether the transaction has written something.
-
-module _ (begin : ℕ) where
-  pub marked : (ws : List Written) (mark : Option Mark) → list_any (λ (w : Written). w.begin == begin) ws ≡ true → mark_with (of_transaction begin (map pending_of ws)) mark ≡ mark
-  marked [] mark any = absurd (cc (any))
-  marked (w ∷ ws) mark any = by (w.begin == begin) any (marked ws mark)
-    where
-      by : (b : Bool) → (b || list_any (λ (v : Written). v.begin == begin) ws) ≡ true → (list_any (λ (v : Written). v.begin == begin) ws ≡ true → mark_with (of_transaction begin (map pending_of ws)) mark ≡ mark)
-          → mark_with (cond b (pending_of w ∷ of_transaction begin (map pending_of ws)) (of_transaction begin (map pending_of ws))) mark ≡ mark
-      by true any rest = refl
-      by false any rest = rest any
-
-  pub unmarked : (ws : List Written) (mark : Option Mark) → list_any (λ (w : Written). w.begin == begin) ws ≡ false → mark_with (of_transaction begin (map pending_of ws)) mark ≡ None
-  unmarked [] mark none = refl
-  unmarked (w ∷ ws) mark none = by (w.begin == begin) none (unmarked ws mark)
-    where
-      by : (b : Bool) → (b || list_any (λ (v : Written). v.begin == begin) ws) ≡ false → (list_any (λ (v : Written). v.begin == begin) ws ≡ false → mark_with (of_transaction begin (map pending_of ws)) mark ≡ None)
-          → mark_with (cond b (pending_of w ∷ of_transaction begin (map pending_of ws)) (of_transaction begin (map pending_of ws))) mark ≡ None
-      by true none rest = absurd (cc (none))
-      by false none rest = rest none

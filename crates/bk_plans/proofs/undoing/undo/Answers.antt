@@ -1,7 +1,7 @@
-use Rattle.std.proofs.Common.{◌≡◌, ℕ, List, length, subst, arith}
-use Rattle.bk_planning.specs.Undoing.{Undoes}
-use Rattle.bk_planning.proofs.Undone.{all-ones, one-more}
-use Rattle.bk_planning.proofs.undoing.undo.Goals as goal
+use Rattle.std.proofs.Common.{◌≡◌, List, length, subst, arith}
+use Rattle.bk_plans.specs.Undoing.{Undoes}
+use Rattle.bk_plans.proofs.Undone.{all-ones, one-more}
+use Rattle.bk_plans.proofs.undoing.undo.Goals as goal
 use Rattle.bk_world.specs.Pending.{Pending}
 
 pub loop-i-preserved : goal.loop-i-preserved

@@ -1,5 +1,5 @@
 use Rattle.std.proofs.Common.{refl}
-use Rattle.bk_row_plans.proofs.row.deleted.Goals as goal
+use Rattle.bk_row_plans.proofs.row.gone_cells.Goals as goal
 
 pub returns-clause-are : goal.returns-clause-are
 returns-clause-are c = record {

@@ -1,0 +1,68 @@
+-- What undoes pending writes is in its place wherever it comes, and what a recovery says may come next in its log.
+use Rattle.std.proofs.Common.{◌≡◌, ◌≤◌, ℕ, suc, ◌+◌, ◌^◌, Bool, true, false, cond, List, [], ◌∷◌, ◌++◌, length, reverse, Option, None, Some, ◌∙◌, ap, subst, arith}
+use Rattle.std.specs.Prelude.{◌==◌, filter}
+use Rattle.std.proofs.lemmas.List.{append-nil, length-append, length-reverse}
+use Rattle.bk_ids.specs.declared.guid.Guid.{Guid}
+use Rattle.bk_plans.specs.SaidLaws.{counts-length, next-all}
+use Rattle.bk_plans.specs.Undoing.{those_of}
+use Rattle.bk_shown.specs.Shown.{AreNext, ArePlaced}
+use Rattle.bk_world.specs.Pending.{Pending, of_transaction}
+use Rattle.bk_world.specs.Records.{Counts, Logged, Said, numbered, recovered}
+use Rattle.bk_world.specs.Says.{alone, rollback_said, settle_said, undoing}
+use Rattle.bk_world.specs.SettledLaws.{length-undoing}
+use Rattle.bk_world.specs.SoundLogs.{MayFollow}
+use Rattle.bk_world.specs.declared.database.FileSpec.{FileSpec}
+
+-- Lengths.
+
+fewer : (p : Pending → Bool) (ws : List Pending) → length (filter p ws) ≤ length ws
+fewer p [] = omega arith
+fewer p (w ∷ ws) = by (p w) (fewer p ws)
+  where
+    by : (b : Bool) → length (filter p ws) ≤ length ws → length (cond b (w ∷ filter p ws) (filter p ws)) ≤ suc (length ws)
+    by true le = omega (arith, le)
+    by false le = omega (arith, le)
+
+-- some writes are fewer than all
+pub those-fewer : (only : Option ℕ) (ws : List Pending) → length (those_of only ws) ≤ length ws
+those-fewer None ws = omega arith
+those-fewer (Some begin) ws = fewer (λ w. w.begin == begin) ws
+
+-- each write is undone by one record
+pub settle-length : (ws : List Pending) → length (settle_said ws) ≡ length ws
+settle-length ws = length-undoing (reverse ws) ∙ length-reverse ws
+
+pub rollback-length : (begin : ℕ) (ws : List Pending) → length (rollback_said begin ws) ≤ length ws + 1
+rollback-length begin ws =
+    let own : List Pending = of_transaction begin ws in
+    let joined : length (rollback_said begin ws) ≡ length (undoing (reverse own)) + 1 = length-append (undoing (reverse own)) _ in
+    let undone : length (undoing (reverse own)) ≡ length own = length-undoing (reverse own) ∙ length-reverse own in
+    let few : length own ≤ length ws = those-fewer (Some begin) ws in
+    omega (arith, joined, undone, few)
+
+pub recovery-length : (ws : List Pending) (branch : Guid) → length (settle_said ws ++ alone (recovered branch)) ≡ length ws + 1
+recovery-length ws branch = length-append (settle_said ws) (alone (recovered branch)) ∙ ap (λ n. n + 1) (settle-length ws)
+
+-- Places.
+
+undoing-placed : (files : List FileSpec) (rs : List Logged) (n : ℕ) (ws : List Pending) (said : List Said) → ((log : List Logged) (m : ℕ) → ArePlaced files log (numbered m said)) → ArePlaced files rs (numbered n (undoing ws ++ said))
+undoing-placed files rs n [] said rest = rest rs n
+undoing-placed files rs n (w ∷ ws) said rest = (tt, undoing-placed files (rs ++ _ ∷ []) (n + 1) ws said rest)
+
+pub rollback-placed : (files : List FileSpec) (rs : List Logged) (n begin : ℕ) (ws : List Pending) → ArePlaced files rs (numbered n (rollback_said begin ws))
+rollback-placed files rs n begin ws = undoing-placed files rs n (reverse (of_transaction begin ws)) _ (λ log m. (tt, tt))
+
+pub settle-placed : (files : List FileSpec) (rs : List Logged) (n : ℕ) (ws : List Pending) → ArePlaced files rs (numbered n (settle_said ws))
+settle-placed files rs n ws = subst (λ said. ArePlaced files rs (numbered n said)) (append-nil (undoing (reverse ws))) (undoing-placed files rs n (reverse ws) [] (λ log m. tt))
+
+pub recovery-placed : (files : List FileSpec) (rs : List Logged) (n : ℕ) (ws : List Pending) (branch : Guid) → ArePlaced files rs (numbered n (settle_said ws ++ alone (recovered branch)))
+recovery-placed files rs n ws branch = undoing-placed files rs n (reverse ws) (alone (recovered branch)) (λ log m. (tt, tt))
+
+-- What comes next.
+
+-- what a recovery says that undoes some writes may come next, where it may follow and there are numbers for it
+pub recovery-next : (files : List FileSpec) (rs : List Logged) (at : ℕ) (branch : Guid) (ws : List Pending) → Counts 1 rs at → MayFollow rs (numbered at (settle_said ws ++ alone (recovered branch)))
+    → at + length (settle_said ws ++ alone (recovered branch)) ≤ 2 ^ 62 → AreNext files rs (numbered at (settle_said ws ++ alone (recovered branch)))
+recovery-next files rs at branch ws counts may low =
+    let counted : at ≡ 1 + length rs = counts-length 1 rs at counts in
+    next-all files rs at (settle_said ws ++ alone (recovered branch)) (omega (arith, counted)) low may (recovery-placed files rs at ws branch)

@@ -1,0 +1,98 @@
+//! The records by which pending writes are undone.
+
+ghost use Rattle.std.specs.Prelude.{◌≡◌, ◌+◌, ◌<◌, ◌≤◌, ◌^◌, ◌++◌, ◌∷◌, [], ℕ, List, Some, length, map, reverse, if◌then◌else◌, IfOk, OnOk};
+ghost use Rattle.bk_plans.specs.Undoing.{Undoes, those_of};
+ghost use Rattle.bk_record.specs.Spelling.{KeepsLimits};
+ghost use Rattle.bk_shown.specs.Shown.{pending_of};
+ghost use Rattle.bk_undo.specs.Spelled as spelled;
+ghost use Rattle.bk_world.specs.Pending.{Pending};
+ghost use Rattle.bk_world.specs.Records.{undone};
+ghost use Rattle.bk_world.specs.Says.{change_back};
+
+use crate::images::image_of;
+use crate::planning_parts::say;
+use bk_acts::said_law;
+use bk_ids::{Body, Lsn};
+use bk_record::Records;
+use bk_shown::Written;
+use std::alloc::{AllocError, Global};
+
+// How many cells a page has.
+const CELLS: u16 = 63;
+
+/// Records that are said from a number on, and the number behind them.
+#[derive(Drop)]
+pub struct Numbered {
+    pub records: Records,
+    pub next: Lsn,
+}
+
+// What undoes a write. It fails as if memory were wanting where that is of no cell; that statements write no such cell isn't proved here.
+fn undoing(write: &Written) -> Result<Body, AllocError>
+    ensures is { IfOk result (λ body. body ≡ spelled.body_of (undone write.now.place (change_back (pending_of write.now)) write.now.lsn)) }
+    ensures keeps { IfOk result KeepsLimits }
+{
+    if write.place.slot >= CELLS {
+        return Err(AllocError);
+    }
+    let cell = image_of(write.table, write.key, &write.before)?;
+    Ok(Body::Compensation {
+        place: write.place,
+        cell,
+        undone: write.lsn,
+    })
+}
+
+// Whether a transaction is the one that is asked for, or all are.
+fn is_of(only: Option<Lsn>, begin: Lsn) -> bool
+    ensures { (w : Pending) → w.begin ≡ begin → those_of only (w ∷ []) ≡ (if result then w ∷ [] else []) }
+{
+    match only {
+        Some(own) => begin == own,
+        None => true,
+    }
+}
+
+// One write more is undone, if it is one of those.
+fn undo_one(
+    alloc: Global,
+    said: &mut Numbered,
+    write: &Written,
+    only: Option<Lsn>,
+) -> Result<(), AllocError>
+    requires { said.old.next < 2 ^ 62 }
+    ensures undoes { OnOk result ((first : ℕ) (ws : List Pending) → Undoes first ws said.old → Undoes first (ws ++ those_of only (pending_of write.now ∷ [])) said.new) }
+    ensures next { OnOk result (said.new.next ≤ said.old.next + 1) }
+{
+    if is_of(only, write.begin) {
+        let body = undoing(write)?;
+        say(alloc, &mut said.records, said.next, write.begin, body)?;
+        said.next += 1;
+    }
+    Ok(())
+}
+
+/// Records by which of some pending writes those of the transaction with this first record, or all, are undone under numbers from `first`
+/// on, the last one first. It fails as if memory were wanting where a write is of no cell.
+pub fn undo(
+    alloc: Global,
+    written: &[Written],
+    only: Option<Lsn>,
+    first: Lsn,
+) -> Result<Numbered, AllocError>
+    requires { first + length written.now ≤ 2 ^ 62 }
+    ensures undoes { IfOk result (Undoes first (reverse (those_of only (map pending_of written.now)))) }
+    ensures few { IfOk result (λ said. said.next ≤ first + length written.now) }
+{
+    said_law();
+    let mut said = Numbered {
+        records: Records::none(alloc),
+        next: first,
+    };
+    let count = written.len();
+    for i in 0..count {
+        let last = count - 1 - i;
+        undo_one(alloc, &mut said, &written[last], only)?;
+    }
+    Ok(said)
+}
