@@ -10,7 +10,7 @@ use Rattle.std.proofs.Math.Seq.{get_or-append_seam, take-append-add, take-append
 use Rattle.bk_device.specs.Calls.{Elapses, TellsFront}
 use Rattle.bk_device.specs.Disk.{Files, Disk}
 use Rattle.bk_instance.specs.declared.instance.Instance.{Instance}
-use Rattle.bk_instance.specs.Stands.{Covers, StandsFor}
+use Rattle.bk_instance.specs.Stands.{CoversBehind, StandsFor}
 use Rattle.bk_instance.specs.Steps.{MayCome}
 use Rattle.bk_instance.specs.Touched.{IsTouched}
 use Rattle.bk_items.specs.declared.item.ScriptEntry.{ScriptEntry}
@@ -25,6 +25,7 @@ use Rattle.bk_console.specs.Answers.{is_refusal, NoneRefused, EndsRefused, GoesO
 use Rattle.bk_console.specs.Crashes.{CrashLaws}
 use Rattle.bk_console.specs.Spares.{AreStill, LeavesAlone, OutcomesWrite, Spares}
 use Rattle.bk_console.proofs.Asking.{elapses-none, elapses-then}
+use Rattle.bk_console.proofs.Covering.{covers-by}
 use Rattle.bk_console.proofs.Sparing.{spares-more, spares-none, spares-then, spares-wider, still-front, writes-before, writes-last}
 use Rattle.bk_console.proofs.Leaving.{run-more, behind-more, replies-more, replies-length, LeavesOf-done, LeavesOf-within, LeavesOf-more}
 
@@ -156,7 +157,7 @@ module _ (laws : CrashLaws) (stop : Bool) (old mid : Instance) (script ss : List
   cut-nowhere t image heard cut durable number w stands =
       let to = so_far.runs t w stands in
       LeavesOf-done laws number w stands.sound ss so_far.moments so_far.outcomes to.0 disk.told image heard
-      (cut.0 (so_far.media t durable) number (behind_all w so_far.outcomes) to.1)
+      (covers-by mid.waiting number image (behind_all w so_far.outcomes) (cut.0 (so_far.media t durable) number (behind_all w so_far.outcomes) to.1))
       (front_same disk.told disk1.told heard (replies_of so_far.outcomes) (so_far.text t) cut.1)
 
   -- before the reply is told, while it is, or behind it
@@ -170,7 +171,7 @@ module _ (laws : CrashLaws) (stop : Bool) (old mid : Instance) (script ss : List
   cut-telling t now o may image heard (inr holds) durable number w stands =
       let to = so_far.runs t w stands in
       LeavesOf-done laws number w stands.sound (ss ++ s ∷ []) (so_far.moments ++ now ∷ []) (so_far.outcomes ++ o ∷ []) (run-next t now o may w stands) disk.told image heard
-      (subst (Covers number image) (sym (behind-more w so_far.outcomes o)) (holds.0 (so_far.media t durable) number (behind_all w so_far.outcomes) to.1))
+      (subst (CoversBehind number image) (sym (behind-more w so_far.outcomes o)) (holds.0 (so_far.media t durable) number (behind_all w so_far.outcomes) to.1))
       (front_next disk.told disk1.told heard so_far.outcomes o (so_far.text t) holds.1)
 
   crashes-nowhere : dt → Elapses disk1 disk2 (CutNowhere mid disk1) → Elapses disk disk2 (CrashLeaves old disk so_far.outcomes)

@@ -8,12 +8,12 @@ use Rattle.bk_device.specs.Disk.{Files, Disk, MayLeave, IsSettled}
 use Rattle.bk_device.specs.Effects.{Effect, KeepsFiles, LeavesSince}
 use Rattle.bk_device.specs.Names.{same_or_other}
 use Rattle.bk_home.specs.Home.{IsOwn, rows_file}
-use Rattle.bk_home.specs.Laws.{home_kept, home_durable, blobs_same}
+use Rattle.bk_home.specs.Laws.{home_kept, home_durable}
 use Rattle.bk_instance.specs.declared.error.ExecuteError.{ExecuteError}
 use Rattle.bk_instance.specs.declared.error.ExecuteError.TheVariants as execute
 use Rattle.bk_instance.specs.declared.instance.Instance.{Instance}
 use Rattle.bk_instance.specs.Media.{MediaAreDurable, IfDurable}
-use Rattle.bk_instance.specs.Stands.{AreMade, IsReady, IsStored, StandsFor, IsOurs}
+use Rattle.bk_instance.specs.Stands.{IsReady, IsStored, StandsFor, IsOurs}
 use Rattle.bk_instance.specs.Steps.{DoesAll, Cuts}
 use Rattle.bk_machine.specs.Machine.{behind}
 use Rattle.bk_machine.specs.Outcome.{Outcome}
@@ -22,7 +22,7 @@ use Rattle.bk_media.specs.Names.{medium_file}
 use Rattle.bk_world.specs.Text.{reply_text}
 use Rattle.bk_console.specs.declared.answers.AnswerError.TheVariants.{Console, Broken}
 use Rattle.bk_console.specs.Answers.{Asked, NotOurs, CutBefore, CutWithin, HoldsNext, executed_error}
-use Rattle.bk_console.proofs.Covering.{media-in, now-covers}
+use Rattle.bk_console.proofs.Covering.{holds-in, now-covers}
 
 pub OnErr-from : {T E : Type 0} {P : Type 0} → (r : Result T E) → P → OnErr r P
 OnErr-from (Ok x) p = tt
@@ -92,8 +92,7 @@ pub told-stands : (i : Instance) (before after : Disk) (w : World) (bytes : List
 told-stands i before after w bytes tells stands = record {
   sound = stands.sound;
   keeps = stands.keeps;
-  made = subst (λ blobs. AreMade blobs w) (sym (blobs_same before.files after.files (tells.files rows_file))) stands.made;
-  media = media-in w None before.files after.files (λ path are. tells.files (medium_file path)) stands.media;
+  holds = holds-in i.waiting w before.files after.files (tells.files rows_file) (λ path are. tells.files (medium_file path)) stands.holds;
 }
 
 -- One statement.
@@ -121,7 +120,7 @@ executed-broken execute.Fault h = absurd cc
 executed-broken execute.NoMemory h = absurd cc
 executed-broken execute.Broken h = refl
 
--- the instance holds its world at each crash while its reply is told
+-- the instance's files hold its world at each crash while its reply is told, but for what waits
 telling-holds : (old new : Instance) (outcome : Outcome) (a b : Disk) → IsReady new → IsStored b new → (MediaAreDurable a → MediaAreDurable b) → DoesAll old a outcome new b
     → (image : Files) → MayLeave b image → HoldsNext old a outcome image
 telling-holds old new outcome a b ready stored calm does image left durable number w stands =

@@ -7,7 +7,7 @@ use Rattle.std.proofs.lemmas.Grind.{flat_map-append}
 use Rattle.std.proofs.Math.Seq.{take-append_seam, take-length, drop-append_seam}
 use Rattle.bk_device.specs.Calls.{TellsFront}
 use Rattle.bk_device.specs.Disk.{Files}
-use Rattle.bk_instance.specs.Stands.{Covers, StandsNear}
+use Rattle.bk_instance.specs.Stands.{CoversBehind, StandsNear}
 use Rattle.bk_items.specs.declared.item.ScriptEntry.{ScriptEntry}
 use Rattle.bk_machine.specs.Acts.{Act, done, done_all}
 use Rattle.bk_machine.specs.Closing.{AreClosing, closed_by}
@@ -97,16 +97,16 @@ LeavesOf-none laws number w outcomes told image heard near same =
 
 -- behind some acts of the last one, once the texts of the replies to those before it were told
 pub LeavesOf-last : (number : ℕ) (first : World) (outcomes : List Outcome) (o : Outcome) → LeavesFrom number first (outcomes ++ o ∷ []) → (k : ℕ) (told : List ℕ) (image : Files) (heard : List ℕ)
-    → Covers number image (done_all (behind_all first outcomes) (take k o.acts)) → heard ≡ told ++ replies_text (replies_of outcomes)
+    → CoversBehind number image (done_all (behind_all first outcomes) (take k o.acts)) → heard ≡ told ++ replies_text (replies_of outcomes)
     → LeavesOf number first (outcomes ++ o ∷ []) told image heard
 LeavesOf-last number first outcomes o cut k told image heard covers same =
     let all : List Outcome = outcomes ++ o ∷ [] in
     let count : ℕ = length (replies_text (replies_of outcomes)) in
     let whole : told_whole (replies_of all) count ≡ told_whole (replies_of outcomes) count =
     ap (λ rs. told_whole rs count) (replies-more outcomes o) ∙ told-front (replies_of outcomes) (o.reply ∷ []) count (omega arith) in
-    let there : Covers number image (cut_between first all (length outcomes) k) =
-    subst (λ os. Covers number image (done_all (behind_all first (take (length outcomes) all)) (take k (next_acts os)))) (sym (drop-append_seam outcomes (o ∷ [])))
-    (subst (λ os. Covers number image (done_all (behind_all first os) (take k o.acts))) (sym (take-append_seam outcomes (o ∷ []))) covers) in
+    let there : CoversBehind number image (cut_between first all (length outcomes) k) =
+    subst (λ os. CoversBehind number image (done_all (behind_all first (take (length outcomes) all)) (take k (next_acts os)))) (sym (drop-append_seam outcomes (o ∷ [])))
+    (subst (λ os. CoversBehind number image (done_all (behind_all first os) (take k o.acts))) (sym (take-append_seam outcomes (o ∷ []))) covers) in
     let to = cut (told_whole (replies_of all) count) (length outcomes) k image
     (omega (arith, whole, told-all (replies_of outcomes) count, replies-length outcomes)) (omega (arith, length-append outcomes (o ∷ []))) there in
     let texts : replies_text (replies_of all) ≡ replies_text (replies_of outcomes) ++ replies_text (o.reply ∷ []) =
@@ -124,11 +124,11 @@ LeavesOf-last number first outcomes o cut k told image heard covers same =
 
 module _ (laws : CrashLaws) (number : ℕ) (first : World) (sound : IsSound first) (statements : List ScriptEntry) (moments : List ℕ) (outcomes : List Outcome) (run : IsRun first statements moments outcomes) where
   -- behind all of them, of whose replies' texts a front was told
-  pub LeavesOf-done : (told : List ℕ) (image : Files) (heard : List ℕ) → Covers number image (behind_all first outcomes) → TellsFront (replies_text (replies_of outcomes)) told heard
+  pub LeavesOf-done : (told : List ℕ) (image : Files) (heard : List ℕ) → CoversBehind number image (behind_all first outcomes) → TellsFront (replies_text (replies_of outcomes)) told heard
       → LeavesOf number first outcomes told image heard
   LeavesOf-done told image heard covers front =
       let texts = front-within (replies_text (replies_of outcomes)) told heard front in
-      let there : Covers number image (cut_between first outcomes (length outcomes) 0) = subst (λ os. Covers number image (behind_all first os)) (sym (take-length outcomes)) covers in
+      let there : CoversBehind number image (cut_between first outcomes (length outcomes) 0) = subst (λ os. CoversBehind number image (behind_all first os)) (sym (take-length outcomes)) covers in
       let to = laws.runs number first statements moments outcomes sound run (told_whole (replies_of outcomes) texts.0) (length outcomes) 0 image
       (omega (arith, told-all (replies_of outcomes) texts.0, replies-length outcomes)) (omega arith) there in
       record {
@@ -144,14 +144,14 @@ module _ (laws : CrashLaws) (number : ℕ) (first : World) (sound : IsSound firs
 
   -- behind some acts of the next one
   pub LeavesOf-within : (s : ScriptEntry) (now : ℕ) (o : Outcome) → May (behind_all first outcomes) s now o → (k : ℕ) (told : List ℕ) (image : Files) (heard : List ℕ)
-      → Covers number image (done_all (behind_all first outcomes) (take k o.acts)) → heard ≡ told ++ replies_text (replies_of outcomes)
+      → CoversBehind number image (done_all (behind_all first outcomes) (take k o.acts)) → heard ≡ told ++ replies_text (replies_of outcomes)
       → LeavesOf number first (outcomes ++ o ∷ []) told image heard
   LeavesOf-within s now o may = LeavesOf-last number first outcomes o
       (laws.runs number first (statements ++ s ∷ []) (moments ++ now ∷ []) (outcomes ++ o ∷ []) sound (run-more first statements moments outcomes s now o run may))
 
   -- behind some acts of its closing
   pub LeavesOf-closing : (acts : List Act) → AreClosing (behind_all first outcomes) acts → (k : ℕ) (told : List ℕ) (image : Files) (heard : List ℕ)
-      → Covers number image (done_all (behind_all first outcomes) (take k acts)) → heard ≡ told ++ replies_text (replies_of outcomes)
+      → CoversBehind number image (done_all (behind_all first outcomes) (take k acts)) → heard ≡ told ++ replies_text (replies_of outcomes)
       → LeavesOf number first (outcomes ++ closed_by acts ∷ []) told image heard
   LeavesOf-closing acts closing = LeavesOf-last number first outcomes (closed_by acts) (laws.closings number first statements moments outcomes acts sound run closing)
 

@@ -15,7 +15,7 @@ use Rattle.bk_instance.specs.declared.error.LoadError.TheVariants as load
 use Rattle.bk_instance.specs.declared.instance.Instance.{Instance}
 use Rattle.bk_instance.specs.Loading.{LeavesOpened}
 use Rattle.bk_instance.specs.Media.{MediaAreDurable, IfDurable}
-use Rattle.bk_instance.specs.Stands.{Covers, Stands, StandsNear, CutsEnd, IsStored, ReservesNone, StandsFor, IsOurs}
+use Rattle.bk_instance.specs.Stands.{Covers, CoversBehind, Stands, StandsNear, CutsEnd, IsStored, ReservesNone, StandsFor, IsOurs}
 use Rattle.bk_instance.specs.Steps.{Closed}
 use Rattle.bk_instance.specs.Touched.{IsMaking, IsTouched, TouchesOnly, TouchesOwn}
 use Rattle.bk_items.specs.declared.item.ScriptEntry.{ScriptEntry}
@@ -325,7 +325,7 @@ module _ (laws : CrashLaws) (options : WordOptions) (statements : List ScriptEnt
             cut = there.outcomes ++ closed_by acts ∷ [];
             which = inr (refl, told);
             leaves = LeavesOf-closing laws options.instance (opened w) begin.sound (take (length there.outcomes) statements) there.moments there.outcomes to.0 acts closes cut.2.done disk.told image disk2.told
-                (subst (λ xs. Covers options.instance image (done_all (behind_all (opened w) there.outcomes) (take cut.2.done xs))) (sym same) cut.2.covers) told;
+                (subst (λ xs. CoversBehind options.instance image (done_all (behind_all (opened w) there.outcomes) (take cut.2.done xs))) (sym same) cut.2.covers) told;
           }
 
       since-close : dt → (settled : IsSettled disk) (w : World) (stands : Stands options.instance disk.files w) (acts : List Act) → AreClosing (behind_all (opened w) there.outcomes) acts

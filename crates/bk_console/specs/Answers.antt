@@ -7,7 +7,7 @@ use Rattle.bk_instance.specs.declared.instance.Instance.{Instance}
 use Rattle.bk_instance.specs.declared.error.ExecuteError.{ExecuteError}
 use Rattle.bk_instance.specs.declared.error.ExecuteError.TheVariants as execute
 use Rattle.bk_instance.specs.Media.{MediaAreDurable, IfDurable}
-use Rattle.bk_instance.specs.Stands.{Stands, Covers, StandsFor, IsOurs}
+use Rattle.bk_instance.specs.Stands.{Stands, CoversBehind, StandsFor, IsOurs}
 use Rattle.bk_instance.specs.Steps.{MayCome, DoesAll, Cuts, Stays}
 use Rattle.bk_instance.specs.Touched.{IsTouched}
 use Rattle.bk_items.specs.declared.item.ScriptEntry.{ScriptEntry}
@@ -87,9 +87,9 @@ abbrev pub CrashLeaves : Instance → Disk → List Outcome → Files → List �
 CrashLeaves old disk outcomes image heard =
     MediaAreDurable disk → (number : ℕ) (w : World) → StandsFor old disk w → LeavesOf number w outcomes disk.told image heard
 
--- the files hold what a crash leaves of the world behind an outcome
+-- the files hold what a crash leaves of the world behind an outcome, but for what waits there
 abbrev pub HoldsNext : Instance → Disk → Outcome → Files → Type 0
-HoldsNext old disk outcome image = MediaAreDurable disk → (number : ℕ) (w : World) → StandsFor old disk w → Covers number image (behind w outcome)
+HoldsNext old disk outcome image = MediaAreDurable disk → (number : ℕ) (w : World) → StandsFor old disk w → CoversBehind number image (behind w outcome)
 
 -- what a crash leaves before a reply is told
 abbrev pub CutBefore : Instance → Disk → Outcome → Files → List ℕ → Type 0

@@ -32,8 +32,8 @@ use std::thread::Threads;
 /// what is open is rolled back. Answers the exit status.
 ///
 /// The instance is made where the device holds none. What a statement changed is on the device before its reply is told,
-/// and a crash at any moment leaves what a crash of the machine leaves. No other file is touched. At statuses 2, 3, 7 and
-/// 8 nothing was told, and no file is changed.
+/// and what it said in a transaction that is open then before the reply to its commit; a crash at any moment leaves what a
+/// crash of the machine leaves. No other file is touched. At statuses 2, 3, 7 and 8 nothing was told, and no file is changed.
 pub fn run<R: Threads + Sync, D: Device, S: Source, C: Clock>(
     _rt: &R,
     alloc: Global,

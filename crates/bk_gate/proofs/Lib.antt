@@ -1,4 +1,3 @@
 pub mod Gates
-pub mod Pairs
 pub mod Reading
 pub mod Steps

@@ -144,19 +144,19 @@ open_quiet spans end size name a b quiet prepared wrote durable =
 
 -- sealing: preparing, and then opening
 
-pub seal_crash : (spans : List (ℕ × ℕ)) (end size : ℕ) (name : List ℕ) (a b d : Disk) → sealed (b.files name) ≡ sealed (a.files name) → read_at (contents (b.files name)) (end + 9) size ≡ read_at (contents (a.files name)) (end + 9) size → Effect (IsName name) (Keeps name a) a b → Quiet spans end name b → IsPrepared end size (contents (b.files name)) → Effect (IsName name) (λ image. LeavesWrite end 1 (b.files name) (image name)) b d → Effect (IsName name) (KeepsOrAdds name a (read_at (contents (a.files name)) (end + 9) size)) a d
-seal_crash spans end size name a b d same blob first quiet prepared second =
+pub seal_crash : (spans : List (ℕ × ℕ)) (end size : ℕ) (name blob : List ℕ) (a b d : Disk) → sealed (b.files name) ≡ sealed (a.files name) → read_at (contents (b.files name)) (end + 9) size ≡ blob → Effect (IsName name) (Keeps name a) a b → Quiet spans end name b → IsPrepared end size (contents (b.files name)) → Effect (IsName name) (λ image. LeavesWrite end 1 (b.files name) (image name)) b d → Effect (IsName name) (KeepsOrAdds name a blob) a d
+seal_crash spans end size name blob a b d same is first quiet prepared second =
     effect_then (effect_weaken (λ image kept. inl kept) first)
     (effect_weaken (λ image either. elim either [
       | inl kept ↦ inl (kept ∙ same)
-      | inr added ↦ inr (added ∙ ap (λ (bs : List (List ℕ)). bs ++ read_at (contents (b.files name)) (end + 9) size ∷ []) same ∙ ap (λ (x : List ℕ). sealed (a.files name) ++ x ∷ []) blob)
+      | inr added ↦ inr (added ∙ ap (λ (bs : List (List ℕ)). bs ++ read_at (contents (b.files name)) (end + 9) size ∷ []) same ∙ ap (λ (x : List ℕ). sealed (a.files name) ++ x ∷ []) is)
     ]) (open_crash spans end size name b d quiet prepared second))
 
-pub seal_value : (spans : List (ℕ × ℕ)) (end size : ℕ) (name : List ℕ) (a b d : Disk) → sealed (b.files name) ≡ sealed (a.files name) → read_at (contents (b.files name)) (end + 9) size ≡ read_at (contents (a.files name)) (end + 9) size → Quiet spans end name b → IsPrepared end size (contents (b.files name)) → d.files name ≡ Some (written (contents (b.files name)) end (1 ∷ [])) → sealed (d.files name) ≡ sealed (a.files name) ++ read_at (contents (a.files name)) (end + 9) size ∷ []
-seal_value spans end size name a b d same blob quiet prepared wrote =
+pub seal_value : (spans : List (ℕ × ℕ)) (end size : ℕ) (name blob : List ℕ) (a b d : Disk) → sealed (b.files name) ≡ sealed (a.files name) → read_at (contents (b.files name)) (end + 9) size ≡ blob → Quiet spans end name b → IsPrepared end size (contents (b.files name)) → d.files name ≡ Some (written (contents (b.files name)) end (1 ∷ [])) → sealed (d.files name) ≡ sealed (a.files name) ++ blob ∷ []
+seal_value spans end size name blob a b d same is quiet prepared wrote =
     open_sealed spans end size name b d quiet prepared wrote
     ∙ ap (λ (bs : List (List ℕ)). bs ++ read_at (contents (b.files name)) (end + 9) size ∷ []) same
-    ∙ ap (λ (x : List ℕ). sealed (a.files name) ++ x ∷ []) blob
+    ∙ ap (λ (x : List ℕ). sealed (a.files name) ++ x ∷ []) is
 
 -- cutting what stands behind the closed gate byte
 
@@ -192,15 +192,6 @@ cut_quiet spans end len name a b quiet is call cut =
 pub cut_there : (file : Option (List ℕ)) (n len : ℕ) → n < length (contents file) → len ≡ n + 1 → IsSomeAnd file (λ f. len ≤ length f)
 cut_there None n len inside is = absurd (omega arith)
 cut_there (Some f) n len inside is = omega arith
-
--- a step that keeps the blobs, and then a sealing
-pub store_crash : (end size : ℕ) (name : List ℕ) (a b d : Disk) → sealed (b.files name) ≡ sealed (a.files name) → read_at (contents (b.files name)) (end + 9) size ≡ read_at (contents (a.files name)) (end + 9) size → Effect (IsName name) (Keeps name a) a b → Effect (IsName name) (KeepsOrAdds name b (read_at (contents (b.files name)) (end + 9) size)) b d → Effect (IsName name) (KeepsOrAdds name a (read_at (contents (a.files name)) (end + 9) size)) a d
-store_crash end size name a b d same blob first second =
-    effect_then (effect_weaken (λ image kept. inl kept) first)
-    (effect_weaken (λ image either. elim either [
-      | inl kept ↦ inl (kept ∙ same)
-      | inr added ↦ inr (added ∙ ap (λ (bs : List (List ℕ)). bs ++ read_at (contents (b.files name)) (end + 9) size ∷ []) same ∙ ap (λ (x : List ℕ). sealed (a.files name) ++ x ∷ []) blob)
-    ]) second)
 
 -- nothing was done
 pub at_none : (spans : List (ℕ × ℕ)) (end : ℕ) (is_closed : Bool) (name : List ℕ) (a : Disk) → IsAt spans end is_closed name a → Effect (IsName name) (Keeps name a) a a

@@ -1,19 +1,18 @@
 -- What the front of a gate file says of its sealed blobs.
-use Rattle.std.proofs.Common.{◌≡◌, ◌≢◌, ◌⊎◌, ◌<◌, ◌≤◌, ◌^◌, ℕ, zero, suc, ◌+◌, ◌-◌, max, Bool, true, false, ◌&&◌, List, [], ◌∷◌, ◌++◌, length, map, take, drop, get_or, Option, Some, None, refl, inl, inr, sym, ◌∙◌, ap, subst, arith, lit<, length-append, length-take, length-drop, add-zero}
-use Rattle.std.specs.Prelude.{◌==◌, nat_le, slice_index, slice_get, if◌then◌else◌}
+use Rattle.std.proofs.Common.{◌≡◌, ◌≢◌, ◌⊎◌, ◌<◌, ◌≤◌, ◌^◌, ℕ, zero, suc, ◌+◌, ◌-◌, max, Bool, true, false, ◌&&◌, List, [], ◌∷◌, ◌++◌, length, map, take, drop, get_or, Option, Some, None, refl, inl, inr, sym, ◌∙◌, ap, subst, arith, lit<, length-append, length-take, add-zero, append_assoc}
+use Rattle.std.specs.Prelude.{◌==◌, nat_le, slice_index, slice_get, set, if◌then◌else◌}
 use Rattle.std.specs.Option.{option_map_or}
 use Rattle.std.specs.Str.{bytes_eq}
 use Rattle.std.proofs.lemmas.Bool.{eqb-true, leb-true, le-leb, and_parts, and_from}
 use Rattle.std.proofs.lemmas.Slice.Eq.{bytes_eq-Decides}
-use Rattle.std.proofs.Math.Seq.{take-append_seam, drop-append_seam, take-length}
-use Rattle.std.proofs.lemmas.Grind.{common_steps}
-use Rattle.std.proofs.lemmas.List.{get_or-take, get_or-drop, take-take, drop-take, drop-drop, map-append, ext_get_or, append-nil, take_all, take-append-drop}
+use Rattle.std.proofs.lemmas.Grind.{common_steps, take-set_at}
+use Rattle.std.proofs.lemmas.List.{get_or-take, get_or-drop, take-take, drop-take, drop-drop, map-append, ext_get_or, append-nil, take-append-drop, take_at, drop_at}
 use Rattle.byteorder.specs.Numbers.{length-bytes_low_first, little_number-reads_back}
 use Rattle.bk_device.specs.Calls.{read_at, written, IsTorn}
 use Rattle.bk_device.specs.Names.{true_or_false}
 use Rattle.bk_device.specs.Torn.{take-torn, length-torn, read_at-torn, torn-written, read_at-written, read_at-written_other, written-length}
 use Rattle.bk_gate.specs.Blobs.{number, number_bytes, magic, blob_at, spans_from, spans_of, part_of, IsGateFile, is_gate_file, blobs_in}
-use Rattle.bk_gate.specs.Gate.{Lies, Stands, IsPrepared, HasFront, IfThere}
+use Rattle.bk_gate.specs.Gate.{Lies, Stands, IsPrepared, IsLaid, IfThere}
 
 -- tests
 
@@ -335,13 +334,16 @@ longer end one two inside same = let whole : end + 1 ≤ length two = front_leng
 pub same_front_byte : (end : ℕ) (one two : List ℕ) → take (end + 1) two ≡ take (end + 1) one → get_or two end 0 ≡ get_or one end 0
 same_front_byte end one two same = front_byte (end + 1) end one two same (omega arith)
 
-pub byte_written : (at byte : ℕ) (file : List ℕ) → at ≤ length file → get_or (written file at (byte ∷ [])) at 0 ≡ byte
-byte_written at byte file inside =
-    let read : read_at (written file at (byte ∷ [])) at 1 ≡ byte ∷ [] = read_at-written at file (byte ∷ []) inside in
-    ap (λ (p : ℕ). get_or (written file at (byte ∷ [])) p 0) (sym (add-zero at))
-    ∙ sym (get_or-drop at (written file at (byte ∷ [])) 0 0)
-    ∙ sym (get_or-take 1 (drop at (written file at (byte ∷ []))) 0 0 (lit< tt))
+-- one byte that is read
+byte_read : (at byte : ℕ) (file : List ℕ) → read_at file at 1 ≡ byte ∷ [] → get_or file at 0 ≡ byte
+byte_read at byte file read =
+    ap (λ (p : ℕ). get_or file p 0) (sym (add-zero at))
+    ∙ sym (get_or-drop at file 0 0)
+    ∙ sym (get_or-take 1 (drop at file) 0 0 (lit< tt))
     ∙ ap (λ (xs : List ℕ). get_or xs 0 0) read
+
+pub byte_written : (at byte : ℕ) (file : List ℕ) → at ≤ length file → get_or (written file at (byte ∷ [])) at 0 ≡ byte
+byte_written at byte file inside = byte_read at byte (written file at (byte ∷ [])) (read_at-written at file (byte ∷ []) inside)
 
 -- a gate byte that stays closed
 pub shut_sealed : (spans : List (ℕ × ℕ)) (end : ℕ) (before after : List ℕ) → Stands spans end before → IsTorn end 1 before after → slice_index after end ≢ 1 → blobs_in after ≡ blobs_in before
@@ -382,13 +384,13 @@ prepares end size f inside small is =
 pub prepares_blob : (end size : ℕ) (f : List ℕ) → end + 9 + size ≤ length f → read_at (written f (end + 9 + size) (0 ∷ [])) (end + 9) size ≡ read_at f (end + 9) size
 prepares_blob end size f inside = read_at-written_other (end + 9) size (end + 9 + size) f (0 ∷ []) inside (inl (omega arith))
 
--- another length leaves the content and the file's length
+-- a length that is written behind the gate byte
 
-pub sizes : (end size : ℕ) (f : List ℕ) → end + 9 ≤ length f → read_at (written f (end + 1) (number_bytes size)) (end + 1) 8 ≡ number_bytes size
+pub sizes : (end size : ℕ) (f : List ℕ) → end < length f → read_at (written f (end + 1) (number_bytes size)) (end + 1) 8 ≡ number_bytes size
 sizes end size f inside =
     ap (read_at (written f (end + 1) (number_bytes size)) (end + 1)) (sym (length-number_bytes size)) ∙ read_at-written (end + 1) f (number_bytes size) (omega (arith, inside))
 
-pub sizes_length : (end size : ℕ) (f : List ℕ) → end + 9 ≤ length f → length (written f (end + 1) (number_bytes size)) ≡ length f
+pub sizes_length : (end size : ℕ) (f : List ℕ) → end < length f → length (written f (end + 1) (number_bytes size)) ≡ max (length f) (end + 9)
 sizes_length end size f inside = let eight = length-number_bytes size in omega (arith, eight, inside, written-length (end + 1) f (number_bytes size) (omega (arith, inside)))
 
 pub sizes_blob : (end size : ℕ) (f : List ℕ) → IfThere end f (written f (end + 1) (number_bytes size))
@@ -408,73 +410,71 @@ adds file bytes at len inside =
     ∙ ap (λ (r : List ℕ). r ++ read_at (written file (at + len) bytes) (at + len) (length bytes)) (read_at-written_other at len (at + len) file bytes inside (inl (omega arith)))
     ∙ ap (λ (r : List ℕ). read_at file at len ++ r) (read_at-written (at + len) file bytes inside)
 
--- a length and the first bytes of a blob, written at once
-
-fronts_length : (end n : ℕ) (bytes f : List ℕ) → n ≤ length bytes → length (number_bytes (length bytes) ++ take n bytes) ≡ 8 + n
-fronts_length end n bytes f within = let eight = length-number_bytes (length bytes) in simp (length-append, length-take) (omega (arith, eight, within))
-
-pub fronts : (end n : ℕ) (bytes f : List ℕ) → end < length f → n ≤ length bytes → HasFront end bytes n (written f (end + 1) (number_bytes (length bytes) ++ take n bytes))
-fronts end n bytes f inside within =
-    let x : List ℕ = number_bytes (length bytes) ++ take n bytes in
-    let w : List ℕ = written f (end + 1) x in
-    let eight : length (number_bytes (length bytes)) ≡ 8 = length-number_bytes (length bytes) in
-    let total : length x ≡ 8 + n = fronts_length end n bytes f within in
-    let long : length w ≡ max (length f) (end + 1 + length x) = written-length (end + 1) f x (omega (arith, inside)) in
-    let read : read_at w (end + 1) (8 + n) ≡ x = ap (read_at w (end + 1)) (sym total) ∙ read_at-written (end + 1) f x (omega (arith, inside)) in
-    let here : end + 1 + 8 ≡ end + 9 = omega arith in
-    record {
-      size = sym (take-take 8 (8 + n) (drop (end + 1) w) (omega arith)) ∙ ap (take 8) read ∙ ap (λ (k : ℕ). take k x) (sym eight) ∙ take-append_seam (number_bytes (length bytes)) (take n bytes);
-      bytes_there =
-          ap (λ (k : ℕ). read_at w k n) (sym here)
-          ∙ ap (take n) (sym (drop-drop 8 (end + 1) w))
-          ∙ sym (drop-take 8 n (drop (end + 1) w))
-          ∙ ap (drop 8) read
-          ∙ ap (λ (k : ℕ). drop k x) (sym eight) ∙ drop-append_seam (number_bytes (length bytes)) (take n bytes);
-      room = omega (arith, long, total);
-    }
-
--- they lie so once both were put where they belong
-pub put_whole : (n : ℕ) (bytes part before sized whole : List ℕ) → n ≤ length bytes → part ≡ take n bytes → sized ≡ number_bytes (length bytes) ++ drop 8 before → whole ≡ take 8 sized ++ part ++ drop (8 + length part) sized
-    → take (8 + n) whole ≡ number_bytes (length bytes) ++ take n bytes
-put_whole n bytes part before sized whole within part_is sized_is whole_is =
-    let eight : length (number_bytes (length bytes)) ≡ 8 = length-number_bytes (length bytes) in
-    let first : take 8 sized ≡ number_bytes (length bytes) =
-    ap (take 8) sized_is ∙ ap (λ (k : ℕ). take k (number_bytes (length bytes) ++ drop 8 before)) (sym eight) ∙ take-append_seam (number_bytes (length bytes)) (drop 8 before) in
-    let front : take 8 sized ++ part ≡ number_bytes (length bytes) ++ take n bytes = ap (λ (xs : List ℕ). xs ++ part) first ∙ ap (λ (xs : List ℕ). number_bytes (length bytes) ++ xs) part_is in
-    let total : length (take 8 sized ++ part) ≡ 8 + n = ap length front ∙ fronts_length 0 n bytes bytes within in
-    ap (take (8 + n)) whole_is ∙ ap (λ (k : ℕ). take k (take 8 sized ++ part ++ drop (8 + length part) sized)) (sym total)
-    ∙ take-append_seam (take 8 sized ++ part) (drop (8 + length part) sized) ∙ front
-
--- the other bytes behind them
-front_dropped : (end n : ℕ) (bytes f : List ℕ) → n ≤ length bytes → HasFront end bytes n f → HasFront end bytes (length bytes) (written f (end + 9 + n) (drop n bytes))
-front_dropped end n bytes f within front =
-    let rest : length (drop n bytes) ≡ length bytes - n = length-drop n bytes in
-    let whole : n + length (drop n bytes) ≡ length bytes = omega (arith, rest, within) in
-    let long : length (written f (end + 9 + n) (drop n bytes)) ≡ max (length f) (end + 9 + n + length (drop n bytes)) = written-length (end + 9 + n) f (drop n bytes) front.room in
-    record {
-      size = read_at-written_other (end + 1) 8 (end + 9 + n) f (drop n bytes) (omega (arith, front.room)) (inl (omega arith)) ∙ front.size;
-      bytes_there =
-          ap (read_at (written f (end + 9 + n) (drop n bytes)) (end + 9)) (sym whole)
-          ∙ adds f (drop n bytes) (end + 9) n front.room
-          ∙ ap (λ (r : List ℕ). r ++ drop n bytes) front.bytes_there
-          ∙ take-append-drop n bytes
-          ∙ sym (take-length bytes);
-      room = omega (arith, long, whole);
-    }
-
-pub front_rest : (end n : ℕ) (bytes f : List ℕ) → n ≤ length bytes → HasFront end bytes n f → HasFront end bytes (length bytes) (written f (end + 9 + n) (take (length bytes - n) (drop n bytes)))
-front_rest end n bytes f within front =
-    let Front : List ℕ → Type 0 = λ rest. HasFront end bytes (length bytes) (written f (end + 9 + n) rest) in
-    subst Front (sym (take_all (length bytes - n) (drop n bytes) (omega (arith, length-drop n bytes)))) (front_dropped end n bytes f within front)
-
-pub front_all : (end n : ℕ) (bytes f : List ℕ) → length bytes ≤ n → n ≤ length bytes → HasFront end bytes n f → HasFront end bytes (length bytes) f
-front_all end n bytes f least most front =
-    let same : n ≡ length bytes = omega (arith, least, most) in
-    let At : ℕ → Type 0 = λ k. HasFront end bytes k f in
-    subst At same front
-
 pub adds_length : (file bytes : List ℕ) (at : ℕ) → at ≤ length file → at + length bytes ≤ length (written file at bytes)
 adds_length file bytes at inside = omega (arith, written-length at file bytes inside)
+
+-- a whole blob
+
+-- its length, its bytes and a closed gate byte, each written behind the one before
+pub laid : (end : ℕ) (bytes f : List ℕ) → end + 9 ≤ length f → length bytes < 2 ^ 64 → read_at f (end + 1) 8 ≡ number_bytes (length bytes) → IsLaid end bytes (written (written f (end + 9) bytes) (end + 9 + length bytes) (0 ∷ []))
+laid end bytes f inside small is =
+    let w : List ℕ = written f (end + 9) bytes in
+    let long : end + 9 + length bytes ≤ length w = adds_length f bytes (end + 9) inside in
+    let size : read_at w (end + 1) 8 ≡ number_bytes (length bytes) = read_at-written_other (end + 1) 8 (end + 9) f bytes (omega (arith, inside)) (inl (omega arith)) ∙ is in
+    record {
+      prepared = prepares end (length bytes) w long small size;
+      blob = prepares_blob end (length bytes) w long ∙ read_at-written (end + 9) f bytes inside;
+    }
+
+-- a part of what was written reads as it is
+written_part : (at k n : ℕ) (f x : List ℕ) → at ≤ length f → k + n ≤ length x → read_at (written f at x) (at + k) n ≡ take n (drop k x)
+written_part at k n f x inside within =
+    let w : List ℕ = written f at x in
+    let whole : k + (length x - k) ≡ length x = omega (arith, within) in
+    ap (take n) (sym (drop-drop k at w))
+    ∙ sym (take-take n (length x - k) (drop k (drop at w)) (omega (arith, within)))
+    ∙ ap (take n) (sym (drop-take k (length x - k) (drop at w)))
+    ∙ ap (λ (m : ℕ). take n (drop k (take m (drop at w)))) whole
+    ∙ ap (λ (r : List ℕ). take n (drop k r)) (read_at-written at f x inside)
+
+-- all of it, written at once
+pub laid_at_once : (end : ℕ) (bytes f : List ℕ) → end < length f → length bytes < 2 ^ 64 → IsLaid end bytes (written f (end + 1) (number_bytes (length bytes) ++ (bytes ++ 0 ∷ [])))
+laid_at_once end bytes f inside small =
+    let x : List ℕ = number_bytes (length bytes) ++ (bytes ++ 0 ∷ []) in
+    let w : List ℕ = written f (end + 1) x in
+    let eight : length (number_bytes (length bytes)) ≡ 8 = length-number_bytes (length bytes) in
+    let total : length x ≡ 9 + length bytes = simp (length-append, length-append) (omega (arith, eight)) in
+    let from : end + 1 ≤ length f = omega (arith, inside) in
+    let long : length w ≡ max (length f) (end + 1 + length x) = written-length (end + 1) f x from in
+    let blob_at_nine : end + 1 + 8 ≡ end + 9 = omega arith in
+    let gate_behind : end + 1 + (8 + length bytes) ≡ end + 9 + length bytes = omega arith in
+    let behind : drop 8 x ≡ bytes ++ 0 ∷ [] = drop_at (number_bytes (length bytes)) (bytes ++ 0 ∷ []) 8 eight in
+    let last : drop (8 + length bytes) x ≡ 0 ∷ [] = sym (drop-drop (length bytes) 8 x) ∙ ap (drop (length bytes)) behind ∙ drop_at bytes (0 ∷ []) (length bytes) refl in
+    let size : read_at w (end + 1) 8 ≡ number_bytes (length bytes) =
+    sym (take-take 8 (length x) (drop (end + 1) w) (omega (arith, total))) ∙ ap (take 8) (read_at-written (end + 1) f x from) ∙ take_at (number_bytes (length bytes)) (bytes ++ 0 ∷ []) 8 eight in
+    let closed : slice_index w (end + 9 + length bytes) ≡ 0 =
+    byte_read (end + 9 + length bytes) 0 w (ap (λ (p : ℕ). read_at w p 1) (sym gate_behind) ∙ written_part (end + 1) (8 + length bytes) 1 f x from (omega (arith, total)) ∙ ap (take 1) last) in
+    record {
+      prepared = record {
+        size_is = ap number size ∙ number-reads_back (length bytes) small;
+        inside = omega (arith, long, total);
+        closed = λ open_. absurd (omega (arith, closed, open_));
+      };
+      blob = ap (λ (p : ℕ). read_at w p (length bytes)) (sym blob_at_nine) ∙ written_part (end + 1) 8 (length bytes) f x from (omega (arith, total)) ∙ ap (take (length bytes)) behind ∙ take_at bytes (0 ∷ []) (length bytes) refl;
+    }
+
+-- it lies so once each of the three was put where it belongs
+pub put_all : (bytes before sized whole : List ℕ) → 9 + length bytes ≤ length whole → sized ≡ number_bytes (length bytes) ++ drop 8 before → whole ≡ take 8 sized ++ bytes ++ drop (8 + length bytes) sized
+    → take (9 + length bytes) (set whole (8 + length bytes) 0) ≡ number_bytes (length bytes) ++ (bytes ++ 0 ∷ [])
+put_all bytes before sized whole room sized_is whole_is =
+    let eight : length (number_bytes (length bytes)) ≡ 8 = length-number_bytes (length bytes) in
+    let first : take 8 sized ≡ number_bytes (length bytes) = ap (take 8) sized_is ∙ take_at (number_bytes (length bytes)) (drop 8 before) 8 eight in
+    let total : length (number_bytes (length bytes) ++ bytes) ≡ 8 + length bytes = simp length-append (omega (arith, eight)) in
+    let front : take (8 + length bytes) whole ≡ number_bytes (length bytes) ++ bytes =
+    ap (take (8 + length bytes)) (whole_is ∙ ap (λ (xs : List ℕ). xs ++ bytes ++ drop (8 + length bytes) sized) first) ∙ take_at (number_bytes (length bytes) ++ bytes) (drop (8 + length bytes) sized) (8 + length bytes) total in
+    take-set_at whole (8 + length bytes) (9 + length bytes) 0 (omega arith) (omega (arith, room))
+    ∙ ap (λ (xs : List ℕ). xs ++ 0 ∷ []) front
+    ∙ append_assoc (number_bytes (length bytes)) bytes (0 ∷ [])
 
 -- a file with no blob
 ends_at_once : (most gate : ℕ) (file : List ℕ) → blob_at file gate ≡ None → spans_from most gate file ≡ []

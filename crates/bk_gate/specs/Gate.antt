@@ -4,7 +4,7 @@ use Rattle.std.specs.Prelude.{slice_index, unwrap_or}
 use Rattle.std.specs.List.{All}
 use Rattle.bk_device.specs.Calls.{contents, read_at}
 use Rattle.bk_device.specs.Disk.{Disk, IsDurable}
-use Rattle.bk_gate.specs.Blobs.{number, number_bytes, blob_at, part_of, IsGateFile}
+use Rattle.bk_gate.specs.Blobs.{number, blob_at, part_of, IsGateFile}
 
 -- from this gate byte on lie blobs in these parts of the file, and then comes the gate byte at this end
 abbrev pub Lies : List ℕ → ℕ → List (ℕ × ℕ) → ℕ → Type 0
@@ -31,11 +31,10 @@ pub record IsPrepared (end size : ℕ) (file : List ℕ) : Type 0 where
   pub inside : end + 9 + size < length file
   pub closed : slice_index file (end + 9 + size) ≢ 1
 
--- behind the end stand the length of these bytes and so many of them
-pub record HasFront (end : ℕ) (bytes : List ℕ) (n : ℕ) (file : List ℕ) : Type 0 where
-  pub size : read_at file (end + 1) 8 ≡ number_bytes (length bytes)
-  pub bytes_there : read_at file (end + 9) n ≡ take n bytes
-  pub room : end + 9 + n ≤ length file
+-- behind the end stands a blob of these bytes, and then a closed gate byte
+pub record IsLaid (end : ℕ) (bytes file : List ℕ) : Type 0 where
+  pub prepared : IsPrepared end (length bytes) file
+  pub blob : read_at file (end + 9) (length bytes) ≡ bytes
 
 -- what stands behind the length is as it was
 abbrev pub IfThere : ℕ → List ℕ → List ℕ → Type 0
@@ -66,8 +65,6 @@ pub record Kept : Type 0 where
   pub is_closed : Bool
   -- how many bytes of a blob were added, if one is begun
   pub begun : Option ℕ
-  -- the length that is written before them
-  pub stored : ℕ
   -- how many blobs may be sealed without memory
   pub spare : ℕ
   pub failed : Bool
@@ -76,7 +73,6 @@ pub record Kept : Type 0 where
 pub record IsGate (disk : Disk) (gate : Kept) : Type 0 where
   pub at : IsAt gate.spans gate.end gate.is_closed gate.name disk
   pub room : (n : ℕ) → gate.begun ≡ Some n → 0 < n → (gate.is_closed ≡ true) × (gate.end + 9 + n ≤ length (contents (disk.files gate.name)))
-  pub sized : (n : ℕ) → gate.begun ≡ Some n → 0 < n → read_at (contents (disk.files gate.name)) (gate.end + 1) 8 ≡ number_bytes gate.stored
 
 -- the bytes of the begun blob
 abbrev pub begun_of : Disk → Kept → List ℕ

@@ -46,7 +46,6 @@ gate_kept {a = a} {b = b} {gate = gate} keeps is = record {
   room = λ n begun more.
       let OfRoom : List ℕ → Type 0 = λ f. gate.end + 9 + n ≤ length f in
       ((is.room n begun more).0, subst OfRoom (sym (ap contents (keeps.same gate.name refl))) (is.room n begun more).1);
-  sized = λ n begun more. ap (λ (f : Option (List ℕ)). read_at (contents f) (gate.end + 1) 8) (keeps.same gate.name refl) ∙ is.sized n begun more;
 }
 
 -- and its sealed blobs
@@ -93,12 +92,11 @@ pub gate_begun : {a : Disk} {gate : Kept} → IsGate a gate → IsGate a (record
 gate_begun {a = a} {gate = gate} is = record {
   at = is.at;
   room = λ n begun more. let none : 0 ≡ n = cc in absurd (omega (arith, none));
-  sized = λ n begun more. let none : 0 ≡ n = cc in absurd (omega (arith, none));
 }
 
 -- and room be made for spans
 pub gate_reserved : {a : Disk} {gate : Kept} (spare : ℕ) → IsGate a gate → IsGate a (record gate { spare = spare })
-gate_reserved spare is = record { at = is.at; room = is.room; sized = is.sized }
+gate_reserved spare is = record { at = is.at; room = is.room }
 
 -- a file whose blobs lie in spans that were read
 

@@ -2,4 +2,3 @@ pub mod BlobLaws
 pub mod Blobs
 pub mod Gate
 pub mod Laws
-pub mod Pair

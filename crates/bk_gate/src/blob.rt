@@ -1,7 +1,7 @@
 // The writes that put a blob behind the end of a gate file.
 ghost use Rattle.std.specs.Prelude.{◌≡◌, ◌≢◌, ◌≤◌, ◌<◌, ◌+◌, ◌^◌, ◌++◌, ◌∷◌, ◌⊎◌, [], List, ℕ, Some, length, take, drop, true, false, slice_index, IfOk, OnOk, OnErr, IsErr};
 ghost use Rattle.bk_gate.specs.Blobs.{number, number_bytes, sealed};
-ghost use Rattle.bk_gate.specs.Gate.{Stands, Quiet, IsAt, IsPrepared, HasFront, IfThere};
+ghost use Rattle.bk_gate.specs.Gate.{Stands, Quiet, IsAt, IsPrepared, IsLaid, IfThere};
 ghost use Rattle.bk_device.specs.Calls.{contents, written, read_at};
 ghost use Rattle.bk_device.specs.Counts.{HasCause};
 ghost use Rattle.bk_device.specs.Disk.{IsDurable};
@@ -75,198 +75,165 @@ fn settle<D: Device>(dev: &mut D, name: &str, end: u64) -> Result<(), Failed>
     Ok(())
 }
 
-// Writes the length of the blob behind the end, where another one is written there.
-fn set_length<D: Device>(
-    dev: &mut D,
-    name: &str,
-    end: u64,
-    size: u64,
-    stored: u64,
-) -> Result<(), Failed>
-    requires inside { D.tells → end + 9 ≤ length (contents ((D.disk dev.old).files name.now)) }
-    requires stored { D.tells → read_at (contents ((D.disk dev.old).files name.now)) (end + 1) 8 ≡ number_bytes stored }
-    requires quiet { D.tells → (spans : List (ℕ × ℕ)) × Quiet spans end name.now (D.disk dev.old) }
+// Writes a length behind the closed gate byte at the end. What stands behind it stays.
+fn lay_length<D: Device>(dev: &mut D, name: &str, end: u64, size: u64) -> Result<(), Failed>
+    requires { D.tells → (spans : List (ℕ × ℕ)) × Quiet spans end name.now (D.disk dev.old) }
     ensures quiet { D.tells → (spans : List (ℕ × ℕ)) → Quiet spans end name.now (D.disk dev.old) → OnOk result (Quiet spans end name.now (D.disk dev.new)) }
     ensures size { D.tells → OnOk result (read_at (contents ((D.disk dev.new).files name.now)) (end + 1) 8 ≡ number_bytes size) }
-    ensures length { D.tells → OnOk result (length (contents ((D.disk dev.new).files name.now)) ≡ length (contents ((D.disk dev.old).files name.now))) }
+    ensures room { D.tells → OnOk result (end + 9 ≤ length (contents ((D.disk dev.new).files name.now))) }
+    ensures longer { D.tells → OnOk result (length (contents ((D.disk dev.old).files name.now)) ≤ length (contents ((D.disk dev.new).files name.now))) }
     ensures blob { D.tells → OnOk result (IfThere end (contents ((D.disk dev.old).files name.now)) (contents ((D.disk dev.new).files name.now))) }
     ensures sealed { D.tells → OnOk result (sealed ((D.disk dev.new).files name.now) ≡ sealed ((D.disk dev.old).files name.now)) }
+    ensures small { OnOk result (end + 9 < 2 ^ 62) }
     ensures crash { D.tells → Effect (IsName name.now) (λ image. sealed (image name.now) ≡ sealed ((D.disk dev.old).files name.now)) (D.disk dev.old) (D.disk dev.new) }
     ensures cause { HasCause D.disk_faults D.tell_faults dev.old dev.new (IsErr result) }
 {
-    if size != stored {
-        append(dev, name, end, end.saturating_add(1), &spelled(size))?;
-    }
+    append(dev, name, end, end.saturating_add(1), &spelled(size))?;
     Ok(())
 }
 
 // Writes the length of the blob behind the end, and a closed gate byte behind the blob, durably.
-fn finish<D: Device>(
-    dev: &mut D,
-    name: &str,
-    end: u64,
-    next: u64,
-    size: u64,
-    stored: u64,
-) -> Result<(), Failed>
-    requires next { next < 2 ^ 62 → next ≡ end + 9 + size }
-    requires inside { D.tells → end + 9 + size ≤ length (contents ((D.disk dev.old).files name.now)) }
-    requires near { D.tells → next ≤ end + 9 + size }
-    requires stored { D.tells → read_at (contents ((D.disk dev.old).files name.now)) (end + 1) 8 ≡ number_bytes stored }
+fn finish<D: Device>(dev: &mut D, name: &str, end: u64, len: u64) -> Result<(), Failed>
+    requires inside { D.tells → end + 9 + len ≤ length (contents ((D.disk dev.old).files name.now)) }
     requires quiet { D.tells → (spans : List (ℕ × ℕ)) × Quiet spans end name.now (D.disk dev.old) }
     ensures quiet { D.tells → (spans : List (ℕ × ℕ)) → Quiet spans end name.now (D.disk dev.old) → OnOk result (Quiet spans end name.now (D.disk dev.new)) }
     ensures durable { D.tells → OnOk result (IsDurable (D.disk dev.new) name.now) }
-    ensures prepared { D.tells → OnOk result (IsPrepared end size (contents ((D.disk dev.new).files name.now))) }
-    ensures blob { D.tells → OnOk result (read_at (contents ((D.disk dev.new).files name.now)) (end + 9) size ≡ read_at (contents ((D.disk dev.old).files name.now)) (end + 9) size) }
+    ensures prepared { D.tells → OnOk result (IsPrepared end len (contents ((D.disk dev.new).files name.now))) }
+    ensures blob { D.tells → OnOk result (read_at (contents ((D.disk dev.new).files name.now)) (end + 9) len ≡ read_at (contents ((D.disk dev.old).files name.now)) (end + 9) len) }
     ensures sealed { D.tells → OnOk result (sealed ((D.disk dev.new).files name.now) ≡ sealed ((D.disk dev.old).files name.now)) }
+    ensures small { OnOk result (end + 9 + len < 2 ^ 62) }
     ensures crash { D.tells → Effect (IsName name.now) (λ image. sealed (image name.now) ≡ sealed ((D.disk dev.old).files name.now)) (D.disk dev.old) (D.disk dev.new) }
-    ensures small { OnOk result (next < 2 ^ 62) }
     ensures cause { HasCause D.disk_faults D.tell_faults dev.old dev.new (IsErr result) }
 {
-    set_length(dev, name, end, size, stored)?;
-    append(dev, name, end, next, &[0])?;
+    lay_length(dev, name, end, len)?;
+    append(
+        dev,
+        name,
+        end,
+        end.saturating_add(9).saturating_add(len),
+        &[0],
+    )?;
     settle(dev, name, end)?;
     Ok(())
 }
 
-// Seals the blob behind the end: a crash leaves the blobs that there were, or this one too.
-pub fn seal_blob<D: Device>(
-    dev: &mut D,
-    name: &str,
-    end: u64,
-    next: u64,
-    size: u64,
-    stored: u64,
-) -> Result<(), Failed>
-    requires next { next < 2 ^ 62 → next ≡ end + 9 + size }
-    requires inside { D.tells → end + 9 + size ≤ length (contents ((D.disk dev.old).files name.now)) }
-    requires near { D.tells → next ≤ end + 9 + size }
-    requires stored { D.tells → read_at (contents ((D.disk dev.old).files name.now)) (end + 1) 8 ≡ number_bytes stored }
-    requires quiet { D.tells → (spans : List (ℕ × ℕ)) × Quiet spans end name.now (D.disk dev.old) }
-    ensures quiet { D.tells → (spans : List (ℕ × ℕ)) → Quiet spans end name.now (D.disk dev.old) → OnOk result (Quiet (spans ++ (end + 9, size) ∷ []) (end + 9 + size) name.now (D.disk dev.new)) }
-    ensures durable { D.tells → OnOk result (IsDurable (D.disk dev.new) name.now) }
-    ensures sealed { D.tells → OnOk result (sealed ((D.disk dev.new).files name.now) ≡ sealed ((D.disk dev.old).files name.now) ++ read_at (contents ((D.disk dev.old).files name.now)) (end + 9) size ∷ []) }
-    ensures crash { D.tells → Effect (IsName name.now) (λ image. (sealed (image name.now) ≡ sealed ((D.disk dev.old).files name.now)) ⊎ (sealed (image name.now) ≡ sealed ((D.disk dev.old).files name.now) ++ read_at (contents ((D.disk dev.old).files name.now)) (end + 9) size ∷ [])) (D.disk dev.old) (D.disk dev.new) }
-    ensures small { OnOk result (next < 2 ^ 62) }
-    ensures cause { HasCause D.disk_faults D.tell_faults dev.old dev.new (IsErr result) }
-{
-    finish(dev, name, end, next, size, stored)?;
-    write_durably(dev, name, end, &[1])?;
-    Ok(())
-}
-
 // Puts bytes behind the first eight.
-fn put_behind(front: &mut [u8], bytes: &[u8])
-    requires { 8 + length bytes.now ≤ length front.old }
-    ensures { front.new ≡ take 8 front.old ++ bytes.now ++ drop (8 + length bytes.now) front.old }
+fn put_behind(room: &mut [u8], bytes: &[u8])
+    requires { 8 + length bytes.now ≤ length room.old }
+    ensures { room.new ≡ take 8 room.old ++ bytes.now ++ drop (8 + length bytes.now) room.old }
 {
-    front[8..8 + bytes.len()].copy_from_slice(bytes);
+    room[8..8 + bytes.len()].copy_from_slice(bytes);
 }
 
-// Puts the length of a blob and so many of its bytes one behind the other.
-fn put_front(front: &mut [u8], bytes: &[u8], n: usize)
-    requires room { 8 + n ≤ length front.old }
-    requires within { n ≤ length bytes.now }
-    ensures { take (8 + n) front.new ≡ number_bytes (length bytes.now) ++ take n bytes.now }
+// Puts the length of a blob, its bytes and a closed gate byte one behind the other.
+fn put_all(room: &mut [u8], bytes: &[u8])
+    requires { 9 + length bytes.now ≤ length room.old }
+    ensures { take (9 + length bytes.now) room.new ≡ number_bytes (length bytes.now) ++ (bytes.now ++ 0 ∷ []) }
 {
-    LittleEndian::write_u64(front, bytes.len() as u64);
-    put_behind(front, &bytes[..n]);
+    LittleEndian::write_u64(room, bytes.len() as u64);
+    put_behind(room, bytes);
+    room[8 + bytes.len()] = 0;
 }
 
-// Writes the length of a blob behind the closed gate byte at the end, and its first bytes, at once. Answers how many
-// there are.
-fn lay_front<D: Device>(dev: &mut D, name: &str, end: u64, bytes: &[u8]) -> Result<usize, Failed>
-    requires { D.tells → (spans : List (ℕ × ℕ)) × Quiet spans end name.now (D.disk dev.old) }
-    ensures quiet { D.tells → (spans : List (ℕ × ℕ)) → Quiet spans end name.now (D.disk dev.old) → OnOk result (Quiet spans end name.now (D.disk dev.new)) }
-    ensures within { IfOk result (λ n. n ≤ length bytes.now) }
-    ensures front { D.tells → IfOk result (λ n. HasFront end bytes.now n (contents ((D.disk dev.new).files name.now))) }
-    ensures sealed { D.tells → OnOk result (sealed ((D.disk dev.new).files name.now) ≡ sealed ((D.disk dev.old).files name.now)) }
-    ensures small { IfOk result (λ n. end + 9 + n < 2 ^ 62) }
-    ensures crash { D.tells → Effect (IsName name.now) (λ image. sealed (image name.now) ≡ sealed ((D.disk dev.old).files name.now)) (D.disk dev.old) (D.disk dev.new) }
-    ensures cause { HasCause D.disk_faults D.tell_faults dev.old dev.new (IsErr result) }
-{
-    let n = bytes.len().min(4088);
-    let mut front = [0u8; 4096];
-    put_front(&mut front, bytes, n);
-    append(dev, name, end, end.saturating_add(1), &front[..8 + n])?;
-    Ok(n)
-}
-
-// Writes the bytes of a blob behind its first ones.
-fn lay_rest<D: Device>(
-    dev: &mut D,
-    name: &str,
-    end: u64,
-    bytes: &[u8],
-    n: usize,
-) -> Result<(), Failed>
-    requires within { n ≤ length bytes.now }
-    requires near { end + 9 + n < 2 ^ 62 }
-    requires front { D.tells → HasFront end bytes.now n (contents ((D.disk dev.old).files name.now)) }
+// Writes a blob of at most 65,527 bytes behind the closed gate byte at the end, with its length and a closed gate byte, at once
+// and durably.
+fn lay_short<D: Device>(dev: &mut D, name: &str, end: u64, bytes: &[u8]) -> Result<(), Failed>
+    requires short { length bytes.now ≤ 65527 }
     requires quiet { D.tells → (spans : List (ℕ × ℕ)) × Quiet spans end name.now (D.disk dev.old) }
     ensures quiet { D.tells → (spans : List (ℕ × ℕ)) → Quiet spans end name.now (D.disk dev.old) → OnOk result (Quiet spans end name.now (D.disk dev.new)) }
-    ensures front { D.tells → OnOk result (HasFront end bytes.now (length bytes.now) (contents ((D.disk dev.new).files name.now))) }
+    ensures durable { D.tells → OnOk result (IsDurable (D.disk dev.new) name.now) }
+    ensures laid { D.tells → OnOk result (IsLaid end bytes.now (contents ((D.disk dev.new).files name.now))) }
     ensures sealed { D.tells → OnOk result (sealed ((D.disk dev.new).files name.now) ≡ sealed ((D.disk dev.old).files name.now)) }
     ensures small { OnOk result (end + 9 + length bytes.now < 2 ^ 62) }
     ensures crash { D.tells → Effect (IsName name.now) (λ image. sealed (image name.now) ≡ sealed ((D.disk dev.old).files name.now)) (D.disk dev.old) (D.disk dev.new) }
     ensures cause { HasCause D.disk_faults D.tell_faults dev.old dev.new (IsErr result) }
 {
-    if n < bytes.len() {
-        append(dev, name, end, end + 9 + n as u64, &bytes[n..])?;
-    }
+    let mut room = [0u8; 65_536];
+    put_all(&mut room, bytes);
+    append(
+        dev,
+        name,
+        end,
+        end.saturating_add(1),
+        &room[..9 + bytes.len()],
+    )?;
+    settle(dev, name, end)?;
     Ok(())
 }
 
-// Closes the gate byte at the end, and writes a blob behind it with its length.
-fn lay_blob<D: Device>(
+// Writes a blob behind the closed gate byte at the end, with its length and a closed gate byte, durably.
+fn lay<D: Device>(dev: &mut D, name: &str, end: u64, bytes: &[u8]) -> Result<(), Failed>
+    requires { D.tells → (spans : List (ℕ × ℕ)) × Quiet spans end name.now (D.disk dev.old) }
+    ensures quiet { D.tells → (spans : List (ℕ × ℕ)) → Quiet spans end name.now (D.disk dev.old) → OnOk result (Quiet spans end name.now (D.disk dev.new)) }
+    ensures durable { D.tells → OnOk result (IsDurable (D.disk dev.new) name.now) }
+    ensures laid { D.tells → OnOk result (IsLaid end bytes.now (contents ((D.disk dev.new).files name.now))) }
+    ensures sealed { D.tells → OnOk result (sealed ((D.disk dev.new).files name.now) ≡ sealed ((D.disk dev.old).files name.now)) }
+    ensures small { OnOk result (end + 9 + length bytes.now < 2 ^ 62) }
+    ensures crash { D.tells → Effect (IsName name.now) (λ image. sealed (image name.now) ≡ sealed ((D.disk dev.old).files name.now)) (D.disk dev.old) (D.disk dev.new) }
+    ensures cause { HasCause D.disk_faults D.tell_faults dev.old dev.new (IsErr result) }
+{
+    if bytes.len() <= 65_527 {
+        lay_short(dev, name, end, bytes)?;
+        return Ok(());
+    }
+    let len = bytes.len() as u64;
+    lay_length(dev, name, end, len)?;
+    append(dev, name, end, end + 9, bytes)?;
+    append(dev, name, end, end + 9 + len, &[0])?;
+    settle(dev, name, end)?;
+    Ok(())
+}
+
+// Seals a blob of these bytes behind the end, and says where the next gate byte is: a crash leaves the blobs that there were, or
+// this one too.
+pub fn append_blob<D: Device>(
     dev: &mut D,
     name: &str,
     end: u64,
     is_closed: bool,
     bytes: &[u8],
-) -> Result<(), Failed>
+) -> Result<u64, Failed>
     requires { D.tells → (spans : List (ℕ × ℕ)) × IsAt spans end is_closed name.now (D.disk dev.old) }
-    ensures quiet { D.tells → (spans : List (ℕ × ℕ)) → IsAt spans end is_closed name.now (D.disk dev.old) → OnOk result (Quiet spans end name.now (D.disk dev.new)) }
-    ensures front { D.tells → OnOk result (HasFront end bytes.now (length bytes.now) (contents ((D.disk dev.new).files name.now))) }
-    ensures sealed { D.tells → OnOk result (sealed ((D.disk dev.new).files name.now) ≡ sealed ((D.disk dev.old).files name.now)) }
-    ensures small { OnOk result (end + 9 + length bytes.now < 2 ^ 62) }
-    ensures crash { D.tells → Effect (IsName name.now) (λ image. sealed (image name.now) ≡ sealed ((D.disk dev.old).files name.now)) (D.disk dev.old) (D.disk dev.new) }
+    ensures quiet { D.tells → (spans : List (ℕ × ℕ)) → IsAt spans end is_closed name.now (D.disk dev.old) → OnOk result (Quiet (spans ++ (end + 9, length bytes.now) ∷ []) (end + 9 + length bytes.now) name.now (D.disk dev.new)) }
+    ensures sealed { D.tells → OnOk result (sealed ((D.disk dev.new).files name.now) ≡ sealed ((D.disk dev.old).files name.now) ++ bytes.now ∷ []) }
+    ensures durable { D.tells → OnOk result (IsDurable (D.disk dev.new) name.now) }
+    ensures next { IfOk result (λ next. (next ≡ end + 9 + length bytes.now) × (next < 2 ^ 62)) }
+    ensures crash { D.tells → Effect (IsName name.now) (λ image. (sealed (image name.now) ≡ sealed ((D.disk dev.old).files name.now)) ⊎ (sealed (image name.now) ≡ sealed ((D.disk dev.old).files name.now) ++ bytes.now ∷ [])) (D.disk dev.old) (D.disk dev.new) }
     ensures cause { HasCause D.disk_faults D.tell_faults dev.old dev.new (IsErr result) }
 {
     close(dev, name, end, is_closed)?;
-    let n = lay_front(dev, name, end, bytes)?;
-    lay_rest(dev, name, end, bytes, n)?;
-    Ok(())
+    lay(dev, name, end, bytes)?;
+    write_durably(dev, name, end, &[1])?;
+    Ok(end + 9 + bytes.len() as u64)
 }
 
-// Sees to it that a begun blob of so many bytes has a length before it. Answers which one is written there.
-pub fn keep_ready<D: Device>(
+// Sees to it that the gate byte at the end is closed and that there is room for a length behind it, where so many bytes of a blob
+// are added already.
+fn make_room<D: Device>(
     dev: &mut D,
     name: &str,
     end: u64,
     is_closed: bool,
     len: u64,
-    stored: u64,
-) -> Result<u64, Failed>
+) -> Result<(), Failed>
     requires at { D.tells → (spans : List (ℕ × ℕ)) × IsAt spans end is_closed name.now (D.disk dev.old) }
     requires room { D.tells → 0 < len → (is_closed ≡ true) × (end + 9 + len ≤ length (contents ((D.disk dev.old).files name.now))) }
-    requires stored { D.tells → 0 < len → read_at (contents ((D.disk dev.old).files name.now)) (end + 1) 8 ≡ number_bytes stored }
     ensures quiet { D.tells → (spans : List (ℕ × ℕ)) → IsAt spans end is_closed name.now (D.disk dev.old) → OnOk result (Quiet spans end name.now (D.disk dev.new)) }
     ensures room { D.tells → OnOk result (end + 9 + len ≤ length (contents ((D.disk dev.new).files name.now))) }
     ensures begun { D.tells → OnOk result (read_at (contents ((D.disk dev.new).files name.now)) (end + 9) len ≡ read_at (contents ((D.disk dev.old).files name.now)) (end + 9) len) }
-    ensures stored { D.tells → IfOk result (λ now. read_at (contents ((D.disk dev.new).files name.now)) (end + 1) 8 ≡ number_bytes now) }
     ensures sealed { D.tells → OnOk result (sealed ((D.disk dev.new).files name.now) ≡ sealed ((D.disk dev.old).files name.now)) }
     ensures crash { D.tells → Effect (IsName name.now) (λ image. sealed (image name.now) ≡ sealed ((D.disk dev.old).files name.now)) (D.disk dev.old) (D.disk dev.new) }
     ensures cause { HasCause D.disk_faults D.tell_faults dev.old dev.new (IsErr result) }
 {
-    if len == 0 {
-        lay_blob(dev, name, end, is_closed, &[])?;
-        return Ok(0);
+    if len > 0 {
+        return Ok(());
     }
-    Ok(stored)
+    close(dev, name, end, is_closed)?;
+    lay_length(dev, name, end, 0)?;
+    Ok(())
 }
 
-// Adds bytes to a blob that was begun.
+// Adds bytes to a blob, of which so many are added already.
 pub fn add_blob<D: Device>(
     dev: &mut D,
     name: &str,
@@ -280,17 +247,12 @@ pub fn add_blob<D: Device>(
     ensures quiet { D.tells → (spans : List (ℕ × ℕ)) → IsAt spans end is_closed name.now (D.disk dev.old) → OnOk result (Quiet spans end name.now (D.disk dev.new)) }
     ensures room { D.tells → OnOk result (end + 9 + (len + length bytes.now) ≤ length (contents ((D.disk dev.new).files name.now))) }
     ensures begun { D.tells → OnOk result (read_at (contents ((D.disk dev.new).files name.now)) (end + 9) (len + length bytes.now) ≡ read_at (contents ((D.disk dev.old).files name.now)) (end + 9) len ++ bytes.now) }
-    ensures fresh { D.tells → len ≡ 0 → OnOk result (read_at (contents ((D.disk dev.new).files name.now)) (end + 1) 8 ≡ number_bytes (length bytes.now)) }
-    ensures kept { D.tells → 0 < len → OnOk result (read_at (contents ((D.disk dev.new).files name.now)) (end + 1) 8 ≡ read_at (contents ((D.disk dev.old).files name.now)) (end + 1) 8) }
     ensures sealed { D.tells → OnOk result (sealed ((D.disk dev.new).files name.now) ≡ sealed ((D.disk dev.old).files name.now)) }
     ensures small { OnOk result (end + 9 + (len + length bytes.now) < 2 ^ 62) }
     ensures crash { D.tells → Effect (IsName name.now) (λ image. sealed (image name.now) ≡ sealed ((D.disk dev.old).files name.now)) (D.disk dev.old) (D.disk dev.new) }
     ensures cause { HasCause D.disk_faults D.tell_faults dev.old dev.new (IsErr result) }
 {
-    if len == 0 {
-        lay_blob(dev, name, end, is_closed, bytes)?;
-        return Ok(());
-    }
+    make_room(dev, name, end, is_closed, len)?;
     append(
         dev,
         name,
@@ -301,18 +263,17 @@ pub fn add_blob<D: Device>(
     Ok(())
 }
 
-// Seals a begun blob of so many bytes, and says where the next gate byte is.
-pub fn store_blob<D: Device>(
+// Seals a blob, of which so many bytes are added, and says where the next gate byte is: a crash leaves the blobs that there were,
+// or this one too.
+pub fn seal_blob<D: Device>(
     dev: &mut D,
     name: &str,
     end: u64,
     is_closed: bool,
     len: u64,
-    stored: u64,
 ) -> Result<u64, Failed>
     requires at { D.tells → (spans : List (ℕ × ℕ)) × IsAt spans end is_closed name.now (D.disk dev.old) }
     requires room { D.tells → 0 < len → (is_closed ≡ true) × (end + 9 + len ≤ length (contents ((D.disk dev.old).files name.now))) }
-    requires stored { D.tells → 0 < len → read_at (contents ((D.disk dev.old).files name.now)) (end + 1) 8 ≡ number_bytes stored }
     ensures quiet { D.tells → (spans : List (ℕ × ℕ)) → IsAt spans end is_closed name.now (D.disk dev.old) → OnOk result (Quiet (spans ++ (end + 9, len) ∷ []) (end + 9 + len) name.now (D.disk dev.new)) }
     ensures sealed { D.tells → OnOk result (sealed ((D.disk dev.new).files name.now) ≡ sealed ((D.disk dev.old).files name.now) ++ read_at (contents ((D.disk dev.old).files name.now)) (end + 9) len ∷ []) }
     ensures durable { D.tells → OnOk result (IsDurable (D.disk dev.new) name.now) }
@@ -320,10 +281,13 @@ pub fn store_blob<D: Device>(
     ensures crash { D.tells → Effect (IsName name.now) (λ image. (sealed (image name.now) ≡ sealed ((D.disk dev.old).files name.now)) ⊎ (sealed (image name.now) ≡ sealed ((D.disk dev.old).files name.now) ++ read_at (contents ((D.disk dev.old).files name.now)) (end + 9) len ∷ [])) (D.disk dev.old) (D.disk dev.new) }
     ensures cause { HasCause D.disk_faults D.tell_faults dev.old dev.new (IsErr result) }
 {
-    let stored = keep_ready(dev, name, end, is_closed, len, stored)?;
-    let next = end.saturating_add(9).saturating_add(len);
-    seal_blob(dev, name, end, next, len, stored)?;
-    Ok(next)
+    if len == 0 {
+        let next = append_blob(dev, name, end, is_closed, &[])?;
+        return Ok(next);
+    }
+    finish(dev, name, end, len)?;
+    write_durably(dev, name, end, &[1])?;
+    Ok(end + 9 + len)
 }
 
 // Cuts what stands behind the closed gate byte at the end.

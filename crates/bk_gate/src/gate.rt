@@ -7,7 +7,7 @@ ghost use Rattle.bk_device.specs.Counts.{HasCause};
 ghost use Rattle.bk_device.specs.Disk.{IsDurable};
 ghost use Rattle.bk_device.specs.Effects.{Effect, IsName};
 
-use crate::blob::{add_blob, empty, leave_closed, start, store_blob};
+use crate::blob::{add_blob, append_blob, empty, leave_closed, seal_blob, start};
 use crate::error::GateError;
 use crate::read::{check, read_closed, read_span, read_spans};
 use bk_device::{Device, Failed};
@@ -24,8 +24,6 @@ pub struct Gate {
     end: u64,
     is_closed: bool,
     begun: Option<u64>,
-    // the length that is written for the begun blob
-    stored: u64,
     // how many more spans there is room for, at least
     spare: usize,
     failed: bool,
@@ -40,7 +38,6 @@ impl Model for Gate {
       end = g.end;
       is_closed = g.is_closed;
       begun = g.begun;
-      stored = g.stored;
       spare = g.spare;
       failed = g.failed;
     } };
@@ -65,18 +62,17 @@ impl Gate {
         ensures foreign { D.tells → IsErrOf result GateError.Foreign → IsGateFile (contents ((D.disk dev.old).files name.now)) → ⊥ }
         ensures cause { HasCause D.disk_faults D.tell_faults dev.old dev.new (IsErrOf result GateError.Fault) }
     {
-        let name_kept = String::from_str(alloc, name)?;
         let len = check(dev, name)?;
         let mut spans = Vec::new(alloc);
         let end = read_spans(dev, name, len, &mut spans)?;
         let is_closed = read_closed(dev, name, end, len)?;
+        let name_kept = String::from_str(alloc, name)?;
         Ok(Gate {
             name: name_kept,
             spans,
             end,
             is_closed,
             begun: None,
-            stored: 0,
             spare: 0,
             failed: false,
         })
@@ -104,7 +100,6 @@ impl Gate {
             end: 16,
             is_closed: true,
             begun: None,
-            stored: 0,
             spare: 0,
             failed: false,
         })
@@ -190,7 +185,7 @@ impl Gate {
         ensures begun { OnOk result (self.new.begun ≡ Some (unwrap_or self.old.begun 0 + length bytes.now)) }
         ensures added { D.tells → OnOk result (begun_of (D.disk dev.new) self.new ≡ begun_of (D.disk dev.old) self.old ++ bytes.now) }
         ensures sealed { D.tells → OnOk result (sealed ((D.disk dev.new).files self.old.name) ≡ sealed ((D.disk dev.old).files self.old.name)) }
-        ensures same { OnOk result (self.new ≡ record self.old { begun = self.new.begun; stored = self.new.stored; is_closed = true }) }
+        ensures same { OnOk result (self.new ≡ record self.old { begun = self.new.begun; is_closed = true }) }
         ensures name { self.new.name ≡ self.old.name }
         ensures failed { self.new.failed ≡ is_err result }
         ensures crash { D.tells → Effect (IsName self.old.name) (λ image. sealed (image self.old.name) ≡ sealed ((D.disk dev.old).files self.old.name)) (D.disk dev.old) (D.disk dev.new) }
@@ -200,9 +195,6 @@ impl Gate {
         match add_blob(dev, &self.name, self.end, self.is_closed, len, bytes) {
             Ok(()) => {
                 self.is_closed = true;
-                if len == 0 {
-                    self.stored = bytes.len() as u64;
-                }
                 self.begun = Some(len + bytes.len() as u64);
                 Ok(())
             }
@@ -232,13 +224,9 @@ impl Gate {
         ensures cause { HasCause D.disk_faults D.tell_faults dev.old dev.new (IsErr result) }
     {
         let len = self.begun.unwrap_or(0);
-        match store_blob(dev, &self.name, self.end, self.is_closed, len, self.stored) {
+        match seal_blob(dev, &self.name, self.end, self.is_closed, len) {
             Ok(next) => {
-                push_reserved(&mut self.spans, (self.end + 9, len));
-                self.spare -= 1;
-                self.end = next;
-                self.is_closed = true;
-                self.begun = None;
+                self.take_sealed(len, next);
                 Ok(())
             }
             Err(e) => {
@@ -292,10 +280,29 @@ impl Gate {
         ensures crash { D.tells → Effect (IsName self.old.name) (λ image. (sealed (image self.old.name) ≡ sealed ((D.disk dev.old).files self.old.name)) ⊎ (sealed (image self.old.name) ≡ sealed ((D.disk dev.old).files self.old.name) ++ bytes.now ∷ [])) (D.disk dev.old) (D.disk dev.new) }
         ensures cause { HasCause D.disk_faults D.tell_faults dev.old dev.new (IsErr result) }
     {
-        self.begin();
-        self.add(dev, bytes)?;
-        self.seal_reserved(dev)?;
-        Ok(())
+        match append_blob(dev, &self.name, self.end, self.is_closed, bytes) {
+            Ok(next) => {
+                self.take_sealed(bytes.len() as u64, next);
+                Ok(())
+            }
+            Err(e) => {
+                self.failed = true;
+                Err(e)
+            }
+        }
+    }
+
+    // Takes in a blob of so many bytes that was sealed behind the end, by one place of the spare.
+    fn take_sealed(&mut self, len: u64, next: u64)
+        requires spare { 1 ≤ self.old.spare }
+        requires next { next ≡ self.old.end + 9 + len }
+        ensures { self.new ≡ record self.old { spans = self.old.spans ++ (self.old.end + 9, len) ∷ []; end = next; is_closed = true; begun = None; spare = self.old.spare - 1 } }
+    {
+        push_reserved(&mut self.spans, (self.end + 9, len));
+        self.spare -= 1;
+        self.end = next;
+        self.is_closed = true;
+        self.begun = None;
     }
 
     // Raises the spare by one.

@@ -12,27 +12,18 @@ use Rattle.bk_machine.specs.World.{World, ended}
 use Rattle.bk_media.specs.Names.{medium_file}
 use Rattle.bk_instance.specs.declared.instance.Instance.{Instance}
 use Rattle.bk_instance.specs.Media.{KeepsMedia, IfDurable}
-use Rattle.bk_instance.specs.Stands.{Stands, Covers, IsReady, IsStored, StandsFor, IsOurs}
+use Rattle.bk_instance.specs.Stands.{Stands, CoversBy, HoldsWorld, IsReady, IsStored, StandsFor, IsOurs}
 use Rattle.bk_instance.specs.Steps.{Stays}
 use Rattle.bk_instance.proofs.Opened.{SameMedia, media-in, media-ended, not-own}
 use Rattle.bk_instance.proofs.Replays.{made-same, same-ended}
+use Rattle.bk_instance.proofs.Standing.{covers-none}
+use Rattle.bk_instance.proofs.Waits.{holds-now}
 
 -- own files with a record that reserves enough, and not too much, hold what a crash leaves of the world
-pub covers-with : (number : ℕ) (i : Instance) (disk : Disk) (w : World) (image : Files) (r : Record) → HomeIs image r (blobs_of disk.files) → r.number ≡ i.kept.number → i.kept.counter ≤ r.counter → r.counter ≤ i.kept.counter + 1024
-    → r.making ≡ None → SameMedia disk.files image → StandsFor i disk w → Covers number image w
+covers-with : (number : ℕ) (i : Instance) (disk : Disk) (w : World) (image : Files) (r : Record) → HomeIs image r (blobs_of disk.files) → r.number ≡ i.kept.number → i.kept.counter ≤ r.counter → r.counter ≤ i.kept.counter + 1024
+    → r.making ≡ None → SameMedia disk.files image → StandsFor i disk w → CoversBy i.waiting number image w
 covers-with number i disk w image r home own no_less no_more none same stands =
-    let Media : Option (List ℕ) → Type 0 = λ making. KeepsMedia w making image in
-    record {
-      sound = stands.sound;
-      «record» = r;
-      blobs = blobs_of disk.files;
-      holds = inr home;
-      instance = stands.keeps.number ∙ sym own;
-      no_less = omega (arith, stands.keeps.counter, no_less);
-      no_more = omega (arith, stands.keeps.counter, no_more);
-      made = stands.made;
-      media = subst Media (sym none) (media-in w None disk.files image same stands.media);
-    }
+    covers-none number i disk w image r stands (record { number = sym own; no_less = omega (arith, no_less); no_more = no_more }) none home same
 
 -- what the machine's laws say of the end of a run
 pub record EndLaws : Type 0 where
@@ -41,11 +32,12 @@ pub record EndLaws : Type 0 where
 
 -- where the record reserves no more than was drawn, and nothing is open, the files stand for the world that ended
 pub ended-stands : EndLaws → (number : ℕ) (i : Instance) (disk : Disk) (files : Files) (w : World) (r : Record) → HomeIs files r (blobs_of disk.files) → r.number ≡ i.kept.number → r.counter ≡ i.kept.counter → r.making ≡ None
-    → SameMedia disk.files files → StandsFor i disk w → AreIdle w → Stands number files (ended w)
+    → SameMedia disk.files files → i.waiting ≡ None → StandsFor i disk w → AreIdle w → Stands number files (ended w)
 unfolding ended
-ended-stands laws number i disk files w r home own counter none same stands idle =
+ended-stands laws number i disk files w r home own counter none same waiting stands idle =
     let Media : Option (List ℕ) → Type 0 = λ making. KeepsMedia (ended w) making files in
     let sound : IsSound (ended w) = laws.ends w stands.sound in
+    let holds : HoldsWorld disk.files w = holds-now i.waiting disk.files w waiting stands.holds in
     let exact : w.counter ≡ r.counter = stands.keeps.counter ∙ sym counter in
     record {
       sound = sound;
@@ -58,8 +50,8 @@ ended-stands laws number i disk files w r home own counter none same stands idle
         instance = stands.keeps.number ∙ sym own;
         no_less = omega (arith, exact);
         no_more = omega (arith, exact);
-        made = made-same (blobs_of disk.files) w (ended w) (same-ended w) stands.made;
-        media = subst Media (sym none) (media-ended w None files (media-in w None disk.files files same stands.media));
+        made = made-same (blobs_of disk.files) w (ended w) (same-ended w) holds.made;
+        media = subst Media (sym none) (media-ended w None files (media-in w None disk.files files same holds.media));
       };
       settled = laws.settled (ended w) sound idle;
       counter = exact;
@@ -73,9 +65,9 @@ close-none i disk ready stored = effect_none disk (λ image left durable number 
     covers-with number i disk w image i.home.«record» (home_left image stored (λ name own. left name (inl own))) (sym ready.number) ready.no_less ready.no_more ready.none
     (λ path bytes. durable path bytes (image (medium_file path)) (left (medium_file path) (inr (path, bytes, refl)))) stands)
 
-pub none-stands : EndLaws → (number : ℕ) (i : Instance) (disk : Disk) (w : World) → IsReady i → IsStored disk i → i.home.«record».counter ≡ i.kept.counter → StandsFor i disk w → AreIdle w → Stands number disk.files (ended w)
-none-stands laws number i disk w ready stored exact stands idle =
-    ended-stands laws number i disk disk.files w i.home.«record» (home_files stored) (sym ready.number) exact ready.none (λ path bytes. refl) stands idle
+pub none-stands : EndLaws → (number : ℕ) (i : Instance) (disk : Disk) (w : World) → IsReady i → i.waiting ≡ None → IsStored disk i → i.home.«record».counter ≡ i.kept.counter → StandsFor i disk w → AreIdle w → Stands number disk.files (ended w)
+none-stands laws number i disk w ready waiting stored exact stands idle =
+    ended-stands laws number i disk disk.files w i.home.«record» (home_files stored) (sym ready.number) exact ready.none (λ path bytes. refl) waiting stands idle
 
 -- the exact record is put
 pub close-put : (i : Instance) (before after : Disk) (next : Record) → IsReady i → IsStored before i → next.number ≡ i.kept.number → next.counter ≡ i.kept.counter → next.making ≡ None
@@ -89,10 +81,10 @@ close-put i before after next ready stored own counter none effect =
       | inr new ↦ covers-with number i before w image next new own (omega (arith, counter)) (omega (arith, counter)) none same stands
     ]) effect
 
-pub put-stands : EndLaws → (number : ℕ) (i j : Instance) (before after : Disk) (w : World) (next : Record) → IsReady i → next.number ≡ i.kept.number → next.counter ≡ i.kept.counter → next.making ≡ None
+pub put-stands : EndLaws → (number : ℕ) (i j : Instance) (before after : Disk) (w : World) (next : Record) → IsReady i → i.waiting ≡ None → next.number ≡ i.kept.number → next.counter ≡ i.kept.counter → next.making ≡ None
     → IsHome after j.home → j.home.«record» ≡ next → blobs_of after.files ≡ blobs_of before.files → {P : Files → Type 0} → Effect IsOwn P before after → StandsFor i before w → AreIdle w → Stands number after.files (ended w)
-put-stands laws number i j before after w next ready own counter none home is blobs effect stands idle =
+put-stands laws number i j before after w next ready waiting own counter none home is blobs effect stands idle =
     let Blobs : List (List ℕ) → Type 0 = λ bs. HomeIs after.files j.home.«record» bs in
     ended-stands laws number i before after.files w j.home.«record» (subst Blobs blobs (home_files home))
     (ap (λ (r : Record). r.number) is ∙ own) (ap (λ (r : Record). r.counter) is ∙ counter) (ap (λ (r : Record). r.making) is ∙ none)
-    (λ path bytes. effect.others (medium_file path) (not-own path)) stands idle
+    (λ path bytes. effect.others (medium_file path) (not-own path)) waiting stands idle

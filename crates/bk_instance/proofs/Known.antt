@@ -18,6 +18,7 @@ use Rattle.bk_instance.specs.Media.{IsFirst}
 use Rattle.bk_instance.specs.Stands.{IsReady, IsStored, StandsFor}
 use Rattle.bk_instance.proofs.Planned.{Knows}
 use Rattle.bk_instance.proofs.Texts.{text-bytes}
+use Rattle.bk_instance.proofs.Waits.{media-behind}
 
 some-read : (file : Option (List ℕ)) → is_some (read_medium file) ≡ is_some file
 unfolding read_medium
@@ -32,15 +33,15 @@ knows-taken i a b disk path taken ready stored call utf8 same is = record {
   stored = stored;
   call = call;
   known = λ told w stands.
-      ap is_some (stands.media.read disk (subst AreBytes same (text-bytes path utf8))) ∙ some-read (a.files (medium_file disk)) ∙ ap (λ (p : List ℕ). is_some (a.files (medium_file p))) (sym same) ∙ sym (is told);
+      ap is_some ((media-behind i.waiting a.files w stands.holds).read disk (subst AreBytes same (text-bytes path utf8))) ∙ some-read (a.files (medium_file disk)) ∙ ap (λ (p : List ℕ). is_some (a.files (medium_file p))) (sym same) ∙ sym (is told);
 }
 
 finds-first : (i : Instance) (a : Disk) (disk : Option (List ℕ)) (first : Result SetBody Rule) (w : World) → AreBytes (disk_path disk) → IsFirst (a.files (medium_file (disk_path disk))) first → StandsFor i a w → FindsFirst disk first w
 finds-first i a disk (Ok body) w bytes is stands = record {
-  is = ap first_set (stands.media.read (disk_path disk) bytes) ∙ is.0;
-  carries = stands.media.carried (disk_path disk) 1 body bytes is.1;
+  is = ap first_set ((media-behind i.waiting a.files w stands.holds).read (disk_path disk) bytes) ∙ is.0;
+  carries = (media-behind i.waiting a.files w stands.holds).carried (disk_path disk) 1 body bytes is.1;
 }
-finds-first i a disk (Err rule) w bytes is stands = record { is = ap first_set (stands.media.read (disk_path disk) bytes) ∙ is; carries = tt }
+finds-first i a disk (Err rule) w bytes is stands = record { is = ap first_set ((media-behind i.waiting a.files w stands.holds).read (disk_path disk) bytes) ∙ is; carries = tt }
 
 -- what the first set of a medium is
 pub knows-first : {tells : Type 0} (i : Instance) (a b : Disk) (disk : Option (List ℕ)) (path : List ℕ) (first : Result SetBody Rule) → IsReady i → (tells → IsStored a i) → (tells → ChangesNothing a b) → IsUtf8 path → path ≡ disk_path disk

@@ -22,3 +22,5 @@ pub mod StandingFiles
 pub mod StoredActs
 pub mod Texts
 pub mod Touching
+pub mod WaitingActs
+pub mod Waits

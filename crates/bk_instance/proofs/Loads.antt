@@ -33,6 +33,7 @@ use Rattle.bk_instance.specs.Media.{KeepsMedia, MediaAreDurable, IfDurable, show
 use Rattle.bk_instance.specs.Stands.{AreMade, Holds, StandsFor, IsOurs}
 use Rattle.bk_instance.proofs.Opened.{SameMedia, exactly-same, media-in, media-opened, media-on-nothing, settled-exactly, not-own, media-kept}
 use Rattle.bk_instance.proofs.Replays.{made-same, same-opened}
+use Rattle.bk_instance.proofs.Waits.{holds-none}
 
 -- a run begins in a sound world
 abbrev pub BeginSound : Type 0
@@ -482,9 +483,9 @@ open-number number b home w is held =
 
 -- the instance stands for the world in which a run begins
 pub instance-stands : BeginSound → (number : ℕ) (i : Instance) (disk : Disk) (w : World) → IsHome disk i.home → i.kept.number ≡ i.home.«record».number → i.kept.counter ≡ i.home.«record».counter → i.kept.session ≡ 1 → i.kept.sessions.items ≡ []
-    → i.home.«record».making ≡ None → ShowMade (blobs_of disk.files) i.kept.databases.items → CoversExactly number disk.files w → StandsFor i disk (opened w)
+    → i.home.«record».making ≡ None → i.waiting ≡ None → ShowMade (blobs_of disk.files) i.kept.databases.items → CoversExactly number disk.files w → StandsFor i disk (opened w)
 unfolding opened
-instance-stands begins number i disk w is n counter session sessions none shows held =
+instance-stands begins number i disk w is n counter session sessions none waiting shows held =
     let made : Made number disk.files w i.home.«record» = held-made number disk.files w i.home.«record» (home_files is) held in
     let Media : Option (List ℕ) → Type 0 = λ making. KeepsMedia w making disk.files in
     let databases : KeepsDatabases w i.kept.databases.items = shows w made.made in
@@ -498,6 +499,8 @@ instance-stands begins number i disk w is n counter session sessions none shows 
         databases = databases.same;
         kept = databases.kept;
       };
-      made = made-same (blobs_of disk.files) w (opened w) (same-opened w) made.made;
-      media = media-opened w None disk.files (subst Media none made.media);
+      holds = holds-none i.waiting disk.files (opened w) waiting (record {
+        made = made-same (blobs_of disk.files) w (opened w) (same-opened w) made.made;
+        media = media-opened w None disk.files (subst Media none made.media);
+      });
     }

@@ -31,10 +31,11 @@ use Rattle.bk_world.specs.declared.header.Header.{Header}
 use Rattle.bk_world.specs.Medium.{Reading, medium, medium_at}
 use Rattle.bk_instance.specs.declared.instance.Instance.{Instance}
 use Rattle.bk_instance.specs.Media.{KeepsMedia, MediaAreDurable, IfDurable, is_begun, shown_medium}
-use Rattle.bk_instance.specs.Stands.{AreMade, Covers, IsReady, StandsFor, IsOurs}
+use Rattle.bk_instance.specs.Stands.{AreMade, Covers, HoldsWorld, IsReady, StandsFor, IsOurs}
 use Rattle.bk_instance.specs.Steps.{CutsPart, DoesPart, Stays}
 use Rattle.bk_instance.proofs.KeptMedia.{SameMedia, is-self, not-other, found-in, shown-sealed, medium-here, medium-other}
 use Rattle.bk_instance.proofs.Standing.{Fits, not-own, own-widens, made-same, covers-now, covers-old}
+use Rattle.bk_instance.proofs.Waits.{covers-either, covers-now as covers-world, holds-none, holds-now}
 
 -- what acts on media keep
 pub record MediaLaws : Type 0 where
@@ -131,6 +132,7 @@ made-keeps w path k keeps = record { number = keeps.number; counter = ap (λ n. 
 -- From an instance with this record a medium begins to be made under another record, which names it.
 pub record Begins (old i : Instance) (first disk : Disk) (path : List ℕ) (r : Record) : Type 0 where
   pub ready : IsReady i
+  pub none : i.waiting ≡ None
   pub on : (w : World) → StandsFor old first w → StandsFor i disk w
   pub bytes : AreBytes path
   pub named : r.making ≡ Some path
@@ -138,25 +140,32 @@ pub record Begins (old i : Instance) (first disk : Disk) (path : List ℕ) (r : 
   pub counter : r.counter ≡ i.home.«record».counter
   pub reserved : i.kept.counter + 1 ≤ i.home.«record».counter
 
-pub begins : (old i : Instance) (first disk : Disk) (path : List ℕ) (r : Record) → IsReady i → ((w : World) → StandsFor old first w → StandsFor i disk w) → AreBytes path → r.making ≡ Some path → r.number ≡ i.kept.number → r.counter ≡ i.home.«record».counter
+pub begins : (old i : Instance) (first disk : Disk) (path : List ℕ) (r : Record) → IsReady i → i.waiting ≡ None → ((w : World) → StandsFor old first w → StandsFor i disk w) → AreBytes path → r.making ≡ Some path → r.number ≡ i.kept.number → r.counter ≡ i.home.«record».counter
     → i.kept.counter + 1 ≤ i.home.«record».counter → Begins old i first disk path r
-begins old i first disk path r ready on bytes named number counter reserved = record { ready = ready; on = on; bytes = bytes; named = named; number = number; counter = counter; reserved = reserved }
+begins old i first disk path r ready none on bytes named number counter reserved = record { ready = ready; none = none; on = on; bytes = bytes; named = named; number = number; counter = counter; reserved = reserved }
 
 begins-fits : {old i : Instance} {first disk : Disk} {path : List ℕ} {r : Record} → Begins old i first disk path r → Fits i 0 r
 begins-fits b = record { number = sym b.number; no_less = omega (arith, b.counter, b.reserved); no_more = omega (arith, b.counter, b.ready.no_more) }
 
+-- and nothing waits in it
+holds-world : {old i : Instance} {first disk : Disk} {path : List ℕ} {r : Record} (w : World) → Begins old i first disk path r → StandsFor old first w → HoldsWorld disk.files w
+holds-world {i = i} {disk = disk} w b stands = holds-now i.waiting disk.files w b.none (b.on w stands).holds
+
 file-none : {old i : Instance} {first disk : Disk} {path : List ℕ} {r : Record} (w : World) → Begins old i first disk path r → StandsFor old first w → medium_at w.media path ≡ None → sealed (disk.files (medium_file path)) ≡ []
-file-none {disk = disk} {path = path} w b stands absent = unread-sealed (disk.files (medium_file path)) (sym ((b.on w stands).media.read path b.bytes) ∙ absent)
+file-none {disk = disk} {path = path} w b stands absent = unread-sealed (disk.files (medium_file path)) (sym ((holds-world w b stands).media.read path b.bytes) ∙ absent)
 
 naming-covers : {old i : Instance} {first disk : Disk} {path : List ℕ} {r : Record} → Begins old i first disk path r → (number : ℕ) (w : World) (act : Act) (image : Files) → StandsFor old first w → MakesMedium w path act
     → HomeIs image r (blobs_of disk.files) → SameOthers disk.files path image → sealed (image (medium_file path)) ≡ [] → Covers number image w
 naming-covers {i = i} {disk = disk} {path = path} {r = r} b number w act image stands makes home others none =
-    covers-old number i disk w image r (b.on w stands) (begins-fits b) home (subst (λ making. KeepsMedia w making image) (sym b.named) (begun-media w path disk.files image (b.on w stands).media makes.absent none others))
+    let now : StandsFor i disk w = b.on w stands in
+    let holds : HoldsWorld disk.files w = holds-world w b stands in
+    covers-old number i w (blobs_of disk.files) image r now.sound now.keeps.number now.keeps.counter holds.made (begins-fits b) home
+    (subst (λ making. KeepsMedia w making image) (sym b.named) (begun-media w path disk.files image holds.media makes.absent none others))
 
-world-covers : (laws : MediaLaws) (i : Instance) (disk : Disk) (path : List ℕ) (q : Record) (number : ℕ) (w : World) (image : Files) → StandsFor i disk w → q.number ≡ i.kept.number → i.kept.counter + 1 ≤ q.counter → q.counter ≤ i.kept.counter + 1024
+world-covers : (laws : MediaLaws) (i : Instance) (disk : Disk) (path : List ℕ) (q : Record) (number : ℕ) (w : World) (image : Files) → StandsFor i disk w → HoldsWorld disk.files w → q.number ≡ i.kept.number → i.kept.counter + 1 ≤ q.counter → q.counter ≤ i.kept.counter + 1024
     → NamesAtMost path q.making → HomeIs image q (blobs_of disk.files) → SameOthers disk.files path image → HasSets [] (image (medium_file path)) → Covers number image (done w (medium_made path))
 unfolding done
-world-covers laws i disk path q number w image stands is_number no_less no_more named home others has =
+world-covers laws i disk path q number w image stands holds is_number no_less no_more named home others has =
     let least : w.counter + 1 ≤ q.counter = omega (arith, stands.keeps.counter, no_less) in
     let most : q.counter ≤ w.counter + 1 + 1024 = omega (arith, stands.keeps.counter, no_more) in
     record {
@@ -167,26 +176,29 @@ world-covers laws i disk path q number w image stands is_number no_less no_more 
       instance = stands.keeps.number ∙ sym is_number;
       no_less = least;
       no_more = most;
-      made = made-same (done w (medium_made path)) laws.transitive stands.made (laws.made w path);
-      media = made-media w path q.making disk.files image stands.media named has others;
+      made = made-same (done w (medium_made path)) laws.transitive holds.made (laws.made w path);
+      media = made-media w path q.making disk.files image holds.media named has others;
     }
 
 made-covers : {old i : Instance} {first disk : Disk} {path : List ℕ} {r : Record} → MediaLaws → Begins old i first disk path r → (q : Record) → q.number ≡ r.number → q.counter ≡ r.counter → NamesAtMost path q.making
     → (number : ℕ) (w : World) (act : Act) (image : Files) → StandsFor old first w → MakesMedium w path act → HomeIs image q (blobs_of disk.files) → SameOthers disk.files path image → HasSets [] (image (medium_file path)) → Covers number image (done w act)
 made-covers {i = i} {disk = disk} {path = path} laws b q is_number counter named number w act image stands makes home others has =
     subst (λ a. Covers number image (done w a)) (sym makes.is)
-    (world-covers laws i disk path q number w image (b.on w stands) (is_number ∙ b.number) (omega (arith, counter, b.counter, b.reserved)) (omega (arith, counter, b.counter, b.ready.no_more)) named home others has)
+    (world-covers laws i disk path q number w image (b.on w stands) (holds-world w b stands) (is_number ∙ b.number) (omega (arith, counter, b.counter, b.reserved)) (omega (arith, counter, b.counter, b.ready.no_more)) named home others has)
 
-pub made-does : (laws : MediaLaws) (old i j : Instance) (first disk after : Disk) (path : List ℕ) → ((w : World) → StandsFor old first w → StandsFor i disk w) → j.kept ≡ record i.kept { counter = i.kept.counter + 1 } → blobs_of after.files ≡ blobs_of disk.files
+pub made-does : (laws : MediaLaws) (old i j : Instance) (first disk after : Disk) (path : List ℕ) → i.waiting ≡ None → j.waiting ≡ None → ((w : World) → StandsFor old first w → StandsFor i disk w) → j.kept ≡ record i.kept { counter = i.kept.counter + 1 } → blobs_of after.files ≡ blobs_of disk.files
     → SameOthers disk.files path after.files → HasSets [] (after.files (medium_file path)) → DoesPart old first (part.MediumMade path) j after
-made-does laws old i j first disk after path on kept blobs others has w act stood makes =
+made-does laws old i j first disk after path none still on kept blobs others has w act stood makes =
     let stands : StandsFor i disk w = on w stood in
+    let holds : HoldsWorld disk.files w = holds-now i.waiting disk.files w none stands.holds in
     let v : World = done w (medium_made path) in
     subst (λ a. StandsFor j after (done w a)) (sym makes.is) (record {
       sound = laws.sound w (medium_made path) stands.sound tt;
       keeps = subst (Keeps v) (sym kept) (made-keeps w path i.kept stands.keeps);
-      made = subst (λ b. AreMade b v) (sym blobs) (made-same v laws.transitive stands.made (laws.made w path));
-      media = made-media w path None disk.files after.files stands.media (inl refl) has others;
+      holds = holds-none j.waiting after.files v still (record {
+        made = subst (λ b. AreMade b v) (sym blobs) (made-same v laws.transitive holds.made (laws.made w path));
+        media = made-media w path None disk.files after.files holds.media (inl refl) has others;
+      });
     })
 
 -- What crashes leave on the way.
@@ -198,17 +210,17 @@ part-none old before after p effect = effect_weaken (λ image here durable numbe
 -- the record names it
 pub made-named : {old i : Instance} {first disk after : Disk} {path : List ℕ} {r : Record} → Begins old i first disk path r → (MediaAreDurable first → MediaAreDurable disk)
     → Effect IsOwn (λ image. HomeIs image i.home.«record» (blobs_of disk.files) ⊎ HomeIs image r (blobs_of disk.files)) disk after → Effect IsOurs (IfDurable first (CutsPart old first (part.MediumMade path))) disk after
-made-named {i = i} {first = first} {disk = disk} {after = after} {path = path} b calm effect =
+made-named {old = old} {i = i} {first = first} {disk = disk} {after = after} {path = path} b calm effect =
     own-widens first disk after calm (λ image here same number w act stands is. elim here [
-      | inl home ↦ inl (covers-now number i disk w image b.ready (b.on w stands) home same)
-      | inr home ↦ inl (naming-covers b number w act image stands is home (λ other are apart. same other are) (ap sealed (same path b.bytes) ∙ file-none w b stands is.absent))
+      | inl home ↦ inl (covers-either old.waiting number image w (covers-world i.waiting number image w b.none (covers-now number i disk w image b.ready (b.on w stands) home same)))
+      | inr home ↦ inl (covers-either old.waiting number image w (naming-covers b number w act image stands is home (λ other are apart. same other are) (ap sealed (same path b.bytes) ∙ file-none w b stands is.absent)))
     ]) effect
 
 -- its file is made
 pub made-file : {old i : Instance} {first disk before after : Disk} {path : List ℕ} {r : Record} (home : KeptHome) → MediaLaws → Begins old i first disk path r → IsHome before home → home.«record» ≡ r → blobs_of before.files ≡ blobs_of disk.files
     → (MediaAreDurable first → MediaAreDurable before) → SameMedia disk.files before.files → Effect (IsName (medium_file path)) (λ image. LeavesMade (before.may (medium_file path)) (image (medium_file path))) before after
     → Effect IsOurs (IfDurable first (CutsPart old first (part.MediumMade path))) before after
-made-file {disk = disk} {before = before} {path = path} {r = r} home laws b stored is_record blobs calm same effect =
+made-file {old = old} {disk = disk} {before = before} {path = path} {r = r} home laws b stored is_record blobs calm same effect =
     effect_widen (λ name is. inr (path, b.bytes, is))
     (λ image here rest durable number w act stands is.
     let calmed : MediaAreDurable before = calm durable in
@@ -216,9 +228,9 @@ made-file {disk = disk} {before = before} {path = path} {r = r} home laws b stor
     let mine : HomeIs image r (blobs_of disk.files) = subst (HomeIs image r) blobs (subst (λ (q : Record). HomeIs image q (blobs_of before.files)) is_record own) in
     let beside : SameOthers disk.files path image = λ other are apart. calmed other are (image (medium_file other)) (rest (medium_file other) (files-apart path other b.bytes are apart) (inr (other, are, refl))) ∙ same other are in
     elim here [
-      | inl was ↦ inl (naming-covers b number w act image stands is mine beside (ap sealed (calmed path b.bytes (image (medium_file path)) was ∙ same path b.bytes) ∙ file-none w b stands is.absent))
+      | inl was ↦ inl (covers-either old.waiting number image w (naming-covers b number w act image stands is mine beside (ap sealed (calmed path b.bytes (image (medium_file path)) was ∙ same path b.bytes) ∙ file-none w b stands is.absent)))
       | inr next ↦ elim next [
-        | inl begun ↦ inl (naming-covers b number w act image stands is mine beside begun)
+        | inl begun ↦ inl (covers-either old.waiting number image w (naming-covers b number w act image stands is mine beside begun))
         | inr made ↦ inr (made-covers laws b r refl refl (inr b.named) number w act image stands is mine beside made)
       ]
     ]) effect

@@ -28,6 +28,7 @@ use Rattle.bk_instance.specs.Touched.{PlanWrites, TouchesOnly}
 use Rattle.bk_instance.proofs.Outcomes.{plan-writes, still-plan}
 use Rattle.bk_instance.proofs.Resting.{calm-nothing, stands-nothing, stays-nothing}
 use Rattle.bk_instance.proofs.Touching.{touches-nothing, touches-wider}
+use Rattle.bk_instance.proofs.Waits.{covers-behind}
 
 -- What is known of each world for which an instance stands, once its device was read.
 pub record Knows (tells : Type 0) (i : Instance) (a b : Disk) (Known : World → Type 0) : Type 0 where
@@ -70,7 +71,7 @@ pub record Follows (tells : Type 0) (i : Instance) (b : Disk) (plan : Plan) (res
 plan-cuts : {tells : Type 0} {Known : World → Type 0} (i : Instance) (a b c : Disk) (s : ScriptEntry) (now : ℕ) (plan : Plan) (plans : Plans i.kept Known s now plan) → Knows tells i a b Known
     → (tells → Effect IsOurs (IfDurable b (CutsPlan i b plan)) b c) → tells → Effect IsOurs (IfDurable a (Cuts i a plans.outcome)) a c
 plan-cuts i a b c s now plan plans knows crash told =
-    effect_then (effect_weaken (λ image stays durable number w stands. record { done = 0; covers = stays durable number w stands }) (stays-nothing i a b knows.ready (knows.stored told) (knows.call told)))
+    effect_then (effect_weaken (λ image stays durable number w stands. record { done = 0; covers = covers-behind i.waiting number image w (stays durable number w stands) }) (stays-nothing i a b knows.ready (knows.stored told) (knows.call told)))
     (effect_weaken (λ image cuts durable number w stands.
     cuts (calm-nothing (knows.call told) durable) number w plans.outcome.acts (stands-nothing i a b w (knows.call told) stands) (plans.acts w stands.sound stands.keeps (knows.known told w stands))) (crash told))
 

@@ -1,5 +1,5 @@
 -- Open transactions that are rolled back one after the other, where a run ends.
-use Rattle.std.proofs.Common.{◌≡◌, ◌<◌, ◌≤◌, inl, inr, ℕ, zero, suc, ◌+◌, ◌-◌, List, [], ◌∷◌, ◌++◌, length, map, take, Option, Some, Ok, Err, refl, sym, ◌∙◌, ap, subst, arith}
+use Rattle.std.proofs.Common.{◌≡◌, ◌<◌, ◌≤◌, inl, inr, ℕ, zero, suc, ◌+◌, ◌-◌, List, [], ◌∷◌, ◌++◌, length, map, take, Option, None, Some, Ok, Err, refl, sym, ◌∙◌, ap, subst, arith}
 use Rattle.std.specs.Prelude.{OnOk, Result, slice_get}
 use Rattle.std.specs.List.{AllByRecursion}
 use Rattle.std.proofs.lemmas.List.{append-nil}
@@ -8,6 +8,7 @@ use Rattle.bk_acts.specs.declared.act.StoredAct.{StoredAct}
 use Rattle.bk_device.specs.Compose.{effect_weaken}
 use Rattle.bk_device.specs.Disk.{Files, Disk}
 use Rattle.bk_device.specs.Effects.{Effect}
+use Rattle.bk_device.specs.Laws.{nothing_yet}
 use Rattle.bk_machine.specs.Acts.{Act, done, done_all, logged}
 use Rattle.bk_machine.specs.HeldLaws.{held-is}
 use Rattle.bk_machine.specs.MayDo.{MayDo}
@@ -23,6 +24,7 @@ use Rattle.bk_kept.specs.declared.kept.Kept.{Kept}
 use Rattle.bk_kept.specs.declared.kept.Database.{Database as KeptDatabase}
 use Rattle.bk_kept.specs.Keeps.{IsKept, Keeps, ShowsLog, database_of}
 use Rattle.bk_planning.specs.Undoing.{SaysOf}
+use Rattle.bk_waiting.specs.Waiting.{WaitsFor}
 use Rattle.bk_world.specs.Pending.{Pending}
 use Rattle.bk_world.specs.Says.{rollback_said}
 use Rattle.bk_kept.specs.Stored.{IsDone}
@@ -31,11 +33,12 @@ use Rattle.bk_instance.specs.Closing.{RollsAll, RollsBack, RollsFirst, RollsOne,
 use Rattle.bk_instance.specs.declared.error.ExecuteError.{ExecuteError}
 use Rattle.bk_instance.specs.declared.instance.Instance.{Instance}
 use Rattle.bk_instance.specs.Media.{IfDurable, MediaAreDurable}
-use Rattle.bk_instance.specs.Stands.{Covers, CutIn, CutsEnd, IsReady, IsStored, IsOurs, StandsFor}
+use Rattle.bk_instance.specs.Stands.{CoversBehind, CutIn, CutsEnd, HoldsBehind, IsReady, IsStored, IsOurs, StandsFor}
 use Rattle.bk_instance.specs.Steps.{Closed, CutsPart, DoesPart, IsNoPart, Stays}
 use Rattle.bk_instance.proofs.Replays.{take-more}
 use Rattle.bk_instance.proofs.SettledPlaces.{keeps-idle}
-use Rattle.bk_instance.proofs.Standing.{stays-none}
+use Rattle.bk_instance.proofs.Resting.{stays-nothing}
+use Rattle.bk_instance.proofs.Waits.{covers-behind, covers-itself}
 
 -- What is open.
 
@@ -65,8 +68,11 @@ closing-idle w acts k closing keeps = keeps-idle (done_all w acts) k keeps (clos
 -- The first one.
 
 -- What the machine's laws say of closing.
+abbrev pub EachCloses : Type 0
+EachCloses = (w : World) → IsSound w → (acts : List Act) × AreClosing w acts
+
 pub record CloseLaws : Type 0 where
-  pub comes : (w : World) → IsSound w → (acts : List Act) × AreClosing w acts
+  pub comes : EachCloses
   pub sound : (w : World) (held : Held) → IsSound w → IsFirst w held → IsSound (done w (rolls_back w held))
   pub fewer : (w : World) (held : Held) → IsSound w → IsFirst w held → count_open (done w (rolls_back w held)).databases + 1 ≡ count_open w.databases
   pub none : (w : World) → count_open w.databases ≡ 0 → AreClosing w []
@@ -87,12 +93,12 @@ none-rolls tells i disk none = record {
   fewer = λ told w n stands le. let zero : count_open w.databases ≡ 0 = none-count w.databases (none w stands.sound stands.keeps) in omega (arith, zero);
 }
 
--- the world was cut before all rollbacks
-cut-first : (laws : CloseLaws) (number : ℕ) (w : World) (image : Files) → Covers number image w → (closing : List Act) × AreClosing w closing × CutIn number w closing image
-cut-first laws number w image covers = let all = laws.comes w covers.sound in (all.0, all.1, record { done = 0; covers = covers })
+-- the world was cut before all rollbacks, but for what waits
+cut-first : EachCloses → (number : ℕ) (w : World) (image : Files) → IsSound w → CoversBehind number image w → (closing : List Act) × AreClosing w closing × CutIn number w closing image
+cut-first comes number w image sound covers = let all = comes w sound in (all.0, all.1, record { done = 0; covers = covers })
 
 pub none-cuts : (laws : CloseLaws) (i : Instance) (disk : Disk) → IsReady i → IsStored disk i → Effect IsOurs (IfDurable disk (CutsEnd i disk)) disk disk
-none-cuts laws i disk ready stored = effect_weaken (λ image here durable number w stands. cut-first laws number w image (here durable number w stands)) (stays-none i disk ready stored)
+none-cuts laws i disk ready stored = effect_weaken (λ image here durable number w stands. cut-first laws.comes number w image stands.sound (covers-behind i.waiting number image w (here durable number w stands))) (stays-nothing i disk disk ready stored (nothing_yet disk))
 
 pub one-rolls : (laws : CloseLaws) (tells : Type 0) (old new : Instance) (before after : Disk) (stored : StoredAct) (act : Act) → FindsFirst old.kept stored act → (tells → DoesPart old before (part.Stored stored) new after) → RollsOne tells old before new after
 one-rolls laws tells old new before after stored act finds does = record {
@@ -112,10 +118,10 @@ one-cuts laws old before after stored act finds effect =
     effect_weaken (λ image here durable number w stands.
     let own = finds w stands.sound stands.keeps in
     elim (here durable number w act stands own.done) [
-      | inl covers ↦ cut-first laws number w image covers
+      | inl covers ↦ cut-first laws.comes number w image stands.sound (covers-behind old.waiting number image w covers)
       | inr covers ↦
           let rest = laws.comes (done w act) (subst (λ (a : Act). IsSound (done w a)) (sym own.is) (laws.sound w own.held stands.sound own.first)) in
-          (act ∷ rest.0, (own.held, own.first, own.is, rest.1), record { done = suc zero; covers = covers })
+          (act ∷ rest.0, (own.held, own.first, own.is, rest.1), record { done = suc zero; covers = covers-itself number image (done w act) covers })
     ]) effect
 
 pub one-stuck : (old : Instance) (before : Disk) (stored : StoredAct) (act : Act) → FindsFirst old.kept stored act → IsNoPart old before (part.Stored stored) → (w : World) → StandsFor old before w → ⊥
@@ -165,7 +171,7 @@ cut-behind number w acts image front (rest, closing, cut) = (
   closing-joined w acts rest front closing,
   record {
     done = length acts + cut.done;
-    covers = subst (Covers number image) (sym (ap (done_all w) (take-behind acts rest cut.done) ∙ done-joined w acts (take cut.done rest))) cut.covers;
+    covers = subst (CoversBehind number image) (sym (ap (done_all w) (take-behind acts rest cut.done) ∙ done-joined w acts (take cut.done rest))) cut.covers;
   },
 )
 
@@ -188,6 +194,33 @@ all-rolled {count = count} laws i old new before after all so = record {
   does = so.does;
 }
 
+-- What waits is stored before that.
+
+-- a crash meanwhile leaves the world before all rollbacks
+pub flush-cuts : EachCloses → (i : Instance) (before after : Disk) → Effect IsOurs (IfDurable before (Stays i before)) before after → Effect IsOurs (IfDurable before (CutsEnd i before)) before after
+flush-cuts comes i before after effect =
+    effect_weaken (λ image here durable number w stands. cut-first comes number w image stands.sound (covers-behind i.waiting number image w (here durable number w stands))) effect
+
+-- then it stands for the worlds for which it stood
+abbrev pub StandsOn : Instance → Disk → Instance → Disk → Type 0
+StandsOn old before new after = (w : World) → StandsFor old before w → StandsFor new after w
+
+pub flushed-rolls : {tells : Type 0} (old mid new : Instance) (first before after : Disk) → (tells → StandsOn old first mid before) → RollsAll tells mid before new after → RollsAll tells old first new after
+flushed-rolls old mid new first before after on rolls = record {
+  acts = rolls.acts;
+  closes = λ told w stands. rolls.closes told w (on told w stands);
+  does = λ told w stands. rolls.does told w (on told w stands);
+}
+
+pub flushed-cuts : (old mid : Instance) (first before after : Disk) → StandsOn old first mid before → (MediaAreDurable first → MediaAreDurable before) → Effect IsOurs (IfDurable before (CutsEnd mid before)) before after
+    → Effect IsOurs (IfDurable first (CutsEnd old first)) before after
+flushed-cuts old mid first before after on calm effect = effect_weaken (λ image here durable number w stands. here (calm durable) number w (on w stands)) effect
+
+-- where nothing is open, nothing waits
+pub nothing-waits : ((waiting : StoredAct) (old w : World) → WaitsFor waiting old w → AreIdle w → ⊥) → (waiting : Option StoredAct) (files : Files) (w : World) → HoldsBehind waiting files w → AreIdle w → waiting ≡ None
+nothing-waits law None files w holds idle = refl
+nothing-waits law (Some waiting) files w holds idle = absurd (law waiting holds.old w holds.waits idle)
+
 -- Then the exact counter is written.
 
 pub rolled-cuts : {tells : Type 0} (old mid : Instance) (first before after : Disk) → RollsAll tells old first mid before → tells → (MediaAreDurable first → MediaAreDurable before) → Effect IsOurs (IfDurable before (Stays mid before)) before after
@@ -196,7 +229,7 @@ rolled-cuts old mid first before after rolls told calm effect =
     effect_weaken (λ image here durable number w stands. (
       rolls.acts,
       rolls.closes told w stands,
-      record { done = length rolls.acts; covers = subst (λ (acts : List Act). Covers number image (done_all w acts)) (sym (take-length rolls.acts)) (here (calm durable) number (done_all w rolls.acts) (rolls.does told w stands)) },
+      record { done = length rolls.acts; covers = subst (λ (acts : List Act). CoversBehind number image (done_all w acts)) (sym (take-length rolls.acts)) (covers-behind mid.waiting number image (done_all w rolls.acts) (here (calm durable) number (done_all w rolls.acts) (rolls.does told w stands))) },
     )) effect
 
 pub closed-by : {tells : Type 0} (old mid : Instance) (first before after : Disk) (result : Result (Unit {0}) ExecuteError) → RollsAll tells old first mid before → (tells → OnOk result (StandsEnded mid before after.files)) → OnOk result (Closed tells old first after)

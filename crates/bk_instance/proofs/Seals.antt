@@ -37,9 +37,10 @@ use Rattle.bk_instance.specs.declared.error.ExecuteError.TheVariants.{Broken}
 use Rattle.bk_instance.specs.Errors.{medium_error}
 use Rattle.bk_instance.specs.declared.instance.Instance.{Instance}
 use Rattle.bk_instance.specs.Media.{KeepsMedia, MediaAreDurable, IfDurable}
-use Rattle.bk_instance.specs.Stands.{AreMade, nothing, one_more, Covers, IsReady, IsStored, StandsFor, IsOurs}
+use Rattle.bk_instance.specs.Stands.{AreMade, nothing, one_more, Covers, HoldsWorld, IsReady, IsStored, StandsFor, IsOurs}
 use Rattle.bk_instance.specs.Steps.{CutsPart, DoesPart, IsNoPart}
 use Rattle.bk_instance.proofs.Resting.{left-covers, stands-nothing, stored-nothing, calm-nothing}
+use Rattle.bk_instance.proofs.Waits.{covers-either, holds-none, holds-now, media-behind}
 
 -- Names.
 
@@ -191,9 +192,9 @@ unfolding done
 keeps-sealed w k path header keeps = record { number = keeps.number; counter = keeps.counter; session = keeps.session; sessions = keeps.sessions; databases = keeps.databases; kept = keeps.kept }
 
 -- own files with the same record and blobs, and the media of the world behind: a crash leaves that world
-covers-behind : (number : ℕ) (laws : SealLaws) (i : Instance) (disk : Disk) (w : World) (image : Files) (path : List ℕ) (body : SetBody) → IsReady i → StandsFor i disk w → HomeIs image i.home.«record» (blobs_of disk.files)
+covers-behind : (number : ℕ) (laws : SealLaws) (i : Instance) (disk : Disk) (w : World) (image : Files) (path : List ℕ) (body : SetBody) → IsReady i → StandsFor i disk w → HoldsWorld disk.files w → HomeIs image i.home.«record» (blobs_of disk.files)
     → MayDo w (set_sealed path body.header) → KeepsMedia (done w (set_sealed path body.header)) None image → Covers number image (done w (set_sealed path body.header))
-covers-behind number laws i disk w image path body ready stands home may media =
+covers-behind number laws i disk w image path body ready stands holds home may media =
     let keeps : Keeps (done w (set_sealed path body.header)) i.kept = keeps-sealed w i.kept path body.header stands.keeps in
     record {
       sound = laws.sound w (set_sealed path body.header) stands.sound may;
@@ -203,13 +204,13 @@ covers-behind number laws i disk w image path body ready stands home may media =
       instance = keeps.number ∙ ready.number;
       no_less = omega (arith, keeps.counter, ready.no_less);
       no_more = omega (arith, keeps.counter, ready.no_more);
-      made = made-beside (done w (set_sealed path body.header)) laws stands.made (laws.same w path body.header);
+      made = made-beside (done w (set_sealed path body.header)) laws holds.made (laws.same w path body.header);
       media = subst (λ making. KeepsMedia (done w (set_sealed path body.header)) making image) (sym ready.none) media;
     }
 
 -- and where the media are those that were, the world before
-covers-before : (number : ℕ) (i : Instance) (disk : Disk) (w : World) (image : Files) → IsReady i → StandsFor i disk w → HomeIs image i.home.«record» (blobs_of disk.files) → KeepsMedia w None image → Covers number image w
-covers-before number i disk w image ready stands home media = record {
+covers-before : (number : ℕ) (i : Instance) (disk : Disk) (w : World) (image : Files) → IsReady i → StandsFor i disk w → HoldsWorld disk.files w → HomeIs image i.home.«record» (blobs_of disk.files) → KeepsMedia w None image → Covers number image w
+covers-before number i disk w image ready stands holds home media = record {
   sound = stands.sound;
   «record» = i.home.«record»;
   blobs = blobs_of disk.files;
@@ -217,7 +218,7 @@ covers-before number i disk w image ready stands home media = record {
   instance = stands.keeps.number ∙ ready.number;
   no_less = omega (arith, stands.keeps.counter, ready.no_less);
   no_more = omega (arith, stands.keeps.counter, ready.no_more);
-  made = stands.made;
+  made = holds.made;
   media = subst (λ making. KeepsMedia w making image) (sym ready.none) media;
 }
 
@@ -235,6 +236,7 @@ seal-synced i a b path name body ready stored bytes is_name call =
 -- what the set is added to
 pub record SealsOn (i : Instance) (a c : Disk) (path : List ℕ) : Type 0 where
   pub ready : IsReady i
+  pub none : i.waiting ≡ None
   pub stored : IsStored a i
   pub call : ChangesNothing a c
   pub bytes : AreBytes path
@@ -247,12 +249,13 @@ cuts-added : (laws : SealLaws) (i : Instance) (a c : Disk) (path : List ℕ) (bo
     → HomeIs image i.home.«record» (blobs_of c.files) → (MediaAreDurable a → SameBeside path c.files image) → IfDurable a (CutsPart i a (SetSealed path body)) image
 cuts-added laws i a c path body image on here home others durable number w act stands is =
     let now : StandsFor i c w = stands-nothing i a c w on.call stands in
+    let holds : HoldsWorld c.files w = holds-now i.waiting c.files w on.none now.holds in
     elim here [
-      | inl same ↦ inl (covers-before number i c w image on.ready now home (media-stay w c.files image path (sets_of (c.files (medium_file path))) on.bytes now.media (others durable) on.has same))
+      | inl same ↦ inl (covers-either i.waiting number image w (covers-before number i c w image on.ready now holds home (media-stay w c.files image path (sets_of (c.files (medium_file path))) on.bytes holds.media (others durable) on.has same)))
       | inr added ↦
           let may : MayDo w (set_sealed path body.header) = subst (MayDo w) is.is is.may in
-          inr (subst (λ x. Covers number image (done w x)) (sym is.is) (covers-behind number laws i c w image path body on.ready now home may
-          (media-sealed w c.files image path (sets_of (c.files (medium_file path))) body on.bytes now.media (others durable) on.has added is.carries)))
+          inr (subst (λ x. Covers number image (done w x)) (sym is.is) (covers-behind number laws i c w image path body on.ready now holds home may
+          (media-sealed w c.files image path (sets_of (c.files (medium_file path))) body on.bytes holds.media (others durable) on.has added is.carries)))
     ]
 
 added-at : (laws : SealLaws) (i : Instance) (a c d : Disk) (path : List ℕ) (body : SetBody) → SealsOn i a c path
@@ -306,11 +309,14 @@ stands-behind : (laws : SealLaws) (i : Instance) (a c d : Disk) (path : List ℕ
     → StandsFor i d (done w (set_sealed path body.header))
 stands-behind laws i a c d path body w on is stands may carries =
     let now : StandsFor i c w = stands-nothing i a c w on.call stands in
+    let holds : HoldsWorld c.files w = holds-now i.waiting c.files w on.none now.holds in
     record {
       sound = laws.sound w (set_sealed path body.header) now.sound may;
       keeps = keeps-sealed w i.kept path body.header now.keeps;
-      made = subst (λ blobs. AreMade blobs (done w (set_sealed path body.header))) (sym (home_files_kept is.own).1) (made-beside (done w (set_sealed path body.header)) laws now.made (laws.same w path body.header));
-      media = media-sealed w c.files d.files path (sets_of (c.files (medium_file path))) body on.bytes now.media is.beside on.has is.added carries;
+      holds = holds-none i.waiting d.files (done w (set_sealed path body.header)) on.none (record {
+        made = subst (λ blobs. AreMade blobs (done w (set_sealed path body.header))) (sym (home_files_kept is.own).1) (made-beside (done w (set_sealed path body.header)) laws holds.made (laws.same w path body.header));
+        media = media-sealed w c.files d.files path (sets_of (c.files (medium_file path))) body on.bytes holds.media is.beside on.has is.added carries;
+      });
     }
 
 pub seal-does : (laws : SealLaws) (i : Instance) (a c d : Disk) (path : List ℕ) (body : SetBody) → SealsOn i a c path → IsAdded c d path body → DoesPart i a (SetSealed path body) i d
@@ -326,12 +332,13 @@ some-medium reading slots is (inr foreign) = cc
 pub seal-none : (i : Instance) (a b : Disk) (path : List ℕ) (body : SetBody) → AreBytes path → ChangesNothing a b → (b.files (medium_file path) ≡ None) ⊎ (read_medium (b.files (medium_file path)) ≡ Some not_media) → IsNoPart i a (SetSealed path body)
 unfolding read_medium
 seal-none i a b path body bytes call is w act stands part =
-    let shown : medium_at w.media path ≡ read_medium (b.files (medium_file path)) = (stands-nothing i a b w call stands).media.read path bytes in
+    let shown : medium_at w.media path ≡ read_medium (b.files (medium_file path)) = (media-behind i.waiting b.files w (stands-nothing i a b w call stands).holds).read path bytes in
     some-medium (read_medium (b.files (medium_file path))) part.slots (sym shown ∙ part.there) (elim is [ inl none ↦ inl (ap read_medium none) | inr foreign ↦ inr foreign ])
 
-pub seals-on : (i : Instance) (a c : Disk) (path name : List ℕ) → IsReady i → IsStored a i → ChangesNothing a c → AreBytes path → name ≡ medium_file path → HasSets (sets_of (c.files name)) (c.files name) → SealsOn i a c path
-seals-on i a c path name ready stored call bytes is_name has = record {
+pub seals-on : (i : Instance) (a c : Disk) (path name : List ℕ) → IsReady i → i.waiting ≡ None → IsStored a i → ChangesNothing a c → AreBytes path → name ≡ medium_file path → HasSets (sets_of (c.files name)) (c.files name) → SealsOn i a c path
+seals-on i a c path name ready none stored call bytes is_name has = record {
   ready = ready;
+  none = none;
   stored = stored;
   call = call;
   bytes = bytes;

@@ -18,9 +18,10 @@ use Rattle.bk_instance.specs.declared.instance.Instance.{Instance}
 use Rattle.bk_instance.specs.Errors.{settled_error}
 use Rattle.bk_instance.specs.Loading.{CoversExactly, CutsSettling, IsSettling, LeavesHeld, LeavesOpened, RestsIdle, SettlesAll}
 use Rattle.bk_instance.specs.Media.{IfDurable, MediaAreDurable}
-use Rattle.bk_instance.specs.Stands.{Covers, IsOurs, Stands, StandsFor, StandsNear}
+use Rattle.bk_instance.specs.Stands.{Covers, HoldsWorld, IsOurs, Stands, StandsFor, StandsNear}
 use Rattle.bk_instance.proofs.KeptMedia.{media-on}
 use Rattle.bk_instance.proofs.Replays.{keeps-same, made-same}
+use Rattle.bk_instance.proofs.Waits.{holds-none, holds-now}
 
 -- What the machine's laws say of where a run begins.
 pub record LoadLaws : Type 0 where
@@ -75,9 +76,9 @@ Opens number a i b = (w : World) → CoversExactly number a.files w → StandsFo
 stood : LoadLaws → (number : ℕ) (i : Instance) (a b : Disk) (w : World) → Opens number a i b → (covers : Covers number a.files w) → StandsFor i b (begun covers.«record».counter w)
 stood laws number i a b w opens covers = opens (restarted covers.«record».counter w) (held-exactly laws number a.files w covers)
 
-pub loaded-stands : LoadLaws → (number : ℕ) (i j : Instance) (a b c : Disk) (w : World) → Opens number a i b → SettlesAll i b j c → Stands number a.files w → StandsFor j c (opened w)
+pub loaded-stands : LoadLaws → (number : ℕ) (i j : Instance) (a b c : Disk) (w : World) → j.waiting ≡ None → Opens number a i b → SettlesAll i b j c → Stands number a.files w → StandsFor j c (opened w)
 unfolding opened restarted
-loaded-stands laws number i j a b c w opens settles stands =
+loaded-stands laws number i j a b c w none opens settles stands =
     let counter : ℕ = stands.covers.«record».counter in
     let all = settles (begun counter stands.before) (stood laws number i a b stands.before opens stands.covers) in
     let x : World = all.0 in
@@ -85,6 +86,7 @@ loaded-stands laws number i j a b c w opens settles stands =
     let now : StandsFor j c x = all.3 in
     let is : IsSettledTo x (opened w) = settling.same (opened w) (begun-settled laws counter stands.before w stands.settled) in
     let logs : SameLogs x (opened w) = laws.ended x (opened w) now.sound all.2 is in
+    let holds : HoldsWorld c.files x = holds-now j.waiting c.files x none now.holds in
     let databases : KeepsDatabases (opened w) j.kept.databases.items = keeps-same x (opened w) j.kept.databases.items logs (databases-kept x j.kept now.keeps) in
     record {
       sound = laws.begins w stands.sound;
@@ -96,8 +98,10 @@ loaded-stands laws number i j a b c w opens settles stands =
         databases = databases.same;
         kept = databases.kept;
       };
-      made = made-same (blobs_of c.files) x (opened w) logs now.made;
-      media = media-on x (opened w) None c.files is.media.media (λ path header there. is.media.reads path header there) now.media;
+      holds = holds-none j.waiting c.files (opened w) none (record {
+        made = made-same (blobs_of c.files) x (opened w) logs holds.made;
+        media = media-on x (opened w) None c.files is.media.media (λ path header there. is.media.reads path header there) holds.media;
+      });
     }
 
 -- A crash.

@@ -43,7 +43,8 @@ use Rattle.bk_instance.specs.Stands.{Covers, IsReady, IsStored, IsOurs, StandsFo
 use Rattle.bk_instance.specs.Steps.{CutsPart, DoesPart, IsNoPart}
 use Rattle.bk_instance.specs.Touched.{IsTouched, PartWrites, TouchesOnly, TouchesOwn}
 use Rattle.bk_instance.proofs.Replays.{take-more}
-use Rattle.bk_instance.proofs.Standing.{stays-none}
+use Rattle.bk_instance.proofs.Resting.{stays-nothing}
+use Rattle.bk_instance.proofs.Waits.{covers-now}
 
 -- Lists.
 
@@ -279,8 +280,8 @@ finds-one k at found stored is finds w sound keeps = subst (λ (o : Option Store
 pub none-next : (i : Instance) (disk : Disk) (at : ℕ) → FindsNone i.kept at → SettlesNext at i disk i disk
 none-next i disk at none w stands before = (w, settling-none w, more-up-to w at (none w stands.sound stands.keeps) before, stands)
 
-pub none-cuts : (i : Instance) (disk : Disk) → IsReady i → IsStored disk i → Effect IsOurs (IfDurable disk (CutsSettling i disk)) disk disk
-none-cuts i disk ready stored = effect_weaken (λ image here durable number w stands. (w, settling-none w, here durable number w stands)) (stays-none i disk ready stored)
+pub none-cuts : (i : Instance) (disk : Disk) → i.waiting ≡ None → IsReady i → IsStored disk i → Effect IsOurs (IfDurable disk (CutsSettling i disk)) disk disk
+none-cuts i disk none ready stored = effect_weaken (λ image here durable number w stands. (w, settling-none w, covers-now i.waiting number image w none (here durable number w stands))) (stays-nothing i disk disk ready stored (nothing_yet disk))
 
 pub none-rests : (i : Instance) (disk : Disk) → RestsIdle i disk i disk
 none-rests i disk w stands idle = (nothing_yet disk, stands)
@@ -294,13 +295,13 @@ one-next laws old new before after at stored finds does w stands up_to =
       does w (settles w own.database) stands own.is,
     )
 
-pub one-cuts : (laws : SettleLaws) (old : Instance) (before after : Disk) (at : ℕ) (stored : StoredAct) → FindsOne old.kept at stored → Effect IsOurs (IfDurable before (CutsPart old before (part.Stored stored))) before after
+pub one-cuts : (laws : SettleLaws) (old : Instance) (before after : Disk) (at : ℕ) (stored : StoredAct) → old.waiting ≡ None → FindsOne old.kept at stored → Effect IsOurs (IfDurable before (CutsPart old before (part.Stored stored))) before after
     → Effect IsOurs (IfDurable before (CutsSettling old before)) before after
-one-cuts laws old before after at stored finds effect =
+one-cuts laws old before after at stored none finds effect =
     effect_weaken (λ image here durable number w stands.
     let own = finds w stands.sound stands.keeps in
     elim (here durable number w (settles w own.database) stands own.is) [
-      | inl covers ↦ (w, settling-none w, covers)
+      | inl covers ↦ (w, settling-none w, covers-now old.waiting number image w none covers)
       | inr covers ↦ (done w (settles w own.database), next-settling laws w at own.database stands.sound own.there own.needs, covers)
     ]) effect
 

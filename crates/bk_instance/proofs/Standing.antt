@@ -1,5 +1,6 @@
 -- From an instance that stands for a world to what a crash leaves of it.
-use Rattle.std.proofs.Common.{◌≡◌, ◌≤◌, ◌⊎◌, inl, inr, ℕ, ◌+◌, List, [], ◌∷◌, None, refl, sym, ◌∙◌, ap, subst, arith}
+use Rattle.std.proofs.Common.{◌≡◌, ◌≤◌, ◌⊎◌, inl, inr, ℕ, ◌+◌, List, [], ◌∷◌, Option, None, Some, refl, sym, ◌∙◌, ap, subst, arith}
+use Rattle.bk_acts.specs.declared.act.StoredAct.{StoredAct}
 use Rattle.bk_device.specs.Compose.{effect_widen, effect_none}
 use Rattle.bk_device.specs.Disk.{Files, Disk}
 use Rattle.bk_device.specs.Effects.{Effect, MayLeaveOwn}
@@ -10,6 +11,7 @@ use Rattle.bk_home.specs.Home.{HomeIs, IsOwn, IsTrouble, blobs_of, made_file, co
 use Rattle.bk_home.specs.Laws.{home_left}
 use Rattle.bk_machine.specs.Acts.{done}
 use Rattle.bk_machine.specs.Same.{SameLogs}
+use Rattle.bk_machine.specs.Sound.{IsSound}
 use Rattle.bk_machine.specs.World.{World}
 use Rattle.bk_media.specs.Names.{medium_file}
 use Rattle.bk_kept.specs.Keeps.{Keeps}
@@ -17,9 +19,10 @@ use Rattle.bk_instance.specs.declared.error.ExecuteError.TheVariants.{Broken}
 use Rattle.bk_instance.specs.declared.instance.Instance.{Instance}
 use Rattle.bk_instance.specs.Errors.{home_error}
 use Rattle.bk_instance.specs.Media.{KeepsMedia, MediaAreDurable, IfDurable}
-use Rattle.bk_instance.specs.Stands.{AreMade, nothing, one_more, Covers, IsReady, IsStored, StandsFor, IsOurs}
+use Rattle.bk_instance.specs.Stands.{AreMade, nothing, one_more, Covers, CoversBy, HoldsBehind, HoldsWorld, IsReady, IsStored, StandsFor, IsOurs}
 use Rattle.bk_instance.specs.Steps.{Stays}
 use Rattle.bk_instance.proofs.KeptMedia.{SameMedia, media-in}
+use Rattle.bk_instance.proofs.Waits.{holds-on, lags-by}
 
 -- Names.
 
@@ -79,29 +82,43 @@ pub record Fits (i : Instance) (drawn : ℕ) (r : Record) : Type 0 where
 pub ready-fits : (i : Instance) → IsReady i → Fits i 0 i.home.«record»
 ready-fits i ready = record { number = ready.number; no_less = omega (arith, ready.no_less); no_more = ready.no_more }
 
--- the world that an instance stands for
-pub covers-old : (number : ℕ) (i : Instance) (disk : Disk) (w : World) (image : Files) (r : Record) → StandsFor i disk w → Fits i 0 r → HomeIs image r (blobs_of disk.files) → KeepsMedia w r.making image → Covers number image w
-covers-old number i disk w image r stands fits home media = record {
-  sound = stands.sound;
+-- own files with the acts and the media of a world, and with a record that fits, hold it
+pub covers-old : (number : ℕ) (i : Instance) (w : World) (blobs : List (List ℕ)) (image : Files) (r : Record) → IsSound w → w.instance ≡ i.kept.number → w.counter ≡ i.kept.counter → AreMade blobs w → Fits i 0 r → HomeIs image r blobs
+    → KeepsMedia w r.making image → Covers number image w
+covers-old number i w blobs image r sound same counter made fits home media = record {
+  sound = sound;
   «record» = r;
-  blobs = blobs_of disk.files;
+  blobs = blobs;
   holds = inr home;
-  instance = stands.keeps.number ∙ fits.number;
-  no_less = omega (arith, stands.keeps.counter, fits.no_less);
-  no_more = omega (arith, stands.keeps.counter, fits.no_more);
-  made = stands.made;
+  instance = same ∙ fits.number;
+  no_less = omega (arith, counter, fits.no_less);
+  no_more = omega (arith, counter, fits.no_more);
+  made = made;
   media = media;
 }
 
-pub covers-none : (number : ℕ) (i : Instance) (disk : Disk) (w : World) (image : Files) (r : Record) → StandsFor i disk w → Fits i 0 r → r.making ≡ None → HomeIs image r (blobs_of disk.files) → SameMedia disk.files image → Covers number image w
-covers-none number i disk w image r stands fits none home same =
-    covers-old number i disk w image r stands fits home (subst (λ making. KeepsMedia w making image) (sym none) (media-in w None disk.files image same stands.media))
+covers-held : (number : ℕ) (i : Instance) (disk : Disk) (w : World) (image : Files) (r : Record) → IsSound w → w.instance ≡ i.kept.number → w.counter ≡ i.kept.counter → HoldsWorld disk.files w → Fits i 0 r → r.making ≡ None
+    → HomeIs image r (blobs_of disk.files) → SameMedia disk.files image → Covers number image w
+covers-held number i disk w image r sound number_is counter holds fits none home same =
+    covers-old number i w (blobs_of disk.files) image r sound number_is counter holds.made fits home (subst (λ making. KeepsMedia w making image) (sym none) (media-in w None disk.files image same holds.media))
 
-pub covers-now : (number : ℕ) (i : Instance) (disk : Disk) (w : World) (image : Files) → IsReady i → StandsFor i disk w → HomeIs image i.home.«record» (blobs_of disk.files) → SameMedia disk.files image → Covers number image w
+-- the world that an instance stands for, but for what waits
+pub covers-none : (number : ℕ) (i : Instance) (disk : Disk) (w : World) (image : Files) (r : Record) → StandsFor i disk w → Fits i 0 r → r.making ≡ None → HomeIs image r (blobs_of disk.files) → SameMedia disk.files image → CoversBy i.waiting number image w
+covers-none number i disk w image r stands fits none home same = by i.waiting stands.holds
+  where
+    by : (waiting : Option StoredAct) → HoldsBehind waiting disk.files w → CoversBy waiting number image w
+    by None holds = covers-held number i disk w image r stands.sound stands.keeps.number stands.keeps.counter holds fits none home same
+    by (Some waiting) holds = record {
+      old = holds.old;
+      covers = covers-held number i disk holds.old image r holds.sound (sym holds.waits.behind.media.instance ∙ stands.keeps.number) (holds.waits.behind.counter ∙ stands.keeps.counter) holds.holds fits none home same;
+      lags = lags-by waiting holds.old w holds.waits;
+    }
+
+pub covers-now : (number : ℕ) (i : Instance) (disk : Disk) (w : World) (image : Files) → IsReady i → StandsFor i disk w → HomeIs image i.home.«record» (blobs_of disk.files) → SameMedia disk.files image → CoversBy i.waiting number image w
 covers-now number i disk w image ready stands home same = covers-none number i disk w image i.home.«record» stands (ready-fits i ready) ready.none home same
 
 -- at each crash
-pub covers-left : (number : ℕ) (i : Instance) (disk : Disk) (w : World) (image : Files) → IsReady i → IsStored disk i → MediaAreDurable disk → MayLeaveOwn IsOurs disk image → StandsFor i disk w → Covers number image w
+pub covers-left : (number : ℕ) (i : Instance) (disk : Disk) (w : World) (image : Files) → IsReady i → IsStored disk i → MediaAreDurable disk → MayLeaveOwn IsOurs disk image → StandsFor i disk w → CoversBy i.waiting number image w
 covers-left number i disk w image ready stored durable left stands =
     covers-now number i disk w image ready stands (home_left image stored (own-left disk image left)) (media-left disk image durable left)
 
@@ -125,13 +142,12 @@ stays-reserved i before after next ready number counter none effect =
       | inr new ↦ covers-none n i before w image next stands (reserved-fits i next number counter) none new same
     ]) effect
 
--- an instance stands for the same where media and blobs are the same
-pub stands-on : (i j : Instance) (before after : Disk) (w : World) → j.kept ≡ i.kept → blobs_of after.files ≡ blobs_of before.files → SameMedia before.files after.files → StandsFor i before w → StandsFor j after w
-stands-on i j before after w kept blobs same stands = record {
+-- an instance stands for the same where media and blobs are the same, and what waits
+pub stands-on : (i j : Instance) (before after : Disk) (w : World) → j.kept ≡ i.kept → j.waiting ≡ i.waiting → blobs_of after.files ≡ blobs_of before.files → SameMedia before.files after.files → StandsFor i before w → StandsFor j after w
+stands-on i j before after w kept waiting blobs same stands = record {
   sound = stands.sound;
   keeps = subst (λ k. Keeps w k) (sym kept) stands.keeps;
-  made = subst (λ b. AreMade b w) (sym blobs) stands.made;
-  media = media-in w None before.files after.files same stands.media;
+  holds = subst (λ o. HoldsBehind o after.files w) (sym waiting) (holds-on i.waiting before.files after.files w blobs same stands.holds);
 }
 
 -- what the device or memory lacked isn't that the instance is broken

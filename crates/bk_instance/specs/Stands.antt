@@ -1,5 +1,5 @@
 -- Which worlds the files of a device stand for, and which an instance stands for with them.
-use Rattle.std.specs.Prelude.{◌≡◌, ◌⊎◌, ◌≤◌, ℕ, ◌+◌, true, false, List, [], ◌∷◌, ◌++◌, take, None}
+use Rattle.std.specs.Prelude.{◌≡◌, ◌⊎◌, ◌≤◌, ℕ, ◌+◌, true, false, List, [], ◌∷◌, ◌++◌, take, Option, None, Some}
 use Rattle.bk_acts.specs.declared.act.StoredAct.{StoredAct}
 use Rattle.bk_acts.specs.Spelling.{act_bytes, IsAct}
 use Rattle.bk_bytes.specs.Field.{AreBytes}
@@ -11,12 +11,14 @@ use Rattle.bk_machine.specs.Closing.{AreClosing}
 use Rattle.bk_machine.specs.Same.{SameLogs}
 use Rattle.bk_machine.specs.Settled.{IsSettledTo}
 use Rattle.bk_machine.specs.Sound.{IsSound, AreIdle}
+use Rattle.bk_waiting.specs.Lagging.{Lags}
 use Rattle.bk_machine.specs.World.{World}
 use Rattle.bk_media.specs.Names.{medium_file}
 use Rattle.bk_kept.specs.Keeps.{Keeps}
 use Rattle.bk_kept.specs.Stored.{IsDone}
 use Rattle.bk_instance.specs.declared.instance.Instance.{Instance}
 use Rattle.bk_instance.specs.Media.{KeepsMedia}
+use Rattle.bk_waiting.specs.Waiting.{WaitsFor}
 
 -- Files.
 
@@ -62,10 +64,21 @@ pub record StandsNear (number : ℕ) (files : Files) (w : World) : Type 0 where
   pub no_less : w.counter ≤ covers.«record».counter
   pub no_more : covers.«record».counter ≤ w.counter + 1024
 
--- files hold what a crash leaves inside of some acts: a world behind a front of them
+-- Files hold a world, or one that is behind it by what waits in memory.
+pub record CoversBehind (number : ℕ) (files : Files) (w : World) : Type 0 where
+  pub old : World
+  pub covers : Covers number files old
+  pub lags : Lags old w
+
+-- where nothing waits, they hold the world
+abbrev pub CoversBy : Option StoredAct → ℕ → Files → World → Type 0
+CoversBy None number files w = Covers number files w
+CoversBy (Some waiting) number files w = CoversBehind number files w
+
+-- files hold what a crash leaves inside of some acts: a world behind a front of them, but for what waits there
 pub record CutIn (number : ℕ) (w : World) (acts : List Act) (files : Files) : Type 0 where
   pub done : ℕ
-  pub covers : Covers number files (done_all w (take done acts))
+  pub covers : CoversBehind number files (done_all w (take done acts))
 
 -- An instance.
 
@@ -85,12 +98,28 @@ IsStored disk i = IsHome disk i.home
 abbrev pub ReservesNone : Instance → Type 0
 ReservesNone i = i.home.«record».counter ≡ i.kept.counter
 
--- It stands for a sound world, with what is open in it, its blobs and the media on its device.
+-- own blobs and media are those of a world
+pub record HoldsWorld (files : Files) (w : World) : Type 0 where
+  pub made : AreMade (blobs_of files) w
+  pub media : KeepsMedia w None files
+
+-- they are those of a sound world that is behind it by what waits
+pub record HoldsBefore (waiting : StoredAct) (files : Files) (w : World) : Type 0 where
+  pub old : World
+  pub sound : IsSound old
+  pub holds : HoldsWorld files old
+  pub waits : WaitsFor waiting old w
+
+-- where nothing waits, they are those of the world
+abbrev pub HoldsBehind : Option StoredAct → Files → World → Type 0
+HoldsBehind None files w = HoldsWorld files w
+HoldsBehind (Some waiting) files w = HoldsBefore waiting files w
+
+-- It stands for a sound world, with what is open in it. The blobs and the media on its device are those of the world, but for what waits.
 pub record StandsFor (i : Instance) (disk : Disk) (w : World) : Type 0 where
   pub sound : IsSound w
   pub keeps : Keeps w i.kept
-  pub made : AreMade (blobs_of disk.files) w
-  pub media : KeepsMedia w None disk.files
+  pub holds : HoldsBehind i.waiting disk.files w
 
 -- the files that an instance may touch: its own, and media
 abbrev pub IsOurs : List ℕ → Type 0

@@ -1,5 +1,6 @@
 -- What the calls of an instance do, part by part and statement by statement.
 use Rattle.std.specs.Prelude.{◌≡◌, ◌⊎◌, ℕ, List, []}
+use Rattle.bk_acts.specs.declared.act.StoredAct.{StoredAct}
 use Rattle.bk_device.specs.Calls.{ChangesNothing}
 use Rattle.bk_device.specs.Disk.{Files, Disk}
 use Rattle.bk_device.specs.Effects.{Effect}
@@ -11,6 +12,8 @@ use Rattle.bk_machine.specs.Outcome.{Outcome}
 use Rattle.bk_machine.specs.Sound.{IsSound}
 use Rattle.bk_machine.specs.World.{World, ended}
 use Rattle.bk_machine.specs.Writes.{ActsWrite, IsStill}
+use Rattle.bk_kept.specs.Keeps.{Keeps}
+use Rattle.bk_kept.specs.Stored.{IsDone}
 use Rattle.bk_plans.specs.declared.parts.Part.{Part}
 use Rattle.bk_plans.specs.declared.parts.Plan.{Plan}
 use Rattle.bk_plans.specs.declared.parts.Plan.TheVariants.{Parts}
@@ -18,7 +21,7 @@ use Rattle.bk_plans.specs.Planning.{IsPart, AreParts, AreActsOf}
 use Rattle.bk_world.specs.declared.reply.Reply.{Reply}
 use Rattle.bk_instance.specs.declared.instance.Instance.{Instance}
 use Rattle.bk_instance.specs.Media.{IfDurable}
-use Rattle.bk_instance.specs.Stands.{Covers, CutIn, IsOurs, ReservesNone, Stands, StandsFor}
+use Rattle.bk_instance.specs.Stands.{Covers, CoversBy, CutIn, HoldsBehind, IsOurs, ReservesNone, Stands, StandsFor}
 use Rattle.bk_instance.specs.Touched.{TouchesOnly}
 
 -- One part.
@@ -27,13 +30,24 @@ use Rattle.bk_instance.specs.Touched.{TouchesOnly}
 abbrev pub DoesPart : Instance → Disk → Part → Instance → Disk → Type 0
 DoesPart old before part new after = (w : World) (act : Act) → StandsFor old before w → IsPart w part act → StandsFor new after (done w act)
 
--- a crash leaves the world before a part, or the one behind it
+-- a crash leaves the world before a part, but for what waits there, or the one behind it
 abbrev pub CutsPart : Instance → Disk → Part → Files → Type 0
-CutsPart old before part image = (number : ℕ) (w : World) (act : Act) → StandsFor old before w → IsPart w part act → Covers number image w ⊎ Covers number image (done w act)
+CutsPart old before part image = (number : ℕ) (w : World) (act : Act) → StandsFor old before w → IsPart w part act → CoversBy old.waiting number image w ⊎ Covers number image (done w act)
 
 -- there is no world for which the instance stands and in which a part is an act
 abbrev pub IsNoPart : Instance → Disk → Part → Type 0
 IsNoPart old before part = (w : World) (act : Act) → StandsFor old before w → IsPart w part act → ⊥
+
+-- An act that waits.
+
+-- it is done in memory: files that hold a world, but for what waits, hold the one behind it so
+abbrev pub DoesInMemory : Instance → StoredAct → Instance → Type 0
+DoesInMemory old stored new = (files : Files) (w : World) (act : Act) → IsSound w → Keeps w old.kept → HoldsBehind old.waiting files w → IsDone w stored act
+    → IsSound (done w act) × (Keeps (done w act) new.kept × HoldsBehind new.waiting files (done w act))
+
+-- there is no world that is kept and in which it is an act
+abbrev pub IsNoAct : Instance → StoredAct → Type 0
+IsNoAct old stored = (w : World) (act : Act) → IsSound w → Keeps w old.kept → IsDone w stored act → ⊥
 
 -- Several parts.
 
@@ -83,9 +97,9 @@ DoesAll old before outcome new after = (w : World) → StandsFor old before w �
 abbrev pub Cuts : Instance → Disk → Outcome → Files → Type 0
 Cuts old before outcome image = (number : ℕ) (w : World) → StandsFor old before w → CutIn number w outcome.acts image
 
--- each crash leaves the world as it was
+-- each crash leaves the world as it was, but for what waits
 abbrev pub Stays : Instance → Disk → Files → Type 0
-Stays old before image = (number : ℕ) (w : World) → StandsFor old before w → Covers number image w
+Stays old before image = (number : ℕ) (w : World) → StandsFor old before w → CoversBy old.waiting number image w
 
 -- A statement was executed: it has one outcome for its reply, for the world to which it leads, and for what each crash meanwhile leaves.
 pub record Executed (tells : Type 0) (old : Instance) (before : Disk) (s : ScriptEntry) (now : ℕ) (reply : Reply) (new : Instance) (after : Disk) : Type 0 where

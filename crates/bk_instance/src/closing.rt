@@ -16,6 +16,7 @@ use bk_machine::{
     runs_are_closed, runs_are_closed_one_by_one, runs_begin_and_end_in_sound_worlds, settled_worlds,
 };
 use bk_planning::rollback_act;
+use bk_waiting::what_waits_is_joined;
 use std::alloc::{AllocError, Global};
 
 // How many transactions are open, if a number holds it.
@@ -42,7 +43,7 @@ fn rolling_back(alloc: Global, kept: &Kept) -> Result<Option<StoredAct>, AllocEr
 }
 
 impl Instance {
-    ghost use Rattle.std.specs.Prelude.{◌≡◌, ◌≤◌, OnOk, IsErrOf};
+    ghost use Rattle.std.specs.Prelude.{◌≡◌, ◌≤◌, None, OnOk, IsErrOf};
     ghost use Rattle.bk_device.specs.Calls.{ChangesNothing};
     ghost use Rattle.bk_device.specs.Counts.{HasCause};
     ghost use Rattle.bk_device.specs.Effects.{Effect};
@@ -58,8 +59,10 @@ impl Instance {
     // Rolls the first open transaction back, if one is open.
     fn roll_back<D: Device>(&mut self, dev: &mut D) -> Result<(), ExecuteError>
         requires ready { IsReady self.old }
+        requires none { self.old.waiting ≡ None }
         requires stored { D.tells → IsStored (D.disk dev.old) self.old }
         ensures ready { OnOk result (IsReady self.new) }
+        ensures none { OnOk result (self.new.waiting ≡ None) }
         ensures stored { D.tells → OnOk result (IsStored (D.disk dev.new) self.new) }
         ensures media { D.tells → MediaAreDurable (D.disk dev.old) → OnOk result (MediaAreDurable (D.disk dev.new)) }
         ensures rolls { OnOk result (RollsOne D.tells self.old (D.disk dev.old) self.new (D.disk dev.new)) }
@@ -81,8 +84,10 @@ impl Instance {
     // Rolls all open transactions back, by rising session.
     fn roll_all_back<D: Device>(&mut self, dev: &mut D) -> Result<(), ExecuteError>
         requires ready { IsReady self.old }
+        requires none { self.old.waiting ≡ None }
         requires stored { D.tells → IsStored (D.disk dev.old) self.old }
         ensures ready { OnOk result (IsReady self.new) }
+        ensures none { OnOk result (self.new.waiting ≡ None) }
         ensures stored { D.tells → OnOk result (IsStored (D.disk dev.new) self.new) }
         ensures media { D.tells → MediaAreDurable (D.disk dev.old) → OnOk result (MediaAreDurable (D.disk dev.new)) }
         ensures rolls { OnOk result (RollsAll D.tells self.old (D.disk dev.old) self.new (D.disk dev.new)) }
@@ -107,6 +112,7 @@ impl Instance {
     // nothing is open.
     fn release<D: Device>(&mut self, dev: &mut D) -> Result<(), ExecuteError>
         requires ready { IsReady self.old }
+        requires none { self.old.waiting ≡ None }
         requires stored { D.tells → IsStored (D.disk dev.old) self.old }
         ensures stored { D.tells → OnOk result (IsStored (D.disk dev.new) self.new) }
         ensures media { D.tells → MediaAreDurable (D.disk dev.old) → OnOk result (MediaAreDurable (D.disk dev.new)) }
@@ -130,9 +136,9 @@ impl Instance {
         Ok(())
     }
 
-    /// Ends the run: what is open is rolled back, by rising session, its sessions are closed, and no GUID stays reserved. Where
-    /// nothing is open and no GUID reserved, nothing is changed. A crash leaves a front of the rollbacks. After an error the
-    /// instance isn't used again.
+    /// Ends the run: what waits is stored, what is open is rolled back, by rising session, its sessions are closed, and no GUID
+    /// stays reserved. Where nothing is open and no GUID reserved, nothing is changed. A crash leaves a front of the rollbacks,
+    /// or the world before them without what waited. After an error the instance isn't used again.
     ///
     /// `Broken` comes only where the instance stands for no world.
     pub fn close<D: Device>(&mut self, dev: &mut D) -> Result<(), ExecuteError>
@@ -148,6 +154,8 @@ impl Instance {
         ensures cause { HasCause D.disk_faults D.tell_faults dev.old dev.new (IsErrOf result Fault) }
     {
         runs_are_closed();
+        what_waits_is_joined();
+        self.flush(dev)?;
         self.roll_all_back(dev)?;
         self.release(dev)
     }

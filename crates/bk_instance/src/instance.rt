@@ -15,10 +15,12 @@ use bk_items::{ScriptEntry, ScriptItem};
 use bk_kept::Kept;
 use bk_machine::acts_of_statements;
 use bk_planning::plan;
+use bk_waiting::Waiting;
 use bk_world::Reply;
 use std::alloc::Global;
 
-/// An instance: its own files on a device, and what it keeps in memory.
+/// An instance: its own files on a device, and what it keeps in memory. What open transactions say waits there until a statement
+/// comes whose reply promises something.
 ///
 /// Between two calls its record names no medium, and reserves at most 1,024 GUIDs that weren't drawn.
 #[derive(Drop)]
@@ -26,12 +28,14 @@ pub struct Instance {
     pub(crate) alloc: Global,
     pub(crate) home: Home,
     pub(crate) kept: Kept,
+    pub(crate) waiting: Waiting,
 }
 
 impl Instance {
     /// Executes one statement at `now`, in milliseconds since 1970-01-01 00:00:00 UTC: what the machine may come to. What
-    /// it changes is on the device when it returns; a crash meanwhile leaves some front of its parts. After an error the
-    /// instance isn't used again.
+    /// it changes is on the device when it returns, but for what it says in a transaction that is open then, which waits in
+    /// memory for the next statement that stores something; a crash meanwhile leaves some front of its parts, without what
+    /// waits. After an error the instance isn't used again.
     ///
     /// `Broken` comes only where the instance stands for no world.
     pub fn execute<D: Device>(

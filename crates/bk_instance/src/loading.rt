@@ -1,5 +1,5 @@
 // How an instance is opened.
-ghost use Rattle.std.specs.Prelude.{◌≡◌, ◌≢◌, ◌⊎◌, ◌≤◌, ℕ, List, [], Some, false, IfOk, OnOk, OnErr, IsErrOf, MatchResult, IsErr};
+ghost use Rattle.std.specs.Prelude.{◌≡◌, ◌≢◌, ◌⊎◌, ◌≤◌, ℕ, List, [], None, Some, false, IfOk, OnOk, OnErr, IsErrOf, MatchResult, IsErr};
 ghost use Rattle.bk_device.specs.Calls.{ChangesNothing};
 ghost use Rattle.bk_device.specs.Counts.{HasCause};
 ghost use Rattle.bk_device.specs.Disk.{IsSettled};
@@ -24,6 +24,7 @@ use bk_machine::{
     logs_that_stay, media_that_stay, restarts_keep_worlds_sound,
     runs_begin_and_end_in_sound_worlds, settled_worlds,
 };
+use bk_waiting::Waiting;
 use std::alloc::Global;
 
 // Makes durable what a read shows of an instance's own files: a process that was stopped may have left writes there
@@ -68,6 +69,7 @@ impl Instance {
     // Opens the instance with what is open in its databases, and lets a medium go that was begun.
     fn open<D: Device>(alloc: Global, dev: &mut D, number: u64) -> Result<Instance, LoadError>
         ensures ready { IfOk result IsReady }
+        ensures none { IfOk result (λ i. i.waiting ≡ None) }
         ensures stored { D.tells → IfOk result (IsStored (D.disk dev.new)) }
         ensures media { D.tells → IsSettled (D.disk dev.old) → OnOk result (MediaAreDurable (D.disk dev.new)) }
         ensures stands { D.tells → IfOk result (λ i. (w : World) → CoversExactly number (D.disk dev.old).files w → StandsFor i (D.disk dev.new) (opened w)) }
@@ -97,7 +99,12 @@ impl Instance {
             sessions: Vec::new(alloc),
             databases,
         };
-        Ok(Instance { alloc, home, kept })
+        Ok(Instance {
+            alloc,
+            home,
+            kept,
+            waiting: Waiting::none(),
+        })
     }
 
     /// Opens the instance on a device, or makes it with this number where it isn't made; session 1 is current, with no

@@ -11,7 +11,7 @@ use bk_media::{Medium, medium_file};
 use bk_set::SetBody;
 
 impl Instance {
-    ghost use Rattle.std.specs.Prelude.{◌≡◌, ◌≤◌, true, OnOk, IsErrOf};
+    ghost use Rattle.std.specs.Prelude.{◌≡◌, ◌≤◌, true, None, OnOk, IsErrOf};
     ghost use Rattle.bk_device.specs.Counts.{HasCause};
     ghost use Rattle.bk_device.specs.Effects.{Effect};
     ghost use Rattle.bk_machine.specs.Checks.{is_path};
@@ -31,6 +31,7 @@ impl Instance {
         path: &Text,
     ) -> Result<(), ExecuteError>
         requires ready { IsReady self.old }
+        requires none { self.old.waiting ≡ None }
         requires path { is_path path.now ≡ true }
         requires stored { D.tells → IsStored (D.disk dev.old) self.old }
         ensures ready { OnOk result (IsReady self.new) }
@@ -75,6 +76,7 @@ impl Instance {
         body: &SetBody,
     ) -> Result<(), ExecuteError>
         requires ready { IsReady self.old }
+        requires none { self.old.waiting ≡ None }
         requires path { is_path path.now ≡ true }
         requires keeps { KeepsBody body.now }
         requires stored { D.tells → IsStored (D.disk dev.old) self.old }

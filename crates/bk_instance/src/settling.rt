@@ -69,7 +69,7 @@ fn settling_at(alloc: Global, kept: &Kept, at: usize) -> Result<Option<StoredAct
 }
 
 impl Instance {
-    ghost use Rattle.std.specs.Prelude.{◌≡◌, ◌≤◌, ◌+◌, OnOk, IsErrOf};
+    ghost use Rattle.std.specs.Prelude.{◌≡◌, ◌≤◌, ◌+◌, None, OnOk, IsErrOf};
     ghost use Rattle.bk_device.specs.Calls.{ChangesNothing};
     ghost use Rattle.bk_device.specs.Counts.{HasCause};
     ghost use Rattle.bk_device.specs.Effects.{Effect};
@@ -84,8 +84,10 @@ impl Instance {
     // Settles the database at a place, if there is one and it needs it. A crash leaves the world before that, or behind it.
     fn settle_at<D: Device>(&mut self, dev: &mut D, at: usize) -> Result<(), ExecuteError>
         requires ready { IsReady self.old }
+        requires none { self.old.waiting ≡ None }
         requires stored { D.tells → IsStored (D.disk dev.old) self.old }
         ensures ready { OnOk result (IsReady self.new) }
+        ensures none { OnOk result (self.new.waiting ≡ None) }
         ensures stored { D.tells → OnOk result (IsStored (D.disk dev.new) self.new) }
         ensures media { D.tells → MediaAreDurable (D.disk dev.old) → OnOk result (MediaAreDurable (D.disk dev.new)) }
         ensures number { OnOk result (self.new.kept.number ≡ self.old.kept.number) }
@@ -111,8 +113,10 @@ impl Instance {
     /// settled to the same. Where nothing is open, nothing is changed.
     pub(crate) fn settle<D: Device>(&mut self, dev: &mut D) -> Result<(), ExecuteError>
         requires ready { IsReady self.old }
+        requires none { self.old.waiting ≡ None }
         requires stored { D.tells → IsStored (D.disk dev.old) self.old }
         ensures ready { OnOk result (IsReady self.new) }
+        ensures none { OnOk result (self.new.waiting ≡ None) }
         ensures stored { D.tells → OnOk result (IsStored (D.disk dev.new) self.new) }
         ensures media { D.tells → MediaAreDurable (D.disk dev.old) → OnOk result (MediaAreDurable (D.disk dev.new)) }
         ensures number { OnOk result (self.new.kept.number ≡ self.old.kept.number) }

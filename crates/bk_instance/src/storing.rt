@@ -2,29 +2,32 @@
 
 use crate::error::ExecuteError;
 use crate::instance::Instance;
-use bk_acts::{StoredAct, encode_act};
+use bk_acts::StoredAct;
 use bk_device::Device;
 use bk_home::Record;
 use bk_kept::draws;
 use bk_machine::{acts_keep_worlds_sound, logs_that_stay, sets_that_stay};
+use bk_waiting::{Waiting, what_waits_is_joined};
 
 // GUIDs from here on, 2^62 - 2^32, are kept for what is never refused.
 const KEPT_NUMBERS: u64 = 4_611_686_014_132_420_608;
 
 impl Instance {
-    ghost use Rattle.std.specs.Prelude.{◌≡◌, ◌<◌, ◌≤◌, ◌+◌, true, OnOk, IsErrOf};
+    ghost use Rattle.std.specs.Prelude.{◌≡◌, ◌<◌, ◌≤◌, ◌+◌, true, None, OnOk, IsErrOf};
     ghost use Rattle.bk_acts.specs.Spelling.{KeepsAct};
+    ghost use Rattle.bk_device.specs.Calls.{ChangesNothing};
     ghost use Rattle.bk_device.specs.Counts.{HasCause};
     ghost use Rattle.bk_device.specs.Effects.{Effect};
     ghost use Rattle.bk_plans.specs.declared.parts.Part.TheVariants as part;
     ghost use Rattle.bk_instance.specs.Media.{MediaAreDurable, IfDurable};
     ghost use Rattle.bk_instance.specs.Stands.{IsReady, IsStored, IsOurs, ReservesNone, StandsFor};
     ghost use Rattle.bk_kept.specs.Stored.{drawn_by};
-    ghost use Rattle.bk_instance.specs.Steps.{CutsPart, DoesPart, IsNoPart, Stays};
+    ghost use Rattle.bk_instance.specs.Steps.{CutsPart, DoesInMemory, DoesPart, IsNoAct, IsNoPart, Stays};
     ghost use Rattle.bk_instance.specs.Touched.{PartWrites, TouchesOnly, TouchesOwn};
     ghost use Rattle.bk_instance.specs.declared.error.ExecuteError.TheVariants.{Broken, Fault};
     ghost use Rattle.bk_machine.specs.Checks.{used_up};
     ghost use Rattle.bk_machine.specs.World.{World};
+    ghost use Rattle.bk_waiting.specs.Waiting.{Joins, MayJoin};
 
     /// Reserves so many GUIDs beyond those that were drawn, at most 2, where they aren't reserved yet. `Broken` comes only where
     /// some are to be drawn and all are used up.
@@ -36,6 +39,7 @@ impl Instance {
         ensures stored { D.tells → OnOk result (IsStored (D.disk dev.new) self.new) }
         ensures media { D.tells → MediaAreDurable (D.disk dev.old) → OnOk result (MediaAreDurable (D.disk dev.new)) }
         ensures kept { self.new.kept ≡ self.old.kept }
+        ensures waiting { self.new.waiting ≡ self.old.waiting }
         ensures none { n ≡ 0 → OnOk result (self.new.home ≡ self.old.home) }
         ensures reserved { OnOk result (self.old.kept.counter + n ≤ self.new.home.record.counter) }
         ensures stands { D.tells → OnOk result ((w : World) → StandsFor self.old (D.disk dev.old) w → StandsFor self.new (D.disk dev.new) w) }
@@ -63,8 +67,53 @@ impl Instance {
         Ok(())
     }
 
-    /// Does a stored act: reserves the GUIDs that it draws, takes it in in memory, and then in the instance's file. A crash
-    /// leaves the world before it, or behind it.
+    /// Stores what waits, if something does: by one blob. Then nothing waits.
+    pub(crate) fn flush<D: Device>(&mut self, dev: &mut D) -> Result<(), ExecuteError>
+        requires ready { IsReady self.old }
+        requires stored { D.tells → IsStored (D.disk dev.old) self.old }
+        ensures ready { OnOk result (IsReady self.new) }
+        ensures stored { D.tells → OnOk result (IsStored (D.disk dev.new) self.new) }
+        ensures media { D.tells → MediaAreDurable (D.disk dev.old) → OnOk result (MediaAreDurable (D.disk dev.new)) }
+        ensures none { OnOk result (self.new.waiting ≡ None) }
+        ensures kept { self.new.kept ≡ self.old.kept }
+        ensures same_record { OnOk result (self.new.home.record ≡ self.old.home.record) }
+        ensures stands { D.tells → OnOk result ((w : World) → StandsFor self.old (D.disk dev.old) w → StandsFor self.new (D.disk dev.new) w) }
+        ensures crash { D.tells → Effect IsOurs (IfDurable (D.disk dev.old) (Stays self.old (D.disk dev.old))) (D.disk dev.old) (D.disk dev.new) }
+        ensures still { D.tells → self.old.waiting ≡ None → ChangesNothing (D.disk dev.old) (D.disk dev.new) }
+        ensures spares { D.tells → TouchesOwn (D.disk dev.old) (D.disk dev.new) }
+        ensures unbroken { IsErrOf result Broken → ⊥ }
+        ensures cause { HasCause D.disk_faults D.tell_faults dev.old dev.new (IsErrOf result Fault) }
+    {
+        let Some(bytes) = self.waiting.bytes(self.alloc)? else {
+            return Ok(());
+        };
+        self.home.append(dev, &bytes)?;
+        self.waiting = Waiting::none();
+        Ok(())
+    }
+
+    /// Takes an act in that may wait behind what waits. It touches no device.
+    pub(crate) fn wait(&mut self, act: &StoredAct) -> Result<(), ExecuteError>
+        requires ready { IsReady self.old }
+        requires keeps { KeepsAct act.now }
+        requires may { MayJoin self.old.waiting act.now }
+        ensures ready { OnOk result (IsReady self.new) }
+        ensures home { self.new.home ≡ self.old.home }
+        ensures number { OnOk result (self.new.kept.number ≡ self.old.kept.number) }
+        ensures does { OnOk result (DoesInMemory self.old act.now self.new) }
+        ensures broken { IsErrOf result Broken → IsNoAct self.old act.now }
+        ensures no_fault { IsErrOf result Fault → ⊥ }
+    {
+        acts_keep_worlds_sound();
+        what_waits_is_joined();
+        self.waiting.add(self.alloc, act)?;
+        self.kept.apply(self.alloc, act)?;
+        Ok(())
+    }
+
+    /// Does a stored act: stores what waits before it, or joins it with that; reserves the GUIDs that it draws, takes it in in
+    /// memory, and then in the instance's file. Then nothing waits. A crash leaves the world before it, but for what waits there, or
+    /// the world behind it.
     pub(crate) fn store<D: Device>(
         &mut self,
         dev: &mut D,
@@ -77,6 +126,32 @@ impl Instance {
         ensures stored { D.tells → OnOk result (IsStored (D.disk dev.new) self.new) }
         ensures media { D.tells → MediaAreDurable (D.disk dev.old) → OnOk result (MediaAreDurable (D.disk dev.new)) }
         ensures number { OnOk result (self.new.kept.number ≡ self.old.kept.number) }
+        ensures none { OnOk result (self.new.waiting ≡ None) }
+        ensures exact { drawn_by act.now ≡ 0 → OnOk result (ReservesNone self.old → ReservesNone self.new) }
+        ensures does { D.tells → OnOk result (DoesPart self.old (D.disk dev.old) (part.Stored act.now) self.new (D.disk dev.new)) }
+        ensures crash { D.tells → Effect IsOurs (IfDurable (D.disk dev.old) (CutsPart self.old (D.disk dev.old) (part.Stored act.now))) (D.disk dev.old) (D.disk dev.new) }
+        ensures spares { D.tells → TouchesOnly (PartWrites (part.Stored act.now)) (D.disk dev.old) (D.disk dev.new) }
+        ensures broken { D.tells → IsErrOf result Broken → IsNoPart self.old (D.disk dev.old) (part.Stored act.now) }
+        ensures cause { HasCause D.disk_faults D.tell_faults dev.old dev.new (IsErrOf result Fault) }
+    {
+        if self.waiting.joins(act) {
+            return self.store_joined(dev, act);
+        }
+        self.flush(dev)?;
+        self.store_joined(dev, act)
+    }
+
+    // Does a stored act that joins what waits.
+    fn store_joined<D: Device>(&mut self, dev: &mut D, act: &StoredAct) -> Result<(), ExecuteError>
+        requires ready { IsReady self.old }
+        requires keeps { KeepsAct act.now }
+        requires joins { Joins self.old.waiting act.now }
+        requires stored { D.tells → IsStored (D.disk dev.old) self.old }
+        ensures ready { OnOk result (IsReady self.new) }
+        ensures stored { D.tells → OnOk result (IsStored (D.disk dev.new) self.new) }
+        ensures media { D.tells → MediaAreDurable (D.disk dev.old) → OnOk result (MediaAreDurable (D.disk dev.new)) }
+        ensures number { OnOk result (self.new.kept.number ≡ self.old.kept.number) }
+        ensures none { OnOk result (self.new.waiting ≡ None) }
         ensures exact { drawn_by act.now ≡ 0 → OnOk result (ReservesNone self.old → ReservesNone self.new) }
         ensures does { D.tells → OnOk result (DoesPart self.old (D.disk dev.old) (part.Stored act.now) self.new (D.disk dev.new)) }
         ensures crash { D.tells → Effect IsOurs (IfDurable (D.disk dev.old) (CutsPart self.old (D.disk dev.old) (part.Stored act.now))) (D.disk dev.old) (D.disk dev.new) }
@@ -87,10 +162,12 @@ impl Instance {
         acts_keep_worlds_sound();
         logs_that_stay();
         sets_that_stay();
+        what_waits_is_joined();
         self.reserve(dev, draws(act))?;
-        let bytes = encode_act(self.alloc, act)?;
+        let bytes = self.waiting.bytes_with(self.alloc, act)?;
         self.kept.apply(self.alloc, act)?;
         self.home.append(dev, &bytes)?;
+        self.waiting = Waiting::none();
         Ok(())
     }
 }

@@ -20,6 +20,7 @@ use Rattle.bk_world.specs.Records.{Counts, Deed, Logged, Said, more, numbered, d
 use Rattle.bk_world.specs.Telling.{entries, entries_from, entry_of, model, tables}
 use Rattle.bk_world.specs.BranchLaws.{branch_at-last}
 use Rattle.bk_machine.specs.Acts.{Recovery, created, creation_said, done, drawn, forked, goes_online, gone_online, new_database, new_line}
+use Rattle.bk_machine.specs.Checks.{last_number}
 use Rattle.bk_machine.specs.MayDo.{MayCreate, MayRecover}
 use Rattle.bk_machine.specs.Sound.{AreApart, HasFew, KeepsAll, AreNumbered, AreOpen, ArePlaced, Differ, IsIdle, IsLog, IsNotToCome, IsPassed, IsPlaced, IsSound, IsSoundLine, IsWholeDatabase, OpenBy, has_begin}
 use Rattle.bk_machine.specs.statements.Restore.{IsOfRecovery, Recovers, is_recovery_deed}
@@ -126,7 +127,7 @@ module _ (w : World) (c : Creation) (is : IsSound w) (may : MayCreate w c) where
   created-open : OpenBy (done w (created c)).history (new_database c)
   unfolding done new_database log_below pending
   created-open =
-      on_branch-open w (done w (created c)) created-follows [] 1 c.branch (creation_said c) refl tt (omega arith) (new_database c) (record { pending = tt; loads = tt; apart = tt; begins = tt; few = tt; seats = tt; kept = tt })
+      on_branch-open w (done w (created c)) created-follows [] 1 c.branch (creation_said c) refl tt (omega arith) (new_database c) (record { pending = tt; loads = tt; apart = tt; begins = tt; few = tt; seats = tt; kept = tt; numbers = omega arith })
 
   created-others : (dbs : List Database) → AllByRecursion (IsWholeDatabase w) dbs → AllByRecursion (IsWholeDatabase (done w (created c))) dbs
   unfolding done
@@ -230,8 +231,8 @@ find-anchor branch at n (s ∷ said) le all some = by (is_recovery_deed s) refl 
     by false is more later = behind (later more)
 
 -- where nothing is pending and no transaction is open, all that is pending is of an open transaction
-none-open : (rs : List Logged) (end : ℕ) (transactions : List Open) → pending rs ≡ [] → transactions ≡ [] → AreOpen rs end transactions
-none-open rs end transactions nothing none = record {
+none-open : (rs : List Logged) (end : ℕ) (transactions : List Open) → pending rs ≡ [] → transactions ≡ [] → end ≤ last_number → AreOpen rs end transactions
+none-open rs end transactions nothing none within = record {
   pending = subst (λ ws. AllByRecursion (λ (w : Pending). has_begin transactions w.begin ≡ true) ws) (sym nothing) tt;
   loads = subst (λ ws. AllByRecursion (λ (w : Pending). w.extents ≡ []) ws) (sym nothing) tt;
   apart = subst AreApart (sym none) tt;
@@ -239,6 +240,7 @@ none-open rs end transactions nothing none = record {
   few = subst (λ ts. AllByRecursion (HasFew rs) ts) (sym none) tt;
   seats = subst (λ ts. AllByRecursion (λ (t : Open). t.session ≤ most_sessions) ts) (sym none) tt;
   kept = subst (λ ts. AllByRecursion (KeepsAll rs) ts) (sym none) tt;
+  numbers = (let few : length (pending rs) ≡ 0 = ap length nothing in let closed : length transactions ≡ 0 = ap length none in omega (arith, few, closed, within));
 }
 
 module _ (w : World) (db : Database) (r : Recovery) (is : IsSound w) (there : database_named w.databases db.name ≡ Some db) (may : MayRecover w db r) where
@@ -307,7 +309,7 @@ module _ (w : World) (db : Database) (r : Recovery) (is : IsSound w) (there : da
   unfolding goes_online online-there
   open-there =
       on_branch-open w (goes_online w db r) recovered-follows db.path r.at r.branch r.said refl (new-to db.path own.drawn) some-said (online-there db)
-      (none-open (more (log_below w.history db.path r.at) r.at r.said) (r.at + length r.said) db.transactions recovers-there.settles idle.transactions)
+      (none-open (more (log_below w.history db.path r.at) r.at r.said) (r.at + length r.said) db.transactions recovers-there.settles idle.transactions may.numbers)
 
   -- it is found, and its log is what it was up to there with this behind it
   pub recovered-log : log_of (goes_online w db r).history (gone_online (model (log_to w.history db r.at)) r db) ≡ more (log_to w.history db r.at) r.at r.said

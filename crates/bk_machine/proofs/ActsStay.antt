@@ -1,5 +1,5 @@
 -- What stays sound where a world's history grows: sets, media, and databases that say nothing.
-use Rattle.std.proofs.Common.{◌≡◌, ◌≤◌, inl, inr, ℕ, Bool, List, Option, sym, subst}
+use Rattle.std.proofs.Common.{◌≡◌, ◌≤◌, inl, inr, ℕ, ◌+◌, Bool, List, length, Option, sym, subst}
 use Rattle.std.specs.Prelude.{Contains}
 use Rattle.std.specs.List.{AllByRecursion}
 use Rattle.bk_ids.specs.Path.{branch_at}
@@ -10,9 +10,11 @@ use Rattle.bk_world.specs.declared.header.Header.{Header}
 use Rattle.bk_world.specs.Lines.{Grew, MayGoOn, RecordLine, RecordLines, log_below}
 use Rattle.bk_world.specs.ListLaws.{all_mapped}
 use Rattle.bk_world.specs.Medium.{Slot, Reading, readable, damaged, no_set, not_media, medium}
+use Rattle.bk_world.specs.Pending.{pending}
 use Rattle.bk_world.specs.Records.{Counts}
 use Rattle.bk_world.specs.Telling.{model, time}
 use Rattle.bk_world.specs.GrowthLaws.{records-grown}
+use Rattle.bk_machine.specs.Checks.{last_number}
 use Rattle.bk_machine.specs.Sound.{AreOpen, IsHeld, IsLog, IsOnline, IsSoundLine, IsSoundReading, IsSoundSet, IsSoundSlot, IsWholeDatabase, OpenBy, files_of_set}
 use Rattle.bk_machine.specs.World.{World, Database, log_of}
 use Rattle.bk_machine.proofs.Histories.{held-grew, not_to_come-later, passed-grew, path-later}
@@ -46,6 +48,7 @@ set-there old new instance counter header same held is = record {
   held = held;
   model = subst (λ rs. header.model ≡ model rs) (sym same) is.model;
   finish = subst (λ rs. header.finish ≡ time rs) (sym same) is.finish;
+  numbers = subst (λ rs. header.last + (length (pending rs) + 1) ≤ last_number) (sym same) is.numbers;
 }
 
 pub set-stays : (old new : World) → Follows old new → (header : Header) → IsSoundSet old header → IsSoundSet new header

@@ -9,7 +9,8 @@ use Rattle.bk_world.specs.Records.{Logged}
 use Rattle.bk_world.specs.Lines.{RecordLine, RecordLines}
 use Rattle.bk_world.specs.declared.database.Status.{Status}
 use Rattle.bk_world.specs.declared.database.Status.TheVariants.{Online, Standby, Down}
-use Rattle.bk_machine.specs.Acts.{done_all}
+use Rattle.bk_machine.specs.Acts.{Act, done_all}
+use Rattle.bk_machine.specs.Checks.{last_number}
 use Rattle.bk_machine.specs.Crash.{CutsRun, DatabaseLeft, Leaves, LineLeft, StatusLeft, WorldLeft, cut_between, greatest_end, next_acts, open_begins}
 use Rattle.bk_machine.specs.Machine.{May}
 use Rattle.bk_machine.specs.Outcome.{Outcome}
@@ -19,10 +20,12 @@ use Rattle.bk_machine.specs.Stays.{IsCutOf, IsFront}
 use Rattle.bk_machine.specs.World.{Database, World, log_of, restarted}
 use Rattle.bk_machine.proofs.Acting.{acts-sound}
 use Rattle.bk_machine.proofs.CutRuns.{run-cut, run-leaves, run-stays}
+use Rattle.bk_machine.proofs.Cutting.{OpenOwn, OpensOwn, open-before, open-done-all}
 use Rattle.bk_machine.proofs.Settled.{crash-settles, whole-front}
 use Rattle.bk_machine.specs.Settled.{IsSettledTo}
 use Rattle.bk_machine.specs.SettledLaws.{counts-end, idle-is, settled-same}
 use Rattle.bk_machine.proofs.statements.Each.{statement-does}
+use Rattle.bk_machine.proofs.statements.Facts.{all-take}
 use Rattle.bk_machine.specs.ReadyLaws.{nothing-pends}
 use Rattle.bk_machine.proofs.statements.Running.{RunsWell, Within, may-front, within-well}
 
@@ -55,6 +58,7 @@ module _ (before whole cut : World) (counter : ℕ) (sound : IsSound cut) (idle 
         end = end;
         goes_on = (one.online up).goes_on;
         bound = (let within : db.end ≤ greatest_end before whole db = (at up).end in omega (arith, within));
+        numbers = (let left : db.end + length (pending (log_of cut.history db)) ≤ last_number = (at up).numbers in omega (arith, left));
       }
   status-same db own one opens at (Standby file) down = record { log = refl; end = refl }
   status-same db own one opens at Down down = record { log = refl; end = refl }
@@ -92,6 +96,13 @@ module _ (old : World) (outcomes : List Outcome) (n k : ℕ) (sound : IsSound ol
 
   pub between-sound : IsSound (cut_between old outcomes n k)
   between-sound = acts-sound (behind_all old (take n outcomes)) (take k (next_acts (drop n outcomes))) here.sound (may-front (behind_all old (take n outcomes)) (next_acts (drop n outcomes)) k here.well.may)
+
+  -- what is open there is of what was open before the statement, or of the statement itself
+  pub between-open : AllByRecursion (OpenOwn (behind_all old (take n outcomes))) (cut_between old outcomes n k).databases
+  between-open =
+      let before : World = behind_all old (take n outcomes) in
+      let acts : List Act = next_acts (drop n outcomes) in
+      open-done-all before before (take k acts) here.sound (may-front before acts k here.well.may) (all-take (OpensOwn before) k acts here.well.opens) (open-before before here.sound.whole.different)
 
   -- a run is cut there
   cuts : (least : ℕ) → least ≤ n → n ≤ length outcomes → CutsRun old outcomes least (behind_all old (take n outcomes)) (cut_between old outcomes n k) (done_all (behind_all old (take n outcomes)) (next_acts (drop n outcomes)))

@@ -116,7 +116,7 @@ module _ (before whole cut left : World) (l : WorldLeft before whole cut left) w
             let here : OfNew (behind_crash old new.end) = subst OfNew one.same o in
             subst OfDatabase (sym one.same) (
               whole-online cut left passed drawn old was begins new.end up here.log here.of_some here.end here.goes_on,
-              open-online cut left passed drawn old was begins new.end up here.log here.of_some here.end here.goes_on,
+              open-online cut left passed drawn old was begins new.end up here.log here.of_some here.end here.goes_on here.numbers,
             )
         by (Standby file) down o = offline (λ up. let wrong : Standby file ≡ Online = sym down ∙ up in standby-down file wrong) o
         by Down down o = offline (λ up. let wrong : Down ≡ Online = sym down ∙ up in absurd (cc)) o

@@ -15,14 +15,14 @@ use Rattle.bk_machine.specs.Sound.{IsSound, IsWhole, IsWholeDatabase}
 use Rattle.bk_machine.specs.Stays.{IsCutOf, IsFront, MayStay}
 use Rattle.bk_machine.specs.World.{Database, World, log_of}
 use Rattle.bk_machine.proofs.Acting.{acts-sound}
-use Rattle.bk_machine.proofs.Bounded.{front-bound}
-use Rattle.bk_machine.proofs.Cutting.{IsOwn, OpenOwn, OpensOwn, PendsOwn, cut-pends, open-before, open-done-all}
+use Rattle.bk_machine.proofs.LeftNumbers.{may-stay}
+use Rattle.bk_machine.proofs.Cutting.{HaveNumbers, IsOwn, OpenOwn, OpensOwn, PendsOwn, cut-pends, open-before, open-done-all}
 use Rattle.bk_machine.proofs.Ends.{IsSteady, IsWithin, Rose, rose-cut, within-before, within-replaced, within-restored, within-rose, within-whole}
 use Rattle.bk_machine.proofs.Remaining.{what-stays}
 use Rattle.bk_machine.proofs.statements.Facts.{EndWell, NotLogged, all-take}
 use Rattle.bk_machine.proofs.statements.Fronts.{cut-whole}
 use Rattle.bk_machine.specs.ClosingLaws.{done-joined}
-use Rattle.bk_machine.proofs.statements.Running.{RunsWell, Within, may-front, may-rest, within-well}
+use Rattle.bk_machine.proofs.statements.Running.{RunsWell, Within, may-front, may-rest, numbers-rest, within-well}
 
 -- ---- lists
 
@@ -48,6 +48,7 @@ front-none (suc n) = refl
 record CutWell (w : World) (acts : List Act) : Type 0 where
   opens : AllByRecursion (OpensOwn w) acts
   own : AllByRecursion (IsOwn w) acts
+  numbers : HaveNumbers w acts
   ends : EndWell acts
 
 none-said : (act : Act) (acts : List Act) (n : ℕ) → NotLogged act → front_of n (act ∷ acts) ≡ []
@@ -134,9 +135,9 @@ module _ (before : World) (sound : IsSound before) (acts : List Act) (may : MayD
   is-cut : AllByRecursion (λ (db : Database). db.status ≡ Online → IsCutOf before (done_all before acts) (cut_at before acts k n) db) (cut_at before acts k n).databases
   is-cut =
       all_both (IsWithin before (done_all before acts)) (PendsOwn before (cut_at before acts k n))
-      (λ (db : Database). db.status ≡ Online → IsCutOf before (done_all before acts) (cut_at before acts k n) db) (λ db within pends up. record { of_open = pends up; end = within up })
+      (λ (db : Database). db.status ≡ Online → IsCutOf before (done_all before acts) (cut_at before acts k n) db) (λ db within pends up. record { of_open = (pends up).own; end = within up; numbers = (pends up).numbers })
       (cut_at before acts k n).databases (within-cut before sound acts k n may well.ends)
-      (cut-pends before (done_all before (take k acts)) mid-sound mid-open (drop k acts) n (may-rest before acts k may) (all-drop (IsOwn before) k acts well.own) quiet)
+      (cut-pends before (done_all before (take k acts)) mid-sound mid-open (drop k acts) n (may-rest before acts k may) (all-drop (IsOwn before) k acts well.own) (numbers-rest before acts k well.numbers) quiet)
 
 -- ---- runs
 
@@ -149,7 +150,7 @@ module _ (old : World) (outcomes : List Outcome) (least : ℕ) (before cut whole
   here = within-well old outcomes cuts.done sound run
 
   well : CutWell (behind_all old (take cuts.done outcomes)) (next_acts (drop cuts.done outcomes))
-  well = record { opens = here.well.opens; own = here.well.own; ends = here.well.ends }
+  well = record { opens = here.well.opens; own = here.well.own; numbers = here.well.numbers; ends = here.well.ends }
 
   cut-is : cut ≡ cut_at (behind_all old (take cuts.done outcomes)) (next_acts (drop cuts.done outcomes)) cuts.acts cuts.records
   cut-is =
@@ -176,7 +177,7 @@ module _ (old : World) (outcomes : List Outcome) (least : ℕ) (before cut whole
   run-stays kept counter fronts no_less no_more =
       let stays : AllByRecursion (λ (db : Database). db.status ≡ Online → MayStay before whole cut db (kept db)) cut.databases =
       all_both (IsWholeDatabase cut) (λ (db : Database). (db.status ≡ Online → IsCutOf before whole cut db) × (db.status ≡ Online → IsFront before cut db (kept db))) (λ (db : Database). db.status ≡ Online → MayStay before whole cut db (kept db))
-      (λ db one both up. record { front = both.1 up; bound = front-bound before whole cut db (kept db) one (both.0 up) (both.1 up) }) cut.databases run-whole.databases
+      (λ db one both up. may-stay before whole cut db (kept db) one (both.0 up) (both.1 up)) cut.databases run-whole.databases
       (all_both (λ (db : Database). db.status ≡ Online → IsCutOf before whole cut db) (λ (db : Database). db.status ≡ Online → IsFront before cut db (kept db))
       (λ (db : Database). (db.status ≡ Online → IsCutOf before whole cut db) × (db.status ≡ Online → IsFront before cut db (kept db))) (λ db a b. (a, b)) cut.databases run-cut fronts) in
       what-stays before whole cut kept counter run-whole stays no_less no_more

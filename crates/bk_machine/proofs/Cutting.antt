@@ -1,5 +1,5 @@
--- Where a statement is cut in a sound world, what is pending is of what was open, or of the statement.
-use Rattle.std.proofs.Common.{◌≡◌, ℕ, zero, suc, ◌+◌, Bool, true, false, not, ◌&&◌, ◌||◌, List, [], ◌∷◌, take, Option, None, Some, refl, sym, ◌∙◌, ap, subst, arith}
+-- Where a statement is cut in a sound world, what is pending is of what was open, or of the statement, and numbers are left to undo it.
+use Rattle.std.proofs.Common.{◌≡◌, ◌≤◌, ℕ, zero, suc, ◌+◌, Bool, true, false, not, ◌&&◌, ◌||◌, List, [], ◌∷◌, length, take, Option, None, Some, refl, sym, ◌∙◌, ap, subst, arith}
 use Rattle.std.specs.Prelude.{◌==◌}
 use Rattle.std.specs.List.{AllByRecursion}
 use Rattle.std.proofs.lemmas.Bool.Decides.{nat_tests}
@@ -7,13 +7,14 @@ use Rattle.bk_world.specs.Cut.{is_among}
 use Rattle.bk_world.specs.ListLaws.{all_both, all_filter, all_joined, all_mapped}
 use Rattle.bk_world.specs.Pending.{Pending, load_writes, pending, pending_after, pending_from}
 use Rattle.bk_world.specs.ReadingLaws.{pending-more}
-use Rattle.bk_world.specs.Records.{Deed, Load, Said, numbered, database_made, table_made, begun, written, committed, rolled_back, undone, checkpointed, stamped, model_set, loaded, recovered as recovery}
+use Rattle.bk_world.specs.Records.{Deed, Load, Logged, Said, more, numbered, database_made, table_made, begun, written, committed, rolled_back, undone, checkpointed, stamped, model_set, loaded, recovered as recovery}
 use Rattle.bk_world.specs.Telling.{model}
 use Rattle.bk_world.specs.declared.database.Status.TheVariants.{Online}
 use Rattle.bk_machine.specs.Acts.{Act, turned, seated, created, dropped, logged, medium_made, set_sealed, based, replaced, restored, recovered, done, done_all, gone_on, gone_online, goes_online, new_database, says, taken_over, where_found}
+use Rattle.bk_machine.specs.Checks.{last_number}
 use Rattle.bk_machine.specs.Crash.{AreQuiet, IsQuiet, begins_in, begins_of, front_of, open_begins}
 use Rattle.bk_machine.specs.MayDo.{HoldsOf, MayDoAll, MayLog, MaySay}
-use Rattle.bk_machine.specs.Sound.{AreDifferent, IsSound, IsWholeDatabase, OpenBy, has_begin}
+use Rattle.bk_machine.specs.Sound.{AreDifferent, AreOpen, IsSound, IsWholeDatabase, OpenBy, has_begin}
 use Rattle.bk_world.specs.declared.transaction.Open.{Open}
 use Rattle.bk_machine.specs.World.{Database, World, database_named, log_of, log_to}
 use Rattle.bk_machine.proofs.ActsSays.{gone_on-is, says-follows, says-log}
@@ -63,6 +64,16 @@ IsOwn before _ = Unit {0}
 abbrev pub OpensOwn : World → Act → Type 0
 OpensOwn before (logged name said transactions) = AllByRecursion (λ (t : Open). is_among (begins_in (database_named before.databases name)) t.begin ≡ true) transactions
 OpensOwn before _ = Unit {0}
+
+-- Behind each front of an act that is quiet, numbers are left to undo what is pending.
+abbrev pub HasNumbers : World → Act → Type 0
+HasNumbers w (logged name said transactions) = (db : Database) → database_named w.databases name ≡ Some db → (n : ℕ) → AreQuiet (take (suc n) said)
+    → db.end + (length (take (suc n) said) + length (pending (more (log_of w.history db) db.end (take (suc n) said)))) ≤ last_number
+HasNumbers w _ = Unit {0}
+
+abbrev pub HaveNumbers : World → List Act → Type 0
+HaveNumbers w [] = Unit {0}
+HaveNumbers w (act ∷ acts) = HasNumbers w act × HaveNumbers (done w act) acts
 
 -- where each transaction is among some, so is what has the begin of one
 has-among : (bs : List ℕ) (ts : List Open) (n : ℕ) → AllByRecursion (λ (t : Open). is_among bs t.begin ≡ true) ts → has_begin ts n ≡ true → is_among bs n ≡ true
@@ -143,24 +154,31 @@ module _ (before : World) where
 -- ---- acts that are cut
 
 module _ (before : World) where
-  -- what is pending of a database that is online is of what was open
+  -- what is pending in a database is of what was open, and numbers are left to undo it
+  pub record Pends (w : World) (db : Database) : Type 0 where
+    pub own : AllByRecursion (λ (p : Pending). is_among (open_begins before db) p.begin ≡ true) (pending (log_of w.history db))
+    pub numbers : db.end + length (pending (log_of w.history db)) ≤ last_number
+
   abbrev pub PendsOwn : World → Database → Type 0
-  PendsOwn w db = db.status ≡ Online → AllByRecursion (λ (p : Pending). is_among (open_begins before db) p.begin ≡ true) (pending (log_of w.history db))
+  PendsOwn w db = db.status ≡ Online → Pends w db
 
   -- in a sound world it is of what is open
   pub sound-pends : (w : World) → IsSound w → AllByRecursion (OpenOwn before) w.databases → AllByRecursion (PendsOwn w) w.databases
   sound-pends w sound open_own =
       all_both (OpenBy w.history) (OpenOwn before) (PendsOwn w)
-      (λ db opens own up. all_mapped (λ (p : Pending). has_begin db.transactions p.begin ≡ true) (λ (p : Pending). is_among (open_begins before db) p.begin ≡ true)
-      (λ p there. has-among (open_begins before db) db.transactions p.begin own there) (pending (log_of w.history db)) (opens.online up).pending)
+      (λ db opens own up. let its : AreOpen (log_of w.history db) db.end db.transactions = opens.online up in record {
+        own = all_mapped (λ (p : Pending). has_begin db.transactions p.begin ≡ true) (λ (p : Pending). is_among (open_begins before db) p.begin ≡ true)
+            (λ p there. has-among (open_begins before db) db.transactions p.begin own there) (pending (log_of w.history db)) its.pending;
+        numbers = omega (arith, its.numbers);
+      })
       w.databases sound.opens open_own
 
   module _ (w : World) (sound : IsSound w) (open_own : AllByRecursion (OpenOwn before) w.databases) where
     -- a database says a front of what it may
     front-pends : (name : List ℕ) (said : List Said) (transactions : List Open) (n : ℕ) → HoldsOf (database_named w.databases name) (λ db. MayLog w db said transactions) → IsOwn before (logged name said transactions)
-        → AreQuiet (take (suc n) said) → AllByRecursion (PendsOwn (done w (logged name (take (suc n) said) transactions))) (done w (logged name (take (suc n) said) transactions)).databases
+        → HasNumbers w (logged name said transactions) → AreQuiet (take (suc n) said) → AllByRecursion (PendsOwn (done w (logged name (take (suc n) said) transactions))) (done w (logged name (take (suc n) said) transactions)).databases
     unfolding done says
-    front-pends name said transactions n may own quiet = by (database_named w.databases name) refl may
+    front-pends name said transactions n may own left quiet = by (database_named w.databases name) refl may
       where
         by : (o : Option Database) → database_named w.databases name ≡ o → HoldsOf o (λ db. MayLog w db said transactions)
             → AllByRecursion (PendsOwn (where_found w o (λ db. says w db (take (suc n) said) transactions))) (where_found w o (λ db. says w db (take (suc n) said) transactions)).databases
@@ -174,9 +192,13 @@ module _ (before : World) where
             let its_name : (change db).name ≡ db.name = ap (λ (d : Database). d.name) (gone_on-is (model (log_of w.history db)) (take (suc n) said) transactions db).2 in
             let begins : List ℕ = open_begins before db in
             let same_begins : open_begins before (change db) ≡ begins = ap (λ (x : List ℕ). begins_in (database_named before.databases x)) its_name in
-            let was : AllByRecursion (AmongThem begins) (pending (log_of w.history db)) = of-named (PendsOwn w) w.databases db.name db (sound-pends w sound open_own) there may.says.online in
+            let was : AllByRecursion (AmongThem begins) (pending (log_of w.history db)) = (of-named (PendsOwn w) w.databases db.name db (sound-pends w sound open_own) there may.says.online).own in
+            let log : log_of new.history (change db) ≡ more (log_of w.history db) db.end (take (suc n) said) = says-log w db (take (suc n) said) transactions sound.whole there may_front in
             let pends : pending (log_of new.history (change db)) ≡ pending_from (pending (log_of w.history db)) (numbered db.end (take (suc n) said)) =
-            ap pending (says-log w db (take (suc n) said) transactions sound.whole there may_front) ∙ pending-more (log_of w.history db) (numbered db.end (take (suc n) said)) in
+            ap pending log ∙ pending-more (log_of w.history db) (numbered db.end (take (suc n) said)) in
+            let many : length (pending (log_of new.history (change db))) ≡ length (pending (more (log_of w.history db) db.end (take (suc n) said))) = ap (λ (rs : List Logged). length (pending rs)) log in
+            let numbers : (db.end + length (take (suc n) said)) + length (pending (log_of new.history (change db))) ≤ last_number =
+            (let room : db.end + (length (take (suc n) said) + length (pending (more (log_of w.history db) db.end (take (suc n) said)))) ≤ last_number = left db is n quiet in omega (arith, room, many)) in
             let OfOwn : Option Database → Type 0 = λ o. AllByRecursion (λ (s : Said). is_among (begins_in o) s.begin ≡ true) (take (suc n) said) in
             let owns : OfOwn (database_named before.databases db.name) = subst OfOwn (sym (named-alike before.databases db.name name (name-of-named w.databases name db is))) (own n quiet) in
             let now : AllByRecursion (AmongThem begins) (pending_from (pending (log_of w.history db)) (numbered db.end (take (suc n) said))) = among-said begins (pending (log_of w.history db)) db.end (take (suc n) said) owns was in
@@ -185,24 +207,27 @@ module _ (before : World) where
             all-changed (λ (o : Database). IsWholeDatabase w o × PendsOwn w o) (PendsOwn new) w.databases db.name db change
             (all_both (IsWholeDatabase w) (PendsOwn w) (λ (o : Database). IsWholeDatabase w o × PendsOwn w o) (λ o a b. (a, b)) w.databases sound.whole.databases (sound-pends w sound open_own))
             sound.whole.different there
-            (λ one up. subst (λ bs. AllByRecursion (AmongThem bs) (pending (log_of new.history (change db)))) (sym same_begins) own_pends)
-            (λ o one apart up. subst (λ rs. AllByRecursion (λ (p : Pending). is_among (open_begins before o) p.begin ≡ true) (pending rs)) (sym (log-stays w new follows o one.0.log.counts)) (one.1 up))
+            (λ one up. record { own = subst (λ bs. AllByRecursion (AmongThem bs) (pending (log_of new.history (change db)))) (sym same_begins) own_pends; numbers = numbers })
+            (λ o one apart up. let its : Pends w o = one.1 up in record {
+              own = subst (λ rs. AllByRecursion (λ (p : Pending). is_among (open_begins before o) p.begin ≡ true) (pending rs)) (sym (log-stays w new follows o one.0.log.counts)) its.own;
+              numbers = subst (λ rs. o.end + length (pending rs) ≤ last_number) (sym (log-stays w new follows o one.0.log.counts)) its.numbers;
+            })
 
     nothing-said : AllByRecursion (PendsOwn w) w.databases
     nothing-said = sound-pends w sound open_own
 
     -- acts are cut
-    pub cut-pends : (acts : List Act) (n : ℕ) → MayDoAll w acts → AllByRecursion (IsOwn before) acts → AllByRecursion IsQuiet (front_of n acts) → AllByRecursion (PendsOwn (done_all w (front_of n acts))) (done_all w (front_of n acts)).databases
-    cut-pends acts zero may own quiet = nothing-said
-    cut-pends [] (suc n) may own quiet = nothing-said
-    cut-pends (logged name said transactions ∷ acts) (suc n) may own quiet = front-pends name said transactions n may.0 own.0 quiet.0
-    cut-pends (turned name ∷ acts) (suc n) may own quiet = nothing-said
-    cut-pends (seated session ∷ acts) (suc n) may own quiet = nothing-said
-    cut-pends (created c ∷ acts) (suc n) may own quiet = nothing-said
-    cut-pends (dropped name ∷ acts) (suc n) may own quiet = nothing-said
-    cut-pends (medium_made path ∷ acts) (suc n) may own quiet = nothing-said
-    cut-pends (set_sealed path header ∷ acts) (suc n) may own quiet = nothing-said
-    cut-pends (based name header ∷ acts) (suc n) may own quiet = nothing-said
-    cut-pends (replaced name header ∷ acts) (suc n) may own quiet = nothing-said
-    cut-pends (restored name base redo ∷ acts) (suc n) may own quiet = nothing-said
-    cut-pends (recovered name r ∷ acts) (suc n) may own quiet = nothing-said
+    pub cut-pends : (acts : List Act) (n : ℕ) → MayDoAll w acts → AllByRecursion (IsOwn before) acts → HaveNumbers w acts → AllByRecursion IsQuiet (front_of n acts) → AllByRecursion (PendsOwn (done_all w (front_of n acts))) (done_all w (front_of n acts)).databases
+    cut-pends acts zero may own left quiet = nothing-said
+    cut-pends [] (suc n) may own left quiet = nothing-said
+    cut-pends (logged name said transactions ∷ acts) (suc n) may own left quiet = front-pends name said transactions n may.0 own.0 left.0 quiet.0
+    cut-pends (turned name ∷ acts) (suc n) may own left quiet = nothing-said
+    cut-pends (seated session ∷ acts) (suc n) may own left quiet = nothing-said
+    cut-pends (created c ∷ acts) (suc n) may own left quiet = nothing-said
+    cut-pends (dropped name ∷ acts) (suc n) may own left quiet = nothing-said
+    cut-pends (medium_made path ∷ acts) (suc n) may own left quiet = nothing-said
+    cut-pends (set_sealed path header ∷ acts) (suc n) may own left quiet = nothing-said
+    cut-pends (based name header ∷ acts) (suc n) may own left quiet = nothing-said
+    cut-pends (replaced name header ∷ acts) (suc n) may own left quiet = nothing-said
+    cut-pends (restored name base redo ∷ acts) (suc n) may own left quiet = nothing-said
+    cut-pends (recovered name r ∷ acts) (suc n) may own left quiet = nothing-said

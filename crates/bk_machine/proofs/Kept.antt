@@ -1,13 +1,15 @@
 -- What stays sound in a world that goes on with the same history, and in another world.
-use Rattle.std.proofs.Common.{◌≡◌, ◌≤◌, ℕ, List, sym, ◌∙◌, ap, subst}
+use Rattle.std.proofs.Common.{◌≡◌, ◌≤◌, ℕ, ◌+◌, List, length, sym, ◌∙◌, ap, subst}
 use Rattle.std.specs.List.{AllByRecursion}
 use Rattle.bk_ids.specs.declared.path.Branch.{Branch}
 use Rattle.bk_world.specs.Lines.{MayGoOn, log_below}
 use Rattle.bk_world.specs.ListLaws.{all_both, all_mapped}
 use Rattle.bk_world.specs.Medium.{Reading}
+use Rattle.bk_world.specs.Pending.{pending}
 use Rattle.bk_world.specs.Records.{Logged}
 use Rattle.bk_world.specs.Telling.{model, time}
 use Rattle.bk_world.specs.declared.header.Header.{Header}
+use Rattle.bk_machine.specs.Checks.{last_number}
 use Rattle.bk_machine.specs.Sound.{AreDifferent, IsHeld, IsLog, IsNotToCome, IsOnce, IsSound, IsSoundLine, IsSoundReading, IsSoundSet, IsWhole, IsWholeDatabase, OpenBy, files_of_set}
 use Rattle.bk_machine.specs.World.{Database, World, most_sessions}
 use Rattle.bk_machine.proofs.ActsStay.{Follows, database-stays, lines-stay, media-stay, open-stays}
@@ -26,6 +28,7 @@ set-moved old new header is same held path set family =
       held = held;
       model = is.model ∙ ap model (sym same);
       finish = is.finish ∙ ap time (sym same);
+      numbers = subst (λ rs. header.last + (length (pending rs) + 1) ≤ last_number) (sym same) is.numbers;
     }
 
 -- where history, databases and media are the same, all stays whole and sound

@@ -19,6 +19,7 @@ use Rattle.bk_world.specs.declared.database.FileSpec.{FileSpec}
 use Rattle.bk_world.specs.declared.database.Status.TheVariants.{Online}
 use Rattle.bk_world.specs.CrashLaws.{left-counts, left-pends, left-sound, left-tells}
 use Rattle.bk_world.specs.BranchLaws.{branch_at-last}
+use Rattle.bk_machine.specs.Checks.{last_number}
 use Rattle.bk_machine.specs.Sound.{AreNumbered, ArePlaced, IsLog, IsNotToCome, IsOnline, IsPassed, IsWholeDatabase, OpenBy, has_begin}
 use Rattle.bk_machine.specs.World.{Database, World, log_of}
 use Rattle.bk_machine.specs.SettledLaws.{counts-end}
@@ -137,13 +138,13 @@ module _ (cut left : World) (passed : (b : Option Guid) (k : ℕ) → IsPassed c
         held k pos false e = held-below k pos (grind (arith, nat_tests, e))
 
     -- nothing is open in it
-    pub open-online : OpenBy left.history (behind_crash old end)
+    pub open-online : end ≤ last_number → OpenBy left.history (behind_crash old end)
     unfolding log_of
-    open-online =
+    open-online within =
         let none : pending (log_below left.history old.path end) ≡ [] = left-pends begins (log_below cut.history old.path old.end) (log_below left.history old.path end) log in
         let OfPending : List Pending → Type 0 = AllByRecursion (λ (w : Pending). has_begin [] w.begin ≡ true) in
         let OfLoads : List Pending → Type 0 = AllByRecursion (λ (w : Pending). w.extents ≡ []) in record {
-          online = λ e. record { pending = subst OfPending (sym none) tt; loads = subst OfLoads (sym none) tt; apart = tt; begins = tt; few = tt; seats = tt; kept = tt };
+          online = λ e. record { pending = subst OfPending (sym none) tt; loads = subst OfLoads (sym none) tt; apart = tt; begins = tt; few = tt; seats = tt; kept = tt; numbers = (let nothing : length (pending (log_below left.history old.path end)) ≡ 0 = ap length none in omega (arith, nothing, within)) };
           offline = λ e. record { job = refl; transactions = refl };
         }
 

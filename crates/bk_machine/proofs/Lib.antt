@@ -22,6 +22,7 @@ mod SameMedia
 mod SettledSteps
 mod Remaining
 mod Bounded
+mod LeftNumbers
 mod NewFiles
 pub mod statements
 mod Writes

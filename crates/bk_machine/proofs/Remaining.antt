@@ -206,6 +206,7 @@ module _ (before whole cut : World) (kept : Database → List Logged) (counter :
           end = sym (ap end_behind (log-online up));
           goes_on = goes-settled before whole cut is.lines db one up (kept db) front left.history lines-left (its-line up (on before whole cut is.lines db one up (kept db) front));
           bound = front.bound;
+          numbers = front.numbers;
         }
     status-left (Standby file) down = offline (λ up. let wrong : Standby file ≡ Online = sym down ∙ up in absurd (cc))
       where

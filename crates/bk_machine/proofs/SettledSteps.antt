@@ -1,6 +1,6 @@
 -- What is pending in a database is undone by an act that may be done.
-use Rattle.std.proofs.Common.{◌≡◌, ℕ, ◌+◌, Bool, true, false, not, ◌&&◌, cond, List, [], ◌∷◌, ◌++◌, length, reverse, Some, refl, sym, ◌∙◌, ap, subst, append_assoc}
-use Rattle.std.proofs.lemmas.List.{append-nil}
+use Rattle.std.proofs.Common.{◌≡◌, ◌≤◌, ℕ, ◌+◌, Bool, true, false, not, ◌&&◌, cond, List, [], ◌∷◌, ◌++◌, length, reverse, Some, refl, sym, ◌∙◌, ap, subst, append_assoc, arith}
+use Rattle.std.proofs.lemmas.List.{append-nil, length-reverse}
 use Rattle.std.specs.List.{AllByRecursion, AllZip}
 use Rattle.std.specs.Prelude.{◌==◌}
 use Rattle.bk_ids.specs.Name.{same_name}
@@ -14,12 +14,13 @@ use Rattle.bk_world.specs.ReadingLaws.{entries-settled, pending-settled}
 use Rattle.bk_world.specs.Records.{Counts, Logged, Said, more, numbered}
 use Rattle.bk_world.specs.Rows.{tables_of}
 use Rattle.bk_world.specs.Says.{settle_said, undoing}
-use Rattle.bk_world.specs.SettledLaws.{end-more, nothing-pends}
+use Rattle.bk_world.specs.SettledLaws.{end-more, length-undoing, nothing-pends}
 use Rattle.bk_world.specs.SoundLogs.{IsSound as IsSoundLog, MayFollow, NoLoadPends}
 use Rattle.bk_world.specs.Telling.{model, tables}
 use Rattle.bk_world.specs.declared.database.Status.TheVariants.{Online}
 use Rattle.bk_machine.specs.Acts.{done, gone_on, pointed, says, where_found}
 use Rattle.bk_machine.specs.Built.{IsNoLoad, SaysNoLoad}
+use Rattle.bk_machine.specs.Checks.{last_number}
 use Rattle.bk_machine.specs.MayDo.{MayDo, MaySay}
 use Rattle.bk_machine.specs.NamedLaws.{apart-named}
 use Rattle.bk_machine.specs.ReadyLaws.{nothing-open}
@@ -37,7 +38,7 @@ use Rattle.bk_machine.proofs.SameMedia.{media-said}
 
 -- ---- logs
 
-follow-rest : (rs a b : List Logged) → MayFollow rs (a ++ b) → MayFollow (rs ++ a) b
+pub follow-rest : (rs a b : List Logged) → MayFollow rs (a ++ b) → MayFollow (rs ++ a) b
 follow-rest rs [] b may = subst (λ log. MayFollow log b) (sym (append-nil rs)) may
 follow-rest rs (r ∷ a) b may = subst (λ log. MayFollow log b) (append_assoc rs (r ∷ []) a) (follow-rest (rs ++ r ∷ []) a b may.1)
 
@@ -118,8 +119,14 @@ module _ (w : World) (db : Database) (sound : IsSound w) (named : database_named
     places = placed-undoing db.files (log_of w.history db) db.end (reverse (pending (log_of w.history db)));
   }
 
+  -- it says a record for each pending write, and none is open then
+  left : db.end + length (settle_said (pending (log_of w.history db))) ≤ last_number
+  left =
+      let many : length (settle_said (pending (log_of w.history db))) ≡ length (pending (log_of w.history db)) = length-undoing (reverse (pending (log_of w.history db))) ∙ length-reverse (pending (log_of w.history db)) in
+      omega (arith, is.opens.numbers, many)
+
   pub settle-may : MayDo w (settles w db)
-  settle-may = may-open w db said [] is says-it tt (nothing-open (more (log_of w.history db) db.end said) (db.end + length said) (pending-settled (log_of w.history db) db.end))
+  settle-may = may-open w db said [] is says-it tt (nothing-open (more (log_of w.history db) db.end said) (db.end + length said) (pending-settled (log_of w.history db) db.end) left)
 
   pub settle-sound : IsSound (done w (settles w db))
   settle-sound = act-sound w (settles w db) sound settle-may

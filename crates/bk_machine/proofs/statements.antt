@@ -7,6 +7,7 @@ pub mod Ending
 pub mod Begins
 pub mod Fronts
 pub mod Facts
+pub mod Numbering
 pub mod CreateDatabase
 pub mod CreateTable
 pub mod Writing

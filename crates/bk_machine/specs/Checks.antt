@@ -66,6 +66,10 @@ unused db = unused_by (least_session db.transactions)
 abbrev pub kept_numbers : ℕ
 kept_numbers = 4611686014132420608
 
+-- No end of a log lies beyond this number, 2^62.
+abbrev pub last_number : ℕ
+last_number = 4611686018427387904
+
 -- log records or GUIDs are used up, from this number on
 abbrev pub used_up : ℕ → Bool
 used_up n = nat_le kept_numbers n

@@ -11,6 +11,7 @@ use Rattle.bk_world.specs.Lines.{RecordLine, line_on, MayGoOn}
 use Rattle.bk_world.specs.Records.{Deed, Logged, Said, undone}
 use Rattle.bk_world.specs.Telling.{telling}
 use Rattle.bk_machine.specs.Acts.{Act, logged, done_all}
+use Rattle.bk_machine.specs.Checks.{last_number}
 use Rattle.bk_machine.specs.Outcome.{Outcome}
 use Rattle.bk_machine.specs.Run.{behind_all}
 use Rattle.bk_machine.specs.Sound.{RiseFrom}
@@ -118,6 +119,7 @@ pub record OnlineLeft (before whole cut left : World) (begins : List ℕ) (old n
   pub end : new.end ≡ end_behind (log_of left.history new)
   pub goes_on : MayGoOn left.history new.path new.end
   pub bound : new.end ≤ most_end before whole old
+  pub numbers : new.end ≤ last_number
 
 -- another one keeps its log
 pub record OfflineLeft (cut left : World) (old new : Database) : Type 0 where

@@ -7,6 +7,7 @@ use Rattle.bk_world.specs.Records.{Said, more, numbered}
 use Rattle.bk_world.specs.SoundLogs.{MayFollow}
 use Rattle.bk_world.specs.Telling.{tables}
 use Rattle.bk_machine.specs.Acts.{Act, Recovery, turned, seated, created, dropped, logged, medium_made, set_sealed, based, replaced, restored, recovered, done, drawn}
+use Rattle.bk_machine.specs.Checks.{last_number}
 use Rattle.bk_machine.specs.Files.{AreDataFiles}
 use Rattle.bk_machine.specs.Sound.{AreNumbered, AreOpen, ArePlaced, IsSoundSet, has_begin}
 use Rattle.bk_world.specs.declared.transaction.Open.{Open}
@@ -39,13 +40,14 @@ pub record MayLog (w : World) (db : Database) (said : List Said) (transactions :
   pub each : AllByRecursion (IsOpenOrNew db) transactions
   pub opens : AreOpen (more (log_of w.history db) db.end said) (db.end + length said) transactions
 
--- A database that is down may be recovered at a number of its log, on the next GUID as its branch.
+-- A database that is down may be recovered at a number of its log, on the next GUID as its branch, where there are numbers for what the recovery says.
 pub record MayRecover (w : World) (db : Database) (r : Recovery) : Type 0 where
   pub down : db.status ≡ Down
   pub some : 0 < r.at
   pub within : r.at ≤ db.end
   pub branch : r.branch ≡ drawn w w.counter
   pub recovers : Recovers (log_to w.history db r.at) r
+  pub numbers : r.at + length r.said ≤ last_number
 
 -- this holds of the database of a name
 abbrev pub HoldsOf : Option Database → (Database → Type 0) → Type 0

@@ -1,12 +1,11 @@
--- A database of a sound world in which nothing is open: what it may say, it may say by an act.
-use Rattle.std.proofs.Common.{◌≡◌, ℕ, ◌+◌, List, [], ◌∷◌, length, Option, Some, true, false, refl, sym, subst}
+-- A database of a sound world in which nothing is open.
+use Rattle.std.proofs.Common.{◌≡◌, ◌≤◌, ℕ, List, [], ◌∷◌, length, Option, Some, true, false, refl, sym, ap, subst, arith}
 use Rattle.std.specs.List.{AllByRecursion}
 use Rattle.bk_world.specs.declared.database.Status.TheVariants.{Online}
 use Rattle.bk_world.specs.Pending.{Pending, pending}
-use Rattle.bk_world.specs.Records.{Logged, Said, more}
-use Rattle.bk_machine.specs.Acts.{logged}
-use Rattle.bk_machine.specs.BeginLaws.{each-own}
-use Rattle.bk_machine.specs.MayDo.{HoldsOf, MayDo, MayLog, MaySay}
+use Rattle.bk_world.specs.Records.{Logged}
+use Rattle.bk_machine.specs.Checks.{last_number}
+use Rattle.bk_machine.specs.MayDo.{HoldsOf}
 use Rattle.bk_machine.specs.Sound.{AreIdle, AreOpen, IsIdle, IsSound, IsWholeDatabase, OpenBy, has_begin}
 use Rattle.bk_machine.specs.World.{World, Database, database_named, log_of}
 use Rattle.bk_machine.specs.NamedLaws.{of-named}
@@ -20,8 +19,8 @@ nothing-pends rs end opens = by (pending rs) opens.pending
     by (w ∷ ws) all = let wrong : false ≡ true = all.0 in absurd cc
 
 -- and where nothing is pending, no transaction need be open
-pub nothing-open : (rs : List Logged) (end : ℕ) → pending rs ≡ [] → AreOpen rs end []
-nothing-open rs end none = record {
+pub nothing-open : (rs : List Logged) (end : ℕ) → pending rs ≡ [] → end ≤ last_number → AreOpen rs end []
+nothing-open rs end none within = record {
   pending = subst (AllByRecursion (λ (w : Pending). has_begin [] w.begin ≡ true)) (sym none) tt;
   loads = subst (AllByRecursion (λ (w : Pending). w.extents ≡ [])) (sym none) tt;
   apart = tt;
@@ -29,6 +28,7 @@ nothing-open rs end none = record {
   few = tt;
   seats = tt;
   kept = tt;
+  numbers = (let nothing : length (pending rs) ≡ 0 = ap length none in omega (arith, nothing, within));
 }
 
 -- a database that is online, in which nothing is open
@@ -53,12 +53,3 @@ ready w db sound idle named up =
 -- what holds of a database that is found holds of the one of its name
 pub holds-of : (o : Option Database) (db : Database) (P : Database → Type 0) → o ≡ Some db → P db → HoldsOf o P
 holds-of o db P is own = subst (λ (x : Option Database). HoldsOf x P) (sym is) own
-
--- what it may say, behind which nothing is pending, is an act that may be done
-pub may-log : (w : World) (db : Database) (said : List Said) → IsReady w db → MaySay w db said → pending (more (log_of w.history db) db.end said) ≡ [] → MayDo w (logged db.name said db.transactions)
-may-log w db said r says none =
-    holds-of (database_named w.databases db.name) db (λ d. MayLog w d said db.transactions) r.named (record {
-      says = says;
-      each = each-own db;
-      opens = subst (AreOpen (more (log_of w.history db) db.end said) (db.end + length said)) (sym r.closed) (nothing-open (more (log_of w.history db) db.end said) (db.end + length said) none);
-    })

@@ -18,6 +18,7 @@ use Rattle.bk_world.specs.Records.{Deed, Logged, Counts, written}
 use Rattle.bk_world.specs.SoundLogs.{IsSound as IsSoundLog, NoLoadPends, undoes}
 use Rattle.bk_world.specs.Telling.{telling, tables, model, time}
 use Rattle.bk_world.specs.declared.transaction.Open.{Open}
+use Rattle.bk_machine.specs.Checks.{last_number}
 use Rattle.bk_machine.specs.World.{World, Database, log_of, most_sessions, most_writes}
 
 -- The history.
@@ -103,7 +104,9 @@ abbrev pub KeepsAll : List Logged → Open → Type 0
 KeepsAll rs t = AllByRecursion (λ (r : Logged). undoes t.begin r ≡ false) rs
 
 -- What is pending in a log that ends here is of these open transactions, of which each has few writes, none of them undone, and no minimal load is pending.
+-- Numbers are left, one to undo each pending write and one to end each transaction.
 pub record AreOpen (rs : List Logged) (end : ℕ) (transactions : List Open) : Type 0 where
+  pub numbers : end + (length (pending rs) + length transactions) ≤ last_number
   pub pending : AllByRecursion (λ (w : Pending). has_begin transactions w.begin ≡ true) (pending rs)
   pub loads : NoLoadPends rs
   pub apart : AreApart transactions
@@ -161,7 +164,7 @@ files_of_set header = specs_of header.files
     specs_of [] = []
     specs_of (file ∷ files) = file.spec ∷ specs_of files
 
--- a set: the log of its path is whole below its end, and held
+-- A set: the log of its path is whole below its end, and held. Numbers are left for its recovery: to undo each pending write, and to name the branch.
 pub record IsSoundSet (w : World) (header : Header) : Type 0 where
   pub log : IsLog (files_of_set header) (log_below w.history header.path header.last) header.last
   pub path : IsPath header.path
@@ -172,6 +175,7 @@ pub record IsSoundSet (w : World) (header : Header) : Type 0 where
   pub held : IsHeld w.history header.path header.last
   pub model : header.model ≡ model (log_below w.history header.path header.last)
   pub finish : header.finish ≡ time (log_below w.history header.path header.last)
+  pub numbers : header.last + (length (pending (log_below w.history header.path header.last)) + 1) ≤ last_number
 
 abbrev pub IsSoundSlot : World → Slot → Type 0
 IsSoundSlot w (readable header) = IsSoundSet w header

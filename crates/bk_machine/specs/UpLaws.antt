@@ -8,6 +8,7 @@ use Rattle.bk_world.specs.Records.{Logged, Said, more, numbered}
 use Rattle.bk_world.specs.SoundLogs.{undoes}
 use Rattle.bk_machine.specs.Acts.{logged}
 use Rattle.bk_machine.specs.BeginLaws.{each-own}
+use Rattle.bk_machine.specs.Checks.{last_number}
 use Rattle.bk_machine.specs.MayDo.{IsOpenOrNew, MayDo, MayLog, MaySay}
 use Rattle.bk_machine.specs.NamedLaws.{of-named}
 use Rattle.bk_machine.specs.ReadyLaws.{holds-of}
@@ -47,10 +48,10 @@ kept-more rs ss ts none undone =
 pub begins-later : (n m : ℕ) (ts : List Open) → n ≤ m → AllByRecursion (λ (t : Open). (0 < t.begin) × (t.begin < n)) ts → AllByRecursion (λ (t : Open). (0 < t.begin) × (t.begin < m)) ts
 begins-later n m ts le all = all_mapped (λ (t : Open). (0 < t.begin) × (t.begin < n)) (λ (t : Open). (0 < t.begin) × (t.begin < m)) (λ t lies. (lies.0, omega (arith, lies.1, le))) ts all
 
--- where the same is pending, the same is open
+-- where the same is pending and numbers are left, the same is open
 pub opens-same : (rs : List Logged) (end : ℕ) (ts : List Open) (said : List Said) → AreOpen rs end ts → AllByRecursion UndoesNone (numbered end said) → pending (more rs end said) ≡ pending rs
-    → AreOpen (more rs end said) (end + length said) ts
-opens-same rs end ts said opens none same = record {
+    → (end + length said) + (length (pending rs) + length ts) ≤ last_number → AreOpen (more rs end said) (end + length said) ts
+opens-same rs end ts said opens none same left = record {
   pending = subst (AllByRecursion (λ (w : Pending). has_begin ts w.begin ≡ true)) (sym same) opens.pending;
   loads = subst (AllByRecursion (λ (w : Pending). w.extents ≡ [])) (sym same) opens.loads;
   apart = opens.apart;
@@ -58,9 +59,11 @@ opens-same rs end ts said opens none same = record {
   few = subst (λ ws. AllByRecursion (λ (t : Open). length (of_transaction t.begin ws) ≤ most_writes) ts) (sym same) opens.few;
   seats = opens.seats;
   kept = kept-more rs (numbered end said) ts none opens.kept;
+  numbers = subst (λ ws. (end + length said) + (length ws + length ts) ≤ last_number) (sym same) left;
 }
 
--- what it may say, behind which the same is pending, is an act that may be done
+-- what it may say, behind which the same is pending and numbers are left, is an act that may be done
 pub may-tell : (w : World) (db : Database) (said : List Said) → IsUp w db → MaySay w db said → AllByRecursion UndoesNone (numbered db.end said)
-    → pending (more (log_of w.history db) db.end said) ≡ pending (log_of w.history db) → MayDo w (logged db.name said db.transactions)
-may-tell w db said r says none same = may-open w db said db.transactions r says (each-own db) (opens-same (log_of w.history db) db.end db.transactions said r.opens none same)
+    → pending (more (log_of w.history db) db.end said) ≡ pending (log_of w.history db) → (db.end + length said) + (length (pending (log_of w.history db)) + length db.transactions) ≤ last_number
+    → MayDo w (logged db.name said db.transactions)
+may-tell w db said r says none same left = may-open w db said db.transactions r says (each-own db) (opens-same (log_of w.history db) db.end db.transactions said r.opens none same left)

@@ -1,10 +1,10 @@
-ghost use Rattle.std.specs.Prelude.{◌≡◌, ◌⊎◌, ◌≤◌, ℕ, ◌+◌, List, [], ◌∷◌, ◌++◌, length, Some, take};
+ghost use Rattle.std.specs.Prelude.{◌≡◌, ◌⊎◌, ◌≤◌, ℕ, ◌+◌, true, List, [], ◌∷◌, ◌++◌, length, Some, take};
 ghost use Rattle.std.specs.List.{AllByRecursion, AllZip};
 ghost use Rattle.bk_items.specs.declared.item.ScriptEntry.{ScriptEntry};
 ghost use Rattle.bk_machine.specs.Acts.{Act, done, done_all};
 ghost use Rattle.bk_machine.specs.Built.{IsBuilt, SaysNoLoad};
 ghost use Rattle.bk_machine.specs.Closing.{AreClosing, IsClosingFront, IsFirst, closed_by, count_open};
-ghost use Rattle.bk_machine.specs.Crash.{CutsRun, Leaves, cut_between};
+ghost use Rattle.bk_machine.specs.Crash.{CutsRun, Leaves, cut_between, open_begins};
 ghost use Rattle.bk_machine.specs.MayDo.{MayDo, MayDoAll};
 ghost use Rattle.bk_machine.specs.Outcome.{Outcome};
 ghost use Rattle.bk_machine.specs.Run.{IsRun, behind_all};
@@ -12,7 +12,7 @@ ghost use Rattle.bk_machine.specs.Sound.{AreIdle, IsSound, IsWhole};
 ghost use Rattle.bk_machine.specs.Stays.{IsCutOf, IsFront};
 ghost use Rattle.bk_machine.specs.World.{Database, Held, World, held_in, log_of, restarted};
 ghost use Rattle.bk_machine.specs.statements.Rollback.{rolls_back};
-ghost use Rattle.bk_world.specs.Cut.{settled};
+ghost use Rattle.bk_world.specs.Cut.{is_among, settled};
 ghost use Rattle.bk_world.specs.Records.{Logged};
 ghost use Rattle.bk_world.specs.declared.transaction.Open.{Open};
 ghost use Rattle.bk_world.specs.declared.database.Status.TheVariants.{Online};
@@ -51,13 +51,18 @@ pub fn closings_are_cut_in_whole_worlds()
         → Leaves old (outcomes ++ closed_by acts ∷ []) least left → IsSound left }
 {}
 
-/// Let a run from a sound world and its closing be cut between two acts. The world at the cut is sound. Where nothing is open in
-/// it, a crash may leave just this world, with no session and whatever counter within the bounds. For any fronts of its logs
-/// behind which only what was open is lost, a crash may leave a world in which they are settled.
+/// Let a run from a sound world and its closing be cut between two acts. The world at the cut is sound, and what is open in it was
+/// open before the statement that is cut, or is of that statement. Where nothing is open in it, a crash may leave just this world,
+/// with no session and whatever counter within the bounds. For any fronts of its logs behind which only what was open is lost, a
+/// crash may leave a world in which they are settled.
 pub fn closings_are_cut_between_acts()
     ensures sound { (old : World) (statements : List ScriptEntry) (moments : List ℕ) (outcomes : List Outcome) (acts : List Act) (done k : ℕ)
         → IsSound old → IsRun old statements moments outcomes → AreClosing (behind_all old outcomes) acts
         → IsSound (cut_between old (outcomes ++ closed_by acts ∷ []) done k) }
+    ensures open { (old : World) (statements : List ScriptEntry) (moments : List ℕ) (outcomes : List Outcome) (acts : List Act) (done k : ℕ)
+        → IsSound old → IsRun old statements moments outcomes → AreClosing (behind_all old outcomes) acts
+        → AllByRecursion (λ (db : Database). AllByRecursion (λ (t : Open). is_among (open_begins (behind_all old (take done (outcomes ++ closed_by acts ∷ []))) db) t.begin ≡ true) db.transactions)
+        (cut_between old (outcomes ++ closed_by acts ∷ []) done k).databases }
     ensures leaves { (old : World) (statements : List ScriptEntry) (moments : List ℕ) (outcomes : List Outcome) (acts : List Act) (least done k counter : ℕ)
         → IsSound old → IsRun old statements moments outcomes → AreClosing (behind_all old outcomes) acts
         → AreIdle (cut_between old (outcomes ++ closed_by acts ∷ []) done k) → least ≤ done → done ≤ length (outcomes ++ closed_by acts ∷ [])

@@ -1,18 +1,19 @@
-ghost use Rattle.std.specs.Prelude.{◌≡◌, ◌≤◌, ℕ, ◌+◌, List, length, take};
+ghost use Rattle.std.specs.Prelude.{◌≡◌, ◌≤◌, ℕ, ◌+◌, true, List, length, take};
 ghost use Rattle.std.specs.List.{AllByRecursion, AllZip};
 ghost use Rattle.bk_ids.specs.declared.path.Branch.{Branch};
 ghost use Rattle.bk_items.specs.declared.item.ScriptEntry.{ScriptEntry};
-ghost use Rattle.bk_machine.specs.Crash.{CutsRun, Leaves, WorldLeft, cut_between};
+ghost use Rattle.bk_machine.specs.Crash.{CutsRun, Leaves, WorldLeft, cut_between, open_begins};
 ghost use Rattle.bk_machine.specs.Outcome.{Outcome};
 ghost use Rattle.bk_machine.specs.Run.{IsRun, behind_all};
 ghost use Rattle.bk_machine.specs.Sound.{AreIdle, IsHeld, IsSound, IsWhole, IsWholeDatabase};
 ghost use Rattle.bk_machine.specs.Stays.{IsCutOf, IsFront, MayStay};
 ghost use Rattle.bk_machine.specs.World.{Database, World, log_of, restarted};
-ghost use Rattle.bk_world.specs.Cut.{settled};
+ghost use Rattle.bk_world.specs.Cut.{is_among, settled};
 ghost use Rattle.bk_world.specs.Lines.{log_below};
 ghost use Rattle.bk_world.specs.Records.{Logged};
 ghost use Rattle.bk_world.specs.Telling.{entries};
 ghost use Rattle.bk_world.specs.declared.database.Status.TheVariants.{Online};
+ghost use Rattle.bk_world.specs.declared.transaction.Open.{Open};
 
 /// What a crash leaves of a sound world is sound, nothing is open in it, its databases tell what they told at the cut, and
 /// sets read as they did.
@@ -58,12 +59,17 @@ pub fn runs_are_cut_in_whole_worlds()
         × AllZip (λ (now new : Database). now.status ≡ Online → log_of left.history new ≡ settled (kept now)) cut.databases left.databases }
 {}
 
-/// Let a run from a sound world be cut between two acts. The world at the cut is sound. Where nothing is open in it, a crash of
-/// the run may leave just this world, with no session and whatever counter within the bounds. For any fronts of its logs behind
-/// which only what was open is lost, a crash may leave a world in which they are settled.
+/// Let a run from a sound world be cut between two acts. The world at the cut is sound, and what is open in it was open before the
+/// statement that is cut, or is of that statement. Where nothing is open in it, a crash of the run may leave just this world, with
+/// no session and whatever counter within the bounds. For any fronts of its logs behind which only what was open is lost, a crash
+/// may leave a world in which they are settled.
 pub fn runs_are_cut_between_acts()
     ensures sound { (old : World) (statements : List ScriptEntry) (moments : List ℕ) (outcomes : List Outcome) (done k : ℕ)
         → IsSound old → IsRun old statements moments outcomes → IsSound (cut_between old outcomes done k) }
+    ensures open { (old : World) (statements : List ScriptEntry) (moments : List ℕ) (outcomes : List Outcome) (done k : ℕ)
+        → IsSound old → IsRun old statements moments outcomes
+        → AllByRecursion (λ (db : Database). AllByRecursion (λ (t : Open). is_among (open_begins (behind_all old (take done outcomes)) db) t.begin ≡ true) db.transactions)
+        (cut_between old outcomes done k).databases }
     ensures leaves { (old : World) (statements : List ScriptEntry) (moments : List ℕ) (outcomes : List Outcome) (least done k counter : ℕ)
         → IsSound old → IsRun old statements moments outcomes → AreIdle (cut_between old outcomes done k) → least ≤ done → done ≤ length outcomes
         → (cut_between old outcomes done k).counter ≤ counter → counter ≤ (cut_between old outcomes done k).counter + 1024

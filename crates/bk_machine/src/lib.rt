@@ -9,6 +9,7 @@ mod closing_laws;
 mod crash_laws;
 mod event_laws;
 mod laws;
+mod number_laws;
 mod progress_laws;
 mod reaching_laws;
 mod recovery_laws;
@@ -36,6 +37,7 @@ pub use event_laws::events_keep_worlds_sound;
 pub use laws::{
     empty_worlds_are_sound, restarts_keep_worlds_sound, runs_begin_and_end_in_sound_worlds,
 };
+pub use number_laws::numbers_are_left;
 pub use progress_laws::statements_come_to_outcomes;
 pub use reaching_laws::reached_worlds_are_sound;
 pub use recovery_laws::recoveries_undo_what_is_pending;

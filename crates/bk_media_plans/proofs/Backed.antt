@@ -26,7 +26,7 @@ use Rattle.bk_world.specs.Lines.{log_below}
 use Rattle.bk_world.specs.Medium.{medium, medium_at}
 use Rattle.bk_world.specs.declared.database.Status.TheVariants.{Online}
 use Rattle.bk_world.specs.Pending.{Pending, pending}
-use Rattle.bk_world.specs.Records.{Counts, Logged, Said, checkpointed, more, numbered, stamped}
+use Rattle.bk_world.specs.Records.{Logged, Said, checkpointed, more, numbered, stamped}
 use Rattle.bk_world.specs.Says.{alone}
 use Rattle.bk_world.specs.Telling.{model}
 use Rattle.bk_world.specs.declared.header.Header.{Header}
@@ -46,6 +46,7 @@ use Rattle.bk_plans.specs.Planned.{IsRefusedBy}
 use Rattle.bk_plans.specs.Planning.{AreParts, MakesMedium, Plans, SealsSet}
 use Rattle.bk_kept.specs.Stored.{IsDone}
 use Rattle.bk_plans.specs.PlanLaws.{DoWhatTheyMay, comes-found, comes-refused, plans-refusal}
+use Rattle.bk_plans.specs.SaidLaws.{counts-length}
 
 -- What was checked.
 
@@ -132,11 +133,6 @@ mark-done v name db said ts records named may spell next = record {
   from_end = subst (λ (o : Option Database). HoldsOf o (λ db. (others : List Said) × Spell records db.end others)) (sym named) (said, spell);
   taken = subst (λ (o : Option Database). HoldsOf o (λ db. AreNext db.files (log_of v.history db) (numbered db.end said))) (sym named) next;
 }
-
--- records that count from a number on end behind their number
-counts-length : (n : ℕ) (rs : List Logged) (end : ℕ) → Counts n rs end → end ≡ n + length rs
-counts-length n [] end is = omega (arith, is)
-counts-length n (r ∷ rs) end is = let rest : end ≡ (n + 1) + length rs = counts-length (n + 1) rs end is.1 in omega (arith, rest)
 
 -- The medium is made.
 

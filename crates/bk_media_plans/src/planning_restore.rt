@@ -1,6 +1,6 @@
 //! Plans of `RESTORE DATABASE`.
 
-ghost use Rattle.std.specs.Prelude.{◌≡◌, ◌≤◌, ℕ, ◌+◌, ◌^◌, ◌∷◌, ◌++◌, [], true, map, Ok, IfOk, OnOk, IfSome, MatchOption};
+ghost use Rattle.std.specs.Prelude.{◌≡◌, ℕ, ◌∷◌, ◌++◌, [], true, map, Ok, IfOk, OnOk, IfSome, MatchOption};
 ghost use Rattle.bk_acts.specs.declared.act.StoredAct.TheVariants.{Recovered, Replaced, Restored};
 ghost use Rattle.bk_items.specs.declared.item.ScriptItem.TheVariants as script;
 ghost use Rattle.bk_machine.specs.statements.Restore as restore;
@@ -21,15 +21,12 @@ use bk_ids::{Body, Guid, Lsn, Name, Text};
 use bk_items::{Ending, RestoreOptions, RestoredUnits};
 use bk_kept::Kept;
 use bk_machine::{recoveries_undo_what_is_pending, sets_that_stay, statements_do_what_they_may};
-use bk_plans::{Part, Plan, is_name, is_path, name_in, outside, refused, say, undo};
+use bk_plans::{Part, Plan, is_name, is_path, name_in, numbers_from, outside, refused, say, undo};
 use bk_record::Records;
 use bk_set::SetBody;
 use bk_shown::{Written, pending_in, placed_logs};
 use bk_world::{Base, Header, Reply, Rule};
 use std::alloc::{AllocError, Global};
-
-// Numbers from here on, 2^62, are never given.
-const LAST_NUMBER: u64 = 1 << 62;
 
 // Whether a restore ends with a recovery.
 fn is_recovery(ending: &Option<Ending>) -> bool
@@ -136,23 +133,12 @@ fn pending_writes(alloc: Global, log: &Records) -> Result<Vec<Written>, AllocErr
     }
 }
 
-// Fails as if memory were wanting where a set has no numbers for so many records: a recovery takes some of those that are kept for it. That
-// sets leave enough of them isn't proved here.
-fn has_numbers(at: Lsn, records: usize) -> Result<(), AllocError>
-    ensures { IfOk result (λ u. at + records ≤ 2 ^ 62) }
-{
-    if at <= LAST_NUMBER && records as u64 <= LAST_NUMBER - at {
-        return Ok(());
-    }
-    Err(AllocError)
-}
-
 // What a recovery says behind a set's log: what undoes all that is pending, the last write first, and the record that names its branch.
 fn recovery_said(alloc: Global, log: &Records, at: Lsn, branch: Guid) -> Result<Records, AllocError>
     ensures { IfOk result (SaysRecovery log.now at branch) }
 {
     let writes = pending_writes(alloc, log)?;
-    has_numbers(at, writes.len() + 1)?;
+    numbers_from(at, writes.len() + 1)?;
     let mut said = undo(alloc, &writes, None, at)?;
     say(
         alloc,

@@ -18,7 +18,7 @@ pub use opened::{is_fit, open_in, storable};
 pub use parts::{Part, Plan};
 pub use paths::{in_use, is_in_use, is_in_use_by_others, taken};
 pub use planning_parts::{
-    LATEST, has_numbers, logged, name_in, refused, said_time, say, say_one, stored,
+    LATEST, has_numbers, logged, name_in, numbers_from, refused, said_time, say, say_one, stored,
 };
 pub use refusal::Refusal;
 pub use rules::{

@@ -106,16 +106,22 @@ pub fn said_time(database: &Database, now: u64) -> u64
     now.min(LATEST).max(database.shown.time())
 }
 
-/// Fails as if memory were wanting where a database has no numbers for so many records: what is never refused takes some of those that are
-/// kept for it. That statements leave enough of them isn't proved here.
-pub fn has_numbers(database: &Database, records: usize) -> Result<(), AllocError>
-    ensures { IfOk result (λ u. database.now.shown.«end» + records ≤ 2 ^ 62) }
+/// Fails as if memory were wanting where there are no numbers for so many records from `first` on: what is never refused takes some of
+/// those that are kept for it. That statements leave enough of them isn't proved here.
+pub fn numbers_from(first: Lsn, records: usize) -> Result<(), AllocError>
+    ensures { IfOk result (λ u. first + records ≤ 2 ^ 62) }
 {
-    let end = database.shown.end();
-    if end <= LAST_NUMBER && records as u64 <= LAST_NUMBER - end {
+    if first <= LAST_NUMBER && records as u64 <= LAST_NUMBER - first {
         return Ok(());
     }
     Err(AllocError)
+}
+
+/// The same for so many records at the end of a database.
+pub fn has_numbers(database: &Database, records: usize) -> Result<(), AllocError>
+    ensures { IfOk result (λ u. database.now.shown.«end» + records ≤ 2 ^ 62) }
+{
+    numbers_from(database.shown.end(), records)
 }
 
 /// One record more is said under a number, in the transaction of this first record, or in none.

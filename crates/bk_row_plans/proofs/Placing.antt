@@ -17,7 +17,7 @@ use Rattle.bk_shown.specs.Shown.{ArePlaced, IsFreeFor, LieInCells, Shows}
 use Rattle.bk_world.specs.HomeLaws.{homed}
 use Rattle.bk_world.specs.Pending.{Pending, pending}
 use Rattle.bk_world.specs.Places.{IsCellOf, IsFreePlace, homes, last_of, place_behind, place_of}
-use Rattle.bk_world.specs.Records.{Counts, Logged, RowId}
+use Rattle.bk_world.specs.Records.{Counts, Logged}
 use Rattle.bk_world.specs.SoundLogs.{IsSound as IsSoundLog}
 use Rattle.bk_world.specs.Telling.{row_at, rows, tables}
 use Rattle.bk_world.specs.declared.database.FileSpec.{FileSpec}

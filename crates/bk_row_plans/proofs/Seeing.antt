@@ -1,9 +1,8 @@
 -- What a transaction sees it could commit: a row that it sees lies somewhere, and its value fits into a cell.
-use Rattle.std.proofs.Common.{◌≡◌, ◌≤◌, ℕ, ◌+◌, Bool, true, false, cond, List, [], ◌∷◌, ◌++◌, length, Option, Some, None, refl, sym, ◌∙◌, ap, subst, arith}
+use Rattle.std.proofs.Common.{◌≡◌, ◌≤◌, ℕ, ◌+◌, Bool, true, false, cond, List, [], ◌∷◌, ◌++◌, length, Option, Some, None, refl, sym, ◌∙◌, ap, subst}
 use Rattle.std.specs.Prelude.{◌==◌, is_some}
 use Rattle.std.specs.List.{AllByRecursion, filter}
 use Rattle.bk_ids.specs.declared.record.Place.{Place}
-use Rattle.bk_machine.specs.Sound.{AreOpen, KeepsAll}
 use Rattle.bk_machine.specs.World.{transaction_of}
 use Rattle.bk_shown.specs.Shown.{ArePlaced}
 use Rattle.bk_world.specs.declared.database.FileSpec.{FileSpec}

@@ -83,6 +83,26 @@ fn seal_reserved(
     Ok(())
 }
 
+// Reserves a place, and seals a blob of what the word spells.
+fn append(
+    alloc: Global,
+    device: &mut MemDevice,
+    gate: &mut Gate,
+    word: &str,
+) -> Result<(), GateError>
+    requires fit { gate.old.failed ≡ false }
+    requires none { gate.old.begun ≡ None }
+    requires stands { IsGate (disk_of device.old) gate.old }
+    ensures fit { OnOk result (gate.new.failed ≡ false) }
+    ensures none { OnOk result (gate.new.begun ≡ None) }
+    ensures stands { OnOk result (IsGate (disk_of device.new) gate.new) }
+{
+    let blob = bytes(alloc, word)?;
+    gate.reserve(1)?;
+    gate.append_reserved(device, &blob)?;
+    Ok(())
+}
+
 fn drop_begun(
     alloc: Global,
     device: &mut MemDevice,
@@ -101,7 +121,7 @@ fn drop_begun(
     Ok(())
 }
 
-// The call that a line says: `seal`, `seal-reserved` or `drop`, each with the parts of its blob, or `clear`.
+// The call that a line says: `seal`, `seal-reserved` or `drop`, each with the parts of its blob, `append` with a blob, or `clear`.
 fn call(alloc: Global, device: &mut MemDevice, gate: &mut Gate, line: &str) -> Result<(), GateError>
     requires fit { gate.old.failed ≡ false }
     requires none { gate.old.begun ≡ None }
@@ -114,6 +134,7 @@ fn call(alloc: Global, device: &mut MemDevice, gate: &mut Gate, line: &str) -> R
     match what {
         "seal" => seal(alloc, device, gate, words),
         "seal-reserved" => seal_reserved(alloc, device, gate, words),
+        "append" => append(alloc, device, gate, words),
         "drop" => drop_begun(alloc, device, gate, words),
         _ => {
             gate.clear(device)?;

@@ -1,5 +1,5 @@
 -- BACKUP DATABASE seals a sound set.
-use Rattle.std.proofs.Common.{◌≡◌, ◌≢◌, ◌<◌, ◌≤◌, ◌⊎◌, inl, inr, ℕ, ◌+◌, true, List, [], ◌∷◌, ◌++◌, map, Option, None, Some, refl, sym, ◌∙◌, ap, subst, arith}
+use Rattle.std.proofs.Common.{◌≡◌, ◌≢◌, ◌<◌, ◌≤◌, ◌⊎◌, inl, inr, ℕ, ◌+◌, true, false, List, [], ◌∷◌, ◌++◌, length, map, Option, None, Some, refl, sym, ◌∙◌, ap, subst, arith}
 use Rattle.std.specs.Prelude.{◌&&◌, ◌||◌, is_some, not, Ok}
 use Rattle.std.specs.List.{AllByRecursion}
 use Rattle.bk_ids.specs.declared.guid.Guid.{Guid}
@@ -10,36 +10,41 @@ use Rattle.bk_items.specs.declared.options.BackupOptions.{BackupOptions}
 use Rattle.bk_world.specs.declared.database.FileSpec.{FileSpec}
 use Rattle.bk_world.specs.declared.database.Status.TheVariants.{Online}
 use Rattle.bk_world.specs.declared.header.Header.{Header}
-use Rattle.bk_world.specs.declared.rule.Rule.TheVariants.{NoSuchDatabase, NotBuilt}
+use Rattle.bk_world.specs.declared.rule.Limit.TheVariants.{Lsn}
+use Rattle.bk_world.specs.declared.rule.Rule.TheVariants.{LimitReached, NoSuchDatabase, NotBuilt}
 use Rattle.bk_world.specs.SaidLaws.{line_of-appended}
 use Rattle.bk_world.specs.Lines.{MayGoOn, RecordLine, RecordLines, line_on, log_below, said_on_last}
 use Rattle.bk_world.specs.Medium.{medium_at}
+use Rattle.bk_world.specs.Pending.{pending}
 use Rattle.bk_world.specs.Records.{Logged, Said, checkpointed, more, numbered, stamped}
 use Rattle.bk_world.specs.Says.{alone}
 use Rattle.bk_world.specs.Telling.{model, telling, time}
 use Rattle.bk_machine.specs.Acts.{based, done, drawn, gone_on, logged, medium_made, said_time, says, set_sealed}
 use Rattle.bk_machine.specs.Built.{IsBuilt, IsBuiltLog, SayNoLoad}
-use Rattle.bk_machine.specs.Checks.{is_path, limit, online, or_refuse, outside, refuse_if, used_up}
+use Rattle.bk_machine.specs.Checks.{is_path, kept_numbers, last_number, limit, online, or_refuse, outside, refuse_if, used_up}
 use Rattle.bk_machine.specs.MayDo.{MayDoAll}
 use Rattle.bk_machine.specs.Sound.{AreNumbered, IsHeld, IsLog, IsPassed, IsReached, IsSound, IsSoundSet, files_of_set}
 use Rattle.bk_machine.specs.World.{World, Database, database_named, log_of}
 use Rattle.bk_machine.specs.statements.Backup.{check_backup, full_backup, full_header, is_whole_backup, DoesBackup}
 use Rattle.bk_machine.proofs.Acting.{act-sound}
+use Rattle.bk_machine.proofs.LeftNumbers.{below-kept, numbers-there}
 use Rattle.bk_machine.proofs.Loads.{BuiltIn, act-built}
 use Rattle.bk_machine.specs.NamedLaws.{named-own, of-named}
-use Rattle.bk_machine.specs.CheckLaws.{Up, passed, was-found, was-online}
+use Rattle.bk_machine.specs.CheckLaws.{Up, first-false, not-refused, passed, was-found, was-online}
 use Rattle.bk_machine.specs.Outcome.{Outcome}
 use Rattle.bk_machine.proofs.statements.Facts.{Facts, facts-of, opens-those, own-checkpoint, own-stamp}
+use Rattle.bk_machine.proofs.statements.Numbering.{numbers-loud}
 use Rattle.bk_machine.specs.UpLaws.{IsUp, is-up}
 use Rattle.bk_machine.proofs.statements.Said.{MayTell, done-is, log-after, may-do, sound-after, up-after}
 use Rattle.bk_machine.proofs.statements.Telling.{TellsOn, tells-checkpoint, tells-stamp}
 
 -- ---- what was checked
 
--- a database that is online, found by its own name
+-- a database that is online and has numbers, found by its own name
 record IsFound (w : World) (db : Database) : Type 0 where
   named : database_named w.databases db.name ≡ Some db
   up : db.status ≡ Online
+  low : used_up db.end ≡ false
 
 checked : (w : World) (line : ℕ) (name : List ℕ) (units : List UnitName) (path : List ℕ) (options : BackupOptions) (db : Database) → check_backup w line name units path options ≡ Ok db → IsFound w db
 unfolding check_backup
@@ -56,19 +61,26 @@ checked w line name units path options db e =
     record {
       named = named-own w.databases name db (was-found (database_named w.databases name) NoSuchDatabase two.found two.is ∙ ap (λ (d : Database). Some d) whole);
       up = subst (λ (d : Database). d.status ≡ Online) whole up.online;
+      low = subst (λ (d : Database). used_up d.end ≡ false) same
+          (first-false (used_up three.found.end) (used_up w.counter) (not-refused (used_up three.found.end || used_up w.counter) (LimitReached Lsn) four.found four.is));
     }
 
 -- ---- records that change nothing
 
-checkpoint-tells : (w : World) (db : Database) (at : ℕ) (r : IsUp w db) → MayTell w db (alone (checkpointed at))
-checkpoint-tells w db at r =
-    let t = tells-checkpoint (log_of w.history db) db.end at in
-    record { may = record { online = r.up; may = (tt, tt); tables = subst (AreNumbered 1) (sym t.tables) r.whole.log.tables; places = (tt, tt) }; none = (λ b. refl, tt); same = t.pending }
+tells-left : (w : World) (db : Database) (r : IsUp w db) → db.end ≤ kept_numbers + 16 → (db.end + 1) + (length (pending (log_of w.history db)) + length db.transactions) ≤ last_number
+tells-left w db r low =
+    let left : db.end + (length (pending (log_of w.history db)) + (length db.transactions + 16)) ≤ last_number = numbers-there (log_of w.history db) db.end db.transactions r.opens low in
+    omega (arith, left)
 
-stamp-tells : (w : World) (db : Database) (at : ℕ) (set : Guid) (r : IsUp w db) → MayTell w db (alone (stamped at set))
-stamp-tells w db at set r =
+checkpoint-tells : (w : World) (db : Database) (at : ℕ) (r : IsUp w db) → db.end ≤ kept_numbers + 16 → MayTell w db (alone (checkpointed at))
+checkpoint-tells w db at r low =
+    let t = tells-checkpoint (log_of w.history db) db.end at in
+    record { may = record { online = r.up; may = (tt, tt); tables = subst (AreNumbered 1) (sym t.tables) r.whole.log.tables; places = (tt, tt) }; none = (λ b. refl, tt); same = t.pending; left = tells-left w db r low }
+
+stamp-tells : (w : World) (db : Database) (at : ℕ) (set : Guid) (r : IsUp w db) → db.end ≤ kept_numbers + 16 → MayTell w db (alone (stamped at set))
+stamp-tells w db at set r low =
     let t = tells-stamp (log_of w.history db) db.end at set in
-    record { may = record { online = r.up; may = (tt, tt); tables = subst (AreNumbered 1) (sym t.tables) r.whole.log.tables; places = (tt, tt) }; none = (λ b. refl, tt); same = t.pending }
+    record { may = record { online = r.up; may = (tt, tt); tables = subst (AreNumbered 1) (sym t.tables) r.whole.log.tables; places = (tt, tt) }; none = (λ b. refl, tt); same = t.pending; left = tells-left w db r low }
 
 -- ---- what is held
 
@@ -91,7 +103,7 @@ files-same h (f ∷ files) = ap (λ (rest : List FileSpec). f ∷ rest) (files-s
 
 -- ---- the parts
 
-module _ (w : World) (db : Database) (path : List ℕ) (now : ℕ) (sound : IsSound w) (r : IsUp w db) where
+module _ (w : World) (db : Database) (path : List ℕ) (now : ℕ) (sound : IsSound w) (r : IsUp w db) (low : db.end < kept_numbers) where
   abbrev at : ℕ
   at = said_time w db now
 
@@ -117,7 +129,7 @@ module _ (w : World) (db : Database) (path : List ℕ) (now : ℕ) (sound : IsSo
   start_said = alone (checkpointed at)
 
   start-tells : MayTell made db start_said
-  start-tells = checkpoint-tells made db at made-up
+  start-tells = checkpoint-tells made db at made-up (omega (arith, low))
 
   abbrev started : World
   started = says made db start_said db.transactions
@@ -136,7 +148,7 @@ module _ (w : World) (db : Database) (path : List ℕ) (now : ℕ) (sound : IsSo
   finish_said = alone (stamped at set)
 
   finish-tells : MayTell started started_db finish_said
-  finish-tells = stamp-tells started started_db at set started-up
+  finish-tells = stamp-tells started started_db at set started-up (omega (arith, low))
 
   abbrev finished : World
   finished = says started started_db finish_said db.transactions
@@ -166,6 +178,8 @@ module _ (w : World) (db : Database) (path : List ℕ) (now : ℕ) (sound : IsSo
   unfolding full_header log_of says done
   sealed =
       let end : finished_db.end ≡ db.end + 2 = omega arith in
+      let left : finished_db.end + (length (pending (log_of finished.history finished_db)) + (length db.transactions + 16)) ≤ last_number =
+      numbers-there (log_of finished.history finished_db) finished_db.end db.transactions finished-up.opens (omega (arith, low)) in
       let one : TellsOn (log_of w.history db) (more (log_of w.history db) db.end start_said) at = tells-checkpoint (log_of w.history db) db.end at in
       let two : TellsOn (more (log_of w.history db) db.end start_said) (more (more (log_of w.history db) db.end start_said) started_db.end finish_said) at = tells-stamp (more (log_of w.history db) db.end start_said) started_db.end at set in
       let log : log_below finished.history db.path (db.end + 2) ≡ more (more (log_of w.history db) db.end start_said) started_db.end finish_said = ap (log_below finished.history db.path) (sym end) ∙ finished-log in record {
@@ -179,6 +193,7 @@ module _ (w : World) (db : Database) (path : List ℕ) (now : ℕ) (sound : IsSo
         held = subst (IsHeld finished.history db.path) end finished-held;
         model = sym (ap model log ∙ two.model ∙ one.model);
         finish = sym (ap time log ∙ two.time);
+        numbers = subst (λ n. n + (length (pending (log_below finished.history db.path n)) + 1) ≤ last_number) end (omega (arith, left));
       }
 
   -- each part may be done
@@ -243,11 +258,23 @@ unfolding full_header
 facts w line name units path options now db e outcome is = facts-of w _ outcome is (record {
   writes = (refl, (tt, (tt, (refl, (tt, tt)))));
   refused = λ rule no. absurd cc;
-  well = λ sound. let r : IsUp w db = its-up w line name units path options db sound e in record {
-    may = backs-up w db path now sound r;
-    opens = (tt, (opens-those w db (alone (checkpointed (said_time w db now))) r.named, (opens-those w db (alone (stamped (said_time w db now) (drawn w w.counter))) r.named, (tt, (tt, tt)))));
-    own = (tt, (own-checkpoint w db.name (said_time w db now) db.transactions, (own-stamp w db.name (said_time w db now) (drawn w w.counter) db.transactions, (tt, (tt, tt)))));
-    ends = inl (tt, (tt, (tt, (tt, (tt, tt)))));
-    plain = λ built. backs-no-load w db path now sound r built;
-  };
+  well = λ sound. let r : IsUp w db = its-up w line name units path options db sound e in
+      let low : db.end < kept_numbers = below-kept db.end (checked w line name units path options db e).low in record {
+        may = backs-up w db path now sound r low;
+        opens = (tt, (opens-those w db (alone (checkpointed (said_time w db now))) r.named, (opens-those w db (alone (stamped (said_time w db now) (drawn w w.counter))) r.named, (tt, (tt, tt)))));
+        own = (tt, (own-checkpoint w db.name (said_time w db now) db.transactions, (own-stamp w db.name (said_time w db now) (drawn w w.counter) db.transactions, (tt, (tt, tt)))));
+        numbers = (
+          tt,
+          (
+            numbers-loud (made w db path now sound r low) db.name (record { begin = 0; deed = checkpointed (said_time w db now) }) db.transactions (λ none. absurd cc),
+            (
+              numbers-loud (done (made w db path now sound r low) (logged db.name (alone (checkpointed (said_time w db now))) db.transactions)) db.name (record { begin = 0; deed = stamped (said_time w db now) (drawn w w.counter) }) db.transactions
+                  (λ none. absurd cc),
+              (tt, (tt, tt)),
+            ),
+          ),
+        );
+        ends = inl (tt, (tt, (tt, (tt, (tt, tt)))));
+        plain = λ built. backs-no-load w db path now sound r low built;
+      };
 })

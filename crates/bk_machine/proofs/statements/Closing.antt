@@ -22,7 +22,7 @@ use Rattle.bk_world.specs.declared.transaction.Open.{Open}
 use Rattle.bk_machine.specs.World.{Database, Held, World, held_in, log_of}
 use Rattle.bk_machine.specs.statements.Rollback.{rolls_back}
 use Rattle.bk_machine.proofs.Acting.{act-sound}
-use Rattle.bk_machine.proofs.Cutting.{IsOwn, OpenOwn, OpensOwn, open-before, open-done}
+use Rattle.bk_machine.proofs.Cutting.{HaveNumbers, IsOwn, OpenOwn, OpensOwn, open-before, open-done}
 use Rattle.bk_machine.proofs.Ends.{IsSteady}
 use Rattle.bk_machine.proofs.Left.{of-contained}
 use Rattle.bk_machine.proofs.statements.Ending.{said-rollback}
@@ -38,6 +38,7 @@ record Closes (before w : World) (acts : List Act) : Type 0 where
   may : MayDoAll w acts
   opens : AllByRecursion (OpensOwn before) acts
   own : AllByRecursion (IsOwn before) acts
+  numbers : HaveNumbers w acts
   steady : AllByRecursion IsSteady acts
   plain : SayNoLoad w acts
 
@@ -69,12 +70,13 @@ closes-first before w acts h sound open_own there rest =
       may = (well.may.0, later.may);
       opens = (opens, later.opens);
       own = (first-own before w h sound there open_own, later.own);
+      numbers = (well.numbers.0, later.numbers);
       steady = (tt, later.steady);
       plain = (rollback-plain w h, later.plain);
     }
 
 closes : (before w : World) (acts : List Act) → IsSound w → AllByRecursion (OpenOwn before) w.databases → AreClosing w acts → Closes before w acts
-closes before w [] sound open_own closing = record { may = tt; opens = tt; own = tt; steady = tt; plain = tt }
+closes before w [] sound open_own closing = record { may = tt; opens = tt; own = tt; numbers = tt; steady = tt; plain = tt }
 closes before w (act ∷ acts) sound open_own (h, first, is, rest) =
     subst (λ a. Closes before w (a ∷ acts)) (sym is)
     (closes-first before w acts h sound open_own first.there (λ next open_next. closes before (done w (rolls_back w h)) acts next open_next (subst (λ a. AreClosing (done w a) acts) is rest)))
@@ -82,7 +84,7 @@ closes before w (act ∷ acts) sound open_own (h, first, is, rest) =
 pub closing-well : (w : World) (acts : List Act) → AreClosing w acts → IsSound w → GoWell w acts
 closing-well w acts closing sound =
     let c : Closes w w acts = closes w w acts sound (open-before w sound.whole.different) closing in
-    record { may = c.may; opens = c.opens; own = c.own; ends = inl c.steady; plain = λ built. c.plain }
+    record { may = c.may; opens = c.opens; own = c.own; numbers = c.numbers; ends = inl c.steady; plain = λ built. c.plain }
 
 -- a run and its closing go well
 pub closed-well : (w : World) (statements : List ScriptEntry) (moments : List ℕ) (outcomes : List Outcome) (acts : List Act) → IsRun w statements moments outcomes → AreClosing (behind_all w outcomes) acts → RunsWell w (outcomes ++ closed_by acts ∷ [])

@@ -1,22 +1,23 @@
 -- A run can be closed: while some transaction is open, one of the least session is, and each rollback leaves one less.
-use Rattle.std.proofs.Common.{◌≡◌, ◌≢◌, ◌≤◌, ◌⊎◌, inl, inr, ℕ, zero, suc, ◌+◌, Bool, true, false, not, ◌||◌, cond, List, [], ◌∷◌, length, Option, None, Some, refl, sym, ◌∙◌, ap, subst, arith}
+use Rattle.std.proofs.Common.{◌≡◌, ◌≢◌, ◌≤◌, ◌⊎◌, inl, inr, ℕ, zero, suc, ◌+◌, Bool, true, false, cond, List, [], ◌∷◌, length, Option, None, Some, refl, sym, ◌∙◌, ap, subst, arith}
 use Rattle.std.specs.Prelude.{◌==◌}
 use Rattle.std.specs.List.{AllByRecursion}
 use Rattle.std.proofs.lemmas.Bool.Decides.{nat_tests}
 use Rattle.bk_ids.specs.Name.{same_name}
-use Rattle.bk_world.specs.ListLaws.{all_both, all_mapped, filter_every}
+use Rattle.bk_world.specs.ListLaws.{all_both, all_mapped}
 use Rattle.bk_world.specs.declared.database.Status.{Status}
 use Rattle.bk_world.specs.declared.database.Status.TheVariants.{Online, Standby, Down}
 use Rattle.bk_machine.specs.Acts.{Act, done, gone_on, where_found}
 use Rattle.bk_machine.specs.Closing.{AreClosing, IsFirst, count_open}
 use Rattle.bk_machine.specs.ClosingLaws.{none-open}
 use Rattle.bk_machine.specs.HeldLaws.{IsHeldBy, held-is, held-none, held-up, open-begin, open-session}
-use Rattle.bk_machine.specs.Sound.{Apart, AreApart, IsSound, OpenBy, has_begin}
+use Rattle.bk_machine.specs.Sound.{IsSound, OpenBy}
 use Rattle.bk_world.specs.declared.transaction.Open.{Open}
 use Rattle.bk_machine.specs.World.{Database, Held, World, database_named, held_in, log_of, most_sessions, transaction_of, with_database, without_begin}
 use Rattle.bk_machine.specs.statements.Rollback.{rolls_back}
 use Rattle.bk_machine.proofs.Acting.{act-sound}
 use Rattle.bk_machine.proofs.statements.Ending.{none-its}
+use Rattle.bk_machine.proofs.statements.Few.{one-less}
 use Rattle.bk_machine.proofs.statements.Transactions.{rollback-well}
 
 -- ---- one of the least session
@@ -86,29 +87,7 @@ first w sound = first-from w 0 33 refl sound.opens (all_mapped (OpenBy w.history
 
 -- ---- how many are open
 
--- the one that ends is one of them, and no other ends
-one-less : (ts : List Open) (begin : ℕ) → AreApart ts → has_begin ts begin ≡ true → length (without_begin ts begin) + 1 ≡ length ts
-one-less [] begin apart there = absurd (cc)
-one-less (t ∷ ts) begin apart there = by (t.begin == begin) refl there (one-less ts begin apart.1)
-  where
-    others : (t.begin == begin) ≡ true → without_begin ts begin ≡ ts
-    others is =
-        let same : t.begin ≡ begin = grind (arith, nat_tests, is) in
-        filter_every (λ (u : Open). not (u.begin == begin)) ts (all_mapped (Apart t) (λ (u : Open). not (u.begin == begin) ≡ true) (λ u one. stays u (λ e. one.begin (same ∙ sym e))) ts apart.0)
-      where
-        stays : (u : Open) → u.begin ≢ begin → not (u.begin == begin) ≡ true
-        stays u other = by (u.begin == begin) refl
-          where
-            by : (b : Bool) → (u.begin == begin) ≡ b → not b ≡ true
-            by true e = absurd (other (grind (arith, nat_tests, e)))
-            by false e = refl
-
-    by : (b : Bool) → (t.begin == begin) ≡ b → (b || has_begin ts begin) ≡ true → (has_begin ts begin ≡ true → length (without_begin ts begin) + 1 ≡ length ts)
-        → length (cond (not b) (t ∷ without_begin ts begin) (without_begin ts begin)) + 1 ≡ length (t ∷ ts)
-    by true is there later = let rest : length (without_begin ts begin) ≡ length ts = ap length (others is) in omega (arith, rest)
-    by false is there later = let rest : length (without_begin ts begin) + 1 ≡ length ts = later there in omega (arith, rest)
-
--- so there are fewer in all
+-- where one ends there are fewer in all
 fewer-open : (dbs : List Database) (name : List ℕ) (db : Database) (change : Database → Database) → database_named dbs name ≡ Some db → length (change db).transactions + 1 ≡ length db.transactions
     → count_open (with_database dbs name change) + 1 ≡ count_open dbs
 fewer-open [] name db change is less = absurd (cc)

@@ -83,6 +83,7 @@ facts w line name primary groups log now s e outcome is =
         may = (record { family = refl; branch = refl; new = made.new; groups = made.groups; files = made.files }, tt);
         opens = (tt, tt);
         own = (tt, tt);
+        numbers = (tt, tt);
         ends = inr (inl (created _, tt, refl));
         plain = λ built. (tt, tt);
       };

@@ -34,10 +34,10 @@ use Rattle.bk_machine.proofs.statements.Transactions.{begin-facts, commit-facts,
 -- ---- what is proved of each
 
 drop-facts : (w : World) (name : List ℕ) → Facts w NoMedium (in_one (dropped name) Done)
-drop-facts w name = record { writes = (tt, tt); refused = λ rule no. absurd cc; well = λ sound. record { may = (tt, tt); opens = (tt, tt); own = (tt, tt); ends = inr (inl (dropped name, tt, refl)); plain = λ built. (tt, tt) } }
+drop-facts w name = record { writes = (tt, tt); refused = λ rule no. absurd cc; well = λ sound. record { may = (tt, tt); opens = (tt, tt); own = (tt, tt); numbers = (tt, tt); ends = inr (inl (dropped name, tt, refl)); plain = λ built. (tt, tt) } }
 
 turn-facts : (w : World) (name : Option (List ℕ)) → Facts w NoMedium (in_one (turned name) Done)
-turn-facts w name = record { writes = (tt, tt); refused = λ rule no. absurd cc; well = λ sound. record { may = (tt, tt); opens = (tt, tt); own = (tt, tt); ends = inl (tt, tt); plain = λ built. (tt, tt) } }
+turn-facts w name = record { writes = (tt, tt); refused = λ rule no. absurd cc; well = λ sound. record { may = (tt, tt); opens = (tt, tt); own = (tt, tt); numbers = (tt, tt); ends = inl (tt, tt); plain = λ built. (tt, tt) } }
 
 module _ (w : World) where
   item-facts : (line : ℕ) (item : ScriptItem) (now : ℕ) (outcome : Outcome) → ItemMay w line item now outcome → Facts w (StatementWrites item) outcome

@@ -3,7 +3,7 @@ use Rattle.std.proofs.Common.{◌≡◌, ◌≢◌, ◌<◌, ◌≤◌, ℕ, ◌
 use Rattle.std.specs.Prelude.{◌==◌, ◌||◌}
 use Rattle.std.specs.List.{filter, AllByRecursion}
 use Rattle.std.proofs.lemmas.Bool.Decides.{nat_tests}
-use Rattle.std.proofs.lemmas.List.{append-nil, reverse-append, reverse-reverse}
+use Rattle.std.proofs.lemmas.List.{append-nil, length-append, length-reverse, reverse-append, reverse-reverse}
 use Rattle.bk_ids.specs.declared.record.Mark.{Mark}
 use Rattle.bk_world.specs.FoldLaws.{tables_of-more}
 use Rattle.bk_world.specs.ListLaws.{all_both, all_filter, all_front, all_joined, all_mapped, all_middle, filter_passed}
@@ -14,14 +14,17 @@ use Rattle.bk_world.specs.Rows.{tables_of}
 use Rattle.bk_world.specs.Says.{begin_said, commit_said, rollback_said, undoing, within}
 use Rattle.bk_world.specs.SoundLogs.{MayFollow, NoLoadPends, undoes}
 use Rattle.bk_world.specs.Telling.{entries, tables}
+use Rattle.bk_world.specs.SettledLaws.{length-undoing}
 use Rattle.bk_world.specs.UndoLaws.{filter-undone}
 use Rattle.bk_world.specs.declared.database.FileSpec.{FileSpec}
+use Rattle.bk_machine.specs.Checks.{last_number}
+use Rattle.bk_machine.specs.Crash.{AreQuiet}
 use Rattle.bk_machine.specs.Sound.{Apart, AreApart, AreOpen, ArePlaced, HasFew, KeepsAll, has_begin}
 use Rattle.bk_machine.specs.UpLaws.{begins-later, kept-more}
 use Rattle.bk_world.specs.declared.transaction.Open.{Open}
 use Rattle.bk_machine.specs.World.{most_sessions, most_writes, transaction_of, without_begin}
 use Rattle.bk_machine.proofs.statements.Begins.{BeginBelow}
-use Rattle.bk_machine.proofs.statements.Few.{fewer}
+use Rattle.bk_machine.proofs.statements.Few.{fewer, one-less, split}
 
 -- ---- a transaction more
 
@@ -46,7 +49,8 @@ none-its (t ∷ ts) session none = by (t.session == session) refl none (none-its
     by true is none later = absurd (cc)
     by false is none later = (λ same. let wrong : (t.session == session) ≡ true = grind (arith, nat_tests, same) in absurd (cc), later none)
 
-module _ (rs : List Logged) (n : ℕ) (ts : List Open) (opens : AreOpen rs n ts) (below : BeginBelow rs n) (positive : 0 < n) (session : ℕ) (mark : Option Mark) (seat : session ≤ most_sessions) (none : transaction_of ts session ≡ None) where
+module _ (rs : List Logged) (n : ℕ) (ts : List Open) (opens : AreOpen rs n ts) (below : BeginBelow rs n) (positive : 0 < n) (session : ℕ) (mark : Option Mark) (seat : session ≤ most_sessions) (none : transaction_of ts session ≡ None)
+    (room : n + (length (pending rs) + (length ts + 16)) ≤ last_number) where
   abbrev new : Open
   new = record { session = session; begin = n; mark = mark }
 
@@ -77,6 +81,10 @@ module _ (rs : List Logged) (n : ℕ) (ts : List Open) (opens : AreOpen rs n ts)
         seats = all_joined (λ (t : Open). t.session ≤ most_sessions) ts (u ∷ []) opens.seats (seat, tt);
         kept = all_joined (KeepsAll (more rs n (begin_said n))) ts (u ∷ []) (kept-more rs (numbered n (begin_said n)) ts (λ b. refl, tt) opens.kept)
             (all_joined (λ (r : Logged). undoes n r ≡ false) rs (numbered n (begin_said n)) (all_mapped _ (λ (r : Logged). undoes n r ≡ false) (λ r low. low n (omega arith)) rs below.undone) (refl, tt), tt);
+        numbers = (
+            let many : length (pending (more rs n (begin_said n))) ≡ length (pending rs) = ap length begun-pending in
+            let one_more : length (ts ++ u ∷ []) ≡ length ts + 1 = length-append ts (u ∷ []) in
+            omega (arith, room, many, one_more));
       }
 
 -- ---- a transaction less
@@ -108,8 +116,8 @@ other-begin begin w is = by (w.begin == begin) is
     by false e = refl
 
 module _ (rs : List Logged) (n : ℕ) (ts : List Open) (opens : AreOpen rs n ts) (begin : ℕ) (said : List Said) (left : pending (more rs n said) ≡ of_others begin (pending rs))
-    (kept : AllByRecursion (KeepsAll (more rs n said)) (without_begin ts begin)) where
-  -- where it has ended the others are open
+    (kept : AllByRecursion (KeepsAll (more rs n said)) (without_begin ts begin)) (there : has_begin ts begin ≡ true) (few : length said ≤ length (of_transaction begin (pending rs)) + 1) where
+  -- where it has ended the others are open: it took the numbers that were left for it
   pub opens-without : AreOpen (more rs n said) (n + length said) (without_begin ts begin)
   opens-without = record {
     pending = subst (AllByRecursion (λ (w : Pending). has_begin (without_begin ts begin) w.begin ≡ true)) (sym left)
@@ -125,6 +133,11 @@ module _ (rs : List Logged) (n : ℕ) (ts : List Open) (opens : AreOpen rs n ts)
         (λ t le. let less : length (of_transaction t.begin (of_others begin (pending rs))) ≤ length (of_transaction t.begin (pending rs)) = fewer (λ (w : Pending). w.begin == t.begin) (λ (w : Pending). not (w.begin == begin)) (pending rs) in omega (arith, le, less)) ts opens.few));
     seats = all_filter (λ (t : Open). t.session ≤ most_sessions) (λ (t : Open). not (t.begin == begin)) ts opens.seats;
     kept = kept;
+    numbers = (
+        let many : length (pending (more rs n said)) ≡ length (of_others begin (pending rs)) = ap length left in
+        let parts : length (of_transaction begin (pending rs)) + length (of_others begin (pending rs)) ≡ length (pending rs) = split begin (pending rs) in
+        let less : length (without_begin ts begin) + 1 ≡ length ts = one-less ts begin opens.apart there in
+        omega (arith, opens.numbers, many, parts, less, few));
   }
 
 -- ---- COMMIT
@@ -217,6 +230,22 @@ undoes-own n begin b (s ∷ said) other all =
     by (Rattle.bk_world.specs.Records.model_set time model) t is off = refl
     by (Rattle.bk_world.specs.Records.loaded load) t is off = refl
     by (Rattle.bk_world.specs.Records.recovered branch) t is off = refl
+
+-- it says a record for each of its writes, and one
+pub few-rollback : (rs : List Logged) (begin : ℕ) → length (rollback_said begin (pending rs)) ≤ length (of_transaction begin (pending rs)) + 1
+few-rollback rs begin =
+    let own : List Pending = of_transaction begin (pending rs) in
+    let parts : length (rollback_said begin (pending rs)) ≡ length (undoing (reverse own)) + 1 = length-append (undoing (reverse own)) (within begin rolled_back) in
+    let many : length (undoing (reverse own)) ≡ length own = length-undoing (reverse own) ∙ length-reverse own in
+    omega (arith, parts, many)
+
+quiet-undoing : (begin : ℕ) (ws : List Pending) → AreQuiet (undoing ws ++ within begin rolled_back)
+quiet-undoing begin [] = (refl, tt)
+quiet-undoing begin (w ∷ ws) = (refl, quiet-undoing begin ws)
+
+-- none of which tells an entry
+pub quiet-rollback : (rs : List Logged) (begin : ℕ) → AreQuiet (rollback_said begin (pending rs))
+quiet-rollback rs begin = quiet-undoing begin (reverse (of_transaction begin (pending rs)))
 
 pub kept-rollback : (rs : List Logged) (n : ℕ) (ts : List Open) (begin : ℕ) → AllByRecursion (KeepsAll rs) ts → AllByRecursion (KeepsAll (more rs n (rollback_said begin (pending rs)))) (without_begin ts begin)
 kept-rollback rs n ts begin kept =

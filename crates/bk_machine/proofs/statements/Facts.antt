@@ -26,7 +26,7 @@ use Rattle.bk_world.specs.declared.transaction.Open.{Open}
 use Rattle.bk_machine.specs.World.{Database, World, database_named}
 use Rattle.bk_world.specs.declared.reply.Reply.{Reply}
 use Rattle.bk_world.specs.declared.reply.Reply.TheVariants.{Refused}
-use Rattle.bk_machine.proofs.Cutting.{IsOwn, OpensOwn}
+use Rattle.bk_machine.proofs.Cutting.{HaveNumbers, IsOwn, OpensOwn}
 use Rattle.bk_machine.proofs.Ends.{IsSteady}
 use Rattle.bk_machine.proofs.Left.{of-contained}
 
@@ -52,11 +52,12 @@ abbrev pub EndWell : List Act → Type 0
 EndWell acts = AllByRecursion IsSteady acts ⊎ (IsOne acts ⊎ IsRestore acts)
 
 -- Acts may be done, none opens more than one transaction of its own, and none says a load. Where they are cut, each front that is quiet is of an open
--- transaction, and the ends of databases lie within those before and behind.
+-- transaction and leaves numbers to undo what is pending, and the ends of databases lie within those before and behind.
 pub record GoWell (w : World) (acts : List Act) : Type 0 where
   pub may : MayDoAll w acts
   pub opens : AllByRecursion (OpensOwn w) acts
   pub own : AllByRecursion (IsOwn w) acts
+  pub numbers : HaveNumbers w acts
   pub ends : EndWell acts
   pub plain : IsBuilt w → SayNoLoad w acts
 
@@ -84,7 +85,7 @@ facts-of {named} w known outcome is facts = subst (Facts w named) (sym is) facts
 
 -- a statement that only answers, or is refused
 pub facts-answered : {named : List ℕ → Type 0} (w : World) (reply : Reply) → Facts w named (answered reply)
-facts-answered w reply = record { writes = tt; refused = λ rule is. refl; well = λ sound. record { may = tt; opens = tt; own = tt; ends = inl tt; plain = λ built. tt } }
+facts-answered w reply = record { writes = tt; refused = λ rule is. refl; well = λ sound. record { may = tt; opens = tt; own = tt; numbers = tt; ends = inl tt; plain = λ built. tt } }
 
 pub facts-refused : {named : List ℕ → Type 0} (w : World) (rule : Rule) → Facts w named (refused rule)
 facts-refused w rule = facts-answered w (Refused rule)

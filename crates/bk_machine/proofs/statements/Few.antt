@@ -1,17 +1,18 @@
 -- What is pending beside open transactions is little: there are few sessions, and each transaction has few writes.
-use Rattle.std.proofs.Common.{◌≡◌, ◌<◌, ◌≤◌, ℕ, ◌+◌, ◌*◌, Bool, true, false, not, ◌||◌, cond, List, [], ◌∷◌, length, map, eqb, refl, arith}
+use Rattle.std.proofs.Common.{◌≡◌, ◌≢◌, ◌<◌, ◌≤◌, ℕ, ◌+◌, ◌*◌, Bool, true, false, not, ◌||◌, cond, List, [], ◌∷◌, length, map, eqb, refl, sym, ◌∙◌, ap, arith}
 use Rattle.std.specs.Prelude.{◌==◌}
 use Rattle.std.specs.List.{filter, list_any, AllByRecursion, IsDistinct}
 use Rattle.std.proofs.lemmas.Bool.Decides.{nat_tests}
 use Rattle.std.proofs.lemmas.List.{length-map}
 use Rattle.std.proofs.lemmas.List.Filters.{length-filter_both}
 use Rattle.std.proofs.lemmas.Map.Steps.{length-le_from_distinct_below}
+use Rattle.bk_world.specs.ListLaws.{all_mapped, filter_every}
 use Rattle.bk_world.specs.Pending.{Pending, of_others, of_transaction, pending}
 use Rattle.bk_world.specs.Records.{Logged}
 use Rattle.bk_world.specs.SoundLogs.{most_pending}
 use Rattle.bk_machine.specs.Sound.{Apart, AreApart, AreOpen, has_begin}
 use Rattle.bk_world.specs.declared.transaction.Open.{Open}
-use Rattle.bk_machine.specs.World.{most_sessions, most_writes}
+use Rattle.bk_machine.specs.World.{most_sessions, most_writes, without_begin}
 
 -- ---- sessions
 
@@ -39,7 +40,7 @@ below (t ∷ ts) seats q there = by (eqb q t.session) refl there (below ts seats
     by true is there later = let same : q ≡ t.session = grind (arith, nat_tests, is) in omega (arith, same, seats.0)
     by false is there later = later there
 
-few-sessions : (ts : List Open) → AreApart ts → AllByRecursion (λ (t : Open). t.session ≤ most_sessions) ts → length ts ≤ 33
+pub few-sessions : (ts : List Open) → AreApart ts → AllByRecursion (λ (t : Open). t.session ≤ most_sessions) ts → length ts ≤ 33
 few-sessions ts apart seats =
     let one : length (sessions_of ts) ≤ 33 = length-le_from_distinct_below (sessions_of ts) 33 (distinct ts apart) (below ts seats) in
     let same : length (sessions_of ts) ≡ length ts = length-map ts (λ (t : Open). t.session) in
@@ -48,7 +49,7 @@ few-sessions ts apart seats =
 -- ---- writes
 
 -- the writes of a transaction and those of the others are all
-split : (begin : ℕ) (ws : List Pending) → length (of_transaction begin ws) + length (of_others begin ws) ≡ length ws
+pub split : (begin : ℕ) (ws : List Pending) → length (of_transaction begin ws) + length (of_others begin ws) ≡ length ws
 split begin ws = length-filter_both (λ (w : Pending). w.begin == begin) (λ (w : Pending). not (w.begin == begin)) (λ w. refl) ws
 
 pub fewer : (p q : Pending → Bool) (ws : List Pending) → length (filter p (filter q ws)) ≤ length (filter p ws)
@@ -99,3 +100,27 @@ few-pend rs end ts opens =
     let one : length (pending rs) ≤ 1024 * length ts = few-writes ts (pending rs) opens.pending opens.few in
     let two : length ts ≤ 33 = few-sessions ts opens.apart opens.seats in
     omega (arith, one, two)
+
+-- ---- one that ends
+
+-- it is one of those that are open, and no other ends
+pub one-less : (ts : List Open) (begin : ℕ) → AreApart ts → has_begin ts begin ≡ true → length (without_begin ts begin) + 1 ≡ length ts
+one-less [] begin apart there = absurd (cc)
+one-less (t ∷ ts) begin apart there = by (t.begin == begin) refl there (one-less ts begin apart.1)
+  where
+    others : (t.begin == begin) ≡ true → without_begin ts begin ≡ ts
+    others is =
+        let same : t.begin ≡ begin = grind (arith, nat_tests, is) in
+        filter_every (λ (u : Open). not (u.begin == begin)) ts (all_mapped (Apart t) (λ (u : Open). not (u.begin == begin) ≡ true) (λ u one. stays u (λ e. one.begin (same ∙ sym e))) ts apart.0)
+      where
+        stays : (u : Open) → u.begin ≢ begin → not (u.begin == begin) ≡ true
+        stays u other = by (u.begin == begin) refl
+          where
+            by : (b : Bool) → (u.begin == begin) ≡ b → not b ≡ true
+            by true e = absurd (other (grind (arith, nat_tests, e)))
+            by false e = refl
+
+    by : (b : Bool) → (t.begin == begin) ≡ b → (b || has_begin ts begin) ≡ true → (has_begin ts begin ≡ true → length (without_begin ts begin) + 1 ≡ length ts)
+        → length (cond (not b) (t ∷ without_begin ts begin) (without_begin ts begin)) + 1 ≡ length (t ∷ ts)
+    by true is there later = let rest : length (without_begin ts begin) ≡ length ts = ap length (others is) in omega (arith, rest)
+    by false is there later = let rest : length (without_begin ts begin) + 1 ≡ length ts = later there in omega (arith, rest)

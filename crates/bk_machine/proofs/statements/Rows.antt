@@ -15,7 +15,7 @@ use Rattle.bk_world.specs.Records.{Logged, RowId, id_of, is_row}
 use Rattle.bk_world.specs.Telling.{row_at, rows, seen}
 use Rattle.bk_world.specs.declared.reply.Reply.TheVariants.{Counted}
 use Rattle.bk_world.specs.declared.rule.Rule.TheVariants.{DuplicateKey, GroupFull, LimitReached}
-use Rattle.bk_world.specs.declared.rule.Limit.TheVariants.{Writes}
+use Rattle.bk_world.specs.declared.rule.Limit.TheVariants.{Lsn, Writes}
 use Rattle.bk_machine.specs.Built.{FreeCell, IsBuilt, IsBuiltLog}
 use Rattle.bk_machine.specs.CheckLaws.{comes-to, is-none, not-refused, passed}
 use Rattle.bk_machine.specs.Checks.{limit, refuse_if, used_up}
@@ -44,12 +44,13 @@ was-free : (o : Option Open) (u : Unit {0}) → unlocked_by o ≡ Ok u → o ≡
 was-free None u e = refl
 was-free (Some t) u e = absurd cc
 
--- INSERT: no row of this key is there, it isn't locked, there may be more writes, and there is room for one
+-- INSERT: no row of this key is there, it isn't locked, there may be more writes, numbers aren't used up, and there is room for one
 record IsNewRow (w : World) (name : List ℕ) (key : ℕ) (to : Target) : Type 0 where
   its : IsTarget w name to
   free : holder w to.database (to.table.number, key) ≡ None
   new : sees_key w to key ≡ false
   few : has_all_writes w to ≡ false
+  low : used_up to.database.end ≡ false
   room : is_full_for w to key ≡ false
 
 is-new-row : (w : World) (table : List ℕ) (key : ℕ) (value : List ℕ) (to : Target) → check_insert w table key value ≡ Ok to → IsNewRow w table key to
@@ -70,6 +71,7 @@ is-new-row w table key value to e =
       free = was-free (holder w one.found.database (one.found.table.number, key)) lock.found lock.is;
       new = not-refused (sees_key w one.found key) (DuplicateKey key) three.found three.is;
       few = not-refused (has_all_writes w one.found) (LimitReached Writes) writes.found writes.is;
+      low = not-refused (used_up one.found.database.end) (LimitReached Lsn) five.found five.is;
       room = not-refused (is_full_for w one.found key) (GroupFull (group_name one.found.database one.found.table.group)) six.found six.is;
     })
 
@@ -78,6 +80,7 @@ record IsOldRow (w : World) (name : List ℕ) (key : ℕ) (to : Target) : Type 0
   its : IsTarget w name to
   free : holder w to.database (to.table.number, key) ≡ None
   few : (sees_key w to key && has_all_writes w to) ≡ false
+  low : (sees_key w to key && used_up to.database.end) ≡ false
 
 is-written : (w : World) (name : List ℕ) (key : ℕ) (asked to : Target) → IsTarget w name asked → check_write w asked key ≡ Ok to → IsOldRow w name key to
 is-written w name key asked to its e =
@@ -91,6 +94,7 @@ is-written w name key asked to its e =
       its = its;
       free = was-free (holder w asked.database (asked.table.number, key)) lock.found lock.is;
       few = not-refused (sees_key w asked key && has_all_writes w asked) (LimitReached Writes) writes.found writes.is;
+      low = not-refused (sees_key w asked key && used_up asked.database.end) (LimitReached Lsn) two.found two.is;
     })
 
 is-updated : (w : World) (table : List ℕ) (key : ℕ) (value : List ℕ) (to : Target) → check_update w table key value ≡ Ok to → IsOldRow w table key to
@@ -149,7 +153,7 @@ module _ (w : World) (table : List ℕ) (key : ℕ) (to : Target) where
   -- one that is new
   new-facts : IsNewRow w table key to → (value : List ℕ) (now : ℕ) (outcome : Outcome) → DoesInsert w key value now to outcome → Facts w NoMedium outcome
   new-facts row value now outcome (at, place, is) =
-      facts-of w _ outcome is (row-facts w table to row.its key None (Some value) now row.free row.few at place (is-none (row_at (visible w to.database to.table) key) row.new))
+      facts-of w _ outcome is (row-facts w table to row.its key None (Some value) now row.free row.few at place (is-none (row_at (visible w to.database to.table) key) row.new) row.low)
 
   -- one that is there, or isn't
   change-facts : IsOldRow w table key to → (value : Option (List ℕ)) (now : ℕ) (outcome : Outcome) → DoesWrite w key value now to outcome → Facts w NoMedium outcome
@@ -159,7 +163,8 @@ module _ (w : World) (table : List ℕ) (key : ℕ) (to : Target) where
       by None is e = facts-of w _ outcome e (facts-answered w (Counted 0))
       by (Some before) is (at, place, e) =
           let few : has_all_writes w to ≡ false = second-not (sees_key w to key) (has_all_writes w to) row.few (ap is_some is) in
-          facts-of w _ outcome e (row-facts w table to row.its key (Some before) value now row.free few at place is)
+          let low : used_up to.database.end ≡ false = second-not (sees_key w to key) (used_up to.database.end) row.low (ap is_some is) in
+          facts-of w _ outcome e (row-facts w table to row.its key (Some before) value now row.free few at place is low)
 
 module _ (w : World) (table : List ℕ) (to : Target) (its : IsTarget w table to) (key : ℕ) (sound : IsSound w) (built : IsBuilt w) where
   its-up : IsUp w to.database

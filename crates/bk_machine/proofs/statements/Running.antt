@@ -10,6 +10,7 @@ use Rattle.bk_machine.specs.Run.{IsRun, behind_all}
 use Rattle.bk_machine.specs.Sound.{IsSound}
 use Rattle.bk_machine.specs.World.{World}
 use Rattle.bk_machine.proofs.Acting.{acts-sound}
+use Rattle.bk_machine.proofs.Cutting.{HaveNumbers}
 use Rattle.bk_machine.proofs.statements.Each.{statement-does, statement-goes}
 use Rattle.bk_machine.proofs.statements.Facts.{GoWell}
 use Rattle.std.proofs.Common.{inl}
@@ -25,6 +26,11 @@ pub may-rest : (w : World) (acts : List Act) (n : ℕ) → MayDoAll w acts → M
 may-rest w acts zero may = may
 may-rest w [] (suc n) may = tt
 may-rest w (act ∷ acts) (suc n) may = may-rest (done w act) acts n may.1
+
+pub numbers-rest : (w : World) (acts : List Act) (n : ℕ) → HaveNumbers w acts → HaveNumbers (done_all w (take n acts)) (drop n acts)
+numbers-rest w acts zero left = left
+numbers-rest w [] (suc n) left = tt
+numbers-rest w (act ∷ acts) (suc n) left = numbers-rest (done w act) acts n left.1
 
 -- ---- runs
 
@@ -63,7 +69,7 @@ pub record Within (w : World) (outcomes : List Outcome) (n : ℕ) : Type 0 where
 
 -- behind the last one nothing is done
 nothing-well : (w : World) → GoWell w []
-nothing-well w = record { may = tt; opens = tt; own = tt; ends = inl tt; plain = λ built. tt }
+nothing-well w = record { may = tt; opens = tt; own = tt; numbers = tt; ends = inl tt; plain = λ built. tt }
 
 pub within-well : (w : World) (outcomes : List Outcome) (n : ℕ) → IsSound w → RunsWell w outcomes → Within w outcomes n
 within-well w [] zero sound well = record { sound = sound; well = nothing-well w }

@@ -1,11 +1,12 @@
 -- The world behind what a database said, where the same is pending then.
-use Rattle.std.proofs.Common.{◌≡◌, List, Option, Some, sym, ap, subst}
+use Rattle.std.proofs.Common.{◌≡◌, ◌≤◌, ◌+◌, List, length, Option, Some, sym, ap, subst}
 use Rattle.std.specs.List.{AllByRecursion}
 use Rattle.bk_world.specs.declared.database.Status.TheVariants.{Online}
 use Rattle.bk_world.specs.Pending.{pending}
 use Rattle.bk_world.specs.Records.{Said, more, numbered}
 use Rattle.bk_world.specs.Telling.{model}
 use Rattle.bk_machine.specs.Acts.{done, gone_on, logged, says, where_found}
+use Rattle.bk_machine.specs.Checks.{last_number}
 use Rattle.bk_machine.specs.MayDo.{MayDo, MaySay}
 use Rattle.bk_machine.specs.Sound.{IsSound}
 use Rattle.bk_machine.specs.UpLaws.{IsUp, UndoesNone, is-up, may-tell}
@@ -13,11 +14,12 @@ use Rattle.bk_machine.specs.World.{World, Database, database_named, log_of}
 use Rattle.bk_machine.proofs.Acting.{act-sound}
 use Rattle.bk_machine.proofs.ActsSays.{says-found, says-log}
 
--- a database may say this, which undoes nothing, and the same is pending behind it
+-- a database may say this, which undoes nothing, the same is pending behind it, and numbers are left
 pub record MayTell (w : World) (db : Database) (said : List Said) : Type 0 where
   pub may : MaySay w db said
   pub none : AllByRecursion UndoesNone (numbered db.end said)
   pub same : pending (more (log_of w.history db) db.end said) ≡ pending (log_of w.history db)
+  pub left : (db.end + length said) + (length (pending (log_of w.history db)) + length db.transactions) ≤ last_number
 
 module _ (w : World) (db : Database) (said : List Said) (sound : IsSound w) (r : IsUp w db) (tell : MayTell w db said) where
   abbrev after : World
@@ -27,7 +29,7 @@ module _ (w : World) (db : Database) (said : List Said) (sound : IsSound w) (r :
   new = gone_on (model (log_of w.history db)) said db.transactions db
 
   pub may-do : MayDo w (logged db.name said db.transactions)
-  may-do = may-tell w db said r tell.may tell.none tell.same
+  may-do = may-tell w db said r tell.may tell.none tell.same tell.left
 
   pub done-is : done w (logged db.name said db.transactions) ≡ says w db said db.transactions
   unfolding done

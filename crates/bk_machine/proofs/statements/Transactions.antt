@@ -14,7 +14,8 @@ use Rattle.bk_world.specs.Says.{begin_said, commit_said, rollback_said, undoing,
 use Rattle.bk_world.specs.SoundLaws.{sound-rise}
 use Rattle.bk_world.specs.declared.database.Status.TheVariants.{Online}
 use Rattle.bk_world.specs.declared.reply.Reply.TheVariants.{Done}
-use Rattle.bk_world.specs.declared.rule.Rule.TheVariants.{InTransaction, NoSuchDatabase, NoTransaction, NotBuilt}
+use Rattle.bk_world.specs.declared.rule.Limit.TheVariants.{Lsn}
+use Rattle.bk_world.specs.declared.rule.Rule.TheVariants.{InTransaction, LimitReached, NoSuchDatabase, NoTransaction, NotBuilt}
 use Rattle.bk_machine.specs.Acts.{logged, said_time}
 use Rattle.bk_machine.specs.BeginLaws.{each-begun, each-without}
 use Rattle.bk_machine.specs.Built.{IsNoLoad, SaysNoLoad}
@@ -25,7 +26,7 @@ use Rattle.bk_machine.specs.FindingLaws.{current-found}
 use Rattle.bk_machine.specs.MayDo.{MayDo}
 use Rattle.bk_machine.specs.NamedLaws.{of-named}
 use Rattle.bk_machine.specs.Outcome.{Outcome, in_one}
-use Rattle.bk_machine.specs.Sound.{AreNumbered, IsSound, KeepsAll}
+use Rattle.bk_machine.specs.Sound.{AreNumbered, IsSound, KeepsAll, has_begin}
 use Rattle.bk_machine.specs.UpLaws.{IsUp, is-up, may-open}
 use Rattle.bk_world.specs.declared.transaction.Open.{Open}
 use Rattle.bk_machine.specs.World.{Database, Held, World, current_database, database_named, held_in, log_of, most_sessions, own_held, transaction_of, without_begin}
@@ -37,11 +38,13 @@ use Rattle.bk_machine.proofs.Cutting.{IsOwn, OpensOwn}
 use Rattle.bk_machine.proofs.Histories.{counts-positive}
 use Rattle.bk_machine.specs.SettledLaws.{counts-end}
 use Rattle.bk_machine.proofs.Left.{of-contained}
+use Rattle.bk_machine.proofs.LeftNumbers.{numbers-before}
 use Rattle.bk_machine.proofs.statements.Begins.{begin-below}
-use Rattle.bk_machine.proofs.statements.Ending.{kept-commit, kept-rollback, may-roll-back, opens-begun, opens-without, placed-rollback, said-rollback, tables-commit, tables-rollback}
+use Rattle.bk_machine.proofs.statements.Ending.{few-rollback, kept-commit, kept-rollback, may-roll-back, opens-begun, opens-without, placed-rollback, quiet-rollback, said-rollback, tables-commit, tables-rollback}
 use Rattle.bk_machine.proofs.statements.Facts.{Facts, GoWell, NoMedium, all-take, facts-of, itself, opens-those, own-within}
+use Rattle.bk_machine.proofs.statements.Numbering.{numbers-loud, numbers-whole}
 use Rattle.bk_machine.proofs.statements.Telling.{tables-begun}
-use Rattle.bk_machine.specs.HeldLaws.{IsHeldBy, held-none, held-up, open-there}
+use Rattle.bk_machine.specs.HeldLaws.{IsHeldBy, held-none, held-up, open-begin, open-there}
 
 -- the transactions without one are among those
 opens-fewer : (w : World) (db : Database) (said : List Said) (begin : ℕ) → database_named w.databases db.name ≡ Some db → OpensOwn w (logged db.name said (without_begin db.transactions begin))
@@ -65,6 +68,9 @@ module _ (w : World) (session : ℕ) (h : Held) (sound : IsSound w) (is : held_i
   there : Contains h.database.transactions h.transaction
   there = open-there h.database.transactions session h.transaction held.own
 
+  its-begin : has_begin h.database.transactions h.transaction.begin ≡ true
+  its-begin = open-begin h.database.transactions session h.transaction held.own
+
   commit-may : (now : ℕ) → MayDo w (commits w h now)
   commit-may now =
       let db : Database = h.database in
@@ -77,7 +83,8 @@ module _ (w : World) (session : ℕ) (h : Held) (sound : IsSound w) (is : held_i
         may = (of-contained (KeepsAll rs) db.transactions h.transaction held.up.opens.kept there, tt);
         tables = subst (AreNumbered 1) (sym (tables-commit rs db.end begin time mark)) held.up.whole.log.tables;
         places = (tt, tt);
-      }) (each-without db begin) (opens-without rs db.end db.transactions held.up.opens begin (commit_said begin time mark) (pending-commit rs db.end begin time mark) (kept-commit rs db.end db.transactions begin time mark held.up.opens.kept))
+      }) (each-without db begin) (opens-without rs db.end db.transactions held.up.opens begin (commit_said begin time mark) (pending-commit rs db.end begin time mark) (kept-commit rs db.end db.transactions begin time mark held.up.opens.kept)
+      its-begin (omega arith))
 
   pub rollback-may : MayDo w (rolls_back w h)
   rollback-may =
@@ -90,13 +97,15 @@ module _ (w : World) (session : ℕ) (h : Held) (sound : IsSound w) (is : held_i
         may = may-roll-back rs db.end begin (sound-rise rs held.up.whole.log.sound counts held.up.opens.loads) held.up.opens.loads;
         tables = subst (AreNumbered 1) (sym (tables-rollback rs db.end begin)) held.up.whole.log.tables;
         places = placed-rollback db.files rs db.end begin;
-      }) (each-without db begin) (opens-without rs db.end db.transactions held.up.opens begin (rollback_said begin (pending rs)) (pending-rollback rs db.end begin) (kept-rollback rs db.end db.transactions begin held.up.opens.kept))
+      }) (each-without db begin) (opens-without rs db.end db.transactions held.up.opens begin (rollback_said begin (pending rs)) (pending-rollback rs db.end begin) (kept-rollback rs db.end db.transactions begin held.up.opens.kept)
+      its-begin (few-rollback rs begin))
 
   commit-well : (now : ℕ) → GoWell w (commits w h now ∷ [])
   commit-well now = record {
     may = (commit-may now, tt);
     opens = (opens-fewer w h.database (commit_of w h now) h.transaction.begin held.up.named, tt);
     own = (own-within w h.database h.transaction (commit_of w h now) (without_begin h.database.transactions h.transaction.begin) held.up.named there (refl, tt), tt);
+    numbers = (numbers-loud w h.database.name _ (without_begin h.database.transactions h.transaction.begin) (λ none. absurd cc), tt);
     ends = inl (tt, tt);
     plain = λ built. ((tt, tt), tt);
   }
@@ -107,6 +116,7 @@ module _ (w : World) (session : ℕ) (h : Held) (sound : IsSound w) (is : held_i
         may = (rollback-may, tt);
         opens = (opens-fewer w h.database (rollback_said h.transaction.begin (pending rs)) h.transaction.begin held.up.named, tt);
         own = (own-within w h.database h.transaction (rollback_said h.transaction.begin (pending rs)) (without_begin h.database.transactions h.transaction.begin) held.up.named there (said-rollback rs h.transaction.begin), tt);
+        numbers = (numbers-whole w h.database (rollback_said h.transaction.begin (pending rs)) (without_begin h.database.transactions h.transaction.begin) held.up rollback-may (quiet-rollback rs h.transaction.begin), tt);
         ends = inl (tt, tt);
         plain = λ built. (rollback-plain w h, tt);
       }
@@ -129,11 +139,12 @@ rollback-facts w h e outcome is = facts-of w (in_one (rolls_back w h) Done) outc
 
 -- ---- BEGIN
 
--- the current database, which is online, and the session has no transaction
+-- the current database, which is online and has numbers, and the session has no transaction
 record IsOutside (w : World) (db : Database) : Type 0 where
   is : current_database w ≡ Some db
   up : db.status ≡ Online
   none : own_held w ≡ None
+  low : used_up db.end ≡ false
 
 begins : (w : World) (line : ℕ) (transaction : Option NamedTransaction) (db : Database) → check_begin w line transaction ≡ Ok db → IsOutside w db
 unfolding check_begin
@@ -150,6 +161,7 @@ begins w line transaction db e =
       is = was-found (current_database w) NoSuchDatabase two.found two.is ∙ ap (λ (d : Database). Some d) up.is;
       up = up.up;
       none = is-none (own_held w) (not-refused (is_some (own_held w)) InTransaction out.found out.is);
+      low = not-refused (used_up three.found.end) (LimitReached Lsn) four.found four.is;
     })
 
 -- what is open behind it
@@ -174,7 +186,8 @@ begin-may w db mark sound its r =
       may = (tt, tt);
       tables = subst (AreNumbered 1) (sym (tables-begun rs db.end)) r.whole.log.tables;
       places = (tt, tt);
-    }) (each-begun db (new_open w db mark) refl) (opens-begun rs db.end db.transactions r.opens (begin-below rs db.end r.whole.log.sound r.whole.log.counts) (omega (arith, positive)) w.session mark sound.seat none)
+    }) (each-begun db (new_open w db mark) refl) (opens-begun rs db.end db.transactions r.opens (begin-below rs db.end r.whole.log.sound r.whole.log.counts) (omega (arith, positive)) w.session mark sound.seat none
+    (numbers-before rs db.end db.transactions r.opens its.low))
 
 pub begin-facts : (w : World) (line : ℕ) (transaction : Option NamedTransaction) (mark : Option Mark) (db : Database) → check_begin w line transaction ≡ Ok db → (outcome : Outcome) → DoesBegin w mark db outcome → Facts w NoMedium outcome
 begin-facts w line transaction mark db e outcome is =
@@ -186,6 +199,7 @@ begin-facts w line transaction mark db e outcome is =
         may = (begin-may w db mark sound its r, tt);
         opens = (opens-one_more w db (begin_said db.end) (new_open w db mark) r.named refl, tt);
         own = (own-begin w db (db.transactions ++ new_open w db mark ∷ []) r.named, tt);
+        numbers = (numbers-whole w db (begin_said db.end) (db.transactions ++ new_open w db mark ∷ []) r (begin-may w db mark sound its r) (refl, tt), tt);
         ends = inl (tt, tt);
         plain = λ built. ((tt, tt), tt);
       };
@@ -214,6 +228,7 @@ session-facts w line n found e outcome is =
         may = (subst (λ m. m ≤ most_sessions) same (seats n (not-refused (not (is_session n)) (NotBuilt line) one.found one.is)), tt);
         opens = (tt, tt);
         own = (tt, tt);
+        numbers = (tt, tt);
         ends = inl (tt, tt);
         plain = λ built. (tt, tt);
       };

@@ -20,6 +20,7 @@ use Rattle.bk_world.specs.Telling.{entries, row_at, rows, seen, tables}
 use Rattle.bk_machine.specs.Acts.{logged, said_time}
 use Rattle.bk_machine.specs.BeginLaws.{each-own}
 use Rattle.bk_machine.specs.Built.{IsBuilt, IsBuiltLog}
+use Rattle.bk_machine.specs.Checks.{last_number, used_up}
 use Rattle.bk_machine.specs.MayDo.{MayDo}
 use Rattle.bk_machine.specs.NamedLaws.{of-named}
 use Rattle.bk_machine.specs.Seen.{visible, visible_by}
@@ -30,11 +31,13 @@ use Rattle.bk_machine.specs.UpLaws.{IsUp, begins-later, kept-more, may-open, may
 use Rattle.bk_world.specs.declared.transaction.Open.{Open}
 use Rattle.bk_machine.specs.World.{World, Database, log_of, most_writes, transaction_of}
 use Rattle.bk_machine.specs.statements.Target.{MayPlace, Target, has_all_writes, holder, own_open, row_said, row_set, writes_of, writes_row}
-use Rattle.bk_machine.proofs.Cutting.{IsOwn}
+use Rattle.bk_machine.proofs.Cutting.{HasNumbers, IsOwn}
+use Rattle.bk_machine.proofs.LeftNumbers.{numbers-before}
 use Rattle.bk_machine.proofs.Room.{well}
 use Rattle.bk_machine.proofs.statements.Begins.{BeginBelow, begin-below}
 use Rattle.bk_machine.proofs.statements.Facts.{Facts, NoMedium, opens-those, own-single, own-within}
 use Rattle.bk_machine.proofs.statements.Few.{few-pend}
+use Rattle.bk_machine.proofs.statements.Numbering.{numbers-single, numbers-whole}
 use Rattle.bk_machine.proofs.statements.Locks.{is_its, unlocked, unwritten}
 use Rattle.bk_machine.proofs.statements.Telling.{tables-begun, tables-single, tables-written}
 
@@ -109,7 +112,7 @@ writes-more b ws w own le =
         omega (arith, joined, none, le)
 
 module _ (rs : List Logged) (n : ℕ) (ts : List Open) (opens : AreOpen rs n ts) (session : ℕ) (t : Open) (own : transaction_of ts session ≡ Some t) (at : Place) (before : Option (List ℕ)) (c : RowChange)
-    (few : length (of_transaction t.begin (pending rs)) < most_writes) where
+    (few : length (of_transaction t.begin (pending rs)) < most_writes) (room : n + (length (pending rs) + (length ts + 16)) ≤ last_number) where
   abbrev write : Pending
   write = record { lsn = n; begin = t.begin; place = at; before = before; change = c; extents = [] }
 
@@ -130,6 +133,9 @@ module _ (rs : List Logged) (n : ℕ) (ts : List Open) (opens : AreOpen rs n ts)
             ts opens.few;
         seats = opens.seats;
         kept = kept-more rs (numbered n (write_said t.begin at before c)) ts (λ b. refl, tt) opens.kept;
+        numbers = (
+            let many : length (pending (more rs n (write_said t.begin at before c))) ≡ length (pending rs) + 1 = ap length pending-written ∙ length-append (pending rs) (one ∷ []) in
+            omega (arith, room, many));
       }
 
 -- ---- a row
@@ -139,7 +145,7 @@ not-all : (m : ℕ) → nat_le most_writes m ≡ false → m < most_writes
 not-all m e = grind (arith, nat_tests, e)
 
 module _ (w : World) (name : List ℕ) (to : Target) (its : IsTarget w name to) (key : ℕ) (before value : Option (List ℕ)) (now : ℕ) (free : holder w to.database (to.table.number, key) ≡ None) (few : has_all_writes w to ≡ false)
-    (at : Place) (place : MayPlace w to (to.table.number, key) at) (was : row_at (visible w to.database to.table) key ≡ before) where
+    (at : Place) (place : MayPlace w to (to.table.number, key) at) (was : row_at (visible w to.database to.table) key ≡ before) (low : used_up to.database.end ≡ false) where
   abbrev db : Database
   db = to.database
 
@@ -150,11 +156,15 @@ module _ (w : World) (name : List ℕ) (to : Target) (its : IsTarget w name to) 
   numbered_own : (r : IsUp w to.database) → find (λ (m : TableSpec). m.number == to.table.number) (tables (log_of w.history to.database)) ≡ Some to.table
   numbered_own r = target-there w name to r.whole its
 
+  room : (r : IsUp w to.database) → to.database.end + (length (pending (log_of w.history to.database)) + (length to.database.transactions + 16)) ≤ last_number
+  room r = numbers-before (log_of w.history to.database) to.database.end to.database.transactions r.opens low
+
   -- by a transaction of its own
   single : (r : IsUp w to.database) → own_open w to.database ≡ None
       → MayDo w (logged to.database.name (single_said to.database.end at before (row_set to key value) (said_time w to.database now)) to.database.transactions)
   unfolding holder visible
   single r none =
+      let left : to.database.end + (length (pending (log_of w.history to.database)) + (length to.database.transactions + 16)) ≤ last_number = room r in
       let rs : List Logged = log_of w.history to.database in
       let n : ℕ = to.database.end in
       let time : ℕ = said_time w to.database now in
@@ -166,7 +176,7 @@ module _ (w : World) (name : List ℕ) (to : Target) (its : IsTarget w name to) 
         may = (tt, (may-write rs n begins.pending at before (row_set to key value) nobody (few-pend rs n to.database.transactions r.opens) place.place committed, (may-commit rs n begins _ _ refl refl, tt)));
         tables = subst (AreNumbered 1) (sym (tables-single rs n at before (row_set to key value) time begins.pending)) r.whole.log.tables;
         places = (tt, ((to.table, subst (λ made. find (λ (m : TableSpec). m.number == to.table.number) made ≡ Some to.table) (sym (tables-begun rs n)) (numbered_own r), place.cell), (tt, tt)));
-      }) (λ b. refl, (λ b. refl, (λ b. refl, tt))) (pending-single rs n at before (row_set to key value) time begins.pending)
+      }) (λ b. refl, (λ b. refl, (λ b. refl, tt))) (pending-single rs n at before (row_set to key value) time begins.pending) (omega (arith, left))
 
   -- by the one that is open
   within : (r : IsUp w to.database) (t : Open) → own_open w to.database ≡ Some t → MayDo w (logged to.database.name (write_said t.begin at before (row_set to key value)) to.database.transactions)
@@ -182,7 +192,7 @@ module _ (w : World) (name : List ℕ) (to : Target) (its : IsTarget w name to) 
         may = (record { place = place.place; noted = sym noted; unlocked = alone; behind = begin-lies to.database.transactions w.session n t own r.opens.begins; room = few-pend rs n to.database.transactions r.opens }, tt);
         tables = subst (AreNumbered 1) (sym (tables-written rs n t.begin at before (row_set to key value))) r.whole.log.tables;
         places = ((to.table, numbered_own r, place.cell), tt);
-      }) (each-own to.database) (opens-written rs n to.database.transactions r.opens w.session t own at before (row_set to key value) fewer)
+      }) (each-own to.database) (opens-written rs n to.database.transactions r.opens w.session t own at before (row_set to key value) fewer (room r))
 
   abbrev act_of : Option Open → Rattle.bk_machine.specs.Acts.Act
   act_of o = logged to.database.name (row_said o to.database.end at before (row_set to key value) (said_time w to.database now)) to.database.transactions
@@ -194,6 +204,12 @@ module _ (w : World) (name : List ℕ) (to : Target) (its : IsTarget w name to) 
   owns : (r : IsUp w to.database) (o : Option Open) → own_open w to.database ≡ o → IsOwn w (act_of o)
   owns r None none = own-single w to.database at before (row_set to key value) (said_time w to.database now) to.database.transactions r.named
   owns r (Some t) own = own-within w to.database t (write_said t.begin at before (row_set to key value)) to.database.transactions r.named (open-there to.database.transactions w.session t own) (refl, tt)
+
+  leaves : (r : IsUp w to.database) (o : Option Open) → MayDo w (act_of o) → HasNumbers w (act_of o)
+  leaves r None may =
+      let left : to.database.end + (length (pending (log_of w.history to.database)) + (length to.database.transactions + 16)) ≤ last_number = room r in
+      numbers-single w to.database at before (row_set to key value) (said_time w to.database now) to.database.transactions r.named (omega (arith, left))
+  leaves r (Some t) may = numbers-whole w to.database (write_said t.begin at before (row_set to key value)) to.database.transactions r may (refl, tt)
 
   no-load : (o : Option Open) → AllByRecursion (λ (s : Said). Rattle.bk_machine.specs.Built.IsNoLoad s.deed) (row_said o to.database.end at before (row_set to key value) (said_time w to.database now))
   no-load None = (tt, (tt, (tt, tt)))
@@ -207,6 +223,7 @@ module _ (w : World) (name : List ℕ) (to : Target) (its : IsTarget w name to) 
       may = (does r (own_open w to.database) refl, tt);
       opens = (opens-those w to.database (row_said (own_open w to.database) to.database.end at before (row_set to key value) (said_time w to.database now)) r.named, tt);
       own = (owns r (own_open w to.database) refl, tt);
+      numbers = (leaves r (own_open w to.database) (does r (own_open w to.database) refl), tt);
       ends = inl (tt, tt);
       plain = λ built. (no-load (own_open w to.database), tt);
     };

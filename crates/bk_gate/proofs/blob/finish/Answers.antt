@@ -2,32 +2,58 @@ use Rattle.std.proofs.Common.{◌≡◌, ◌≤◌, ◌<◌, ◌^◌, ◌+◌, �
 use Rattle.bk_device.specs.Calls.{contents, written, read_at}
 use Rattle.bk_gate.specs.Gate.{IsPrepared}
 use Rattle.bk_gate.specs.BlobLaws.{prepares, prepares_blob}
+use Rattle.bk_gate.proofs.Steps.{keeps_then}
 use Rattle.bk_gate.proofs.blob.finish.Goals as goal
 
 pub returns-clause-prepared : goal.returns-clause-prepared
 returns-clause-prepared g c t =
     let disk = g.D.Device.disk in
     let name = c.args.name.now in
-    let size = c.args.size in
+    let len = c.args.len in
     let end = c.args.end in
-    let before = contents ((disk c.set_length.new.dev).files name) in
-    let near : c.args.next < 2 ^ 62 = omega (arith, c.in_ok-append.ensures.small) in
-    let one : contents ((disk c.append.new.dev).files name) ≡ written before (end + 9 + size) (0 ∷ []) = ap contents (c.in_ok-append.ensures.written t) ∙ ap (λ (p : ℕ). written before p (0 ∷ [])) (c.requires.next near) in
+    let before = contents ((disk c.lay_length.new.dev).files name) in
+    let at : c.saturating_add-2.result ≡ end + 9 + len = omega (arith, c.in_ok-append.ensures.small, c.saturating_add.ensures, c.saturating_add-2.ensures) in
+    let one : contents ((disk c.append.new.dev).files name) ≡ written before (end + 9 + len) (0 ∷ []) = ap contents (c.in_ok-append.ensures.written t) ∙ ap (λ (p : ℕ). written before p (0 ∷ [])) at in
     let all = ap contents (c.in_ok-settle.ensures.same t) ∙ one in
-    let room : end + 9 + size ≤ length before = omega (arith, c.in_ok-set_length.ensures.length t, c.requires.inside t) in
-    let fits : size < 2 ^ 64 = omega arith in
-    let Ready : List ℕ → Type 0 = IsPrepared end size in
-    subst Ready (sym all) (prepares end size before room fits (c.in_ok-set_length.ensures.size t))
+    let room : end + 9 + len ≤ length before = omega (arith, c.in_ok-lay_length.ensures.longer t, c.requires.inside t) in
+    let fits : len < 2 ^ 64 = omega arith in
+    let Ready : List ℕ → Type 0 = IsPrepared end len in
+    subst Ready (sym all) (prepares end len before room fits (c.in_ok-lay_length.ensures.size t))
 
 pub returns-clause-blob : goal.returns-clause-blob
 returns-clause-blob g c t =
     let disk = g.D.Device.disk in
     let name = c.args.name.now in
-    let size = c.args.size in
+    let len = c.args.len in
     let end = c.args.end in
-    let before = contents ((disk c.set_length.new.dev).files name) in
-    let near : c.args.next < 2 ^ 62 = omega (arith, c.in_ok-append.ensures.small) in
-    let one : contents ((disk c.append.new.dev).files name) ≡ written before (end + 9 + size) (0 ∷ []) = ap contents (c.in_ok-append.ensures.written t) ∙ ap (λ (p : ℕ). written before p (0 ∷ [])) (c.requires.next near) in
+    let before = contents ((disk c.lay_length.new.dev).files name) in
+    let at : c.saturating_add-2.result ≡ end + 9 + len = omega (arith, c.in_ok-append.ensures.small, c.saturating_add.ensures, c.saturating_add-2.ensures) in
+    let one : contents ((disk c.append.new.dev).files name) ≡ written before (end + 9 + len) (0 ∷ []) = ap contents (c.in_ok-append.ensures.written t) ∙ ap (λ (p : ℕ). written before p (0 ∷ [])) at in
     let all = ap contents (c.in_ok-settle.ensures.same t) ∙ one in
-    let room : end + 9 + size ≤ length before = omega (arith, c.in_ok-set_length.ensures.length t, c.requires.inside t) in
-    ap (λ (f : List ℕ). read_at f (end + 9) size) all ∙ prepares_blob end size before room ∙ c.in_ok-set_length.ensures.blob t size (c.requires.inside t)
+    let room : end + 9 + len ≤ length before = omega (arith, c.in_ok-lay_length.ensures.longer t, c.requires.inside t) in
+    ap (λ (f : List ℕ). read_at f (end + 9) len) all ∙ prepares_blob end len before room ∙ c.in_ok-lay_length.ensures.blob t len (c.requires.inside t)
+
+pub append-requires-clause-inside : goal.append-requires-clause-inside
+append-requires-clause-inside g c t = omega (arith, c.in_ok-lay_length.ensures.longer t, c.requires.inside t, c.saturating_add.ensures, c.saturating_add-2.ensures)
+
+pub returns-clause-small : goal.returns-clause-small
+returns-clause-small g c = omega (arith, c.in_ok-append.ensures.small, c.saturating_add.ensures, c.saturating_add-2.ensures)
+
+pub returns-in_err-append-clause-crash : goal.returns-in_err-append-clause-crash
+returns-in_err-append-clause-crash g c t =
+    let disk = g.D.Device.disk in
+    keeps_then c.args.name.now (disk c.args.dev.now) (disk c.lay_length.new.dev) (disk c.append.new.dev) (c.in_ok-lay_length.ensures.sealed t) (c.lay_length.ensures.crash t) (c.append.ensures.crash t)
+
+pub returns-in_err-settle-clause-crash : goal.returns-in_err-settle-clause-crash
+returns-in_err-settle-clause-crash g c t =
+    let disk = g.D.Device.disk in
+    let name = c.args.name.now in
+    keeps_then name (disk c.args.dev.now) (disk c.lay_length.new.dev) (disk c.settle.new.dev) (c.in_ok-lay_length.ensures.sealed t) (c.lay_length.ensures.crash t)
+    (keeps_then name (disk c.lay_length.new.dev) (disk c.append.new.dev) (disk c.settle.new.dev) (c.in_ok-append.ensures.sealed t) (c.append.ensures.crash t) (c.settle.ensures.crash t))
+
+pub returns-clause-crash : goal.returns-clause-crash
+returns-clause-crash g c t =
+    let disk = g.D.Device.disk in
+    let name = c.args.name.now in
+    keeps_then name (disk c.args.dev.now) (disk c.lay_length.new.dev) (disk c.settle.new.dev) (c.in_ok-lay_length.ensures.sealed t) (c.lay_length.ensures.crash t)
+    (keeps_then name (disk c.lay_length.new.dev) (disk c.append.new.dev) (disk c.settle.new.dev) (c.in_ok-append.ensures.sealed t) (c.append.ensures.crash t) (c.settle.ensures.crash t))

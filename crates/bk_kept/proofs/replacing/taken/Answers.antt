@@ -11,7 +11,6 @@ use Rattle.bk_kept.proofs.Replaced.{files-are, set-is}
 use Rattle.bk_kept.proofs.WholeKept.{same-error}
 use Rattle.bk_kept.specs.declared.error.ApplyError.TheVariants.{Unfit}
 use Rattle.bk_kept.proofs.replacing.taken.Goals as goal
-use Rattle.bk_kept.proofs.replacing.taken.Goals.{After-drop-files-inside}
 
 pub shown_by-requires : goal.shown_by-requires
 shown_by-requires c =

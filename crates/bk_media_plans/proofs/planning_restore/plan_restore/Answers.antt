@@ -1,4 +1,4 @@
-use Rattle.std.proofs.Common.{◌≡◌, Ok}
+use Rattle.std.proofs.Common.{◌≡◌}
 use Rattle.bk_plans.specs.PlanLaws.{if-plan}
 use Rattle.bk_media_plans.proofs.PlannedRestore.{inside-plan}
 use Rattle.bk_media_plans.proofs.planning_restore.plan_restore.Goals as goal

@@ -1,7 +1,7 @@
 -- The checks of CREATE DATABASE behind the texts of its statement.
-use Rattle.std.proofs.Common.{◌≡◌, Ok, rules, sym, ◌∙◌, ap, subst}
+use Rattle.std.proofs.Common.{◌≡◌, sym, ◌∙◌, ap, subst}
 use Rattle.bk_machine.specs.Checks.{refuse_if}
-use Rattle.bk_machine.specs.statements.CreateDatabase.{check_free, new_storage}
+use Rattle.bk_machine.specs.statements.CreateDatabase.{check_free}
 use Rattle.bk_plans.specs.Checking.{IsCheck}
 use Rattle.bk_world.specs.declared.database.Storage.{Storage}
 use Rattle.bk_world.specs.declared.rule.Limit.TheVariants.{Databases}

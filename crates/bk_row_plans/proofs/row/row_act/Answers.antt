@@ -1,4 +1,4 @@
-use Rattle.std.proofs.Common.{ℕ, List, Option, ◌∙◌, ap, subst}
+use Rattle.std.proofs.Common.{ℕ, List, ◌∙◌, ap, subst}
 use Rattle.std.specs.Option.{option_map}
 use Rattle.bk_acts.specs.Meaning.{Spell}
 use Rattle.bk_acts.specs.declared.act.StoredAct.TheVariants.{Logged}

@@ -1,4 +1,4 @@
-use Rattle.std.proofs.Common.{List, ◌∙◌, subst, sym}
+use Rattle.std.proofs.Common.{List, ◌∙◌, refl, subst, sym}
 use Rattle.bk_device.specs.Effects.{Effect}
 use Rattle.bk_device.specs.Laws.{nothing_yet}
 use Rattle.bk_plans.specs.declared.parts.Part.{Part}
@@ -23,8 +23,15 @@ returns-in_ok-turn-in-Turned-clause-crash g c tells = plan-none c.args.self.now 
 pub returns-in_ok-turn-in-Turned-clause-does : goal.returns-in_ok-turn-in-Turned-clause-does
 returns-in_ok-turn-in-Turned-clause-does g c tells =
     subst (λ (p : Plan). DoesPlan c.args.self.now (g.D.Device.disk c.args.dev.now) p (record c.args.self.now { kept = c.turn.new.self }) (g.D.Device.disk c.args.dev.now)) (sym c.in-Turned.is)
-    (turned-does (record { transitive = c.logs_that_stay.ensures.transitive; turned = c.logs_that_stay.ensures.turned; seated = c.logs_that_stay.ensures.seated })
-    c.args.self.now (record c.args.self.now { kept = c.turn.new.self }) (g.D.Device.disk c.args.dev.now) c.in-Turned.name (λ w keeps. c.in_ok-turn-in-Turned.ensures.turned w keeps))
+    (turned-does (record {
+      transitive = c.logs_that_stay.ensures.transitive;
+      turned_media = c.media_that_stay.ensures.turned;
+      seated_media = c.media_that_stay.ensures.seated;
+      turned = c.logs_that_stay.ensures.turned;
+      seated = c.logs_that_stay.ensures.seated;
+      stays = c.what_waits_is_joined.ensures.stays;
+    })
+    c.args.self.now (record c.args.self.now { kept = c.turn.new.self }) (g.D.Device.disk c.args.dev.now) c.in-Turned.name refl (λ w keeps. c.in_ok-turn-in-Turned.ensures.turned w keeps))
 
 pub returns-in_ok-done-in-Parts-clause-crash : goal.returns-in_ok-done-in-Parts-clause-crash
 returns-in_ok-done-in-Parts-clause-crash g c tells =
@@ -78,8 +85,15 @@ returns-in-Seated-clause-crash g c tells = plan-none c.args.self.now (g.D.Device
 pub returns-in-Seated-clause-does : goal.returns-in-Seated-clause-does
 returns-in-Seated-clause-does g c tells =
     subst (λ (p : Plan). DoesPlan c.args.self.now (g.D.Device.disk c.args.dev.now) p (record c.args.self.now { kept = c.seat.new.self }) (g.D.Device.disk c.args.dev.now)) (sym c.in-Seated.is)
-    (seated-does (record { transitive = c.logs_that_stay.ensures.transitive; turned = c.logs_that_stay.ensures.turned; seated = c.logs_that_stay.ensures.seated })
-    c.args.self.now (record c.args.self.now { kept = c.seat.new.self }) (g.D.Device.disk c.args.dev.now) c.in-Seated.session (λ w keeps. c.seat.ensures.seated w keeps))
+    (seated-does (record {
+      transitive = c.logs_that_stay.ensures.transitive;
+      turned_media = c.media_that_stay.ensures.turned;
+      seated_media = c.media_that_stay.ensures.seated;
+      turned = c.logs_that_stay.ensures.turned;
+      seated = c.logs_that_stay.ensures.seated;
+      stays = c.what_waits_is_joined.ensures.stays;
+    })
+    c.args.self.now (record c.args.self.now { kept = c.seat.new.self }) (g.D.Device.disk c.args.dev.now) c.in-Seated.session refl (λ w keeps. c.seat.ensures.seated w keeps))
 
 pub returns-in-Seated-clause-still : goal.returns-in-Seated-clause-still
 returns-in-Seated-clause-still g c tells none = record { device = nothing_yet (g.D.Device.disk c.args.dev.now); reserves = λ exact. exact ∙ sym c.seat.ensures.counter }

@@ -59,7 +59,7 @@ returns-in-Ok-clause-stands g c t settled w stands =
       before = c.settled_worlds.ensures.before;
       settled_opened = c.settled_worlds.ensures.opened;
       ended = c.settled_worlds.ensures.ended;
-    }) c.args.number c.in_ok-instance.instance c.settle.new.self (g.D.Device.disk c.args.dev.now) (g.D.Device.disk c.open.new.dev) (g.D.Device.disk c.settle.new.dev) w (c.in_ok-instance.ensures.stands t) (c.in-Ok.ensures.settles t) stands
+    }) c.args.number c.in_ok-instance.instance c.settle.new.self (g.D.Device.disk c.args.dev.now) (g.D.Device.disk c.open.new.dev) (g.D.Device.disk c.settle.new.dev) w c.in-Ok.ensures.none (c.in_ok-instance.ensures.stands t) (c.in-Ok.ensures.settles t) stands
 
 pub returns-in-Ok-clause-number : goal.returns-in-Ok-clause-number
 returns-in-Ok-clause-number g c t w stands =

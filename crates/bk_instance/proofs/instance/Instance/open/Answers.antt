@@ -46,8 +46,8 @@ returns-clause-stands g c t w held =
     let same = c.record-record.ensures.same in
     let Shows : List (List ℕ) → Type 0 = λ blobs. ShowMade blobs c.in_ok-databases.databases.items in
     instance-stands c.runs_begin_and_end_in_sound_worlds.ensures.begins c.args.number
-    (record { alloc = c.args.alloc; home = c.let_go.new.home; kept = record { number = c.record-record.result.now.number; counter = c.record-record.result.now.counter; session = 1; sessions = c.new.result; databases = c.in_ok-databases.databases } })
-    (g.D.Device.disk c.let_go.new.dev) w (c.in_ok-let_go.ensures.stands t) (ap (λ (r : Record). r.number) same) (ap (λ (r : Record). r.counter) same) refl c.new.ensures.items c.in_ok-let_go.ensures.none
+    (record { alloc = c.args.alloc; home = c.let_go.new.home; kept = record { number = c.record-record.result.now.number; counter = c.record-record.result.now.counter; session = 1; sessions = c.new.result; databases = c.in_ok-databases.databases }; waiting = c.none.result })
+    (g.D.Device.disk c.let_go.new.dev) w (c.in_ok-let_go.ensures.stands t) (ap (λ (r : Record). r.number) same) (ap (λ (r : Record). r.counter) same) refl c.new.ensures.items c.in_ok-let_go.ensures.none c.none.ensures
     (subst Shows (sym (c.in_ok-let_go.ensures.blobs t ∙ blobs-on (c.replay.ensures.effect t))) (c.in_ok-databases.ensures.made t))
     (let-go-held c.args.number (g.D.Device.disk c.args.dev.now) (g.D.Device.disk c.open_home.new.dev) (g.D.Device.disk c.replay.new.dev) (g.D.Device.disk c.let_go.new.dev) c.in_ok-home.home w
     (c.in_ok-home.ensures.same t) (c.in_ok-home.ensures.stands t) (c.replay.ensures.effect t) (c.in_ok-let_go.ensures.lets t) held)

@@ -20,8 +20,8 @@ pub returns-in_ok-put-clause-stands : goal.returns-in_ok-put-clause-stands
 unfolding exact
 returns-in_ok-put-clause-stands g c tells number w stands idle =
     let kept = c.args.self.now.kept in
-    put-stands (record { ends = c.runs_begin_and_end_in_sound_worlds.ensures.ends; settled = c.settled_worlds.ensures.idle }) number c.args.self.now (record { alloc = c.args.self.now.alloc; home = c.put.new.self; kept = kept }) (g.D.Device.disk c.args.dev.now) (g.D.Device.disk c.put.new.dev) w (exact kept.number kept.counter)
-    c.requires.ready refl refl refl (c.in_ok-put.ensures.stands tells) c.in_ok-put.ensures.put (c.in_ok-put.ensures.blobs tells) (c.put.ensures.crash tells) stands idle
+    put-stands (record { ends = c.runs_begin_and_end_in_sound_worlds.ensures.ends; settled = c.settled_worlds.ensures.idle }) number c.args.self.now (record { alloc = c.args.self.now.alloc; home = c.put.new.self; kept = kept; waiting = c.args.self.now.waiting }) (g.D.Device.disk c.args.dev.now) (g.D.Device.disk c.put.new.dev) w (exact kept.number kept.counter)
+    c.requires.ready c.requires.none refl refl refl (c.in_ok-put.ensures.stands tells) c.in_ok-put.ensures.put (c.in_ok-put.ensures.blobs tells) (c.put.ensures.crash tells) stands idle
 
 pub returns-in_ok-put-clause-crash : goal.returns-in_ok-put-clause-crash
 unfolding exact
@@ -31,7 +31,7 @@ returns-in_ok-put-clause-crash g c tells =
 
 pub returns-else-record-self-clause-stands : goal.returns-else-record-self-clause-stands
 returns-else-record-self-clause-stands g c tells number w stands idle =
-    none-stands (record { ends = c.runs_begin_and_end_in_sound_worlds.ensures.ends; settled = c.settled_worlds.ensures.idle }) number c.args.self.now (g.D.Device.disk c.args.dev.now) w c.requires.ready (c.requires.stored tells) (sym (ap (λ (r : Record). r.counter) c.record.ensures.same) ∙ c.if-record-self.false) stands idle
+    none-stands (record { ends = c.runs_begin_and_end_in_sound_worlds.ensures.ends; settled = c.settled_worlds.ensures.idle }) number c.args.self.now (g.D.Device.disk c.args.dev.now) w c.requires.ready c.requires.none (c.requires.stored tells) (sym (ap (λ (r : Record). r.counter) c.record.ensures.same) ∙ c.if-record-self.false) stands idle
 
 pub returns-else-record-self-clause-crash : goal.returns-else-record-self-clause-crash
 returns-else-record-self-clause-crash g c tells = close-none c.args.self.now (g.D.Device.disk c.args.dev.now) c.requires.ready (c.requires.stored tells)

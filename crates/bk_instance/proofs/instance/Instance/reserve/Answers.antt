@@ -18,7 +18,7 @@ returns-in_err-put-clause-crash g c tells =
 
 pub returns-clause-stands : goal.returns-clause-stands
 returns-clause-stands g c tells w =
-    stands-on c.args.self.now (record c.args.self.now { home = c.put.new.self }) (g.D.Device.disk c.args.dev.now) (g.D.Device.disk c.put.new.dev) w refl (c.in_ok-put.ensures.blobs tells)
+    stands-on c.args.self.now (record c.args.self.now { home = c.put.new.self }) (g.D.Device.disk c.args.dev.now) (g.D.Device.disk c.put.new.dev) w refl refl (c.in_ok-put.ensures.blobs tells)
     (media-after (g.D.Device.disk c.args.dev.now) (g.D.Device.disk c.put.new.dev) (c.put.ensures.crash tells))
 
 pub returns-clause-media : goal.returns-clause-media

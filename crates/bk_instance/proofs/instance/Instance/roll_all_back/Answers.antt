@@ -18,6 +18,7 @@ loop-round-init g c =
     let counted : c.in-Some.count ≡ count_open (map database_of c.args.self.now.kept.databases.items) = search rules in
     record {
       ready = c.requires.ready;
+      none = c.requires.none;
       stored = λ t. c.requires.stored t;
       media = λ t durable. durable;
       rolls = none-yet g.D.Device.tells c.in-Some.count c.args.self.now (g.D.Device.disk c.args.dev.now) counted;
@@ -49,6 +50,7 @@ loop-round-preserved g c =
     let counted : c.in-Some.count ≡ count_open (map database_of c.args.self.now.kept.databases.items) = search rules in
     record {
       ready = c.in_ok-roll_back.ensures.ready;
+      none = c.in_ok-roll_back.ensures.none;
       stored = λ t. c.in_ok-roll_back.ensures.stored t;
       media = λ t durable. c.in_ok-roll_back.ensures.media t (c.loop-round.invariant.media t durable);
       rolls = one-more c.loop-round-test.true c.loop-round.invariant.rolls c.in_ok-roll_back.ensures.rolls;

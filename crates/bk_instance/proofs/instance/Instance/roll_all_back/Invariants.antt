@@ -1,3 +1,4 @@
+use Rattle.std.proofs.Common.{◌≡◌, None}
 use Rattle.bk_device.specs.Counts.{HasCause}
 use Rattle.bk_device.specs.Effects.{Effect}
 use Rattle.bk_instance.specs.Closing.{RestsClosed}
@@ -10,6 +11,7 @@ use Rattle.bk_instance.proofs.instance.Instance.roll_all_back.Given as goal
 abbrev pub invariant-loop-round : goal.invariant-loop-round
 invariant-loop-round g l = record {
   ready : IsReady l.self;
+  none : l.self.waiting ≡ None;
   stored : g.D.Device.tells → IsStored (g.D.Device.disk l.dev) l.self;
   media : g.D.Device.tells → MediaAreDurable (g.D.Device.disk l.fn.dev) → MediaAreDurable (g.D.Device.disk l.dev);
   rolls : RolledSo g.D.Device.tells l.count l._round l.fn.self (g.D.Device.disk l.fn.dev) l.self (g.D.Device.disk l.dev);

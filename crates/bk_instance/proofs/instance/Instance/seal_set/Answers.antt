@@ -32,7 +32,7 @@ returns-in_err-add_set-clause-crash g c tells =
     let laws : SealLaws = record { sound = c.acts_keep_worlds_sound.ensures.act; then = c.logs_that_stay.ensures.transitive; same = c.logs_that_stay.ensures.set_sealed } in
     let call = nothing_then (g.met.D.Device.lawful tells c.args.dev.now) (nothing_by_sync (c.sync.ensures.effect tells) (c.in_ok-sync.ensures.same tells)) (c.load.ensures.effect tells) in
     let is_name = c.in_ok-medium.ensures.name ∙ ap medium_file c.as_str-2.ensures in
-    let on = seals-on c.args.self.now (g.D.Device.disk c.args.dev.now) (g.D.Device.disk c.load.new.dev) c.args.path.now c.in_ok-medium.medium.name c.requires.ready (c.requires.stored tells) call
+    let on = seals-on c.args.self.now (g.D.Device.disk c.args.dev.now) (g.D.Device.disk c.load.new.dev) c.args.path.now c.in_ok-medium.medium.name c.requires.ready c.requires.none (c.requires.stored tells) call
     (subst AreBytes c.as_str.ensures (text-bytes c.as_str.result.now c.as_str.utf8)) is_name (c.in_ok-medium.ensures.shows tells).sets in
     seal-added laws c.args.self.now (g.D.Device.disk c.args.dev.now) (g.D.Device.disk c.load.new.dev) (g.D.Device.disk c.add_set.new.dev) c.args.path.now c.in_ok-medium.medium.name c.args.body.now on is_name (c.add_set.ensures.crash tells)
 
@@ -41,7 +41,7 @@ returns-clause-crash g c tells =
     let laws : SealLaws = record { sound = c.acts_keep_worlds_sound.ensures.act; then = c.logs_that_stay.ensures.transitive; same = c.logs_that_stay.ensures.set_sealed } in
     let call = nothing_then (g.met.D.Device.lawful tells c.args.dev.now) (nothing_by_sync (c.sync.ensures.effect tells) (c.in_ok-sync.ensures.same tells)) (c.load.ensures.effect tells) in
     let is_name = c.in_ok-medium.ensures.name ∙ ap medium_file c.as_str-2.ensures in
-    let on = seals-on c.args.self.now (g.D.Device.disk c.args.dev.now) (g.D.Device.disk c.load.new.dev) c.args.path.now c.in_ok-medium.medium.name c.requires.ready (c.requires.stored tells) call
+    let on = seals-on c.args.self.now (g.D.Device.disk c.args.dev.now) (g.D.Device.disk c.load.new.dev) c.args.path.now c.in_ok-medium.medium.name c.requires.ready c.requires.none (c.requires.stored tells) call
     (subst AreBytes c.as_str.ensures (text-bytes c.as_str.result.now c.as_str.utf8)) is_name (c.in_ok-medium.ensures.shows tells).sets in
     seal-added laws c.args.self.now (g.D.Device.disk c.args.dev.now) (g.D.Device.disk c.load.new.dev) (g.D.Device.disk c.add_set.new.dev) c.args.path.now c.in_ok-medium.medium.name c.args.body.now on is_name (c.add_set.ensures.crash tells)
 
@@ -49,7 +49,7 @@ pub returns-clause-stored : goal.returns-clause-stored
 returns-clause-stored g c tells =
     let call = nothing_then (g.met.D.Device.lawful tells c.args.dev.now) (nothing_by_sync (c.sync.ensures.effect tells) (c.in_ok-sync.ensures.same tells)) (c.load.ensures.effect tells) in
     let is_name = c.in_ok-medium.ensures.name ∙ ap medium_file c.as_str-2.ensures in
-    let on = seals-on c.args.self.now (g.D.Device.disk c.args.dev.now) (g.D.Device.disk c.load.new.dev) c.args.path.now c.in_ok-medium.medium.name c.requires.ready (c.requires.stored tells) call
+    let on = seals-on c.args.self.now (g.D.Device.disk c.args.dev.now) (g.D.Device.disk c.load.new.dev) c.args.path.now c.in_ok-medium.medium.name c.requires.ready c.requires.none (c.requires.stored tells) call
     (subst AreBytes c.as_str.ensures (text-bytes c.as_str.result.now c.as_str.utf8)) is_name (c.in_ok-medium.ensures.shows tells).sets in
     seal-stored c.args.self.now (g.D.Device.disk c.args.dev.now) (g.D.Device.disk c.load.new.dev) (g.D.Device.disk c.add_set.new.dev) c.args.path.now c.args.body.now on
     (seal-done (g.D.Device.disk c.load.new.dev) (g.D.Device.disk c.add_set.new.dev) c.args.path.now c.in_ok-medium.medium.name c.args.body.now is_name (c.add_set.ensures.crash tells) (c.in_ok-add_set.ensures.sets tells) (c.in_ok-add_set.ensures.durable tells))
@@ -58,7 +58,7 @@ pub returns-clause-media : goal.returns-clause-media
 returns-clause-media g c tells =
     let call = nothing_then (g.met.D.Device.lawful tells c.args.dev.now) (nothing_by_sync (c.sync.ensures.effect tells) (c.in_ok-sync.ensures.same tells)) (c.load.ensures.effect tells) in
     let is_name = c.in_ok-medium.ensures.name ∙ ap medium_file c.as_str-2.ensures in
-    let on = seals-on c.args.self.now (g.D.Device.disk c.args.dev.now) (g.D.Device.disk c.load.new.dev) c.args.path.now c.in_ok-medium.medium.name c.requires.ready (c.requires.stored tells) call
+    let on = seals-on c.args.self.now (g.D.Device.disk c.args.dev.now) (g.D.Device.disk c.load.new.dev) c.args.path.now c.in_ok-medium.medium.name c.requires.ready c.requires.none (c.requires.stored tells) call
     (subst AreBytes c.as_str.ensures (text-bytes c.as_str.result.now c.as_str.utf8)) is_name (c.in_ok-medium.ensures.shows tells).sets in
     seal-calm c.args.self.now (g.D.Device.disk c.args.dev.now) (g.D.Device.disk c.load.new.dev) (g.D.Device.disk c.add_set.new.dev) c.args.path.now c.args.body.now on
     (seal-done (g.D.Device.disk c.load.new.dev) (g.D.Device.disk c.add_set.new.dev) c.args.path.now c.in_ok-medium.medium.name c.args.body.now is_name (c.add_set.ensures.crash tells) (c.in_ok-add_set.ensures.sets tells) (c.in_ok-add_set.ensures.durable tells))
@@ -68,7 +68,7 @@ returns-clause-does g c tells =
     let laws : SealLaws = record { sound = c.acts_keep_worlds_sound.ensures.act; then = c.logs_that_stay.ensures.transitive; same = c.logs_that_stay.ensures.set_sealed } in
     let call = nothing_then (g.met.D.Device.lawful tells c.args.dev.now) (nothing_by_sync (c.sync.ensures.effect tells) (c.in_ok-sync.ensures.same tells)) (c.load.ensures.effect tells) in
     let is_name = c.in_ok-medium.ensures.name ∙ ap medium_file c.as_str-2.ensures in
-    let on = seals-on c.args.self.now (g.D.Device.disk c.args.dev.now) (g.D.Device.disk c.load.new.dev) c.args.path.now c.in_ok-medium.medium.name c.requires.ready (c.requires.stored tells) call
+    let on = seals-on c.args.self.now (g.D.Device.disk c.args.dev.now) (g.D.Device.disk c.load.new.dev) c.args.path.now c.in_ok-medium.medium.name c.requires.ready c.requires.none (c.requires.stored tells) call
     (subst AreBytes c.as_str.ensures (text-bytes c.as_str.result.now c.as_str.utf8)) is_name (c.in_ok-medium.ensures.shows tells).sets in
     seal-does laws c.args.self.now (g.D.Device.disk c.args.dev.now) (g.D.Device.disk c.load.new.dev) (g.D.Device.disk c.add_set.new.dev) c.args.path.now c.args.body.now on
     (seal-done (g.D.Device.disk c.load.new.dev) (g.D.Device.disk c.add_set.new.dev) c.args.path.now c.in_ok-medium.medium.name c.args.body.now is_name (c.add_set.ensures.crash tells) (c.in_ok-add_set.ensures.sets tells) (c.in_ok-add_set.ensures.durable tells))

@@ -8,12 +8,13 @@ use Rattle.bk_instance.proofs.instance.Instance.settle.Goals as goal
 pub loop-at-init : goal.loop-at-init
 loop-at-init g c = record {
   ready = c.requires.ready;
+  none = c.requires.none;
   number = refl;
   stored = λ t. c.requires.stored t;
   media = λ t durable. durable;
   exact = λ none. none;
   settles = λ t. first-up-to c.args.self.now (g.D.Device.disk c.args.dev.now);
-  crash = λ t. none-cuts c.args.self.now (g.D.Device.disk c.args.dev.now) c.requires.ready (c.requires.stored t);
+  crash = λ t. none-cuts c.args.self.now (g.D.Device.disk c.args.dev.now) c.requires.none c.requires.ready (c.requires.stored t);
   still = λ t. none-rests c.args.self.now (g.D.Device.disk c.args.dev.now);
   spares = λ t. own-none (g.D.Device.disk c.args.dev.now);
   cause = search rules;
@@ -34,6 +35,7 @@ returns-in_err-settle_at-clause-broken g c t broken =
 pub loop-at-preserved : goal.loop-at-preserved
 loop-at-preserved g c = record {
   ready = c.in_ok-settle_at.ensures.ready;
+  none = c.in_ok-settle_at.ensures.none;
   number = c.in_ok-settle_at.ensures.number ∙ c.loop-at.invariant.number;
   stored = λ t. c.in_ok-settle_at.ensures.stored t;
   media = λ t durable. c.in_ok-settle_at.ensures.media t (c.loop-at.invariant.media t durable);

@@ -1,4 +1,4 @@
-use Rattle.std.proofs.Common.{◌≡◌}
+use Rattle.std.proofs.Common.{◌≡◌, None}
 use Rattle.bk_device.specs.Counts.{HasCause}
 use Rattle.bk_device.specs.Effects.{Effect}
 use Rattle.bk_instance.specs.Loading.{CutsSettling, RestsIdle, SettlesUpTo}
@@ -10,6 +10,7 @@ use Rattle.bk_instance.proofs.instance.Instance.settle.Given as goal
 abbrev pub invariant-loop-at : goal.invariant-loop-at
 invariant-loop-at g l = record {
   ready : IsReady l.self;
+  none : l.self.waiting ≡ None;
   number : l.self.kept.number ≡ l.fn.self.kept.number;
   stored : g.D.Device.tells → IsStored (g.D.Device.disk l.dev) l.self;
   media : g.D.Device.tells → MediaAreDurable (g.D.Device.disk l.fn.dev) → MediaAreDurable (g.D.Device.disk l.dev);

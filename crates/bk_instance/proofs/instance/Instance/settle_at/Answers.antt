@@ -5,7 +5,7 @@ use Rattle.bk_instance.proofs.Planned.{any-ok}
 use Rattle.bk_instance.proofs.instance.Instance.settle_at.Goals as goal
 
 pub returns-in_err-act-clause-crash : goal.returns-in_err-act-clause-crash
-returns-in_err-act-clause-crash g c t = none-cuts c.args.self.now (g.D.Device.disk c.args.dev.now) c.requires.ready (c.requires.stored t)
+returns-in_err-act-clause-crash g c t = none-cuts c.args.self.now (g.D.Device.disk c.args.dev.now) c.requires.none c.requires.ready (c.requires.stored t)
 
 pub returns-in_default-clause-settles : goal.returns-in_default-clause-settles
 returns-in_default-clause-settles g c t =
@@ -13,7 +13,7 @@ returns-in_default-clause-settles g c t =
     none-next c.args.self.now (g.D.Device.disk c.args.dev.now) c.args.at finds
 
 pub returns-in_default-clause-crash : goal.returns-in_default-clause-crash
-returns-in_default-clause-crash g c t = none-cuts c.args.self.now (g.D.Device.disk c.args.dev.now) c.requires.ready (c.requires.stored t)
+returns-in_default-clause-crash g c t = none-cuts c.args.self.now (g.D.Device.disk c.args.dev.now) c.requires.none c.requires.ready (c.requires.stored t)
 
 pub returns-clause-exact : goal.returns-clause-exact
 returns-clause-exact g c = c.store-done.ensures.exact (c.in_ok-act.ensures.draws c.in-Some.act c.in-Some.is)
@@ -26,7 +26,7 @@ returns-clause-settles g c t =
 pub returns-clause-crash : goal.returns-clause-crash
 returns-clause-crash g c t =
     one-cuts (record { settled = c.settling_goes_database_by_database.ensures.settled; place = c.settling_goes_database_by_database.ensures.place; logs = c.settling_goes_database_by_database.ensures.logs; online = c.settling_ends.ensures.needs; no_more = c.settling_ends.ensures.settled })
-    c.args.self.now (g.D.Device.disk c.args.dev.now) (g.D.Device.disk c.store-done.new.dev) c.args.at c.in-Some.act (finds-one c.args.self.now.kept c.args.at c.in_ok-act.field-0 c.in-Some.act c.in-Some.is c.in_ok-act.ensures.act) (c.store-done.ensures.crash t)
+    c.args.self.now (g.D.Device.disk c.args.dev.now) (g.D.Device.disk c.store-done.new.dev) c.args.at c.in-Some.act c.requires.none (finds-one c.args.self.now.kept c.args.at c.in_ok-act.field-0 c.in-Some.act c.in-Some.is c.in_ok-act.ensures.act) (c.store-done.ensures.crash t)
 
 pub returns-clause-still : goal.returns-clause-still
 returns-clause-still g c t =

@@ -1,0 +1,134 @@
+-- Acts that wait, and what waits is stored.
+use Rattle.std.proofs.Common.{◌≡◌, ◌⊎◌, inl, inr, ℕ, List, [], ◌∷◌, ◌++◌, Option, None, Some, Ok, Err, refl, sym, ◌∙◌, subst}
+use Rattle.std.specs.Prelude.{MatchOption, Result, OnOk}
+use Rattle.bk_acts.specs.declared.act.StoredAct.{StoredAct}
+use Rattle.bk_acts.specs.declared.act.StoredAct.TheVariants.{Created, Dropped, Logged, Based, Replaced, Restored, Recovered}
+use Rattle.bk_acts.specs.Spelling.{act_bytes, IsAct}
+use Rattle.bk_device.specs.Compose.{effect_then, effect_weaken}
+use Rattle.bk_device.specs.Disk.{Files, Disk}
+use Rattle.bk_device.specs.Effects.{Effect}
+use Rattle.bk_home.specs.Home.{HomeIs, IsOwn, blobs_of}
+use Rattle.bk_machine.specs.Acts.{Act, done}
+use Rattle.bk_machine.specs.MayDo.{MayDo}
+use Rattle.bk_machine.specs.Sound.{IsSound}
+use Rattle.bk_machine.specs.World.{World}
+use Rattle.bk_plans.specs.declared.parts.Part.{Part}
+use Rattle.bk_plans.specs.declared.parts.Part.TheVariants as part
+use Rattle.bk_kept.specs.Keeps.{Keeps}
+use Rattle.bk_kept.specs.Stored.{IsDone, drawn_by}
+use Rattle.bk_waiting.specs.Waiting.{IsJoined, IsSaid, Joins, MayJoin, WaitsFor, joined}
+use Rattle.bk_instance.specs.declared.instance.Instance.{Instance}
+use Rattle.bk_instance.specs.Media.{KeepsMedia, MediaAreDurable, IfDurable}
+use Rattle.bk_instance.specs.Stands.{AreMade, one_more, Covers, HoldsBefore, HoldsBehind, HoldsWorld, IsReady, StandsFor, IsOurs}
+use Rattle.bk_instance.specs.Steps.{CutsPart, DoesInMemory, DoesPart, IsNoPart, Stays}
+use Rattle.bk_instance.proofs.KeptMedia.{SameMedia, media-in}
+use Rattle.bk_instance.proofs.Standing.{covers-now, covers-old, own-widens, ready-fits}
+use Rattle.bk_instance.proofs.Waits.{covers-either, covers-now as covers-world, holds-none, media-behind}
+
+-- What waits is stored.
+
+-- its blob is one more of those that made the world
+made-flushed : (waiting : StoredAct) (files : Files) (w : World) → IsAct waiting → HoldsBehind (Some waiting) files w → AreMade (blobs_of files ++ act_bytes waiting ∷ []) w
+made-flushed waiting files w is_act holds = one_more (blobs_of files) holds.old w waiting holds.waits.act holds.holds.made holds.sound is_act holds.waits.done holds.waits.behind.logs
+
+-- the bytes of what waits in an instance
+pub record IsWaitingIn (i : Instance) (bytes : List ℕ) : Type 0 where
+  pub waiting : StoredAct
+  pub is : i.waiting ≡ Some waiting
+  pub is_act : IsAct waiting
+  pub spelled : bytes ≡ act_bytes waiting
+
+-- and those that are read from it
+pub waiting-in : {V : Type 0} (i : Instance) (o : Option V) (items : V → List ℕ) (v : V) (bytes : List ℕ) → o ≡ Some v
+    → MatchOption o (i.waiting ≡ None) (λ v. (waiting : StoredAct) × (i.waiting ≡ Some waiting) × IsAct waiting × (items v ≡ act_bytes waiting)) → bytes ≡ items v → IsWaitingIn i bytes
+waiting-in i o items v bytes is here same =
+    let found = subst (λ o. MatchOption o (i.waiting ≡ None) (λ v. (waiting : StoredAct) × (i.waiting ≡ Some waiting) × IsAct waiting × (items v ≡ act_bytes waiting))) is here in
+    record { waiting = found.0; is = found.1; is_act = found.2; spelled = same ∙ found.3 }
+
+made-behind : (i : Instance) (disk : Disk) (w : World) (bytes : List ℕ) → IsWaitingIn i bytes → StandsFor i disk w → AreMade (blobs_of disk.files ++ bytes ∷ []) w
+made-behind i disk w bytes in_it stands =
+    subst (λ b. AreMade (blobs_of disk.files ++ b ∷ []) w) (sym in_it.spelled) (made-flushed in_it.waiting disk.files w in_it.is_act (subst (λ o. HoldsBehind o disk.files w) in_it.is stands.holds))
+
+-- then nothing waits
+pub flushed-stands : (i j : Instance) (before after : Disk) (bytes : List ℕ) → IsWaitingIn i bytes → j.kept ≡ i.kept → j.waiting ≡ None → blobs_of after.files ≡ blobs_of before.files ++ bytes ∷ [] → SameMedia before.files after.files
+    → (w : World) → StandsFor i before w → StandsFor j after w
+flushed-stands i j before after bytes in_it kept none blobs same w stands = record {
+  sound = stands.sound;
+  keeps = subst (Keeps w) (sym kept) stands.keeps;
+  holds = holds-none j.waiting after.files w none (record {
+    made = subst (λ b. AreMade b w) (sym blobs) (made-behind i before w bytes in_it stands);
+    media = media-in w None before.files after.files same (media-behind i.waiting before.files w stands.holds);
+  });
+}
+
+-- each crash leaves the world without what waited, or with it
+pub flushed-crash : (i : Instance) (before after : Disk) (bytes : List ℕ) → IsReady i → IsWaitingIn i bytes
+    → Effect IsOwn (λ image. HomeIs image i.home.«record» (blobs_of before.files) ⊎ HomeIs image i.home.«record» (blobs_of before.files ++ bytes ∷ [])) before after → Effect IsOurs (IfDurable before (Stays i before)) before after
+flushed-crash i before after bytes ready in_it effect =
+    own-widens before before after (λ durable. durable) (λ image here same number w stands. elim here [
+      | inl home ↦ covers-now number i before w image ready stands home same
+      | inr home ↦ covers-either i.waiting number image w
+          (covers-old number i w (blobs_of before.files ++ bytes ∷ []) image i.home.«record» stands.sound stands.keeps.number stands.keeps.counter (made-behind i before w bytes in_it stands) (ready-fits i ready) home
+          (subst (λ making. KeepsMedia w making image) (sym ready.none) (media-in w None before.files image same (media-behind i.waiting before.files w stands.holds))))
+    ]) effect
+
+-- nothing waited
+pub none-stands : (i j : Instance) (disk : Disk) (w : World) → j ≡ i → StandsFor i disk w → StandsFor j disk w
+none-stands i j disk w same stands = subst (λ x. StandsFor x disk w) (sym same) stands
+
+-- A part is done once what waited is stored.
+
+pub then-does : (old mid new : Instance) (first before after : Disk) (p : Part) → ((w : World) → StandsFor old first w → StandsFor mid before w) → DoesPart mid before p new after → DoesPart old first p new after
+then-does old mid new first before after p on does w act stands is = does w act (on w stands) is
+
+pub then-none : (old mid : Instance) (first before : Disk) (p : Part) → ((w : World) → StandsFor old first w → StandsFor mid before w) → IsNoPart mid before p → IsNoPart old first p
+then-none old mid first before p on none w act stands is = none w act (on w stands) is
+
+pub then-cut : (old mid : Instance) (first before after : Disk) (p : Part) → Effect IsOurs (IfDurable first (Stays old first)) first before → mid.waiting ≡ None → ((w : World) → StandsFor old first w → StandsFor mid before w)
+    → (MediaAreDurable first → MediaAreDurable before) → Effect IsOurs (IfDurable before (CutsPart mid before p)) before after → Effect IsOurs (IfDurable first (CutsPart old first p)) first after
+then-cut old mid first before after p flushed none on calm effect =
+    effect_then (effect_weaken (λ image here durable number w act stands is. inl (here durable number w stands)) flushed)
+    (effect_weaken (λ image here durable number w act stands is. elim (here (calm durable) number w act (on w stands) is) [
+      | inl was ↦ inl (covers-either old.waiting number image w (covers-world mid.waiting number image w none was))
+      | inr behind ↦ inr behind
+    ]) effect)
+
+-- An act waits.
+
+-- what the laws say of acts that wait
+pub record WaitLaws : Type 0 where
+  pub sound : (w : World) (act : Act) → IsSound w → MayDo w act → IsSound (done w act)
+  pub first : (w : World) (stored : StoredAct) (act : Act) → IsSound w → IsDone w stored act → MayJoin None stored → WaitsFor stored w (done w act)
+  pub more : (waiting : StoredAct) (old w : World) (stored : StoredAct) (act : Act) → IsSound old → IsSound w → WaitsFor waiting old w → IsDone w stored act → Joins (Some waiting) stored → IsJoined (Some waiting) old w stored act
+
+holds-more : WaitLaws → (waiting : Option StoredAct) (files : Files) (w : World) (stored : StoredAct) (act : Act) → IsSound w → HoldsBehind waiting files w → IsDone w stored act → MayJoin waiting stored → HoldsBefore (joined waiting stored) files (done w act)
+holds-more laws None files w stored act sound holds is may = record { old = w; sound = sound; holds = holds; waits = laws.first w stored act sound is may }
+holds-more laws (Some waiting) files w stored act sound holds is may =
+    let whole : IsJoined (Some waiting) holds.old w stored act = laws.more waiting holds.old w stored act holds.sound sound holds.waits is may.joins in
+    record { old = holds.old; sound = holds.sound; holds = holds.holds; waits = record { act = whole.whole; done = whole.done; waits = whole.waits may; behind = whole.behind } }
+
+pub waits-does : WaitLaws → (old new : Instance) (stored : StoredAct) → new.waiting ≡ Some (joined old.waiting stored) → MayJoin old.waiting stored
+    → ((w : World) (act : Act) → IsSound w → Keeps w old.kept → IsDone w stored act → Keeps (done w act) new.kept) → DoesInMemory old stored new
+waits-does laws old new stored waiting may keeps files w act sound kept holds is = (
+  laws.sound w act sound is.may,
+  (keeps w act sound kept is, subst (λ o. HoldsBehind o files (done w act)) (sym waiting) (holds-more laws old.waiting files w stored act sound holds is may)),
+)
+
+-- a part is done so
+pub part-waits : (old new : Instance) (disk : Disk) (stored : StoredAct) → DoesInMemory old stored new → DoesPart old disk (part.Stored stored) new disk
+part-waits old new disk stored does w act stands is = let behind = does disk.files w act stands.sound stands.keeps stands.holds is in record { sound = behind.0; keeps = behind.1.0; holds = behind.1.1 }
+
+-- what is said draws no GUID
+pub said-draws : (stored : StoredAct) → IsSaid stored → drawn_by stored ≡ 0
+said-draws (Created creation) said = absurd said
+said-draws (Dropped name) said = refl
+said-draws (Logged name transactions records) said = refl
+said-draws (Based name header) said = refl
+said-draws (Replaced name body) said = refl
+said-draws (Restored name base redo) said = refl
+said-draws (Recovered name at branch records) said = absurd said
+
+-- what follows from what holds where there is no error
+pub on-ok : {A E P Q : Type 0} (result : Result A E) → OnOk result P → (P → Q) → OnOk result Q
+on-ok (Ok value) holds then = then holds
+on-ok (Err error) holds then = tt
