@@ -15,6 +15,7 @@ use Rattle.bk_undo.specs.Spelled.{cell, body_of, spelled}
 use Rattle.bk_world.specs.Entry.{RowChange}
 use Rattle.bk_world.specs.Records.{Deed, Said, database_made, table_made, begun, written, committed, rolled_back, undone, checkpointed, stamped, model_set, loaded, numbered}
 use Rattle.bk_world.specs.Records.{recovered as recovery_said}
+use Rattle.bk_undo.specs.Cells.{value_in}
 use Rattle.bk_acts.specs.declared.act.StoredAct.{StoredAct}
 use Rattle.bk_acts.specs.declared.act.StoredAct.TheVariants.{Created, Dropped, Logged, Based, Replaced, Restored, Recovered}
 use Rattle.bk_acts.specs.Meaning.{Means, HasValue, NamesItsRow, NamesItsRows}
@@ -29,10 +30,6 @@ row-again : (c : Option Row) → IsCellValue c → row_in (cell_bytes c) ≡ c
 row-again c is =
     let same : cell_form.spelling c ++ [] ≡ cell_bytes c = append-nil (cell_form.spelling c) ∙ cell_form-spelling c in
     ap (λ (o : Option (Option Row × List ℕ)). o >>= λ x. x.0) (ap cell_form.reading (sym same) ∙ cell_form-IsCodec.gives c [] (cell_form-Fits c is))
-
-abbrev value_in : Option Row → Option (List ℕ)
-value_in None = None
-value_in (Some row) = Some row.value
 
 -- a write between two cells
 abbrev write_of : Place → Option Row → Option Row → Deed

@@ -1,5 +1,6 @@
 pub mod Decoding
 pub mod Meaning
+pub mod MeaningLaws
 pub mod Reading
 pub mod Spelling
 pub mod Storage

@@ -8,7 +8,7 @@ use Rattle.bk_record.specs.Spelling.{IsDescription, IsMark, KeepsMarkLimits}
 use Rattle.bk_world.specs.declared.transaction.Open.{Open}
 use Rattle.bk_acts.specs.Transactions.{IsTransaction, KeepsTransaction}
 
-mark-keeps : (mark : Option Mark) → IsMark mark → KeepsMarkLimits mark
+pub mark-keeps : (mark : Option Mark) → IsMark mark → KeepsMarkLimits mark
 mark-keeps None is = tt
 mark-keeps (Some mark) is = by mark.description is.1
   where

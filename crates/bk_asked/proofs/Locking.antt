@@ -15,6 +15,7 @@ use Rattle.bk_world.specs.Records.{Logged, RowId, id_of, is_row}
 use Rattle.bk_kept.specs.declared.kept.Database.{Database as KeptDatabase}
 use Rattle.bk_kept.specs.declared.kept.Kept.{Kept}
 use Rattle.bk_kept.specs.Keeps.{Keeps, ShowsLog, database_of}
+use Rattle.std.proofs.Math.Bool.{and-false}
 
 -- Pending writes of a row.
 
@@ -86,10 +87,6 @@ find-alike p q (t ∷ ts) alike = ap (λ b. cond b (Some t) (find p ts)) (alike 
 find-none : (p : Open → Bool) (ts : List Open) → ((t : Open) → p t ≡ false) → find p ts ≡ None
 find-none p [] none = refl
 find-none p (t ∷ ts) none = ap (λ b. cond b (Some t) (find p ts)) (none t) ∙ find-none p ts none
-
-and-false : (b : Bool) → (b && false) ≡ false
-and-false true = refl
-and-false false = refl
 
 module _ (w : World) (k : Kept) (d : KeptDatabase) (id : RowId) where
   abbrev ws : List Pending

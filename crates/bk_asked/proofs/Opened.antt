@@ -1,7 +1,7 @@
 -- What is open in databases that are kept.
 use Rattle.std.proofs.Common.{◌≡◌, ◌<◌, ◌+◌, ℕ, zero, suc, cond, List, [], ◌∷◌, map, length, get_or, drop, Option, Some, None, refl, sym, ◌∙◌, ap, arith}
 use Rattle.std.specs.Prelude.{◌==◌, fold, reverse}
-use Rattle.std.specs.List.{AllByRecursion, find}
+use Rattle.std.specs.List.{find}
 use Rattle.std.proofs.lemmas.List.{drop_more, reverse-append}
 use Rattle.std.proofs.lemmas.List.Sums.{fold-append}
 use Rattle.bk_machine.specs.Checks.{least_session, lesser}
@@ -40,11 +40,6 @@ pub held-next : (ds : List KeptDatabase) (session i : ℕ) (x : KeptDatabase) (f
     → behind ds i session ≡ held_in (map database_of ds) session → behind ds (i + 1) session ≡ held_in (map database_of ds) session
 held-next ds session i x found lt is none so =
     sym (stepped ds session i x lt ∙ ap (λ o. held_by (database_of (get_or ds i x)) o (behind ds (i + 1) session)) (sym is ∙ none)) ∙ so
-
-pub all-at : (P : KeptDatabase → Type 0) (ds : List KeptDatabase) (i : ℕ) (x : KeptDatabase) → i < length ds → AllByRecursion P ds → P (get_or ds i x)
-all-at P [] i x lt all = absurd (omega (arith, lt))
-all-at P (d ∷ ds) zero x lt all = all.0
-all-at P (d ∷ ds) (suc i) x lt all = all-at P ds i x (omega (arith, lt)) all.1
 
 -- The least session.
 

@@ -9,9 +9,10 @@ use Rattle.std.proofs.lemmas.Grind.{flat_map-append}
 use Rattle.std.proofs.Math.Seq.{get_or-append_seam, take-append-add, take-append_seam, take-length}
 use Rattle.bk_device.specs.Calls.{Elapses, TellsFront}
 use Rattle.bk_device.specs.Disk.{Files, Disk}
+use Rattle.bk_instance.specs.BehindLaws.{covers-behind}
 use Rattle.bk_instance.specs.declared.instance.Instance.{Instance}
 use Rattle.bk_instance.specs.Stands.{CoversBehind, StandsFor}
-use Rattle.bk_instance.specs.Steps.{MayCome}
+use Rattle.bk_executing.specs.Executing.{MayCome}
 use Rattle.bk_instance.specs.Touched.{IsTouched}
 use Rattle.bk_items.specs.declared.item.ScriptEntry.{ScriptEntry}
 use Rattle.bk_machine.specs.Outcome.{Outcome}
@@ -21,11 +22,11 @@ use Rattle.bk_machine.specs.Writes.{ActsWrite}
 use Rattle.bk_world.specs.declared.reply.Reply.{Reply}
 use Rattle.bk_world.specs.declared.reply.Reply.TheVariants.{Done, Nothing, Counted, Selected, SetMade, Recovered, Refused}
 use Rattle.bk_world.specs.Text.{reply_text, replies_text}
+use Rattle.bk_lemmas.specs.Tests.{first_false}
 use Rattle.bk_console.specs.Answers.{is_refusal, NoneRefused, EndsRefused, GoesOnAccepted, Asked, CrashLeaves, CutWithin, CutNowhere, Runs, Answered, CutTelling, CutExecuting, CutShort, AnsweredFront, Stopped, CutAll}
 use Rattle.bk_console.specs.Crashes.{CrashLaws}
 use Rattle.bk_console.specs.Spares.{AreStill, LeavesAlone, OutcomesWrite, Spares}
 use Rattle.bk_console.proofs.Asking.{elapses-none, elapses-then}
-use Rattle.bk_console.proofs.Covering.{covers-by}
 use Rattle.bk_console.proofs.Sparing.{spares-more, spares-none, spares-then, spares-wider, still-front, writes-before, writes-last}
 use Rattle.bk_console.proofs.Leaving.{run-more, behind-more, replies-more, replies-length, LeavesOf-done, LeavesOf-within, LeavesOf-more}
 
@@ -40,13 +41,9 @@ goes-on replies rest n is none =
     let front : n + 1 - 1 ≡ length replies = omega arith in
     ap (list_any is_refusal) (ap (λ k. take k (replies ++ rest)) front ∙ take-append_seam replies rest) ∙ none
 
-none-left : (a b : Bool) → (a || b) ≡ false → a ≡ false
-none-left true b e = e
-none-left false b e = refl
-
 pub none-front : (n : ℕ) (replies : List Reply) → NoneRefused replies → NoneRefused (take n replies)
 none-front n replies none =
-    none-left (list_any is_refusal (take n replies)) (list_any is_refusal (drop n replies))
+    first_false (list_any is_refusal (take n replies)) (list_any is_refusal (drop n replies))
     (sym (list_any-append is_refusal (take n replies) (drop n replies)) ∙ ap (list_any is_refusal) (take-append-drop n replies) ∙ none)
 
 goes-on-all : (replies : List Reply) (n : ℕ) → length replies ≡ n → NoneRefused replies → GoesOnAccepted (n + 1) replies
@@ -157,7 +154,7 @@ module _ (laws : CrashLaws) (stop : Bool) (old mid : Instance) (script ss : List
   cut-nowhere t image heard cut durable number w stands =
       let to = so_far.runs t w stands in
       LeavesOf-done laws number w stands.sound ss so_far.moments so_far.outcomes to.0 disk.told image heard
-      (covers-by mid.waiting number image (behind_all w so_far.outcomes) (cut.0 (so_far.media t durable) number (behind_all w so_far.outcomes) to.1))
+      (covers-behind mid.waiting number image (behind_all w so_far.outcomes) (cut.0 (so_far.media t durable) number (behind_all w so_far.outcomes) to.1))
       (front_same disk.told disk1.told heard (replies_of so_far.outcomes) (so_far.text t) cut.1)
 
   -- before the reply is told, while it is, or behind it

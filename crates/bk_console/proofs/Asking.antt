@@ -8,13 +8,14 @@ use Rattle.bk_device.specs.Disk.{Files, Disk, MayLeave, IsSettled}
 use Rattle.bk_device.specs.Effects.{Effect, KeepsFiles, LeavesSince}
 use Rattle.bk_device.specs.Names.{same_or_other}
 use Rattle.bk_home.specs.Home.{IsOwn, rows_file}
-use Rattle.bk_home.specs.Laws.{home_kept, home_durable}
+use Rattle.bk_home.specs.Laws.{blobs_same, home_kept, home_durable}
+use Rattle.bk_instance.specs.HoldsLaws.{holds-on}
 use Rattle.bk_instance.specs.declared.error.ExecuteError.{ExecuteError}
 use Rattle.bk_instance.specs.declared.error.ExecuteError.TheVariants as execute
 use Rattle.bk_instance.specs.declared.instance.Instance.{Instance}
 use Rattle.bk_instance.specs.Media.{MediaAreDurable, IfDurable}
 use Rattle.bk_instance.specs.Stands.{IsReady, IsStored, StandsFor, IsOurs}
-use Rattle.bk_instance.specs.Steps.{DoesAll, Cuts}
+use Rattle.bk_executing.specs.Executing.{DoesAll, Cuts}
 use Rattle.bk_machine.specs.Machine.{behind}
 use Rattle.bk_machine.specs.Outcome.{Outcome}
 use Rattle.bk_machine.specs.World.{World}
@@ -22,7 +23,7 @@ use Rattle.bk_media.specs.Names.{medium_file}
 use Rattle.bk_world.specs.Text.{reply_text}
 use Rattle.bk_console.specs.declared.answers.AnswerError.TheVariants.{Console, Broken}
 use Rattle.bk_console.specs.Answers.{Asked, NotOurs, CutBefore, CutWithin, HoldsNext, executed_error}
-use Rattle.bk_console.proofs.Covering.{holds-in, now-covers}
+use Rattle.bk_console.proofs.Covering.{now-covers}
 
 pub OnErr-from : {T E : Type 0} {P : Type 0} → (r : Result T E) → P → OnErr r P
 OnErr-from (Ok x) p = tt
@@ -92,7 +93,7 @@ pub told-stands : (i : Instance) (before after : Disk) (w : World) (bytes : List
 told-stands i before after w bytes tells stands = record {
   sound = stands.sound;
   keeps = stands.keeps;
-  holds = holds-in i.waiting w before.files after.files (tells.files rows_file) (λ path are. tells.files (medium_file path)) stands.holds;
+  holds = holds-on i.waiting before.files after.files w (blobs_same before.files after.files (tells.files rows_file)) (λ path are. tells.files (medium_file path)) stands.holds;
 }
 
 -- One statement.

@@ -1,13 +1,10 @@
 -- What files hold where a crash leaves them, and what they stand for.
-use Rattle.std.proofs.Common.{◌≡◌, ◌≤◌, length, inr, ℕ, ◌+◌, false, List, [], ◌∷◌, ◌++◌, Option, None, Some, refl, sym, ◌∙◌, ap, subst, arith}
-use Rattle.bk_acts.specs.declared.act.StoredAct.{StoredAct}
-use Rattle.bk_bytes.specs.Field.{AreBytes}
+use Rattle.std.proofs.Common.{◌≡◌, ◌≤◌, length, ℕ, ◌+◌, false, List, [], ◌∷◌, ◌++◌, refl, subst, arith}
 use Rattle.bk_device.specs.Disk.{Files, Disk, MayLeave}
-use Rattle.bk_home.specs.Home.{blobs_of, rows_file}
-use Rattle.bk_home.specs.Laws.{blobs_same, home_left}
+use Rattle.bk_instance.specs.BehindLaws.{covers-behind}
 use Rattle.bk_instance.specs.declared.instance.Instance.{Instance}
-use Rattle.bk_instance.specs.Media.{KeepsMedia, MediaAreDurable, shown_medium}
-use Rattle.bk_instance.specs.Stands.{AreMade, Stands, StandsNear, Covers, CoversBehind, CoversBy, HoldsBehind, HoldsWorld, IsReady, IsStored, IsOurs, StandsFor}
+use Rattle.bk_instance.specs.Media.{MediaAreDurable}
+use Rattle.bk_instance.specs.Stands.{Stands, StandsNear, Covers, CoversBehind, IsReady, IsStored, IsOurs, StandsFor}
 use Rattle.bk_items.specs.declared.item.ScriptEntry.{ScriptEntry}
 use Rattle.bk_machine.specs.Acts.{Act}
 use Rattle.bk_machine.specs.Closing.{AreClosing, closed_by}
@@ -17,80 +14,19 @@ use Rattle.bk_machine.specs.Run.{IsRun, behind_all}
 use Rattle.bk_machine.specs.Settled.{IsSettledTo}
 use Rattle.bk_machine.specs.Sound.{AreIdle, IsSound}
 use Rattle.bk_machine.specs.World.{World, opened, restarted}
-use Rattle.bk_media.specs.Media.{found_at}
-use Rattle.bk_media.specs.Names.{medium_file}
 use Rattle.bk_waiting.specs.Lagging.{Lags, nothing_waits, one_waits}
-
--- the same files under the names of media keep them
-pub media-in : (w : World) (making : Option (List ℕ)) (files image : Files) → ((path : List ℕ) → AreBytes path → image (medium_file path) ≡ files (medium_file path))
-    → KeepsMedia w making files → KeepsMedia w making image
-media-in w making files image same media = record {
-  read = λ path bytes. media.read path bytes ∙ ap (shown_medium making path) (sym (same path bytes));
-  carried = λ path p body bytes is. media.carried path p body bytes (ap (λ f. found_at f p) (sym (same path bytes)) ∙ is);
-}
-
--- What waits.
-
--- the same files hold what they held, but for what waits
-pub holds-in : (waiting : Option StoredAct) (w : World) (files image : Files) → image rows_file ≡ files rows_file
-    → ((path : List ℕ) → AreBytes path → image (medium_file path) ≡ files (medium_file path)) → HoldsBehind waiting files w → HoldsBehind waiting image w
-holds-in waiting w files image rows media holds = by waiting holds
-  where
-    world : (v : World) → HoldsWorld files v → HoldsWorld image v
-    world v here = record {
-      made = subst (λ blobs. AreMade blobs v) (sym (blobs_same files image rows)) here.made;
-      media = media-in v None files image media here.media;
-    }
-
-    by : (waiting : Option StoredAct) → HoldsBehind waiting files w → HoldsBehind waiting image w
-    by None here = world w here
-    by (Some waiting) here = record { old = here.old; sound = here.sound; holds = world here.old here.holds; waits = here.waits }
-
--- a world that they hold is behind itself by nothing
-pub covers-by : (waiting : Option StoredAct) (number : ℕ) (files : Files) (w : World) → CoversBy waiting number files w → CoversBehind number files w
-covers-by None number files w covers = record { old = w; covers = covers; lags = nothing_waits w }
-covers-by (Some waiting) number files w behind = behind
+use Rattle.bk_instance.specs.StandsLaws.{covers-left}
 
 -- a world has the counter of the one behind which it lags
 lags-counter : (old w : World) → Lags old w → old.counter ≡ w.counter
 lags-counter old w (nothing_waits _) = refl
 lags-counter old w (one_waits _ _ act waits behind) = behind.counter
 
--- An instance.
-
--- its files hold, at each crash, a world with its number and its counter that they held
-held-covers : (number : ℕ) (i : Instance) (disk : Disk) (w : World) (image : Files) → IsReady i → IsStored disk i → MediaAreDurable disk → MayLeave disk image
-    → IsSound w → w.instance ≡ i.kept.number → w.counter ≡ i.kept.counter → HoldsWorld disk.files w → Covers number image w
-held-covers number i disk w image ready stored durable left sound is counter holds = record {
-  sound = sound;
-  «record» = i.home.«record»;
-  blobs = blobs_of disk.files;
-  holds = inr (home_left image stored (λ name own. left name));
-  instance = is ∙ ready.number;
-  no_less = omega (arith, counter, ready.no_less);
-  no_more = omega (arith, counter, ready.no_more);
-  made = holds.made;
-  media = subst (λ making. KeepsMedia w making image) (sym ready.none)
-      (media-in w None disk.files image (λ path bytes. durable path bytes (image (medium_file path)) (left (medium_file path))) holds.media);
-}
-
--- they hold its world, but for what waits
+-- the files of an instance hold its world at each crash, but for what waits
 pub now-covers : (number : ℕ) (i : Instance) (disk : Disk) (w : World) (image : Files) → IsReady i → IsStored disk i → MediaAreDurable disk → MayLeave disk image → StandsFor i disk w
     → CoversBehind number image w
-now-covers number i disk w image ready stored durable left stands = by i.waiting stands.holds
-  where
-    by : (waiting : Option StoredAct) → HoldsBehind waiting disk.files w → CoversBehind number image w
-    by None here = record {
-      old = w;
-      covers = held-covers number i disk w image ready stored durable left stands.sound stands.keeps.number stands.keeps.counter here;
-      lags = nothing_waits w;
-    }
-    by (Some waiting) here = record {
-      old = here.old;
-      covers = held-covers number i disk here.old image ready stored durable left here.sound (sym here.waits.behind.media.instance ∙ stands.keeps.number)
-          (here.waits.behind.counter ∙ stands.keeps.counter) here.holds;
-      lags = one_waits here.old w here.waits.act here.waits.waits here.waits.behind;
-    }
+now-covers number i disk w image ready stored durable left stands =
+    covers-behind i.waiting number image w (covers-left number i disk w image ready stored durable (λ name ours. left name) stands)
 
 -- Runs.
 

@@ -8,7 +8,7 @@ use Rattle.bk_device.specs.Disk.{Files, Disk, IsLawful}
 use Rattle.bk_home.specs.declared.record.Record.{Record}
 use Rattle.bk_home.specs.Home.{IsNotMade, IsNoInstance, fresh}
 use Rattle.bk_home.specs.Laws.{home_is_instance}
-use Rattle.bk_instance.specs.Events.{HappenOn, StandsAtRest}
+use Rattle.bk_loading.specs.Events.{HappenOn, StandsAtRest}
 use Rattle.bk_instance.specs.Stands.{Holds, IsOurs, Stands}
 use Rattle.bk_items.specs.declared.item.ScriptEntry.{ScriptEntry}
 use Rattle.bk_machine.specs.Acts.{Act, done_all}

@@ -10,14 +10,14 @@ use Rattle.bk_device.specs.Effects.{Effect, KeepsFiles, LeavesSince}
 use Rattle.bk_home.specs.Home.{IsMade}
 use Rattle.bk_instance.specs.declared.error.ExecuteError.{ExecuteError}
 use Rattle.bk_instance.specs.declared.error.ExecuteError.TheVariants as execute
-use Rattle.bk_instance.specs.declared.error.LoadError.{LoadError}
-use Rattle.bk_instance.specs.declared.error.LoadError.TheVariants as load
+use Rattle.bk_loading.specs.declared.error.LoadError.{LoadError}
+use Rattle.bk_loading.specs.declared.error.LoadError.TheVariants as load
 use Rattle.bk_instance.specs.declared.instance.Instance.{Instance}
-use Rattle.bk_instance.specs.Loading.{LeavesOpened}
+use Rattle.bk_loading.specs.Loading.{LeavesOpened, IsMaking}
 use Rattle.bk_instance.specs.Media.{MediaAreDurable, IfDurable}
-use Rattle.bk_instance.specs.Stands.{Covers, CoversBehind, Stands, StandsNear, CutsEnd, IsStored, ReservesNone, StandsFor, IsOurs}
-use Rattle.bk_instance.specs.Steps.{Closed}
-use Rattle.bk_instance.specs.Touched.{IsMaking, IsTouched, TouchesOnly, TouchesOwn}
+use Rattle.bk_instance.specs.Stands.{Covers, CoversBehind, Stands, StandsNear, IsStored, ReservesNone, StandsFor, IsOurs}
+use Rattle.bk_loading.specs.Closing.{CutsEnd, Closed}
+use Rattle.bk_instance.specs.Touched.{IsTouched, TouchesOnly, TouchesOwn}
 use Rattle.bk_items.specs.declared.item.ScriptEntry.{ScriptEntry}
 use Rattle.bk_machine.specs.Acts.{Act, done_all}
 use Rattle.bk_machine.specs.Closing.{AreClosing, closed_by}

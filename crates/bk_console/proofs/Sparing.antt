@@ -8,7 +8,7 @@ use Rattle.bk_device.specs.Effects.{Effect, MayLeaveOthers}
 use Rattle.bk_home.specs.Home.{IsOwn}
 use Rattle.bk_instance.specs.declared.instance.Instance.{Instance}
 use Rattle.bk_instance.specs.Stands.{StandsFor}
-use Rattle.bk_instance.specs.Steps.{Failed, MayCome}
+use Rattle.bk_executing.specs.Executing.{Failed, MayCome}
 use Rattle.bk_instance.specs.Touched.{IsTouched}
 use Rattle.bk_items.specs.declared.item.ScriptEntry.{ScriptEntry}
 use Rattle.bk_machine.specs.Acts.{Act, done, done_all, turned, seated, created, dropped, logged, medium_made, set_sealed, based, replaced, restored, recovered}

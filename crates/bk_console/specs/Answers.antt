@@ -8,7 +8,8 @@ use Rattle.bk_instance.specs.declared.error.ExecuteError.{ExecuteError}
 use Rattle.bk_instance.specs.declared.error.ExecuteError.TheVariants as execute
 use Rattle.bk_instance.specs.Media.{MediaAreDurable, IfDurable}
 use Rattle.bk_instance.specs.Stands.{Stands, CoversBehind, StandsFor, IsOurs}
-use Rattle.bk_instance.specs.Steps.{MayCome, DoesAll, Cuts, Stays}
+use Rattle.bk_executing.specs.Executing.{MayCome, DoesAll, Cuts}
+use Rattle.bk_instance.specs.Parts.{Stays}
 use Rattle.bk_instance.specs.Touched.{IsTouched}
 use Rattle.bk_items.specs.declared.item.ScriptEntry.{ScriptEntry}
 use Rattle.bk_machine.specs.Crash.{Leaves}

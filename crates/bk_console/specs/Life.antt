@@ -3,7 +3,7 @@ use Rattle.std.specs.Prelude.{◌≡◌, ◌⊎◌, ℕ, zero, suc, true, List, 
 use Rattle.bk_bytes.specs.Field.{AreBytes}
 use Rattle.bk_device.specs.Disk.{Files, Disk, IsSettled}
 use Rattle.bk_home.specs.Home.{IsNotMade, IsNoInstance}
-use Rattle.bk_instance.specs.Events.{HappenOn}
+use Rattle.bk_loading.specs.Events.{HappenOn}
 use Rattle.bk_instance.specs.Stands.{Stands}
 use Rattle.bk_machine.specs.Acts.{Act, done_all}
 use Rattle.bk_machine.specs.Closing.{AreClosing}

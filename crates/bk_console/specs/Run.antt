@@ -5,8 +5,8 @@ use Rattle.bk_device.specs.Disk.{Files, Disk, IsSettled}
 use Rattle.bk_device.specs.Effects.{LeavesSince}
 use Rattle.bk_instance.specs.declared.error.ExecuteError.{ExecuteError}
 use Rattle.bk_instance.specs.declared.error.ExecuteError.TheVariants as execute
-use Rattle.bk_instance.specs.declared.error.LoadError.{LoadError}
-use Rattle.bk_instance.specs.declared.error.LoadError.TheVariants as load
+use Rattle.bk_loading.specs.declared.error.LoadError.{LoadError}
+use Rattle.bk_loading.specs.declared.error.LoadError.TheVariants as load
 use Rattle.bk_instance.specs.Stands.{Stands}
 use Rattle.bk_instance.specs.Touched.{IsTouched}
 use Rattle.bk_home.specs.Home.{IsMade}

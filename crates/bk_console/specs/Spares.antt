@@ -7,7 +7,7 @@ use Rattle.bk_device.specs.Effects.{KeepsFiles, MayLeaveOthers}
 use Rattle.bk_home.specs.Home.{IsMade}
 use Rattle.bk_instance.specs.declared.instance.Instance.{Instance}
 use Rattle.bk_instance.specs.Stands.{Covers, ReservesNone}
-use Rattle.bk_instance.specs.Touched.{IsMaking}
+use Rattle.bk_loading.specs.Loading.{IsMaking}
 use Rattle.bk_machine.specs.Outcome.{Outcome}
 use Rattle.bk_machine.specs.Sound.{AreIdle}
 use Rattle.bk_machine.specs.World.{World}

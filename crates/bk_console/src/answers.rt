@@ -13,6 +13,7 @@ ghost use Rattle.bk_console.specs.declared.answers.AnswerError.TheVariants as an
 use crate::laws::crashes_leave_worlds;
 use crate::report;
 use bk_device::{Clock, Device, Failed};
+use bk_executing::execute;
 use bk_instance::{ExecuteError, Instance};
 use bk_items::ScriptEntry;
 use bk_syntax::Reader;
@@ -101,10 +102,13 @@ pub fn answer<D: Device, C: Clock>(
     ensures causes { HasCauses D.disk_faults D.tell_faults device.old device.new (IsErrOf result answer_error.Device) (IsErrOf result answer_error.Console) }
 {
     let now = clock.now();
-    let reply = instance.execute(device, statement, now)?;
-    let text = report::text(alloc, &reply)?;
+    let reply = execute(instance, device, statement, now)?;
+    let refused = is_refusal(&reply);
+    let written = report::text(alloc, &reply);
+    drop(reply);
+    let text = written?;
     device.tell(text.as_bytes())?;
-    Ok(is_refusal(&reply))
+    Ok(refused)
 }
 
 fn let_go(_statement: ScriptEntry) {}

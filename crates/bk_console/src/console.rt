@@ -22,7 +22,7 @@ use crate::laws::crashes_leave_worlds;
 use crate::reading::read_script;
 use crate::status::Status;
 use bk_device::{Clock, Device, Source};
-use bk_instance::Instance;
+use bk_loading::{close, load};
 use bk_syntax::one_item_list;
 use std::alloc::Global;
 use std::thread::Threads;
@@ -126,9 +126,9 @@ fn over_instance<D: Device, C: Clock>(
     ensures others { D.tells → KeepsFiles NotOurs (D.disk device.old) (D.disk device.new) }
 {
     crashes_leave_worlds();
-    let mut instance = Instance::load(alloc, device, options.instance)?;
+    let mut instance = load(alloc, device, options.instance)?;
     let ended = answer_all(alloc, &mut instance, script, options.stop, device, clock)?;
-    instance.close(device)?;
+    close(&mut instance, device)?;
     match ended {
         Ended::AtTheEnd => Ok(()),
         Ended::AtARefusal => Err(Status::StoppedAtRefusal),

@@ -1,6 +1,6 @@
 ghost use Rattle.bk_console.specs.Crashes.{CrashLaws};
 
-use bk_instance::crashes_leave_files_that_stand;
+use bk_loading::crashes_leave_files_that_stand;
 use bk_machine::{
     closings_are_cut_in_whole_worlds, runs_are_closed, runs_are_cut_between_acts,
     runs_keep_worlds_sound, settled_worlds,

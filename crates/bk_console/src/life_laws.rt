@@ -4,7 +4,7 @@ ghost use Rattle.bk_machine.specs.World.{World, empty_world};
 ghost use Rattle.bk_console.specs.Life.{IsEmpty, Lasts, Live};
 
 use bk_device::{Clock, Device, Source};
-use bk_instance::{crashes_leave_files_that_stand, empty_files_stand, events_keep_what_stands};
+use bk_loading::{crashes_leave_files_that_stand, empty_files_stand, events_keep_what_stands};
 use bk_machine::events_keep_worlds_sound;
 
 /// The life of a device, from an empty one on: however many calls of `run` with any words come to it, each ended or cut

@@ -1,5 +1,5 @@
 // Reading the whole script.
-ghost use Rattle.std.specs.Prelude.{◌≡◌, ◌≤◌, ◌<◌, ◌++◌, ◌+◌, List, ℕ, [], length, IfOk, OnOk, IsErrOf, OnErr};
+ghost use Rattle.std.specs.Prelude.{◌≡◌, ◌≤◌, ◌<◌, ◌++◌, ◌+◌, List, ℕ, [], length, IfOk, IsErrOf};
 ghost use Rattle.bk_device.specs.Counts.{HasRisen};
 ghost use Rattle.bk_console.specs.declared.reading.ReadError.TheVariants.{TooLong, Fault, NoMemory};
 

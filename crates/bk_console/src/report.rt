@@ -1,5 +1,5 @@
 // The text of a reply.
-ghost use Rattle.std.specs.Prelude.{◌≡◌, ◌++◌, ℕ, IfOk, OnOk, flat_map, length};
+ghost use Rattle.std.specs.Prelude.{◌≡◌, ◌++◌, IfOk, OnOk, flat_map};
 ghost use Rattle.std.specs.String.{string_bytes};
 ghost use Rattle.bk_world.specs.declared.reply.Reply.TheVariants.{Selected, SetMade, Refused};
 ghost use Rattle.bk_world.specs.Text.{reply_text, row_text};

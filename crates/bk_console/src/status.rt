@@ -5,7 +5,8 @@ ghost use Rattle.bk_console.specs.declared.status.Status.TheVariants.{NoMemory};
 use crate::answers::AnswerError;
 use crate::command_line::WordsError;
 use crate::reading::ReadError;
-use bk_instance::{ExecuteError, LoadError};
+use bk_instance::ExecuteError;
+use bk_loading::LoadError;
 use std::alloc::AllocError;
 
 /// How a run ended. Its code is the program's exit status.

@@ -1,16 +1,12 @@
 -- What the writes that fill a slot make of a file.
 use Rattle.std.proofs.Common.{◌≡◌, ◌≤◌, ℕ, ◌+◌, List, [], ◌++◌, length, take, drop, replicate, inl, sym, ◌∙◌, ap, arith, length-append, lit≤}
 use Rattle.std.proofs.lemmas.List.{take_all, take_at, drop_at, drop_all, append-nil}
-use Rattle.byteorder.specs.Numbers.{length-bytes_low_first}
 use Rattle.bk_device.specs.Calls.{read_at, written}
 use Rattle.bk_device.specs.Torn.{written-length, read_at-written, read_at-written_other}
+use Rattle.bk_lemmas.specs.Numbers.{length-number_bytes, number_bytes}
 use Rattle.bk_control.specs.Reads.{read_at-within}
-use Rattle.bk_control.specs.Slots.{number_bytes, magic}
+use Rattle.bk_control.specs.Slots.{magic}
 use Rattle.bk_control.specs.Stands.{IsFilled}
-
-pub length-number_bytes : (n : ℕ) → length (number_bytes n) ≡ 8
-unfolding number_bytes
-length-number_bytes n = length-bytes_low_first 0 8 n
 
 -- the bytes between a gate byte and the content
 abbrev pub head_bytes : ℕ → ℕ → List ℕ

@@ -8,13 +8,15 @@ use Rattle.std.proofs.lemmas.List.{take-take, get_or-take, length-take, length-d
 use Rattle.std.proofs.Math.ListN.{get_or-append}
 use Rattle.bk_device.specs.Calls.{read_at, filled}
 use Rattle.bk_device.specs.Laws.{filled_whole}
+use Rattle.bk_lemmas.specs.Tests.{test_false}
+use Rattle.bk_lemmas.specs.Numbers.{number}
 use Rattle.bk_control.specs.declared.found.Entry.{Entry}
 use Rattle.bk_control.specs.declared.found.Head.{Head}
 use Rattle.bk_control.specs.declared.side.Side.TheVariants.{First, Second}
-use Rattle.bk_control.proofs.SlotLaws.{test_false, and_false, short_slot}
+use Rattle.bk_control.proofs.SlotLaws.{and_false, short_slot}
 use Rattle.bk_control.specs.Found.{sized, IsHead, IsFound}
 use Rattle.bk_control.specs.Reads.{read_at-within, index-within}
-use Rattle.bk_control.specs.Slots.{Slot, number, magic, fits, slot_in, slot_at, counting}
+use Rattle.bk_control.specs.Slots.{Slot, magic, fits, slot_in, slot_at, counting}
 
 -- a head as code reads it
 

@@ -11,9 +11,10 @@ use Rattle.bk_device.specs.Disk.{Disk, Files}
 use Rattle.bk_device.specs.Effects.{Effect, IsName}
 use Rattle.bk_device.specs.Names.{true_or_false}
 use Rattle.bk_device.specs.Torn.{take-torn, written-end}
+use Rattle.bk_lemmas.specs.Numbers.{number}
 use Rattle.bk_control.specs.Reads.{read_at-within}
 use Rattle.bk_device.specs.Laws.{torn-contents}
-use Rattle.bk_control.specs.Slots.{Slot, number, magic, fits, slot_in, slot_at, counting}
+use Rattle.bk_control.specs.Slots.{Slot, magic, fits, slot_in, slot_at, counting}
 use Rattle.bk_control.specs.Stands.{Grows, Lengthens}
 use Rattle.bk_control.proofs.SlotLaws.{closed, short_slot, fits_true}
 

@@ -2,36 +2,27 @@
 use Rattle.std.proofs.Common.{◌≡◌, ◌≢◌, ◌⊎◌, ◌<◌, ◌≤◌, ◌^◌, ℕ, ◌+◌, Bool, true, false, ◌&&◌, List, [], ◌∷◌, length, take, drop, get_or, Option, Some, None, refl, inl, inr, sym, ◌∙◌, ap, subst, arith, add-zero, lit≤, lit<, length-take, length-drop}
 use Rattle.std.specs.Prelude.{◌==◌, nat_lt, slice_index, option_map}
 use Rattle.std.specs.Str.{bytes_eq}
-use Rattle.std.proofs.lemmas.List.{ext_get_or, append-nil, get_or-take, get_or-drop}
+use Rattle.std.proofs.lemmas.List.{ext_get_or, get_or-take, get_or-drop}
 use Rattle.std.proofs.lemmas.Bool.{eqb-true, eqb-false, le-leb, lt-leb, and_from, and_right}
 use Rattle.std.proofs.lemmas.Grind.{common_steps}
-use Rattle.byteorder.specs.Numbers.{little_number-reads_back}
 use Rattle.bk_device.specs.Calls.{read_at, written, IsTorn}
 use Rattle.bk_device.specs.Names.{true_or_false}
-use Rattle.bk_device.specs.Torn.{length-torn, read_at-torn, torn-written, read_at-written}
+use Rattle.bk_device.specs.Torn.{length-torn, read_at-torn, torn-written, read_at-written, same_byte}
+use Rattle.bk_lemmas.specs.Tests.{equal_or_not, test_false}
+use Rattle.bk_lemmas.specs.Numbers.{number-reads_back, number}
 use Rattle.bk_control.specs.declared.side.Side.{Side}
 use Rattle.bk_control.specs.declared.side.Side.TheVariants.{First, Second}
 use Rattle.bk_control.specs.Reads.{read_at-within, index-within}
-use Rattle.bk_control.specs.Slots.{Slot, number, number_bytes, magic, fits, slot_in, slot_at, newer, counting, other, place}
+use Rattle.bk_control.specs.Slots.{Slot, magic, fits, slot_in, slot_at, newer, counting, other, place}
 use Rattle.bk_control.specs.Stands.{Stands, IsFilled, ChangesSlot, Rewrites, MayFollow}
 
 -- tests
-
-equal_or_not : (m n : ℕ) → (m ≡ n) ⊎ (m ≢ n)
-equal_or_not m n = grind (arith, common_steps)
-
-pub test_false : (m n : ℕ) → m ≢ n → (m == n) ≡ false
-test_false m n differ = grind (arith, common_steps)
 
 pub and_false : (a c : Bool) → ((a && false) && c) ≡ false
 and_false true c = refl
 and_false false c = refl
 
 -- numbers
-
-pub number-reads_back : (n : ℕ) → n < 2 ^ 64 → number (number_bytes n) ≡ n
-unfolding number number_bytes
-number-reads_back n small = ap number (sym (append-nil (number_bytes n))) ∙ little_number-reads_back 8 n [] small
 
 pub fits_true : (size room : ℕ) → size ≤ 65536 → 32 + size ≤ room → fits size room ≡ true
 fits_true size room small inside = and_from _ _ (le-leb size 65536 small) (le-leb (32 + size) room inside)
@@ -140,22 +131,6 @@ gate_length side before after whole torn =
     omega arith
 
 -- a byte that was written as it was
-same_byte : (at : ℕ) (before after : List ℕ) → at < length before → IsTorn at 1 before after → get_or after at 0 ≡ get_or before at 0 → after ≡ before
-same_byte at before after inside torn same =
-    let lengths : length after ≡ length before = length-torn at 1 before after (omega arith) torn in
-    ext_get_or 0 after before lengths (λ k below.
-    let where_is : (k ≡ at) ⊎ (k < at) ⊎ (at + 1 ≤ k) = order k at in
-    elim where_is [
-      | inl here ↦ let At : ℕ → Type 0 = λ p. get_or after p 0 ≡ get_or before p 0 in subst At (sym here) same
-      | inr rest ↦ elim rest [
-        | inl front ↦ torn.outside k (omega arith) (inl front)
-        | inr behind ↦ torn.outside k (omega arith) (inr behind)
-      ]
-    ])
-  where
-    order : (k at : ℕ) → (k ≡ at) ⊎ (k < at) ⊎ (at + 1 ≤ k)
-    order k at = grind (arith, common_steps)
-
 -- Closing an open gate leaves the content, whatever a crash leaves of the gate byte.
 pub closing : (side : Side) (slot : Slot) (before after : List ℕ) → Stands side true slot before → IsTorn (place (other side) + 8) 1 before after → counting after ≡ Some slot
 closing side slot before after stands torn =

@@ -1,18 +1,10 @@
 -- The bytes of a control file: two slots, of which one counts.
 use Rattle.std.specs.Prelude.{◌+◌, ◌&&◌, ◌==◌, Bool, ℕ, nat_le, nat_lt, if◌then◌else◌, List, [], ◌∷◌, length, take, slice_index, Option, None, Some, option_map}
 use Rattle.std.specs.Str.{bytes_eq}
-use Rattle.byteorder.specs.Endian.{little_number, little_bytes}
 use Rattle.bk_device.specs.Calls.{contents, read_at}
+use Rattle.bk_lemmas.specs.Numbers.{number}
 use Rattle.bk_control.specs.declared.side.Side.{Side}
 use Rattle.bk_control.specs.declared.side.Side.TheVariants.{First, Second}
-
--- the number in eight bytes, the lowest first
-unfoldable pub number : List ℕ → ℕ
-number bytes = little_number 8 bytes
-
--- the eight bytes of a number, the lowest first
-unfoldable pub number_bytes : ℕ → List ℕ
-number_bytes n = little_bytes 8 n
 
 -- the letters SQLBAKC1
 abbrev pub magic : List ℕ

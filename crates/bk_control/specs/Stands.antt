@@ -1,8 +1,9 @@
 -- What stands in a control file, and what a step of a write does to it.
 use Rattle.std.specs.Prelude.{◌≡◌, ◌≢◌, ◌≤◌, ◌<◌, ◌⊎◌, ◌+◌, ◌==◌, max, ℕ, Bool, List, length, take, slice_index, Some}
 use Rattle.bk_device.specs.Calls.{read_at}
+use Rattle.bk_lemmas.specs.Numbers.{number_bytes}
 use Rattle.bk_control.specs.declared.side.Side.{Side}
-use Rattle.bk_control.specs.Slots.{Slot, slot_at, counting, other, place, magic, number_bytes}
+use Rattle.bk_control.specs.Slots.{Slot, slot_at, counting, other, place, magic}
 
 -- This slot of the file counts, and the other's gate byte, where it is there, is 1 or not.
 pub record Holds (side : Side) (is_other_open : Bool) (slot : Slot) (file : List ℕ) : Type 0 where

@@ -1,6 +1,7 @@
 // The writes that put a content into a slot.
 ghost use Rattle.std.specs.Prelude.{◌≡◌, ◌≤◌, ◌<◌, ◌+◌, ◌++◌, ◌⊎◌, ◌^◌, Some, length, drop, replicate, true, false, OnOk, OnErr, IsErr};
-ghost use Rattle.bk_control.specs.Slots.{Slot, magic, number, number_bytes, slot_at, counting, control_of, other, place};
+ghost use Rattle.bk_lemmas.specs.Numbers.{number, number_bytes};
+ghost use Rattle.bk_control.specs.Slots.{Slot, magic, slot_at, counting, control_of, other, place};
 ghost use Rattle.bk_control.specs.Stands.{Stands, IsFilled, ChangesSlot, Rewrites, MayFollow};
 ghost use Rattle.bk_device.specs.Calls.{contents, written};
 ghost use Rattle.bk_device.specs.Counts.{HasCause};

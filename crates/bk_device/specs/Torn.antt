@@ -1,5 +1,6 @@
 -- What a write that a crash may have cut short leaves of a content, and what a whole one makes of it.
-use Rattle.std.proofs.Common.{◌≡◌, ◌⊎◌, ◌<◌, ◌≤◌, ℕ, ◌+◌, ◌-◌, min, max, List, [], ◌∷◌, ◌++◌, length, take, drop, get_or, refl, inl, inr, sym, ◌∙◌, ap, arith}
+use Rattle.std.proofs.Common.{◌≡◌, ◌⊎◌, ◌<◌, ◌≤◌, ℕ, ◌+◌, ◌-◌, min, max, List, [], ◌∷◌, ◌++◌, length, take, drop, get_or, refl, inl, inr, sym, ◌∙◌, ap, subst, arith}
+use Rattle.std.proofs.lemmas.Grind.{common_steps}
 use Rattle.std.proofs.lemmas.List.{ext_get_or, places, get_or-take, get_or-drop, length-take, length-drop, length-append, take_at, drop_all, drop_at, take_all, append_assoc, drop-drop, take-append-drop, append-nil}
 use Rattle.bk_device.specs.Calls.{IsTorn, written, read_at}
 
@@ -119,3 +120,20 @@ written-end content bytes =
     let front : take (length content) content ≡ content = take_all (length content) content (omega arith) in
     let rest : drop (length content + length bytes) content ≡ [] = drop_all (length content + length bytes) content (omega arith) in
     rw (front, rest) (append-nil (content ++ bytes))
+
+-- a write of one byte that left it as it was left all as it was
+pub same_byte : (at : ℕ) (before after : List ℕ) → at < length before → IsTorn at 1 before after → get_or after at 0 ≡ get_or before at 0 → after ≡ before
+same_byte at before after inside torn same =
+    let lengths : length after ≡ length before = length-torn at 1 before after (omega arith) torn in
+    ext_get_or 0 after before lengths (λ k below.
+    let where_is : (k ≡ at) ⊎ (k < at) ⊎ (at + 1 ≤ k) = order k at in
+    elim where_is [
+      | inl here ↦ let At : ℕ → Type 0 = λ p. get_or after p 0 ≡ get_or before p 0 in subst At (sym here) same
+      | inr rest ↦ elim rest [
+        | inl front ↦ torn.outside k (omega arith) (inl front)
+        | inr back ↦ torn.outside k (omega arith) (inr back)
+      ]
+    ])
+  where
+    order : (k at : ℕ) → (k ≡ at) ⊎ (k < at) ⊎ (at + 1 ≤ k)
+    order k at = grind (arith, common_steps)

@@ -5,14 +5,28 @@ use Rattle.std.proofs.lemmas.List.{take-take}
 use Rattle.std.proofs.lemmas.Grind.{common_steps}
 use Rattle.bk_device.specs.Calls.{contents, read_at, written, LeavesWrite, LeavesCut, LeavesSame, CallsOn, ChangesNothing}
 use Rattle.bk_device.specs.Compose.{effect_then, effect_weaken, effect_none, effect_of_call, effect_of_nothing}
+use Rattle.bk_device.specs.Counts.{HasCause}
 use Rattle.bk_device.specs.Disk.{Files, Disk, IsDurable}
 use Rattle.bk_device.specs.Effects.{Effect, IsName}
 use Rattle.bk_device.specs.Laws.{torn-contents}
 use Rattle.bk_device.specs.Torn.{torn-written, length-torn, written-length}
+use Rattle.bk_lemmas.specs.Tests.{equal_or_not}
 use Rattle.bk_gate.specs.Blobs.{magic, sealed, blobs_in}
 use Rattle.bk_gate.specs.Gate.{Stands, Quiet, Loose, IsAt, IsPrepared}
 use Rattle.bk_gate.specs.Laws.{quiet_front}
-use Rattle.bk_gate.specs.BlobLaws.{front_stands, behind, mending, mended_sealed, longer, same_front_byte, byte_written, equal_or_not, opened_sealed, opened_stands, shut_sealed, short_blob, ended_spans, no_blobs, erasing, erased}
+use Rattle.bk_gate.specs.BlobLaws.{front_stands, behind, mending, mended_sealed, longer, same_front_byte, byte_written, opened_sealed, opened_stands, shut_sealed, short_blob, ended_spans, no_blobs, erasing, erased}
+
+-- one call, and what it failed by
+pub only_cause : {D : Type 0} {disk tell : D → ℕ} {a b : D} {failed call : Type 0} → HasCause disk tell a b call → (failed → call) → HasCause disk tell a b failed
+only_cause cause which = record { rose = λ is. cause.rose (which is); never_falls = cause.never_falls; tell_faults = cause.tell_faults }
+
+-- of some calls the last one alone can have failed
+pub last_cause : {D : Type 0} {disk tell : D → ℕ} {a b c : D} {first failed last : Type 0} → HasCause disk tell a b first → HasCause disk tell b c last → (failed → last) → HasCause disk tell a c failed
+last_cause {disk = disk} {a = a} {b = b} {c = c} before after which = record {
+  rose = λ is below. let more : disk b < disk c = after.rose (which is) below in omega (arith, before.never_falls, more);
+  never_falls = omega (arith, before.never_falls, after.never_falls);
+  tell_faults = after.tell_faults ∙ before.tell_faults;
+}
 
 -- a crash leaves the blobs that there are
 abbrev pub Keeps : List ℕ → Disk → Files → Type 0

@@ -1,30 +1,21 @@
 -- What the front of a gate file says of its sealed blobs.
-use Rattle.std.proofs.Common.{◌≡◌, ◌≢◌, ◌⊎◌, ◌<◌, ◌≤◌, ◌^◌, ℕ, zero, suc, ◌+◌, ◌-◌, max, Bool, true, false, ◌&&◌, List, [], ◌∷◌, ◌++◌, length, map, take, drop, get_or, Option, Some, None, refl, inl, inr, sym, ◌∙◌, ap, subst, arith, lit<, length-append, length-take, add-zero, append_assoc}
+use Rattle.std.proofs.Common.{◌≡◌, ◌≢◌, ◌⊎◌, ◌<◌, ◌≤◌, ◌^◌, ℕ, zero, suc, ◌+◌, ◌-◌, max, Bool, true, false, ◌&&◌, List, [], ◌∷◌, ◌++◌, length, map, take, drop, get_or, Option, Some, None, refl, inl, inr, sym, ◌∙◌, ap, arith, lit<, length-append, length-take, add-zero, append_assoc}
 use Rattle.std.specs.Prelude.{◌==◌, nat_le, slice_index, slice_get, set, if◌then◌else◌}
 use Rattle.std.specs.Option.{option_map_or}
 use Rattle.std.specs.Str.{bytes_eq}
 use Rattle.std.proofs.lemmas.Bool.{eqb-true, leb-true, le-leb, and_parts, and_from}
 use Rattle.std.proofs.lemmas.Slice.Eq.{bytes_eq-Decides}
 use Rattle.std.proofs.lemmas.Grind.{common_steps, take-set_at}
-use Rattle.std.proofs.lemmas.List.{get_or-take, get_or-drop, take-take, drop-take, drop-drop, map-append, ext_get_or, append-nil, take-append-drop, take_at, drop_at}
-use Rattle.byteorder.specs.Numbers.{length-bytes_low_first, little_number-reads_back}
+use Rattle.std.proofs.lemmas.List.{get_or-take, get_or-drop, take-take, drop-take, drop-drop, map-append, take-append-drop, take_at, drop_at}
 use Rattle.bk_device.specs.Calls.{read_at, written, IsTorn}
 use Rattle.bk_device.specs.Names.{true_or_false}
-use Rattle.bk_device.specs.Torn.{take-torn, length-torn, read_at-torn, torn-written, read_at-written, read_at-written_other, written-length}
-use Rattle.bk_gate.specs.Blobs.{number, number_bytes, magic, blob_at, spans_from, spans_of, part_of, IsGateFile, is_gate_file, blobs_in}
+use Rattle.bk_device.specs.Torn.{take-torn, length-torn, read_at-torn, torn-written, read_at-written, read_at-written_other, written-length, same_byte}
+use Rattle.bk_lemmas.specs.Tests.{equal_or_not, test_false}
+use Rattle.bk_lemmas.specs.Numbers.{number-reads_back, length-number_bytes, number, number_bytes}
+use Rattle.bk_gate.specs.Blobs.{magic, blob_at, spans_from, spans_of, part_of, IsGateFile, is_gate_file, blobs_in}
 use Rattle.bk_gate.specs.Gate.{Lies, Stands, IsPrepared, IsLaid, IfThere}
 
 -- tests
-
-pub equal_or_not : (m n : ℕ) → (m ≡ n) ⊎ (m ≢ n)
-equal_or_not m n = grind (arith, common_steps)
-
-test_false : (m n : ℕ) → m ≢ n → (m == n) ≡ false
-test_false m n differ = grind (arith, common_steps)
-
-and_true : (a b : Bool) → (a && b) ≡ true → (a ≡ true) × (b ≡ true)
-and_true true b is = (refl, is)
-and_true false b is = absurd (cc)
 
 some_is : {A : Type 0} (x y : A) → Some x ≡ Some y → x ≡ y
 some_is x y is = cc
@@ -283,22 +274,6 @@ opened_sealed spans end size before after stands prepared torn one =
     ∙ ap (λ (x : List ℕ). blobs_in before ++ x ∷ []) last
 
 -- Closing a gate byte that is missing, or 1 with no whole blob behind it, changes nothing.
-same_byte : (at : ℕ) (before after : List ℕ) → at < length before → IsTorn at 1 before after → get_or after at 0 ≡ get_or before at 0 → after ≡ before
-same_byte at before after inside torn same =
-    let lengths : length after ≡ length before = length-torn at 1 before after (omega arith) torn in
-    ext_get_or 0 after before lengths (λ k below.
-    let where_is : (k ≡ at) ⊎ (k < at) ⊎ (at + 1 ≤ k) = order k at in
-    elim where_is [
-      | inl here ↦ let At : ℕ → Type 0 = λ p. get_or after p 0 ≡ get_or before p 0 in subst At (sym here) same
-      | inr rest ↦ elim rest [
-        | inl front ↦ torn.outside k (omega arith) (inl front)
-        | inr back ↦ torn.outside k (omega arith) (inr back)
-      ]
-    ])
-  where
-    order : (k at : ℕ) → (k ≡ at) ⊎ (k < at) ⊎ (at + 1 ≤ k)
-    order k at = grind (arith, common_steps)
-
 pub mending : (spans : List (ℕ × ℕ)) (end : ℕ) (before after : List ℕ) → Stands spans end before → (end ≡ length before) ⊎ (end < length before) × (slice_index before end ≡ 1) → IsTorn end 1 before after → Stands spans end after
 mending spans end before after stands why torn =
     let from : 16 ≤ length before = omega (arith, stands.is_gate.1) in
@@ -359,14 +334,6 @@ shut_sealed spans end before after stands torn differ =
       is_gate = (shorter_front 16 end before after reach.0 front ∙ stands.is_gate.0, omega (arith, stands.is_gate.1));
       within = omega (arith, reach.1);
     }) front
-
-length-number_bytes : (n : ℕ) → length (number_bytes n) ≡ 8
-unfolding number_bytes
-length-number_bytes n = length-bytes_low_first 0 8 n
-
-number-reads_back : (n : ℕ) → n < 2 ^ 64 → number (number_bytes n) ≡ n
-unfolding number number_bytes
-number-reads_back n small = ap number (sym (append-nil (number_bytes n))) ∙ little_number-reads_back 8 n [] small
 
 -- what makes a blob ready to be sealed
 pub prepares : (end size : ℕ) (f : List ℕ) → end + 9 + size ≤ length f → size < 2 ^ 64 → read_at f (end + 1) 8 ≡ number_bytes size → IsPrepared end size (written f (end + 9 + size) (0 ∷ []))

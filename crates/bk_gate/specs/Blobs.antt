@@ -2,16 +2,8 @@
 use Rattle.std.specs.Prelude.{◌≡◌, ◌≤◌, ◌+◌, ◌&&◌, ◌==◌, ℕ, zero, suc, nat_le, if◌then◌else◌, Bool, List, [], ◌∷◌, length, map, take, slice_index, Option, None, Some}
 use Rattle.std.specs.Option.{option_map_or}
 use Rattle.std.specs.Str.{bytes_eq}
-use Rattle.byteorder.specs.Endian.{little_number, little_bytes}
 use Rattle.bk_device.specs.Calls.{contents, read_at}
-
--- the number in eight bytes, the lowest first
-unfoldable pub number : List ℕ → ℕ
-number bytes = little_number 8 bytes
-
--- the eight bytes of a number, the lowest first
-unfoldable pub number_bytes : ℕ → List ℕ
-number_bytes n = little_bytes 8 n
+use Rattle.bk_lemmas.specs.Numbers.{number}
 
 -- the letters SQLBAKGATE000001
 abbrev pub magic : List ℕ

@@ -4,7 +4,8 @@ use Rattle.std.specs.Prelude.{slice_index, unwrap_or}
 use Rattle.std.specs.List.{All}
 use Rattle.bk_device.specs.Calls.{contents, read_at}
 use Rattle.bk_device.specs.Disk.{Disk, IsDurable}
-use Rattle.bk_gate.specs.Blobs.{number, blob_at, part_of, IsGateFile}
+use Rattle.bk_lemmas.specs.Numbers.{number}
+use Rattle.bk_gate.specs.Blobs.{blob_at, part_of, IsGateFile}
 
 -- from this gate byte on lie blobs in these parts of the file, and then comes the gate byte at this end
 abbrev pub Lies : List ℕ → ℕ → List (ℕ × ℕ) → ℕ → Type 0

@@ -1,6 +1,7 @@
 // The writes that put a blob behind the end of a gate file.
 ghost use Rattle.std.specs.Prelude.{◌≡◌, ◌≢◌, ◌≤◌, ◌<◌, ◌+◌, ◌^◌, ◌++◌, ◌∷◌, ◌⊎◌, [], List, ℕ, Some, length, take, drop, true, false, slice_index, IfOk, OnOk, OnErr, IsErr};
-ghost use Rattle.bk_gate.specs.Blobs.{number, number_bytes, sealed};
+ghost use Rattle.bk_lemmas.specs.Numbers.{number, number_bytes};
+ghost use Rattle.bk_gate.specs.Blobs.{sealed};
 ghost use Rattle.bk_gate.specs.Gate.{Stands, Quiet, IsAt, IsPrepared, IsLaid, IfThere};
 ghost use Rattle.bk_device.specs.Calls.{contents, written, read_at};
 ghost use Rattle.bk_device.specs.Counts.{HasCause};
@@ -135,7 +136,13 @@ fn put_all(room: &mut [u8], bytes: &[u8])
     room[8 + bytes.len()] = 0;
 }
 
-// Writes a blob of at most 65,527 bytes behind the closed gate byte at the end, with its length and a closed gate byte, at once
+// The most bytes of a blob that is written at once with its length and a closed gate byte.
+const SHORT: usize = 65_527;
+
+// The room in which they are put together, of 64 KiB.
+const ROOM: usize = SHORT + 9;
+
+// Writes a blob of at most SHORT bytes behind the closed gate byte at the end, with its length and a closed gate byte, at once
 // and durably.
 fn lay_short<D: Device>(dev: &mut D, name: &str, end: u64, bytes: &[u8]) -> Result<(), Failed>
     requires short { length bytes.now ≤ 65527 }
@@ -148,7 +155,7 @@ fn lay_short<D: Device>(dev: &mut D, name: &str, end: u64, bytes: &[u8]) -> Resu
     ensures crash { D.tells → Effect (IsName name.now) (λ image. sealed (image name.now) ≡ sealed ((D.disk dev.old).files name.now)) (D.disk dev.old) (D.disk dev.new) }
     ensures cause { HasCause D.disk_faults D.tell_faults dev.old dev.new (IsErr result) }
 {
-    let mut room = [0u8; 65_536];
+    let mut room = [0u8; ROOM];
     put_all(&mut room, bytes);
     append(
         dev,
@@ -157,6 +164,25 @@ fn lay_short<D: Device>(dev: &mut D, name: &str, end: u64, bytes: &[u8]) -> Resu
         end.saturating_add(1),
         &room[..9 + bytes.len()],
     )?;
+    settle(dev, name, end)?;
+    Ok(())
+}
+
+// Writes a blob of any length there, in three writes.
+fn lay_long<D: Device>(dev: &mut D, name: &str, end: u64, bytes: &[u8]) -> Result<(), Failed>
+    requires { D.tells → (spans : List (ℕ × ℕ)) × Quiet spans end name.now (D.disk dev.old) }
+    ensures quiet { D.tells → (spans : List (ℕ × ℕ)) → Quiet spans end name.now (D.disk dev.old) → OnOk result (Quiet spans end name.now (D.disk dev.new)) }
+    ensures durable { D.tells → OnOk result (IsDurable (D.disk dev.new) name.now) }
+    ensures laid { D.tells → OnOk result (IsLaid end bytes.now (contents ((D.disk dev.new).files name.now))) }
+    ensures sealed { D.tells → OnOk result (sealed ((D.disk dev.new).files name.now) ≡ sealed ((D.disk dev.old).files name.now)) }
+    ensures small { OnOk result (end + 9 + length bytes.now < 2 ^ 62) }
+    ensures crash { D.tells → Effect (IsName name.now) (λ image. sealed (image name.now) ≡ sealed ((D.disk dev.old).files name.now)) (D.disk dev.old) (D.disk dev.new) }
+    ensures cause { HasCause D.disk_faults D.tell_faults dev.old dev.new (IsErr result) }
+{
+    let len = bytes.len() as u64;
+    lay_length(dev, name, end, len)?;
+    append(dev, name, end, end + 9, bytes)?;
+    append(dev, name, end, end + 9 + len, &[0])?;
     settle(dev, name, end)?;
     Ok(())
 }
@@ -172,16 +198,10 @@ fn lay<D: Device>(dev: &mut D, name: &str, end: u64, bytes: &[u8]) -> Result<(),
     ensures crash { D.tells → Effect (IsName name.now) (λ image. sealed (image name.now) ≡ sealed ((D.disk dev.old).files name.now)) (D.disk dev.old) (D.disk dev.new) }
     ensures cause { HasCause D.disk_faults D.tell_faults dev.old dev.new (IsErr result) }
 {
-    if bytes.len() <= 65_527 {
-        lay_short(dev, name, end, bytes)?;
-        return Ok(());
+    if bytes.len() <= SHORT {
+        return lay_short(dev, name, end, bytes);
     }
-    let len = bytes.len() as u64;
-    lay_length(dev, name, end, len)?;
-    append(dev, name, end, end + 9, bytes)?;
-    append(dev, name, end, end + 9 + len, &[0])?;
-    settle(dev, name, end)?;
-    Ok(())
+    lay_long(dev, name, end, bytes)
 }
 
 // Seals a blob of these bytes behind the end, and says where the next gate byte is: a crash leaves the blobs that there were, or

@@ -7,6 +7,8 @@ ghost use Rattle.bk_device.specs.Counts.{HasCause};
 ghost use Rattle.bk_device.specs.Disk.{IsDurable};
 ghost use Rattle.bk_device.specs.Effects.{Effect, IsName};
 
+mod from_bytes;
+
 use crate::blob::{add_blob, append_blob, empty, leave_closed, seal_blob, start};
 use crate::error::GateError;
 use crate::read::{check, read_closed, read_span, read_spans};

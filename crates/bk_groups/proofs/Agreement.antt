@@ -1,12 +1,11 @@
 -- The bits and the places agree after a cell is taken or given back.
-use Rattle.std.proofs.Common.{◌≡◌, ℕ, true, false, cond, List, Some, None, refl, sym, ap, subst, ◌∙◌, arith, ⊎_elim, inl, inr, ◌⊎◌}
-use Rattle.std.specs.Ordering.{nat_cmp, is_eq}
-use Rattle.std.specs.declared.cmp.Ordering.{Ordering}
-use Rattle.std.specs.declared.cmp.Ordering.TheVariants.{Less, Equal, Greater}
+use Rattle.std.proofs.Common.{◌≡◌, ℕ, true, false, cond, List, Some, None, sym, ap, subst, ◌∙◌, arith, ⊎_elim, inl, inr, ◌⊎◌}
+use Rattle.std.specs.Ordering.{nat_cmp}
 use Rattle.std.specs.BTreeMap.{is_at}
 use Rattle.std.proofs.lemmas.Bool.{cases_eq, cases_Bool, cond-true, cond-false}
 use Rattle.std.proofs.lemmas.Map.Lookups.{exact_pairs, exact_unsigned}
 use Rattle.bk_ids.specs.declared.record.Place.{Place}
+use Rattle.bk_lemmas.specs.Tests.{equal_from_is_eq}
 use Rattle.bk_groups.specs.Groups.{Room, IsCell, row_cmp, place_among}
 use Rattle.bk_groups.specs.Sound.{Agrees}
 
@@ -22,11 +21,6 @@ cases_place a b = ⊎_elim
     (cases_eq a.page b.page))
     (λ differ. inr (λ e. differ (ap (λ (p : Place). p.file) e)))
     (cases_eq a.file b.file)
-
-equal_from_is_eq : (o : Ordering) → is_eq o ≡ true → o ≡ Equal
-equal_from_is_eq Less e = cc
-equal_from_is_eq Equal e = refl
-equal_from_is_eq Greater e = cc
 
 -- rows that compare as equal are equal
 pub same_row : (row other : ℕ × ℕ) → is_at (row_cmp row) other ≡ true → row ≡ other

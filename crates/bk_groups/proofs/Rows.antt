@@ -2,7 +2,6 @@
 use Rattle.std.proofs.Common.{◌≡◌, ℕ, ◌<◌, ◌^◌, Bool, true, List, [], length, Option, Some, None, sym, ap, subst, ◌∙◌, arith, ⊎_elim, MatchOption, IfSome}
 use Rattle.std.specs.Prelude.{◌==◌, ◌&&◌, ◌↔◌, IsTrue}
 use Rattle.std.specs.Ordering.{nat_cmp, ordering_then, is_eq}
-use Rattle.std.specs.Cmp.{nat_cmp_is}
 use Rattle.std.specs.declared.cmp.Ordering.{Ordering}
 use Rattle.std.specs.declared.cmp.Ordering.TheVariants.{Equal}
 use Rattle.std.specs.BTreeMap.{is_at}
@@ -10,13 +9,11 @@ use Rattle.std.proofs.lemmas.Bool.{cases_Bool, and_from, and_parts, eq-eqb, eqb-
 use Rattle.std.proofs.lemmas.List.{length-map}
 use Rattle.bk_ids.specs.declared.record.Place.{Place}
 use Rattle.bk_world.specs.declared.database.FileSpec.{FileSpec}
+use Rattle.bk_lemmas.specs.Tests.{nat_cmp-same}
 use Rattle.bk_groups.specs.FileSpace.{FileSpace}
 use Rattle.bk_groups.specs.Groups.{Space, IsCell, IsFreeCell, LiesIn, row_cmp, place_among, group_of, untouched_room}
 use Rattle.bk_groups.specs.Sound.{IsSound, AreFree, bit_at_place, room_of, rooms_of}
 use Rattle.bk_groups.proofs.Agreement.{same_row}
-
-nat_cmp-same : (a b : ℕ) → a ≡ b → nat_cmp a b ≡ Equal
-nat_cmp-same a b e = sym (nat_cmp_is a b Equal e)
 
 -- the test of a map's key
 pub is_at-row_cmp : (row other : ℕ × ℕ) → is_at (row_cmp row) other ≡ (other.0 == row.0 && other.1 == row.1)

@@ -1,20 +1,17 @@
 -- A header that passes the tests keeps its conditions.
-use Rattle.std.proofs.Common.{◌≡◌, ℕ, ◌<◌, ◌≤◌, Bool, true, ltb, leb, eqb, List, [], ◌∷◌, length, Option, Some, None, arith}
+use Rattle.std.proofs.Common.{◌≡◌, ℕ, ◌<◌, ◌≤◌, true, ltb, leb, eqb, List, [], ◌∷◌, length, Option, Some, None, arith}
 use Rattle.std.specs.Prelude.{◌&&◌}
-use Rattle.std.specs.List.{list_all, AllByRecursion}
+use Rattle.std.specs.List.{list_all}
 use Rattle.std.proofs.lemmas.Bool.{ltb-true, leb-true, eqb-true, and_parts}
 use Rattle.std.proofs.lemmas.List.Elements.{All-from_recursion}
 use Rattle.bk_ids.specs.declared.path.Branch.{Branch}
 use Rattle.bk_world.specs.declared.header.Header.{Header}
 use Rattle.bk_world.specs.declared.header.HeaderFile.{HeaderFile}
+use Rattle.bk_lemmas.specs.Lists.{all_tested}
 use Rattle.bk_header.specs.Conditions.{HasPath, IsExpiry, KeepFiles, KeepsConditions, KeepsPath, total_extents}
 use Rattle.bk_header.specs.Keeping.{has_path, is_expiry, keeps_all, keeps_lists, keeps_texts, keeps_times, keeps_what}
 use Rattle.bk_header.specs.Laws.{has_base_true, numbered_true, range_true, rise_true}
 use Rattle.bk_header.specs.Reading.{are_files, are_numbered, has_its_base, is_path, is_range, starts_rise}
-
-all_true : {A : Type 0} (test : A → Bool) (P : A → Type 0) → ((x : A) → test x ≡ true → P x) → (xs : List A) → list_all test xs ≡ true → AllByRecursion P xs
-all_true test P is [] e = tt
-all_true test P is (x ∷ xs) e = let p = and_parts (test x) (list_all test xs) e in (is x p.0, all_true test P is xs p.1)
 
 expiry_true : (expiry : Option ℕ) → is_expiry expiry ≡ true → IsExpiry expiry
 expiry_true None e = tt
@@ -32,7 +29,7 @@ path_kept last (b ∷ path) e =
     let p = and_parts (eqb b.start 1 && starts_rise 1 path && list_all (λ b. ltb b.start last) (b ∷ path)) (leb (length (b ∷ path)) 64) e in
     let q = and_parts (eqb b.start 1 && starts_rise 1 path) (list_all (λ b. ltb b.start last) (b ∷ path)) p.0 in
     let r = and_parts (eqb b.start 1) (starts_rise 1 path) q.0 in
-    ((eqb-true _ _ r.0, (rise_true 1 path r.1, all_true (λ b. ltb b.start last) (λ b. b.start < last) (λ b t. ltb-true _ _ t) (b ∷ path) q.1)), leb-true _ _ p.1)
+    ((eqb-true _ _ r.0, (rise_true 1 path r.1, all_tested (λ b. ltb b.start last) (λ b. b.start < last) (λ b t. ltb-true _ _ t) (b ∷ path) q.1)), leb-true _ _ p.1)
 
 files_kept : (groups : ℕ) (files : List HeaderFile) → are_files groups files ≡ true → list_all (λ (file : HeaderFile). has_path file.spec.path) files ≡ true → KeepFiles groups files
 files_kept groups files e paths =
@@ -44,8 +41,8 @@ files_kept groups files e paths =
       some = ltb-true _ _ s.0;
       few = leb-true _ _ s.1;
       numbered = numbered_true 1 files r.1;
-      groups_there = all_true (λ (f : HeaderFile). ltb f.spec.group groups) (λ f. f.spec.group < groups) (λ f t. ltb-true _ _ t) files q.1;
-      paths = All-from_recursion HasPath files (all_true (λ (f : HeaderFile). has_path f.spec.path) HasPath (λ f t. path_true f.spec.path t) files paths);
+      groups_there = all_tested (λ (f : HeaderFile). ltb f.spec.group groups) (λ f. f.spec.group < groups) (λ f t. ltb-true _ _ t) files q.1;
+      paths = All-from_recursion HasPath files (all_tested (λ (f : HeaderFile). has_path f.spec.path) HasPath (λ f t. path_true f.spec.path t) files paths);
       small = leb-true _ _ p.1;
     }
 

@@ -1,6 +1,6 @@
 -- What the layers above may take of a home.
 use Rattle.std.proofs.Common.{◌≡◌, ℕ, List, [], ◌∷◌, length, map, take, Option, Some, None, refl, inl, inr, sym, ap, subst, ◌∙◌, arith}
-use Rattle.std.specs.Prelude.{unwrap_or, codes, Result, Err, IsErrOf}
+use Rattle.std.specs.Prelude.{unwrap_or, codes}
 use Rattle.std.proofs.lemmas.List.{length-map}
 use Rattle.bk_bytes.specs.Codec.{◌>>=◌}
 use Rattle.bk_device.specs.Calls.{contents}
@@ -143,7 +143,3 @@ home_count {disk = disk} {kept = kept} is =
     let same : map (part_of file) kept.gate.spans ≡ [] ∷ blobs_of disk.files =
     sym (gate_sealed is.gates) ∙ ap (λ (name : List ℕ). sealed (disk.files name)) is.gate_name ∙ is.rows in
     omega (arith, ap (λ (parts : List (List ℕ)). length parts) same, length-map kept.gate.spans (part_of file))
-
--- the same error of another result
-pub same_error : {T U E : Type 0} (e d : E) → IsErrOf {T = T} (Err e) d → IsErrOf {T = U} (Err e) d
-same_error {T} {U} {E} e d is = let same : e ≡ d = cc in ap (λ (x : E). let r : Result U E = Err x in r) same

@@ -3,7 +3,7 @@ use Rattle.std.proofs.Common.{◌≡◌, ◌≢◌, ◌≤◌, ◌⊎◌, inl, i
 use Rattle.std.specs.Prelude.{if◌then◌else◌, ◌&&◌, option_map, slice_get}
 use Rattle.std.specs.Str.{bytes_eq}
 use Rattle.bk_bytes.specs.Field.{AreBytes}
-use Rattle.bk_device.specs.Compose.{effect_weaken, effect_widen, keeps_by_effect, durable_kept}
+use Rattle.bk_device.specs.Compose.{effect_widen, keeps_by_effect, durable_kept}
 use Rattle.bk_device.specs.Disk.{Files, Disk, IsDurable}
 use Rattle.bk_device.specs.Effects.{Effect, IsName, KeepsFiles}
 use Rattle.bk_device.specs.Names.{same_or_other}
@@ -20,7 +20,6 @@ use Rattle.bk_media.specs.Laws.{nothing_sealed, sets_read, sets_are, names_diffe
 use Rattle.bk_media.specs.Media.{HasSets, LeavesMade, found_at, read_medium}
 use Rattle.bk_media.specs.Names.{medium_file}
 use Rattle.bk_kept.specs.declared.kept.Kept.{Kept}
-use Rattle.bk_plans.specs.declared.parts.Part.{Part}
 use Rattle.bk_plans.specs.declared.parts.Part.TheVariants as part
 use Rattle.bk_kept.specs.Keeps.{Keeps}
 use Rattle.bk_plans.specs.Planning.{MakesMedium}
@@ -32,10 +31,11 @@ use Rattle.bk_world.specs.Medium.{Reading, medium, medium_at}
 use Rattle.bk_instance.specs.declared.instance.Instance.{Instance}
 use Rattle.bk_instance.specs.Media.{KeepsMedia, MediaAreDurable, IfDurable, is_begun, shown_medium}
 use Rattle.bk_instance.specs.Stands.{AreMade, Covers, HoldsWorld, IsReady, StandsFor, IsOurs}
-use Rattle.bk_instance.specs.Steps.{CutsPart, DoesPart, Stays}
-use Rattle.bk_instance.proofs.KeptMedia.{SameMedia, is-self, not-other, found-in, shown-sealed, medium-here, medium-other}
-use Rattle.bk_instance.proofs.Standing.{Fits, not-own, own-widens, made-same, covers-now, covers-old}
-use Rattle.bk_instance.proofs.Waits.{covers-either, covers-now as covers-world, holds-none, holds-now}
+use Rattle.bk_instance.specs.Parts.{CutsPart, DoesPart}
+use Rattle.bk_instance.specs.MediaLaws.{SameMedia, found-in, shown-sealed}
+use Rattle.bk_instance.proofs.KeptMedia.{is-self, not-other, medium-here, medium-other}
+use Rattle.bk_instance.specs.StandsLaws.{Fits, not-own, own-widens, made-same, covers-now, covers-old}
+use Rattle.bk_instance.specs.HoldsLaws.{covers-either, covers-now as covers-world, holds-none, holds-now}
 
 -- what acts on media keep
 pub record MediaLaws : Type 0 where
@@ -202,10 +202,6 @@ made-does laws old i j first disk after path none still on kept blobs others has
     })
 
 -- What crashes leave on the way.
-
--- nothing but GUIDs was done
-pub part-none : (old : Instance) (before after : Disk) (p : Part) → Effect IsOurs (IfDurable before (Stays old before)) before after → Effect IsOurs (IfDurable before (CutsPart old before p)) before after
-part-none old before after p effect = effect_weaken (λ image here durable number w act stands is. inl (here durable number w stands)) effect
 
 -- the record names it
 pub made-named : {old i : Instance} {first disk after : Disk} {path : List ℕ} {r : Record} → Begins old i first disk path r → (MediaAreDurable first → MediaAreDurable disk)

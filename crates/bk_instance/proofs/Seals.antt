@@ -38,9 +38,10 @@ use Rattle.bk_instance.specs.Errors.{medium_error}
 use Rattle.bk_instance.specs.declared.instance.Instance.{Instance}
 use Rattle.bk_instance.specs.Media.{KeepsMedia, MediaAreDurable, IfDurable}
 use Rattle.bk_instance.specs.Stands.{AreMade, nothing, one_more, Covers, HoldsWorld, IsReady, IsStored, StandsFor, IsOurs}
-use Rattle.bk_instance.specs.Steps.{CutsPart, DoesPart, IsNoPart}
-use Rattle.bk_instance.proofs.Resting.{left-covers, stands-nothing, stored-nothing, calm-nothing}
-use Rattle.bk_instance.proofs.Waits.{covers-either, holds-none, holds-now, media-behind}
+use Rattle.bk_instance.specs.Parts.{CutsPart, DoesPart, IsNoPart}
+use Rattle.bk_instance.specs.StandsLaws.{covers-left}
+use Rattle.bk_instance.specs.RestLaws.{stands-nothing, stored-nothing, calm-nothing}
+use Rattle.bk_instance.specs.HoldsLaws.{covers-either, holds-none, holds-now, media-behind}
 
 -- Names.
 
@@ -226,12 +227,12 @@ covers-before number i disk w image ready stands holds home media = record {
 
 -- nothing was changed
 pub seal-nothing : (i : Instance) (a b : Disk) (path : List ℕ) (body : SetBody) → IsReady i → IsStored a i → ChangesNothing a b → Effect IsOurs (IfDurable a (CutsPart i a (SetSealed path body))) a b
-seal-nothing i a b path body ready stored call = effect_of_nothing (λ image left durable number w act stands is. inl (left-covers number i a w image ready stored durable left stands)) call
+seal-nothing i a b path body ready stored call = effect_of_nothing (λ image left durable number w act stands is. inl (covers-left number i a w image ready stored durable left stands)) call
 
 -- the medium was synced, or not
 pub seal-synced : (i : Instance) (a b : Disk) (path name : List ℕ) (body : SetBody) → IsReady i → IsStored a i → AreBytes path → name ≡ medium_file path → CallsOn name LeavesSame a b → Effect IsOurs (IfDurable a (CutsPart i a (SetSealed path body))) a b
 seal-synced i a b path name body ready stored bytes is_name call =
-    effect_of_sync (inr (path, bytes, is_name)) (λ image left durable number w act stands is. inl (left-covers number i a w image ready stored durable left stands)) call
+    effect_of_sync (inr (path, bytes, is_name)) (λ image left durable number w act stands is. inl (covers-left number i a w image ready stored durable left stands)) call
 
 -- what the set is added to
 pub record SealsOn (i : Instance) (a c : Disk) (path : List ℕ) : Type 0 where

@@ -6,9 +6,8 @@ use Rattle.bk_acts.specs.Meaning.{Means}
 use Rattle.bk_acts.specs.Spelling.{act_bytes, IsAct}
 use Rattle.bk_device.specs.Disk.{Files, Disk}
 use Rattle.bk_device.specs.Effects.{Effect}
-use Rattle.bk_device.specs.Compose.{effect_weaken}
 use Rattle.bk_home.specs.Home.{HomeIs, IsOwn, blobs_of}
-use Rattle.bk_machine.specs.Acts.{Act, done, says, goes_online, where_found, turned, created, dropped, logged, medium_made, set_sealed, based, replaced, restored, recovered}
+use Rattle.bk_machine.specs.Acts.{Act, done, says, goes_online, where_found}
 use Rattle.bk_machine.specs.MayDo.{MayDo}
 use Rattle.bk_machine.specs.Same.{SameLogs}
 use Rattle.bk_machine.specs.Sound.{IsSound, SetIn}
@@ -22,10 +21,10 @@ use Rattle.bk_world.specs.Lines.{log_below}
 use Rattle.bk_instance.specs.declared.instance.Instance.{Instance}
 use Rattle.bk_instance.specs.Media.{KeepsMedia, MediaAreDurable, IfDurable}
 use Rattle.bk_instance.specs.Stands.{AreMade, one_more, Covers, CoversBy, HoldsBehind, IsReady, StandsFor, IsOurs}
-use Rattle.bk_instance.specs.Steps.{CutsPart, DoesPart, Stays}
-use Rattle.bk_instance.proofs.KeptMedia.{SameMedia, media-in, media-on}
-use Rattle.bk_instance.proofs.Standing.{own-widens, covers-now}
-use Rattle.bk_instance.proofs.Waits.{holds-none, media-as}
+use Rattle.bk_instance.specs.Parts.{CutsPart, DoesPart}
+use Rattle.bk_instance.specs.MediaLaws.{SameMedia, media-in, media-on}
+use Rattle.bk_instance.specs.StandsLaws.{own-widens, covers-now}
+use Rattle.bk_instance.specs.HoldsLaws.{holds-none, media-as}
 
 -- what the machine's acts keep
 pub record ActLaws : Type 0 where
@@ -122,10 +121,6 @@ stored-covers laws i j disk stored bytes ready takes number w act image stands i
       made = stored-made laws i j disk w stored act bytes takes stands is;
       media = subst (λ making. KeepsMedia (done w act) making image) (sym ready.none) (media-in (done w act) None disk.files image same (stored-in laws i j disk w stored act bytes takes stands is).media);
     }
-
--- nothing but GUIDs was done
-pub stored-none : (old : Instance) (before after : Disk) (stored : StoredAct) → Effect IsOurs (IfDurable before (Stays old before)) before after → Effect IsOurs (IfDurable before (CutsPart old before (part.Stored stored))) before after
-stored-none old before after stored effect = effect_weaken (λ image here durable number w act stands is. inl (here durable number w stands)) effect
 
 -- its blob is appended
 pub stored-crash : (laws : ActLaws) (old i j : Instance) (first before after : Disk) (stored : StoredAct) (bytes : List ℕ) → IsReady i → TakesIn i j stored bytes → i.waiting ≡ old.waiting → ((w : World) → StandsFor old first w → StandsFor i before w)

@@ -1,10 +1,9 @@
 -- Acts that wait, and what waits is stored.
-use Rattle.std.proofs.Common.{◌≡◌, ◌⊎◌, inl, inr, ℕ, List, [], ◌∷◌, ◌++◌, Option, None, Some, Ok, Err, refl, sym, ◌∙◌, subst}
-use Rattle.std.specs.Prelude.{MatchOption, Result, OnOk}
+use Rattle.std.proofs.Common.{◌≡◌, ◌⊎◌, inl, inr, ℕ, List, [], ◌∷◌, ◌++◌, Option, None, Some, refl, sym, ◌∙◌, subst}
+use Rattle.std.specs.Prelude.{MatchOption}
 use Rattle.bk_acts.specs.declared.act.StoredAct.{StoredAct}
 use Rattle.bk_acts.specs.declared.act.StoredAct.TheVariants.{Created, Dropped, Logged, Based, Replaced, Restored, Recovered}
 use Rattle.bk_acts.specs.Spelling.{act_bytes, IsAct}
-use Rattle.bk_device.specs.Compose.{effect_then, effect_weaken}
 use Rattle.bk_device.specs.Disk.{Files, Disk}
 use Rattle.bk_device.specs.Effects.{Effect}
 use Rattle.bk_home.specs.Home.{HomeIs, IsOwn, blobs_of}
@@ -12,18 +11,16 @@ use Rattle.bk_machine.specs.Acts.{Act, done}
 use Rattle.bk_machine.specs.MayDo.{MayDo}
 use Rattle.bk_machine.specs.Sound.{IsSound}
 use Rattle.bk_machine.specs.World.{World}
-use Rattle.bk_plans.specs.declared.parts.Part.{Part}
-use Rattle.bk_plans.specs.declared.parts.Part.TheVariants as part
 use Rattle.bk_kept.specs.Keeps.{Keeps}
 use Rattle.bk_kept.specs.Stored.{IsDone, drawn_by}
 use Rattle.bk_waiting.specs.Waiting.{IsJoined, IsSaid, Joins, MayJoin, WaitsFor, joined}
 use Rattle.bk_instance.specs.declared.instance.Instance.{Instance}
-use Rattle.bk_instance.specs.Media.{KeepsMedia, MediaAreDurable, IfDurable}
-use Rattle.bk_instance.specs.Stands.{AreMade, one_more, Covers, HoldsBefore, HoldsBehind, HoldsWorld, IsReady, StandsFor, IsOurs}
-use Rattle.bk_instance.specs.Steps.{CutsPart, DoesInMemory, DoesPart, IsNoPart, Stays}
-use Rattle.bk_instance.proofs.KeptMedia.{SameMedia, media-in}
-use Rattle.bk_instance.proofs.Standing.{covers-now, covers-old, own-widens, ready-fits}
-use Rattle.bk_instance.proofs.Waits.{covers-either, covers-now as covers-world, holds-none, media-behind}
+use Rattle.bk_instance.specs.Media.{KeepsMedia, IfDurable}
+use Rattle.bk_instance.specs.Stands.{AreMade, one_more, HoldsBefore, HoldsBehind, IsReady, StandsFor, IsOurs}
+use Rattle.bk_instance.specs.Parts.{DoesInMemory, Stays}
+use Rattle.bk_instance.specs.MediaLaws.{SameMedia, media-in}
+use Rattle.bk_instance.specs.StandsLaws.{covers-now, covers-old, own-widens, ready-fits}
+use Rattle.bk_instance.specs.HoldsLaws.{covers-either, holds-none, media-behind}
 
 -- What waits is stored.
 
@@ -76,23 +73,6 @@ flushed-crash i before after bytes ready in_it effect =
 pub none-stands : (i j : Instance) (disk : Disk) (w : World) → j ≡ i → StandsFor i disk w → StandsFor j disk w
 none-stands i j disk w same stands = subst (λ x. StandsFor x disk w) (sym same) stands
 
--- A part is done once what waited is stored.
-
-pub then-does : (old mid new : Instance) (first before after : Disk) (p : Part) → ((w : World) → StandsFor old first w → StandsFor mid before w) → DoesPart mid before p new after → DoesPart old first p new after
-then-does old mid new first before after p on does w act stands is = does w act (on w stands) is
-
-pub then-none : (old mid : Instance) (first before : Disk) (p : Part) → ((w : World) → StandsFor old first w → StandsFor mid before w) → IsNoPart mid before p → IsNoPart old first p
-then-none old mid first before p on none w act stands is = none w act (on w stands) is
-
-pub then-cut : (old mid : Instance) (first before after : Disk) (p : Part) → Effect IsOurs (IfDurable first (Stays old first)) first before → mid.waiting ≡ None → ((w : World) → StandsFor old first w → StandsFor mid before w)
-    → (MediaAreDurable first → MediaAreDurable before) → Effect IsOurs (IfDurable before (CutsPart mid before p)) before after → Effect IsOurs (IfDurable first (CutsPart old first p)) first after
-then-cut old mid first before after p flushed none on calm effect =
-    effect_then (effect_weaken (λ image here durable number w act stands is. inl (here durable number w stands)) flushed)
-    (effect_weaken (λ image here durable number w act stands is. elim (here (calm durable) number w act (on w stands) is) [
-      | inl was ↦ inl (covers-either old.waiting number image w (covers-world mid.waiting number image w none was))
-      | inr behind ↦ inr behind
-    ]) effect)
-
 -- An act waits.
 
 -- what the laws say of acts that wait
@@ -114,10 +94,6 @@ waits-does laws old new stored waiting may keeps files w act sound kept holds is
   (keeps w act sound kept is, subst (λ o. HoldsBehind o files (done w act)) (sym waiting) (holds-more laws old.waiting files w stored act sound holds is may)),
 )
 
--- a part is done so
-pub part-waits : (old new : Instance) (disk : Disk) (stored : StoredAct) → DoesInMemory old stored new → DoesPart old disk (part.Stored stored) new disk
-part-waits old new disk stored does w act stands is = let behind = does disk.files w act stands.sound stands.keeps stands.holds is in record { sound = behind.0; keeps = behind.1.0; holds = behind.1.1 }
-
 -- what is said draws no GUID
 pub said-draws : (stored : StoredAct) → IsSaid stored → drawn_by stored ≡ 0
 said-draws (Created creation) said = absurd said
@@ -127,8 +103,3 @@ said-draws (Based name header) said = refl
 said-draws (Replaced name body) said = refl
 said-draws (Restored name base redo) said = refl
 said-draws (Recovered name at branch records) said = absurd said
-
--- what follows from what holds where there is no error
-pub on-ok : {A E P Q : Type 0} (result : Result A E) → OnOk result P → (P → Q) → OnOk result Q
-on-ok (Ok value) holds then = then holds
-on-ok (Err error) holds then = tt

@@ -1,8 +1,6 @@
 -- What the errors of the layers below come to.
-use Rattle.bk_kept.specs.declared.error.ApplyError.{ApplyError}
-use Rattle.bk_kept.specs.declared.error.ApplyError.TheVariants as apply
-use Rattle.bk_acts.specs.declared.unread.Unread.{Unread}
-use Rattle.bk_acts.specs.declared.unread.Unread.TheVariants as unread
+use Rattle.bk_taking.specs.declared.error.ApplyError.{ApplyError}
+use Rattle.bk_taking.specs.declared.error.ApplyError.TheVariants as apply
 use Rattle.bk_home.specs.declared.error.HomeError.{HomeError}
 use Rattle.bk_home.specs.declared.error.HomeError.TheVariants as home
 use Rattle.bk_media.specs.declared.error.AddError.{AddError}
@@ -13,10 +11,6 @@ use Rattle.bk_media.specs.declared.error.MakeError.{MakeError}
 use Rattle.bk_media.specs.declared.error.MakeError.TheVariants as make
 use Rattle.bk_instance.specs.declared.error.ExecuteError.{ExecuteError}
 use Rattle.bk_instance.specs.declared.error.ExecuteError.TheVariants.{Fault, NoMemory, Broken}
-use Rattle.bk_instance.specs.declared.error.LoadError.{LoadError}
-use Rattle.bk_instance.specs.declared.error.LoadError.TheVariants as load
-
--- where a statement is executed
 
 abbrev pub home_error : HomeError → ExecuteError
 home_error home.NotAnInstance = Broken
@@ -41,24 +35,3 @@ medium_error medium.Missing = Broken
 medium_error medium.NotMedia = Broken
 medium_error medium.Fault = Fault
 medium_error medium.NoMemory = NoMemory
-
--- where an instance is loaded
-
-abbrev pub opened_error : HomeError → LoadError
-opened_error home.NotAnInstance = load.NotAnInstance
-opened_error home.Broken = load.Broken
-opened_error home.Fault = load.Fault
-opened_error home.NoMemory = load.NoMemory
-
-abbrev pub unread_error : Unread → LoadError
-unread_error unread.NoAct = load.Broken
-unread_error unread.NoMemory = load.NoMemory
-
-abbrev pub unfit_error : ApplyError → LoadError
-unfit_error apply.Unfit = load.Broken
-unfit_error apply.NoMemory = load.NoMemory
-
-abbrev pub settled_error : ExecuteError → LoadError
-settled_error Fault = load.Fault
-settled_error NoMemory = load.NoMemory
-settled_error Broken = load.Unsettled

@@ -1,5 +1,5 @@
 -- The media of a world as files.
-use Rattle.std.specs.Prelude.{◌≡◌, ℕ, Bool, true, false, List, [], ◌∷◌, Option, Some, None, Result, Ok, Err, if◌then◌else◌, ◌&&◌}
+use Rattle.std.specs.Prelude.{◌≡◌, ℕ, Bool, true, false, List, [], ◌∷◌, Option, Some, None, if◌then◌else◌, ◌&&◌}
 use Rattle.std.specs.Str.{bytes_eq}
 use Rattle.bk_bytes.specs.Field.{AreBytes}
 use Rattle.bk_device.specs.Disk.{Files, Disk, IsDurable}
@@ -8,10 +8,8 @@ use Rattle.bk_media.specs.Media.{read_medium, found_at}
 use Rattle.bk_media.specs.Names.{medium_file}
 use Rattle.bk_set.specs.declared.body.SetBody.{SetBody}
 use Rattle.bk_set.specs.declared.found.Found.TheVariants.{Holds}
-use Rattle.bk_world.specs.declared.rule.Rule.{Rule}
 use Rattle.bk_world.specs.Medium.{Reading, medium_at}
 use Rattle.bk_machine.specs.World.{World}
-use Rattle.bk_machine.specs.statements.Restore.{first_set}
 use Rattle.bk_kept.specs.Stored.{Carries}
 
 -- the medium at this path is the one that is being made
@@ -40,8 +38,3 @@ MediaAreDurable disk = (path : List ℕ) → AreBytes path → IsDurable disk (m
 -- an image is like this where nothing was pending in any medium
 abbrev pub IfDurable : Disk → (Files → Type 0) → Files → Type 0
 IfDurable disk Is image = MediaAreDurable disk → Is image
-
--- what the first set of a file is: the body that it holds, or the rule by which it is refused
-abbrev pub IsFirst : Option (List ℕ) → Result SetBody Rule → Type 0
-IsFirst file (Ok body) = (first_set (read_medium file) ≡ Ok body.header) × (found_at file 1 ≡ Some (Holds body))
-IsFirst file (Err rule) = first_set (read_medium file) ≡ Err rule

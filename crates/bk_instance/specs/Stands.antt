@@ -7,7 +7,6 @@ use Rattle.bk_device.specs.Disk.{Files, Disk}
 use Rattle.bk_home.specs.declared.record.Record.{Record}
 use Rattle.bk_home.specs.Home.{IsNotMade, HomeIs, IsHome, IsOwn, blobs_of, fresh}
 use Rattle.bk_machine.specs.Acts.{Act, done, done_all}
-use Rattle.bk_machine.specs.Closing.{AreClosing}
 use Rattle.bk_machine.specs.Same.{SameLogs}
 use Rattle.bk_machine.specs.Settled.{IsSettledTo}
 use Rattle.bk_machine.specs.Sound.{IsSound, AreIdle}
@@ -124,7 +123,3 @@ pub record StandsFor (i : Instance) (disk : Disk) (w : World) : Type 0 where
 -- the files that an instance may touch: its own, and media
 abbrev pub IsOurs : List ℕ → Type 0
 IsOurs name = IsOwn name ⊎ ((path : List ℕ) × AreBytes path × (name ≡ medium_file path))
-
--- at the end of a run, each crash leaves a world behind a front of the rollbacks that close it
-abbrev pub CutsEnd : Instance → Disk → Files → Type 0
-CutsEnd i before image = (number : ℕ) (w : World) → StandsFor i before w → (closing : List Act) × AreClosing w closing × CutIn number w closing image

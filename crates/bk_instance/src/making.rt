@@ -1,5 +1,4 @@
 // How a backup makes its medium, and seals its set there.
-ghost use Rattle.std.specs.Prelude.{◌≡◌, IfOk};
 
 use crate::error::ExecuteError;
 use crate::instance::Instance;
@@ -11,7 +10,7 @@ use bk_media::{Medium, medium_file};
 use bk_set::SetBody;
 
 impl Instance {
-    ghost use Rattle.std.specs.Prelude.{◌≡◌, ◌≤◌, true, None, OnOk, IsErrOf};
+    ghost use Rattle.std.specs.Prelude.{◌≡◌, true, None, OnOk, IsErrOf};
     ghost use Rattle.bk_device.specs.Counts.{HasCause};
     ghost use Rattle.bk_device.specs.Effects.{Effect};
     ghost use Rattle.bk_machine.specs.Checks.{is_path};
@@ -19,17 +18,13 @@ impl Instance {
     ghost use Rattle.bk_set.specs.Conditions.{KeepsBody};
     ghost use Rattle.bk_instance.specs.Media.{MediaAreDurable, IfDurable};
     ghost use Rattle.bk_instance.specs.Stands.{IsReady, IsStored, IsOurs};
-    ghost use Rattle.bk_instance.specs.Steps.{CutsPart, DoesPart, IsNoPart};
+    ghost use Rattle.bk_instance.specs.Parts.{CutsPart, DoesPart, IsNoPart};
     ghost use Rattle.bk_instance.specs.Touched.{PartWrites, TouchesOnly};
     ghost use Rattle.bk_instance.specs.declared.error.ExecuteError.TheVariants.{Broken, Fault};
 
     /// Makes a medium without sets at a path where nothing is, for a set whose GUID is drawn. The record names it until it is
     /// made, so a crash leaves no medium there, or a whole one without sets.
-    pub(crate) fn make_medium<D: Device>(
-        &mut self,
-        dev: &mut D,
-        path: &Text,
-    ) -> Result<(), ExecuteError>
+    pub fn make_medium<D: Device>(&mut self, dev: &mut D, path: &Text) -> Result<(), ExecuteError>
         requires ready { IsReady self.old }
         requires none { self.old.waiting ≡ None }
         requires path { is_path path.now ≡ true }
@@ -69,7 +64,7 @@ impl Instance {
 
     /// Seals a set behind those on the medium at a path. What a read shows of the medium is made durable first: a process that
     /// was stopped may have left writes there that are still pending.
-    pub(crate) fn seal_set<D: Device>(
+    pub fn seal_set<D: Device>(
         &mut self,
         dev: &mut D,
         path: &Text,

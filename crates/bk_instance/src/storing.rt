@@ -5,8 +5,8 @@ use crate::instance::Instance;
 use bk_acts::StoredAct;
 use bk_device::Device;
 use bk_home::Record;
-use bk_kept::draws;
 use bk_machine::{acts_keep_worlds_sound, logs_that_stay, sets_that_stay};
+use bk_taking::{apply, draws};
 use bk_waiting::{Waiting, what_waits_is_joined};
 
 // GUIDs from here on, 2^62 - 2^32, are kept for what is never refused.
@@ -22,7 +22,7 @@ impl Instance {
     ghost use Rattle.bk_instance.specs.Media.{MediaAreDurable, IfDurable};
     ghost use Rattle.bk_instance.specs.Stands.{IsReady, IsStored, IsOurs, ReservesNone, StandsFor};
     ghost use Rattle.bk_kept.specs.Stored.{drawn_by};
-    ghost use Rattle.bk_instance.specs.Steps.{CutsPart, DoesInMemory, DoesPart, IsNoAct, IsNoPart, Stays};
+    ghost use Rattle.bk_instance.specs.Parts.{CutsPart, DoesInMemory, DoesPart, IsNoAct, IsNoPart, Stays};
     ghost use Rattle.bk_instance.specs.Touched.{PartWrites, TouchesOnly, TouchesOwn};
     ghost use Rattle.bk_instance.specs.declared.error.ExecuteError.TheVariants.{Broken, Fault};
     ghost use Rattle.bk_machine.specs.Checks.{used_up};
@@ -68,7 +68,7 @@ impl Instance {
     }
 
     /// Stores what waits, if something does: by one blob. Then nothing waits.
-    pub(crate) fn flush<D: Device>(&mut self, dev: &mut D) -> Result<(), ExecuteError>
+    pub fn flush<D: Device>(&mut self, dev: &mut D) -> Result<(), ExecuteError>
         requires ready { IsReady self.old }
         requires stored { D.tells → IsStored (D.disk dev.old) self.old }
         ensures ready { OnOk result (IsReady self.new) }
@@ -93,7 +93,7 @@ impl Instance {
     }
 
     /// Takes an act in that may wait behind what waits. It touches no device.
-    pub(crate) fn wait(&mut self, act: &StoredAct) -> Result<(), ExecuteError>
+    pub fn wait(&mut self, act: &StoredAct) -> Result<(), ExecuteError>
         requires ready { IsReady self.old }
         requires keeps { KeepsAct act.now }
         requires may { MayJoin self.old.waiting act.now }
@@ -107,18 +107,14 @@ impl Instance {
         acts_keep_worlds_sound();
         what_waits_is_joined();
         self.waiting.add(self.alloc, act)?;
-        self.kept.apply(self.alloc, act)?;
+        apply(self.alloc, &mut self.kept, act)?;
         Ok(())
     }
 
     /// Does a stored act: stores what waits before it, or joins it with that; reserves the GUIDs that it draws, takes it in in
     /// memory, and then in the instance's file. Then nothing waits. A crash leaves the world before it, but for what waits there, or
     /// the world behind it.
-    pub(crate) fn store<D: Device>(
-        &mut self,
-        dev: &mut D,
-        act: &StoredAct,
-    ) -> Result<(), ExecuteError>
+    pub fn store<D: Device>(&mut self, dev: &mut D, act: &StoredAct) -> Result<(), ExecuteError>
         requires ready { IsReady self.old }
         requires keeps { KeepsAct act.now }
         requires stored { D.tells → IsStored (D.disk dev.old) self.old }
@@ -165,7 +161,7 @@ impl Instance {
         what_waits_is_joined();
         self.reserve(dev, draws(act))?;
         let bytes = self.waiting.bytes_with(self.alloc, act)?;
-        self.kept.apply(self.alloc, act)?;
+        apply(self.alloc, &mut self.kept, act)?;
         self.home.append(dev, &bytes)?;
         self.waiting = Waiting::none();
         Ok(())

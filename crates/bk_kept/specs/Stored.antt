@@ -3,7 +3,7 @@ use Rattle.std.specs.Prelude.{◌≡◌, ℕ, false, List, []}
 use Rattle.bk_acts.specs.declared.act.StoredAct.{StoredAct}
 use Rattle.bk_acts.specs.declared.act.StoredAct.TheVariants.{Created, Logged as LoggedAct, Replaced, Recovered}
 use Rattle.bk_acts.specs.Meaning.{Means, Spell}
-use Rattle.bk_machine.specs.Acts.{Act, turned, seated, created, dropped, logged, medium_made, set_sealed, based, replaced, restored, recovered}
+use Rattle.bk_machine.specs.Acts.{Act, turned, seated, created, dropped, logged, medium_made, set_sealed, based, replaced, restored, recovered, Recovery}
 use Rattle.bk_machine.specs.Checks.{used_up}
 use Rattle.bk_machine.specs.MayDo.{HoldsOf, MayDo}
 use Rattle.bk_machine.specs.Sound.{files_of_set}
@@ -11,6 +11,7 @@ use Rattle.bk_machine.specs.World.{World, Database, database_named, log_of}
 use Rattle.bk_set.specs.declared.body.SetBody.{SetBody}
 use Rattle.bk_shown.specs.Ends.{HoldsPending}
 use Rattle.bk_shown.specs.Shown.{AreNext, ArePlaced}
+use Rattle.bk_world.specs.declared.transaction.Open.{Open}
 use Rattle.bk_world.specs.Lines.{RecordLines, log_below}
 use Rattle.bk_world.specs.PlacedRows.{AreRowsOf}
 use Rattle.bk_world.specs.Records.{Said, numbered}
@@ -68,3 +69,15 @@ abbrev pub drawn_by : StoredAct → ℕ
 drawn_by (Created creation) = 2
 drawn_by (Recovered name at branch records) = 1
 drawn_by _ = 0
+
+-- The database of a name may say this, behind which these transactions are open, and these bytes spell it from the database's end on.
+pub record SaysNamed (w : World) (name bytes : List ℕ) (said : List Said) (transactions : List Open) : Type 0 where
+  pub may : MayDo w (logged name said transactions)
+  pub can : HoldsOf (database_named w.databases name) (λ (db : Database). AreNext db.files (log_of w.history db) (numbered db.end said))
+  pub spelled_is : HoldsOf (database_named w.databases name) (λ (db : Database). Spell bytes db.end said)
+
+-- The database of a name may be recovered at its end, and these bytes spell what the recovery says.
+pub record RecoversNamed (w : World) (name bytes : List ℕ) (r : Recovery) : Type 0 where
+  pub may : MayDo w (recovered name r)
+  pub can : HoldsOf (database_named w.databases name) (λ (db : Database). (r.at ≡ db.end) × AreNext db.files (log_of w.history db) (numbered r.at r.said))
+  pub spelled_is : Spell bytes r.at r.said

@@ -1,22 +1,16 @@
-//! The databases that an instance keeps in memory, the worlds that they stand for, and what stored acts make of them.
+//! The databases that an instance keeps in memory, and the worlds that they stand for.
 #![tactic(auto)]
 
-mod applying;
-mod error;
+mod copying;
 mod finding;
 mod kept;
-mod making;
 mod numbers;
-mod recovering;
-mod replacing;
-mod saying;
 mod sessions;
 mod telling;
 mod transactions;
 
-pub use applying::{apply, draws};
-pub use error::ApplyError;
+pub use copying::{copy_file, copy_groups};
 pub use kept::{Database, Kept, Session};
 pub use numbers::used_up;
-pub use replacing::{copy_file, copy_groups};
+pub use telling::is_simple;
 pub use transactions::copy_transactions;

@@ -19,8 +19,8 @@ fn first_table<'a>(tables: &'a [TableSpec], name: &str) -> Option<&'a TableSpec>
         .find(|t| t.name.as_str().eq_ignore_ascii_case(name))
 }
 
-// Whether the log isn't kept for backups.
-pub(crate) fn is_simple(model: RecoveryModel) -> bool
+/// Whether a log isn't kept for backups under this model.
+pub fn is_simple(model: RecoveryModel) -> bool
     ensures { result ≡ acts.is_simple model }
 {
     matches!(model, RecoveryModel::Simple)

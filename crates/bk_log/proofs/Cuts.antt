@@ -10,17 +10,17 @@ use Rattle.bk_device.specs.Compose.{effect_then, effect_weaken, effect_widen, ke
 use Rattle.bk_device.specs.Disk.{Files, Disk}
 use Rattle.bk_device.specs.Effects.{Effect, IsName}
 use Rattle.bk_gate.specs.Blobs.{sealed}
-use Rattle.bk_gate.specs.BlobLaws.{equal_or_not}
 use Rattle.bk_gate.specs.Laws.{gate_kept}
 use Rattle.bk_ids.specs.declared.record.Rec.{Rec}
-use Rattle.bk_log.specs.declared.head.Head.{Head}
-use Rattle.bk_log.specs.declared.segments.Segment.{Segment}
-use Rattle.bk_log.specs.Control.{read_control, IsSound}
-use Rattle.bk_log.specs.Records.{records_of, IsRun}
-use Rattle.bk_log.specs.RunLaws.{records_append, run_split}
-use Rattle.bk_log.specs.Log.{control_file, segment_file, IsOwn, IsBeside, IsNamed, BeginsAt, IsFirstAt, blobs_at, blobs_from, blobs_of, shown, value_of, cut_at, AreBegun, Holds, IsTidy, Logged, LogIs, Kept, IsLog, AreDurable}
-use Rattle.bk_log.specs.FileLaws.{control_not_segment, one_segment, blobs_same, begun_same, log_is, shown_same, shown_cut}
-use Rattle.bk_log.specs.SegmentLaws.{Below, get_dropped, blobs_split, segments_same, segments_dropped}
+use Rattle.bk_segments.specs.declared.head.Head.{Head}
+use Rattle.bk_segments.specs.declared.segments.Segment.{Segment}
+use Rattle.bk_segments.specs.Control.{read_control, IsSound}
+use Rattle.bk_segments.specs.Records.{records_of, IsRun}
+use Rattle.bk_segments.specs.RunLaws.{records_append, run_split}
+use Rattle.bk_log.specs.Log.{value_of, Kept, IsLog}
+use Rattle.bk_segments.specs.Files.{control_file, segment_file, IsOwn, IsBeside, IsNamed, BeginsAt, IsFirstAt, blobs_at, blobs_from, blobs_of, shown, cut_at, AreBegun, Holds, IsTidy, Logged, LogIs, AreDurable}
+use Rattle.bk_segments.specs.FileLaws.{control_not_segment, one_segment, blobs_same, begun_same, log_is, shown_same, shown_cut}
+use Rattle.bk_segments.specs.SegmentLaws.{Below, get_dropped, blobs_split, segments_same, segments_dropped}
 use Rattle.bk_log.specs.Laws.{control_there, control_is, still, segment_left}
 use Rattle.bk_bytes.specs.Codec.{◌>>=◌}
 use Rattle.bk_log.proofs.Makes.{Same, load_nothing, opened_value}
@@ -321,41 +321,6 @@ load_tidy db head a b holds tidy other held n low high where_it =
     tidy n (subst Low (sym same) low) (subst High (sym same) high) where_it
 
 -- ---- which segments are left
-
--- a segment begins with one record
-pub begins_once : (segments : List Segment) (i m n : ℕ) → BeginsAt segments i m → BeginsAt segments i n → n ≡ m
-begins_once segments i m n one two =
-    let both : Some one.0 ≡ Some two.0 = sym one.1 ∙ two.1 in
-    let same : one.0 ≡ two.0 = cc in
-    sym two.2 ∙ ap (λ (s : Segment). s.first) (sym same) ∙ one.2
-
-pub below_none : (segments : List Segment) (to : ℕ) → Below segments to 0 1
-below_none segments to = record { low = omega arith; within = λ some. absurd (some refl); first = λ n some. absurd (some refl); rest = λ k n above under. absurd (omega (arith, above, under)) }
-
-pub below_here : (segments : List Segment) (to count i r : ℕ) → 1 ≤ i → i < length segments → Below segments to count i → BeginsAt segments i r → r ≤ to → Below segments to i (i + 1)
-below_here segments to count i r least inside below begins within = record {
-  low = omega arith;
-  within = λ some. inside;
-  first = λ n some at. let same : n ≡ r = begins_once segments i r n begins at in omega (arith, same, within);
-  rest = λ k n above under. absurd (omega (arith, above, under));
-}
-
-pub below_not : (segments : List Segment) (to count i r : ℕ) → Below segments to count i → BeginsAt segments i r → to < r → Below segments to count (i + 1)
-below_not segments to count i r below begins past = record {
-  low = omega (arith, below.low);
-  within = below.within;
-  first = below.first;
-  rest = λ k n above under at. elim (before_or_at k i (omega (arith, under))) [
-    | inl before ↦ below.rest k n above before at
-    | inr same ↦
-        let here : BeginsAt segments i n = subst (λ (m : ℕ). BeginsAt segments m n) same at in
-        let one : n ≡ r = begins_once segments i r n begins here in
-        omega (arith, one, past)
-  ];
-}
-  where
-    before_or_at : (k i : ℕ) → k ≤ i → (k < i) ⊎ (k ≡ i)
-    before_or_at k i within = elim (equal_or_not k i) [ inl same ↦ inr same | inr differ ↦ inl (omega (arith, within, differ)) ]
 
 -- no other one lies below the kept point
 pub least_kept : (old new : List Segment) (to count : ℕ) → ((i n : ℕ) → count < i → BeginsAt old i n → to < n) → count ≡ 0 → new ≡ old → IsFirstAt new to

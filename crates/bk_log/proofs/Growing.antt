@@ -6,19 +6,20 @@ use Rattle.bk_device.specs.Compose.{effect_then, effect_weaken, effect_widen, ke
 use Rattle.bk_device.specs.Disk.{Files, Disk, IsDurable}
 use Rattle.bk_device.specs.Effects.{Effect, IsName}
 use Rattle.bk_gate.specs.Blobs.{sealed}
-use Rattle.bk_gate.specs.BlobLaws.{equal_or_not}
 use Rattle.bk_gate.specs.Gate.{IsGate, Kept as KeptGate}
 use Rattle.bk_gate.specs.Laws.{gate_kept}
 use Rattle.bk_ids.specs.declared.record.Rec.{Rec}
-use Rattle.bk_log.specs.declared.head.Head.{Head}
-use Rattle.bk_log.specs.declared.segments.Segment.{Segment}
-use Rattle.bk_log.specs.Control.{read_control, IsSound}
-use Rattle.bk_log.specs.Records.{records_of, IsRun}
-use Rattle.bk_log.specs.Log.{control_file, segment_file, IsOwn, blobs_at, blobs_from, blobs_of, shown, value_of, with_more, AreBegun, AreSegments, IsAdded, Logged, LogIs, Kept, IsLog}
-use Rattle.bk_log.specs.FileLaws.{control_not_segment, one_segment, blobs_same, begun_same, all_blobs, log_is, shown_same}
-use Rattle.bk_log.specs.RunLaws.{run_begun, records_begun, one_blob}
+use Rattle.bk_lemmas.specs.Tests.{equal_or_not}
+use Rattle.bk_segments.specs.declared.head.Head.{Head}
+use Rattle.bk_segments.specs.declared.segments.Segment.{Segment}
+use Rattle.bk_segments.specs.Control.{read_control, IsSound}
+use Rattle.bk_segments.specs.Records.{records_of, IsRun}
+use Rattle.bk_log.specs.Log.{value_of, Kept, IsLog}
+use Rattle.bk_segments.specs.Files.{control_file, segment_file, IsOwn, blobs_at, blobs_from, blobs_of, shown, with_more, AreBegun, AreSegments, IsAdded, Logged, LogIs}
+use Rattle.bk_segments.specs.FileLaws.{control_not_segment, one_segment, blobs_same, begun_same, all_blobs, log_is, shown_same}
+use Rattle.bk_segments.specs.RunLaws.{run_begun, records_begun, one_blob}
 use Rattle.bk_log.specs.Laws.{control_there, control_is, still, segment_left}
-use Rattle.bk_log.specs.SegmentLaws.{segments_same, segments_added}
+use Rattle.bk_segments.specs.SegmentLaws.{segments_same, segments_added}
 
 -- the head with one segment more
 abbrev pub next : Head → Head

@@ -1,10 +1,7 @@
 pub mod Cuts
-pub mod Errors
 pub mod Growing
-pub mod Heads
 pub mod Makes
 pub mod Parts
 pub mod Removals
 pub mod Resets
-pub mod First
 pub mod Steps

@@ -7,22 +7,8 @@ use Rattle.bk_bytes.specs.Field.{bytes_of, number_of}
 use Rattle.bk_bytes.specs.FieldLaws.{length-bytes_of, number_of-bytes_of}
 use Rattle.bk_ids.specs.declared.record.Rec.{Rec}
 use Rattle.bk_record.specs.Spelling.{spelling, inside, IsRecord}
-use Rattle.bk_log.specs.Log.{blobs_from}
-use Rattle.bk_log.specs.Records.{records_in, records_of, joined, IsBatch}
-
--- ---- bytes that were gathered
-
-pub joined_append : (a b : List (List ℕ)) → joined (a ++ b) ≡ joined a ++ joined b
-joined_append a b = flat_map-append (λ (blob : List ℕ). blob) a b
-
-pub joined_more : (blobs : List (List ℕ)) (start old blob new : List ℕ) → old ≡ start ++ joined blobs → new ≡ old ++ blob → new ≡ start ++ joined (blobs ++ blob ∷ [])
-joined_more blobs start old blob new so_far added =
-    let more : joined (blobs ++ blob ∷ []) ≡ joined blobs ++ blob = joined_append blobs (blob ∷ []) ∙ ap (λ (x : List ℕ). joined blobs ++ x) (append-nil blob) in
-    added ∙ ap (λ (x : List ℕ). x ++ blob) so_far ∙ append_assoc start (joined blobs) blob ∙ ap (λ (x : List ℕ). start ++ x) (sym more)
-
-pub joined_segment : (blobs : ℕ → List (List ℕ)) (front i : ℕ) (old new : List ℕ) → old ≡ joined (blobs_from blobs front i) → new ≡ old ++ joined (blobs (front + i)) → new ≡ joined (blobs_from blobs front (i + 1))
-joined_segment blobs front i old new so_far added =
-    added ∙ ap (λ (x : List ℕ). x ++ joined (blobs (front + i))) so_far ∙ sym (joined_append (blobs_from blobs front i) (blobs (front + i))) ∙ ap (λ (n : ℕ). joined (blobs_from blobs front n)) (sym (add-one i))
+use Rattle.bk_segments.specs.Records.{records_in, records_of, joined, IsBatch}
+use Rattle.bk_record.specs.RecordsLaws.{all_records, some_bytes}
 
 -- batches are the spellings of their records
 pub joined_spelled : (blobs : List (List ℕ)) → AllByRecursion IsBatch blobs → joined blobs ≡ flat_map spelling (records_of blobs)
@@ -30,13 +16,9 @@ joined_spelled [] all = refl
 joined_spelled (blob ∷ blobs) all =
     ap (λ (x : List ℕ). x ++ joined blobs) all.0.spelled ∙ ap (λ (x : List ℕ). flat_map spelling (records_in blob) ++ x) (joined_spelled blobs all.1) ∙ sym (flat_map-append spelling (records_in blob) (records_of blobs))
 
-are_append : (a b : List Rec) → AllByRecursion IsRecord a → AllByRecursion IsRecord b → AllByRecursion IsRecord (a ++ b)
-are_append [] b here there = there
-are_append (r ∷ a) b here there = (here.0, are_append a b here.1 there)
-
 pub records_are : (blobs : List (List ℕ)) → AllByRecursion IsBatch blobs → AllByRecursion IsRecord (records_of blobs)
 records_are [] all = tt
-records_are (blob ∷ blobs) all = are_append (records_in blob) (records_of blobs) all.0.are_records (records_are blobs all.1)
+records_are (blob ∷ blobs) all = all_records (records_in blob) (records_of blobs) all.0.are_records (records_are blobs all.1)
 
 -- ---- where records begin
 
@@ -47,10 +29,6 @@ length_there r rest is =
     ap (number_of 4) (append_assoc (bytes_of 4 (4 + length (inside r))) (inside r) rest)
     ∙ number_of-bytes_of 4 (4 + length (inside r)) (inside r ++ rest) (omega (arith, is.len))
     ∙ omega (arith, length-append (bytes_of 4 (4 + length (inside r))) (inside r), length-bytes_of 4 (4 + length (inside r)))
-
-least : (r : Rec) → 4 ≤ length (spelling r)
-unfolding spelling
-least r = omega (arith, length-append (bytes_of 4 (4 + length (inside r))) (inside r), length-bytes_of 4 (4 + length (inside r)))
 
 -- the record of this index, and what lies around it
 cut_out : (rs : List Rec) (i : ℕ) → i < length rs → AllByRecursion IsRecord rs → (r : Rec) × (rest : List Rec) × (rs ≡ take i rs ++ r ∷ rest) × (take (suc i) rs ≡ take i rs ++ r ∷ []) × IsRecord r
@@ -72,7 +50,7 @@ place_next bytes rs i at next spelled all below place value =
     let all_of : length bytes ≡ length front + (length (spelling cut.0) + length rest) = ap length whole ∙ length-append front (spelling cut.0 ++ rest) ∙ ap (λ (n : ℕ). length front + n) (length-append (spelling cut.0) rest) in
     let more : flat_map spelling (take (i + 1) rs) ≡ front ++ spelling cut.0 =
     ap (λ (n : ℕ). flat_map spelling (take n rs)) (add-one i) ∙ ap (flat_map spelling) cut.3 ∙ flat_map-append spelling (take i rs) (cut.0 ∷ []) ∙ ap (λ (x : List ℕ). front ++ x) (append-nil (spelling cut.0)) in
-    let next_is : next ≡ at + number_of 4 (drop at bytes) = value (omega (arith, place, all_of, least cut.0)) (omega (arith, place, all_of, size)) in
+    let next_is : next ≡ at + number_of 4 (drop at bytes) = value (omega (arith, place, all_of, some_bytes cut.0)) (omega (arith, place, all_of, size)) in
     omega (arith, next_is, place, size, ap length more, length-append front (spelling cut.0))
 
 -- ---- a part of the records

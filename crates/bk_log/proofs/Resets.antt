@@ -10,14 +10,15 @@ use Rattle.bk_gate.specs.Blobs.{sealed}
 use Rattle.bk_gate.specs.Gate.{IsGate, Kept as KeptGate}
 use Rattle.bk_gate.specs.Laws.{gate_kept}
 use Rattle.bk_ids.specs.declared.record.Rec.{Rec}
-use Rattle.bk_log.specs.declared.head.Head.{Head}
-use Rattle.bk_log.specs.declared.segments.Segment.{Segment}
-use Rattle.bk_log.specs.Control.{read_control, IsSound}
-use Rattle.bk_log.specs.Records.{IsRun}
-use Rattle.bk_log.specs.RunLaws.{run_none, run_begun, none_begun, one_blob}
-use Rattle.bk_log.specs.Log.{control_file, segment_file, IsOwn, IsBeside, IsNamed, IsAdded, blobs_at, blobs_from, blobs_of, shown, value_of, emptied, AreBegun, Logged, LogIs, Kept, IsLog}
-use Rattle.bk_log.specs.FileLaws.{control_not_segment, log_is}
-use Rattle.bk_log.specs.SegmentLaws.{segments_none, segments_added}
+use Rattle.bk_segments.specs.declared.head.Head.{Head}
+use Rattle.bk_segments.specs.declared.segments.Segment.{Segment}
+use Rattle.bk_segments.specs.Control.{read_control, IsSound}
+use Rattle.bk_segments.specs.Records.{IsRun}
+use Rattle.bk_segments.specs.RunLaws.{run_none, run_begun, none_begun, one_blob}
+use Rattle.bk_log.specs.Log.{value_of, Kept, IsLog}
+use Rattle.bk_segments.specs.Files.{control_file, segment_file, IsOwn, IsBeside, IsNamed, IsAdded, blobs_at, blobs_from, blobs_of, shown, emptied, AreBegun, Logged, LogIs}
+use Rattle.bk_segments.specs.FileLaws.{control_not_segment, log_is}
+use Rattle.bk_segments.specs.SegmentLaws.{segments_none, segments_added}
 use Rattle.bk_log.specs.Laws.{still, segment_left}
 use Rattle.bk_log.proofs.Cuts.{cleared, cleared_crash, swept_crash, swept_log, swept_value}
 

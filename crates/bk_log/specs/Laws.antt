@@ -8,12 +8,13 @@ use Rattle.bk_device.specs.Effects.{IsName, KeepsFiles, MayLeaveOwn}
 use Rattle.bk_gate.specs.Blobs.{sealed}
 use Rattle.bk_gate.specs.Laws.{gate_kept, gate_reserved}
 use Rattle.bk_ids.specs.declared.record.Rec.{Rec}
-use Rattle.bk_log.specs.declared.head.Head.{Head}
-use Rattle.bk_log.specs.Control.{read_control, IsSound}
-use Rattle.bk_log.specs.Records.{IsRun}
-use Rattle.bk_log.specs.Log.{control_file, segment_file, IsOwn, blobs_at, blobs_of, shown, value_of, AreBegun, Logged, LogIs, Kept, IsLog}
-use Rattle.bk_log.specs.FileLaws.{blobs_same, begun_same, log_is, shown_same}
-use Rattle.bk_log.specs.SegmentLaws.{segments_same}
+use Rattle.bk_segments.specs.declared.head.Head.{Head}
+use Rattle.bk_segments.specs.Control.{read_control, IsSound}
+use Rattle.bk_segments.specs.Records.{IsRun}
+use Rattle.bk_log.specs.Log.{value_of, Kept, IsLog}
+use Rattle.bk_segments.specs.Files.{control_file, segment_file, IsOwn, blobs_at, blobs_of, shown, AreBegun, Logged, LogIs}
+use Rattle.bk_segments.specs.FileLaws.{blobs_same, begun_same, log_is, shown_same}
+use Rattle.bk_segments.specs.SegmentLaws.{segments_same}
 
 -- ---- the files of a log that stands
 

@@ -1,17 +1,9 @@
-//! The log of one database over its files: a control file, whose content is the log's control record with a note for the
-//! layer above, and segments, which are gate files whose blobs are whole log records.
+//! The log of one database over its files: records in memory that wait, and a value over the control record and the segments that
+//! hold the others, with a note for the layer above.
 #![tactic(auto)]
 
-mod error;
-mod head;
 mod log;
-mod making;
-mod names;
-mod opening;
-mod reading;
-mod removing;
-mod segments;
-mod walk;
+mod places;
 
-pub use error::LogError;
+pub use bk_segments::LogError;
 pub use log::Log;

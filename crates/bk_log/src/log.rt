@@ -6,27 +6,25 @@ ghost use Rattle.bk_device.specs.Calls.{ChangesNothing};
 ghost use Rattle.bk_device.specs.Counts.{HasCause};
 ghost use Rattle.bk_device.specs.Disk.{Files, IsDurable};
 ghost use Rattle.bk_device.specs.Effects.{Effect};
-ghost use Rattle.bk_log.specs.Control.{IsSound};
+ghost use Rattle.bk_segments.specs.declared.head.Head.{Head};
+ghost use Rattle.bk_segments.specs.Control.{IsSound};
 ghost use Rattle.bk_gate.specs.Gate.{IsGate};
-ghost use Rattle.bk_log.specs.Log.{control_file, segment_file, blobs_at, AreGone, BeginsAt, Holds, IsAdded, IsFirstAt, IsOwn, IsTidy, Kept, LogIs, IsLog, IsForeign, IsSame, KeepsSpare, AreDurable, Logged, cut_at, emptied, fresh, value_of, with_more};
-ghost use Rattle.bk_log.specs.Records.{IsPart, records_in};
+ghost use Rattle.bk_log.specs.Log.{Kept, IsLog, IsSame, KeepsSpare, value_of};
+ghost use Rattle.bk_segments.specs.Files.{control_file, segment_file, blobs_at, AreGone, BeginsAt, Holds, IsAdded, IsFirstAt, IsOwn, IsTidy, LogIs, IsForeign, AreDurable, Logged, cut_at, emptied, fresh, with_more};
+ghost use Rattle.bk_segments.specs.Records.{IsPart, records_in};
 ghost use Rattle.bk_record.specs.Spelling.{KeepsLimits, spelling};
 
-use crate::error::LogError;
-use crate::head::{Head, add, spell};
-use crate::making::{begin_segment, make_files};
-use crate::names::control_name;
-use crate::opening::{find, open_last};
-use crate::reading::{gather, place_of};
-use crate::removing::{find_head, remove_named, remove_segments, tidy};
-use crate::segments::{
-    Segment, add_segment, count_below, drop_segments, first_of, new_segment, push_segment,
-};
+use crate::places::place_of;
 use bk_control::Control;
 use bk_device::{Device, Failed, remove_durably};
 use bk_gate::Gate;
 use bk_ids::{Lsn, Rec};
 use bk_record::{encode_reserved, spelled_len};
+use bk_segments::{
+    Head, LogError, Segment, add, add_segment, begin_segment, control_name, count_below,
+    drop_segments, find, find_head, first_of, gather, make_files, new_segment, push_segment,
+    remove_named, remove_segments, spell, tidy,
+};
 use std::alloc::{AllocError, Global};
 use std::marker::Model;
 
@@ -94,6 +92,7 @@ impl Log {
         ensures stands { D.tells → AreDurable db (D.disk dev.old) → IfOk result (λ l. IsLog (D.disk dev.new) l) }
         ensures tidy { D.tells → AreDurable db (D.disk dev.old) → IfOk result (λ l. IsTidy (D.disk dev.old).files (D.disk dev.new).files db l.head) }
         ensures foreign { D.tells → IsErrOf result LogError.Foreign → IsForeign (D.disk dev.old).files db }
+        ensures still { D.tells → IsErrOf result LogError.Foreign → ChangesNothing (D.disk dev.old) (D.disk dev.new) }
         ensures crash { D.tells → AreDurable db (D.disk dev.old) → Effect (IsOwn db) (λ image. (log : Logged) → LogIs (D.disk dev.old).files db log → LogIs image db log) (D.disk dev.old) (D.disk dev.new) }
         ensures cause { HasCause D.disk_faults D.tell_faults dev.old dev.new (IsErrOf result LogError.Fault) }
     {
@@ -116,13 +115,12 @@ impl Log {
         ensures effect { D.tells → ChangesNothing (D.disk dev.old) (D.disk dev.new) }
         ensures cause { HasCause D.disk_faults D.tell_faults dev.old dev.new (IsErrOf result LogError.Fault) }
     {
-        let found = find(alloc, dev, db)?;
         let spelled = Vec::with_capacity(alloc, 32_808)?;
-        let gate = open_last(alloc, dev, db, found.head.back)?;
+        let found = find(alloc, dev, db)?;
         Ok(Log {
             db,
             control: found.control,
-            gate,
+            gate: found.gate,
             head: found.head,
             segments: found.segments,
             note: found.note,
@@ -181,13 +179,14 @@ impl Log {
         })
     }
 
-    /// Removes the segments of a database's log, one that was begun too, and then its control file. Does nothing where that file is absent or holds no
-    /// sound control record. The control file is there until all segments are gone, so the call may be repeated after a crash.
+    /// Removes the segments of a database's log, one that was begun behind them too, and then its control file. Does nothing
+    /// where that file is absent or holds no sound control record. The control file is there until all segments are gone, so the call may be repeated after a crash.
     ///
     /// `Foreign` isn't answered.
     pub fn remove<D: Device>(alloc: Global, dev: &mut D, db: u32) -> Result<(), LogError>
         ensures gone { D.tells → OnOk result (IsForeign (D.disk dev.new).files db) }
         ensures segments { D.tells → OnOk result (AreGone (D.disk dev.old).files (D.disk dev.new).files db) }
+        ensures begun { D.tells → OnOk result ((head : Head) → Holds (D.disk dev.old).files db head → (D.disk dev.new).files (segment_file db (head.back + 1)) ≡ None) }
         ensures foreign { IsErrOf result LogError.Foreign → ⊥ }
         ensures crash { D.tells → IsDurable (D.disk dev.old) (control_file db) → Effect (IsOwn db) (λ image. (image (control_file db) ≡ (D.disk dev.old).files (control_file db)) ⊎ (image (control_file db) ≡ None)) (D.disk dev.old) (D.disk dev.new) }
         ensures cause { HasCause D.disk_faults D.tell_faults dev.old dev.new (IsErrOf result LogError.Fault) }

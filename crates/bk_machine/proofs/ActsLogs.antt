@@ -11,6 +11,7 @@ use Rattle.bk_world.specs.Rows.{table_of, tables_of}
 use Rattle.bk_world.specs.SoundLogs.{MayFollow}
 use Rattle.bk_world.specs.Telling.{entries, entries_from, tables}
 use Rattle.bk_world.specs.SoundLaws.{follow-front, follow-join}
+use Rattle.bk_machine.specs.JoinLaws.{placed-join}
 use Rattle.bk_machine.specs.Sound.{AreNumbered, ArePlaced, IsLog}
 use Rattle.bk_machine.proofs.Histories.{counts-more}
 
@@ -28,7 +29,7 @@ tables-more rs ss = ap tables_of (entries-more rs ss) ∙ tables_of-append (entr
 pub tables-quiet : (rs ss : List Logged) → entries_from (pending rs) ss ≡ [] → tables (rs ++ ss) ≡ tables rs
 tables-quiet rs ss quiet = tables-more rs ss ∙ ap (λ es. tables rs ++ tables_of es) quiet ∙ append-nil (tables rs)
 
-numbered-front : (n : ℕ) (a b : List TableSpec) → AreNumbered n (a ++ b) → AreNumbered n a
+pub numbered-front : (n : ℕ) (a b : List TableSpec) → AreNumbered n (a ++ b) → AreNumbered n a
 numbered-front n [] b are = tt
 numbered-front n (t ∷ a) b are = (are.0, numbered-front (n + 1) a b are.1)
 
@@ -37,11 +38,6 @@ numbered-front n (t ∷ a) b are = (are.0, numbered-front (n + 1) a b are.1)
 pub placed-front : (files : List FileSpec) (before a b : List Logged) → ArePlaced files before (a ++ b) → ArePlaced files before a
 placed-front files before [] b are = tt
 placed-front files before (r ∷ a) b are = (are.0, placed-front files (before ++ r ∷ []) a b are.1)
-
-pub placed-join : (files : List FileSpec) (before a b : List Logged) → ArePlaced files before a → ArePlaced files (before ++ a) b → ArePlaced files before (a ++ b)
-placed-join files before [] b first then = subst (λ front. ArePlaced files front b) (append-nil before) then
-placed-join files before (r ∷ a) b first then =
-    (first.0, placed-join files (before ++ r ∷ []) a b first.1 (subst (λ front. ArePlaced files front b) (sym (append_assoc before (r ∷ []) a)) then))
 
 -- Logs.
 

@@ -8,7 +8,7 @@ use Rattle.bk_world.specs.declared.database.State.TheVariants as state
 use Rattle.bk_world.specs.declared.database.Status.TheVariants.{Online, Down}
 use Rattle.bk_world.specs.declared.header.Header.{Header}
 use Rattle.bk_world.specs.Lines.{Grew, MayGoOn}
-use Rattle.bk_world.specs.ListLaws.{all_filter, all_joined}
+use Rattle.bk_lemmas.specs.Lists.{all_filter, all_joined}
 use Rattle.bk_world.specs.Medium.{Reading, readable, not_media, medium, medium_at, without_medium}
 use Rattle.bk_machine.specs.Acts.{based, based_on, done, dropped, medium_made, replaced, restored, seated, set_sealed, taken_over, turned, units_in, with_slot}
 use Rattle.bk_machine.specs.Sound.{AreDifferent, IsOnce, IsSound, IsSoundLine, IsSoundReading, IsSoundSet, IsSoundSlot, IsWhole, IsWholeDatabase, OpenBy}

@@ -8,14 +8,14 @@ use Rattle.bk_ids.specs.declared.record.RecoveryModel.{RecoveryModel}
 use Rattle.bk_ids.specs.Path.{branch_at, last_branch}
 use Rattle.bk_world.specs.declared.database.Status.TheVariants.{Online}
 use Rattle.bk_world.specs.Lines.{MayGoOn, line_on, said_on, said_on_last}
-use Rattle.bk_world.specs.ListLaws.{all_both, all_mapped}
+use Rattle.bk_lemmas.specs.Lists.{all_both, all_mapped}
 use Rattle.bk_world.specs.Records.{Deed, Logged, Said, more, numbered, database_made, table_made, begun, written, committed, rolled_back, undone, checkpointed, stamped, model_set, loaded, recovered}
 use Rattle.bk_world.specs.Telling.{model}
 use Rattle.bk_world.specs.BranchLaws.{branch_at-last}
 use Rattle.bk_world.specs.SaidLaws.{GoesOn-said, records-said}
 use Rattle.bk_machine.specs.Acts.{gone_on, kept_after, pointed, pointed_by, says}
 use Rattle.bk_machine.specs.MayDo.{MaySay}
-use Rattle.bk_machine.specs.Sound.{AreDifferent, AreOpen, Differ, IsLog, IsOnce, IsOnline, IsSound, IsSoundLine, IsWhole, IsWholeDatabase, OpenBy, RiseFrom}
+use Rattle.bk_machine.specs.Sound.{AreOpen, Differ, IsLog, IsOnce, IsOnline, IsSoundLine, IsWhole, IsWholeDatabase, OpenBy}
 use Rattle.bk_world.specs.declared.transaction.Open.{Open}
 use Rattle.bk_machine.specs.World.{World, Database, database_named, log_of, with_database}
 use Rattle.bk_machine.proofs.ActsLogs.{log-of-more}

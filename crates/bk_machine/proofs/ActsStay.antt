@@ -8,7 +8,7 @@ use Rattle.bk_world.specs.declared.database.Status.TheVariants.{Online}
 use Rattle.bk_world.specs.declared.database.Unit.{Unit as RestoreUnit}
 use Rattle.bk_world.specs.declared.header.Header.{Header}
 use Rattle.bk_world.specs.Lines.{Grew, MayGoOn, RecordLine, RecordLines, log_below}
-use Rattle.bk_world.specs.ListLaws.{all_mapped}
+use Rattle.bk_lemmas.specs.Lists.{all_mapped}
 use Rattle.bk_world.specs.Medium.{Slot, Reading, readable, damaged, no_set, not_media, medium}
 use Rattle.bk_world.specs.Pending.{pending}
 use Rattle.bk_world.specs.Records.{Counts}

@@ -6,7 +6,7 @@ use Rattle.std.proofs.Math.Nat.{min-le_left, min-le_right}
 use Rattle.std.proofs.lemmas.Bool.Decides.{nat_tests}
 use Rattle.std.proofs.lemmas.List.{append-nil, length-append, length-reverse}
 use Rattle.bk_world.specs.Cut.{end_behind, is_among, settled}
-use Rattle.bk_world.specs.ListLaws.{all_both, all_filter, all_front, all_joined, all_mapped}
+use Rattle.bk_lemmas.specs.Lists.{all_both, all_filter, all_front, all_joined, all_mapped}
 use Rattle.bk_world.specs.Pending.{Pending, PendingRise, load_writes, pending, pending_after, pending_from}
 use Rattle.bk_world.specs.ReadingLaws.{pending-more, rise-length}
 use Rattle.bk_world.specs.Records.{Counts, Deed, Load, Logged, database_made, table_made, begun, written, committed, rolled_back, undone, checkpointed, stamped, model_set, loaded, recovered}
@@ -14,6 +14,7 @@ use Rattle.bk_world.specs.Says.{settle_said}
 use Rattle.bk_world.specs.SoundLogs.{IsSound, MayCome, MayFollow, NoLoadPends}
 use Rattle.bk_world.specs.SettledLaws.{end-more, length-undoing}
 use Rattle.bk_world.specs.SoundLaws.{follow-front, sound-lying, sound-rise}
+use Rattle.bk_world.specs.CrashLaws.{counts-front}
 use Rattle.bk_machine.specs.BeginLaws.{least-end}
 use Rattle.bk_machine.specs.Crash.{begin_in, begins_in, begins_of, greatest_end, most_end, open_begins}
 use Rattle.bk_machine.specs.Sound.{IsWholeDatabase}
@@ -21,7 +22,6 @@ use Rattle.bk_machine.specs.Stays.{IsCutOf, IsFront}
 use Rattle.bk_world.specs.declared.transaction.Open.{Open}
 use Rattle.bk_machine.specs.World.{Database, World, database_named, least_begin, log_of}
 use Rattle.bk_machine.specs.SettledLaws.{counts-end}
-use Rattle.bk_machine.proofs.Settling.{counts-start}
 
 -- ---- pending writes lie behind their begins
 
@@ -165,7 +165,7 @@ front-bound before whole cut db kept is at front =
     let rs : List Logged = log_of cut.history db in
     let least : ℕ = begin_in (database_named before.databases db.name) (greatest_end before whole db) in
     let begins : List ℕ = open_begins before db in
-    let counts : Counts 1 kept (end_behind kept) = counts-start 1 db.end kept front.lost (subst (λ log. Counts 1 log db.end) front.splits is.log.counts) in
+    let counts : Counts 1 kept (end_behind kept) = counts-front 1 db.end kept front.lost (subst (λ log. Counts 1 log db.end) front.splits is.log.counts) in
     let sound : IsSound kept = follow-front [] kept front.lost (subst IsSound front.splits is.log.sound) in
     let all : db.end ≡ 1 + length rs = counts-end 1 db.end rs is.log.counts in
     let parts : length rs ≡ length kept + length front.lost = ap length front.splits ∙ length-append kept front.lost in

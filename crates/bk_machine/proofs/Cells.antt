@@ -8,6 +8,7 @@ use Rattle.std.proofs.Math.Nat.{mod-lt}
 use Rattle.bk_ids.specs.declared.record.Place.{Place}
 use Rattle.bk_world.specs.declared.database.FileSpec.{FileSpec}
 use Rattle.bk_world.specs.Places.{IsCellOf}
+use Rattle.bk_world.specs.RowLaws.{place-is}
 use Rattle.bk_machine.specs.Built.{AreFilesApart}
 use Rattle.bk_machine.specs.Room.{group_extents}
 
@@ -66,9 +67,6 @@ number-below (f ∷ files) group at is = by (lies-in f files group at is) (numbe
     by : LiesIn f files group at → (IsCellOf files group at → number_of files group at < 504 * group_extents files group) → number_of (f ∷ files) group at < 504 * group_extents (f ∷ files) group
     by (first e own from below slot) rest = omega (arith, number-first f files group at e, extents-size f files group, size-own f group own, from, below, slot)
     by (others e inside) rest = omega (arith, number-others f files group at e, extents-size f files group, rest inside)
-
-place-is : (a b : Place) → a.file ≡ b.file → a.page ≡ b.page → a.slot ≡ b.slot → a ≡ b
-place-is a b f p s = λ x. record { file = f x; page = p x; slot = s x }
 
 -- and no two cells have one number
 pub number-once : (files : List FileSpec) (group : ℕ) (a b : Place) → IsCellOf files group a → IsCellOf files group b → number_of files group a ≡ number_of files group b → a ≡ b

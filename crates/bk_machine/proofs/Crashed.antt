@@ -4,7 +4,7 @@ use Rattle.std.specs.List.{AllByRecursion, AllZip}
 use Rattle.bk_ids.specs.declared.guid.Guid.{Guid}
 use Rattle.bk_ids.specs.declared.path.Branch.{Branch}
 use Rattle.bk_world.specs.Lines.{RecordLine, log_below}
-use Rattle.bk_world.specs.ListLaws.{all_mapped}
+use Rattle.bk_lemmas.specs.Lists.{all_mapped}
 use Rattle.bk_world.specs.Medium.{Reading}
 use Rattle.bk_world.specs.Telling.{entries}
 use Rattle.bk_world.specs.declared.database.Status.{Status}

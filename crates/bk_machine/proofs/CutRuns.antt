@@ -3,7 +3,7 @@ use Rattle.std.proofs.Common.{◌≡◌, ◌≤◌, inl, inr, ℕ, zero, suc, �
 use Rattle.std.specs.List.{AllByRecursion, AllZip}
 use Rattle.std.proofs.lemmas.List.{take-append-drop}
 use Rattle.bk_world.specs.Cut.{settled}
-use Rattle.bk_world.specs.ListLaws.{all_both}
+use Rattle.bk_lemmas.specs.Lists.{all_both}
 use Rattle.bk_world.specs.Records.{Logged}
 use Rattle.bk_world.specs.declared.database.Status.TheVariants.{Online}
 use Rattle.bk_machine.specs.Acts.{Act, turned, seated, created, dropped, logged, medium_made, set_sealed, based, replaced, restored, recovered, done, done_all}

@@ -4,7 +4,7 @@ use Rattle.std.specs.Prelude.{◌==◌}
 use Rattle.std.specs.List.{AllByRecursion}
 use Rattle.std.proofs.lemmas.Bool.Decides.{nat_tests}
 use Rattle.bk_world.specs.Cut.{is_among}
-use Rattle.bk_world.specs.ListLaws.{all_both, all_filter, all_joined, all_mapped}
+use Rattle.bk_lemmas.specs.Lists.{all_both, all_filter, all_joined, all_mapped}
 use Rattle.bk_world.specs.Pending.{Pending, load_writes, pending, pending_after, pending_from}
 use Rattle.bk_world.specs.ReadingLaws.{pending-more}
 use Rattle.bk_world.specs.Records.{Deed, Load, Logged, Said, more, numbered, database_made, table_made, begun, written, committed, rolled_back, undone, checkpointed, stamped, model_set, loaded, recovered as recovery}
@@ -85,7 +85,7 @@ has-among bs (t ∷ ts) n all there = by (t.begin == n) refl there (has-among bs
     by false is there later = later there
 
 -- each is among themselves
-among-own : (ts : List Open) → AllByRecursion (λ (t : Open). is_among (begins_of ts) t.begin ≡ true) ts
+pub among-own : (ts : List Open) → AllByRecursion (λ (t : Open). is_among (begins_of ts) t.begin ≡ true) ts
 among-own [] = tt
 among-own (t ∷ ts) =
     let own : (t.begin == t.begin) ≡ true = grind (arith, nat_tests) in
@@ -95,7 +95,7 @@ among-own (t ∷ ts) =
     more true b is = refl
     more false b is = is
 
-more-own : (n : ℕ) (bs : List ℕ) (ts : List Open) → AllByRecursion (λ (t : Open). is_among bs t.begin ≡ true) ts → AllByRecursion (λ (t : Open). is_among (n ∷ bs) t.begin ≡ true) ts
+pub more-own : (n : ℕ) (bs : List ℕ) (ts : List Open) → AllByRecursion (λ (t : Open). is_among bs t.begin ≡ true) ts → AllByRecursion (λ (t : Open). is_among (n ∷ bs) t.begin ≡ true) ts
 more-own n bs ts all = all_mapped (λ (t : Open). is_among bs t.begin ≡ true) (λ (t : Open). is_among (n ∷ bs) t.begin ≡ true) (λ t is. more (n == t.begin) (is_among bs t.begin) is) ts all
   where
     more : (a b : Bool) → b ≡ true → (a || b) ≡ true

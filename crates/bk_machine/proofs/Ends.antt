@@ -4,7 +4,7 @@ use Rattle.std.specs.List.{AllByRecursion, AllZip}
 use Rattle.std.proofs.Math.Nat.{le-max_left, le-max_right}
 use Rattle.bk_ids.specs.Name.{same_name}
 use Rattle.bk_ids.specs.declared.record.RecoveryModel.{RecoveryModel}
-use Rattle.bk_world.specs.ListLaws.{all_mapped}
+use Rattle.bk_lemmas.specs.Lists.{all_mapped}
 use Rattle.bk_world.specs.Records.{Said}
 use Rattle.bk_world.specs.Telling.{model}
 use Rattle.bk_world.specs.declared.database.Status.TheVariants.{Online, Down}

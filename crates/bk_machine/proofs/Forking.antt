@@ -9,7 +9,7 @@ use Rattle.bk_ids.specs.Laws.{branch_at-not_started, last_branch-one_more}
 use Rattle.bk_ids.specs.Path.{IsPath, StartsRiseFrom, branch_at, last_branch, started}
 use Rattle.bk_world.specs.History.{is_guid, at_branch, along}
 use Rattle.bk_world.specs.Lines.{MayGoOn, RecordLine, RecordLines, has_record_line, line_on, log_below, logged_on, said_on, said_on_last}
-use Rattle.bk_world.specs.ListLaws.{all_filter, all_joined, all_mapped, filter_passed}
+use Rattle.bk_lemmas.specs.Lists.{all_filter, all_joined, all_mapped, filter_passed}
 use Rattle.bk_world.specs.Records.{Said, more, numbered}
 use Rattle.bk_world.specs.ApartLaws.{OfBranch, branch_at-of}
 use Rattle.bk_world.specs.SaidLaws.{GoesOn-said, records-said}

@@ -6,13 +6,14 @@ use Rattle.std.specs.Str.{bytes_eq}
 use Rattle.bk_ids.specs.Path.{last_branch}
 use Rattle.bk_ids.specs.declared.guid.Guid.{Guid}
 use Rattle.bk_world.specs.Lines.{Grew, MayGoOn, RecordLine, RecordLines, has_record_line, line_on}
-use Rattle.bk_world.specs.ListLaws.{all_both, all_filter, all_mapped}
+use Rattle.bk_lemmas.specs.Lists.{all_both, all_filter, all_mapped}
 use Rattle.bk_world.specs.Medium.{Reading, Slot, damaged, medium, medium_at, no_set, not_media, readable, with_medium, without_medium}
 use Rattle.bk_world.specs.Records.{Logged}
 use Rattle.bk_world.specs.declared.database.Status.TheVariants.{Online}
 use Rattle.bk_world.specs.declared.database.Unit.{Unit as RestoreUnit}
 use Rattle.bk_world.specs.declared.header.Header.{Header}
 use Rattle.bk_world.specs.GrowthLaws.{records-grown}
+use Rattle.bk_machine.specs.JoinLaws.{rise-line}
 use Rattle.bk_machine.specs.Events.{Happen, Happens, IsLatest, Joins, ReadingChanged, ReadingIsNotToCome, SlotChanged, SlotIsNotToCome, file_lost, is_page_of, nothing_more, one_more, page_lost}
 use Rattle.bk_machine.specs.Sound.{AreIdle, Differ, IsIdle, IsNotToCome, IsSound, IsSoundLine, IsSoundReading, IsSoundSet, IsSoundSlot, IsWholeDatabase, OpenBy, RiseFrom}
 use Rattle.bk_machine.specs.World.{Database, World, with_database}
@@ -20,7 +21,6 @@ use Rattle.bk_machine.proofs.ActsStay.{Follows, database-stays, line-stays, line
 use Rattle.bk_machine.proofs.Histories.{grew-same, held-grew}
 use Rattle.bk_machine.proofs.Joined.{have-lines, here-grew, joined-rises, not-longer, of-lines, own-line, there-grew}
 use Rattle.bk_machine.proofs.Kept.{set-moved, sound-later}
-use Rattle.bk_machine.proofs.Lost.{rise-line}
 use Rattle.bk_machine.specs.NamedLaws.{all-with, different-with}
 
 -- ---- units change

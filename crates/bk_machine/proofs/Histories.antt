@@ -8,12 +8,14 @@ use Rattle.bk_ids.specs.declared.path.Branch.{Branch}
 use Rattle.bk_ids.specs.Path.{last_branch, branch_at}
 use Rattle.bk_world.specs.History.{is_guid, at_branch, along}
 use Rattle.bk_world.specs.Lines.{MayGoOn, RecordLine, RecordLines, Grew, LineGrew, has_record_line, line_on, log_below, logged_on, longer_line, said_on, said_on_last}
-use Rattle.bk_world.specs.ListLaws.{all_joined, all_mapped, filter_passed}
+use Rattle.bk_lemmas.specs.Lists.{all_joined, all_mapped, filter_passed}
 use Rattle.bk_world.specs.Records.{Counts, Logged, Said, numbered}
 use Rattle.bk_world.specs.ElsewhereLaws.{guid_is, line_of-other}
 use Rattle.bk_world.specs.GrowthLaws.{grows-said}
 use Rattle.bk_world.specs.SaidLaws.{has_line-appended}
 use Rattle.bk_world.specs.SameLaws.{is_guid-refl}
+use Rattle.bk_world.specs.CrashLaws.{counts-join, counts-numbered}
+use Rattle.bk_machine.proofs.Lost.{reached-more}
 use Rattle.bk_machine.specs.Acts.{drawn, new_line}
 use Rattle.bk_machine.specs.Sound.{IsHeld, IsNotToCome, IsOnce, IsPassed, IsReached, IsSoundLine, RiseFrom}
 use Rattle.bk_machine.specs.World.{World}
@@ -127,12 +129,6 @@ pub above-numbered : (n from : ℕ) (said : List Said) → n ≤ from → AllByR
 above-numbered n from [] le = tt
 above-numbered n from (s ∷ said) le = (le, above-numbered n (from + 1) said (omega (arith, le)))
 
-pub below-numbered : (from : ℕ) (said : List Said) → AllByRecursion (λ r. r.lsn < from + length said) (numbered from said)
-below-numbered from [] = tt
-below-numbered from (s ∷ said) =
-    let on : (from + 1) + length said ≡ from + length (s ∷ said) = omega arith in
-    (omega arith, subst (λ m. AllByRecursion (λ r. r.lsn < m) (numbered (from + 1) said)) on (below-numbered (from + 1) said))
-
 -- ---- growth
 
 none_above : (rs : List Logged) → AllByRecursion (λ (r : Logged). AllByRecursion (λ (m : Logged). r.lsn < m.lsn) []) rs
@@ -167,10 +163,6 @@ pub grew-said : (h : RecordLines) (path : List Branch) (end : ℕ) (on : MayGoOn
 grew-said h path end on said pos = subst (λ b. Grew h (said_on_last h b (numbered end said))) (sym on.last) (grows-said h on.branch end said on.there pos on.below)
 
 -- what is passed stays passed
-reached-more : (rs more : List Logged) (n : ℕ) → IsReached rs n → IsReached (rs ++ more) n
-reached-more [] more n is = absurd is
-reached-more (r ∷ rs) more n is = elim is [ inl here ↦ inl here | inr later ↦ inr (reached-more rs more n later) ]
-
 pub passed-grew : (old new : RecordLines) (b : Option Guid) (n : ℕ) → Grew old new → IsPassed old b n → IsPassed new b n
 passed-grew old new None n grew is = tt
 passed-grew old new (Some g) n grew is = subst (λ rs. IsReached rs n) (sym (grew g).is) (reached-more (line_on old g).records (grew g).more n is)
@@ -210,16 +202,6 @@ not-last branch (b ∷ []) all same = let one : b.guid ≡ branch = cc in let ye
 not-last branch (b ∷ next ∷ path) all same = not-last branch (next ∷ path) all.1 same
 
 -- ---- counts
-
-pub counts-join : (n m end : ℕ) (a b : List Logged) → Counts n a m → Counts m b end → Counts n (a ++ b) end
-counts-join n m end [] b first then = subst (λ k. Counts k b end) (sym first) then
-counts-join n m end (r ∷ a) b first then = (first.0, counts-join (n + 1) m end a b first.1 then)
-
-pub counts-numbered : (n : ℕ) (said : List Said) → Counts n (numbered n said) (n + length said)
-counts-numbered n [] = let none : List Said = [] in let same : n ≡ n + length none = omega arith in same
-counts-numbered n (s ∷ said) =
-    let on : (n + 1) + length said ≡ n + length (s ∷ said) = omega arith in
-    (refl, subst (Counts (n + 1) (numbered (n + 1) said)) on (counts-numbered (n + 1) said))
 
 pub counts-more : (rs : List Logged) (end : ℕ) (said : List Said) → Counts 1 rs end → Counts 1 (rs ++ numbered end said) (end + length said)
 counts-more rs end said counts = counts-join 1 end (end + length said) rs (numbered end said) counts (counts-numbered end said)

@@ -1,40 +1,19 @@
 -- Two histories that are joined: each branch has the longer one of two lines, one a front of the other.
-use Rattle.std.proofs.Common.{◌≡◌, ◌<◌, ◌≤◌, inl, inr, ℕ, ◌+◌, Bool, true, false, cond, List, [], ◌∷◌, ◌++◌, length, refl, sym, ◌∙◌, ap, subst, arith}
+use Rattle.std.proofs.Common.{◌≡◌, ◌≤◌, inl, inr, ◌+◌, Bool, true, false, cond, List, [], ◌∷◌, ◌++◌, length, refl, sym, ◌∙◌, ap, subst, arith}
 use Rattle.std.specs.List.{AllByRecursion}
 use Rattle.std.proofs.lemmas.List.{append-nil, length-append}
 use Rattle.bk_ids.specs.declared.guid.Guid.{Guid}
 use Rattle.bk_world.specs.History.{is_guid}
 use Rattle.bk_world.specs.Lines.{Grew, LineGrew, RecordLine, RecordLines, has_record_line, line_on}
-use Rattle.bk_world.specs.ListLaws.{all_mapped}
+use Rattle.bk_lemmas.specs.Lists.{all_mapped}
 use Rattle.bk_world.specs.Records.{Logged}
 use Rattle.bk_world.specs.ElsewhereLaws.{guid_is}
 use Rattle.bk_world.specs.SameLaws.{is_guid-refl}
+use Rattle.bk_machine.specs.JoinLaws.{grown}
 use Rattle.bk_machine.specs.Events.{IsLonger, Joins}
 use Rattle.bk_machine.specs.Sound.{IsOnce, RiseFrom}
-use Rattle.bk_machine.proofs.Lost.{rise-all}
-
--- records that rise, in two parts: those behind lie above all before
-rise-apart : (n : ℕ) (rs more : List Logged) → RiseFrom n (rs ++ more) → AllByRecursion (λ r. AllByRecursion (λ m. r.lsn < m.lsn) more) rs
-rise-apart n [] more rise = tt
-rise-apart n (r ∷ rs) more rise = (behind rs (rise-all r.lsn (rs ++ more) rise.1), rise-apart r.lsn rs more rise.1)
-  where
-    behind : (xs : List Logged) → AllByRecursion (λ (m : Logged). r.lsn < m.lsn) (xs ++ more) → AllByRecursion (λ (m : Logged). r.lsn < m.lsn) more
-    behind [] all = all
-    behind (x ∷ xs) all = behind xs all.1
-
-rise-above : (n : ℕ) (rs more : List Logged) → RiseFrom n (rs ++ more) → AllByRecursion (λ m. n < m.lsn) more
-rise-above n rs more rise = behind rs (rise-all n (rs ++ more) rise)
-  where
-    behind : (xs : List Logged) → AllByRecursion (λ (m : Logged). n < m.lsn) (xs ++ more) → AllByRecursion (λ (m : Logged). n < m.lsn) more
-    behind [] all = all
-    behind (x ∷ xs) all = behind xs all.1
 
 -- a line whose records are those of another, and then more, has grown
-grown : (old new : RecordLine) (more : List Logged) → new.records ≡ old.records ++ more → RiseFrom 0 new.records → LineGrew old new
-grown old new more is rise =
-    let rises : RiseFrom 0 (old.records ++ more) = subst (RiseFrom 0) is rise in
-    record { more = more; is = is; above = rise-apart 0 old.records more rises; positive = rise-above 0 old.records more rises }
-
 same-line : (old new : RecordLine) → new.records ≡ old.records → RiseFrom 0 new.records → LineGrew old new
 same-line old new is rise = grown old new [] (is ∙ sym (append-nil old.records)) rise
 

@@ -6,13 +6,13 @@ use Rattle.bk_ids.specs.Name.{same_name}
 use Rattle.bk_world.specs.Lines.{Grew, RecordLines}
 use Rattle.bk_world.specs.declared.database.Unit.{Unit as RestoreUnit}
 use Rattle.bk_world.specs.GrowthLaws.{grows-on, records-grown}
+use Rattle.bk_machine.specs.JoinLaws.{rise-line}
 use Rattle.bk_machine.specs.Events.{Happen, Happens, file_lost, is_page_of, nothing_more, one_more, page_lost}
 use Rattle.bk_machine.specs.Sound.{IsSound, IsWholeDatabase}
 use Rattle.bk_machine.specs.World.{Database, World, log_of, with_database}
 use Rattle.bk_machine.proofs.Happened.{event-sound, with_units}
 use Rattle.bk_machine.proofs.Histories.{grew-same}
 use Rattle.bk_machine.proofs.Joined.{here-grew}
-use Rattle.bk_machine.proofs.Lost.{rise-line}
 
 pub event-grows : (old new : World) → IsSound old → Happens old new → Grew old.history new.history
 event-grows old new is event =

@@ -9,7 +9,7 @@ use Rattle.bk_ids.specs.declared.guid.Guid.{Guid}
 use Rattle.bk_ids.specs.declared.path.Branch.{Branch}
 use Rattle.bk_world.specs.Cut.{IsCutLog, end_behind, settled}
 use Rattle.bk_world.specs.Lines.{MayGoOn, log_below}
-use Rattle.bk_world.specs.ListLaws.{all_mapped}
+use Rattle.bk_lemmas.specs.Lists.{all_mapped}
 use Rattle.bk_world.specs.Pending.{Pending, pending}
 use Rattle.bk_world.specs.Records.{Counts, Logged, numbered}
 use Rattle.bk_world.specs.Says.{settle_said, undoing}
@@ -19,11 +19,12 @@ use Rattle.bk_world.specs.declared.database.FileSpec.{FileSpec}
 use Rattle.bk_world.specs.declared.database.Status.TheVariants.{Online}
 use Rattle.bk_world.specs.CrashLaws.{left-counts, left-pends, left-sound, left-tells}
 use Rattle.bk_world.specs.BranchLaws.{branch_at-last}
+use Rattle.bk_machine.specs.JoinLaws.{placed-join}
 use Rattle.bk_machine.specs.Checks.{last_number}
 use Rattle.bk_machine.specs.Sound.{AreNumbered, ArePlaced, IsLog, IsNotToCome, IsOnline, IsPassed, IsWholeDatabase, OpenBy, has_begin}
 use Rattle.bk_machine.specs.World.{Database, World, log_of}
 use Rattle.bk_machine.specs.SettledLaws.{counts-end}
-use Rattle.bk_machine.proofs.ActsLogs.{placed-front, placed-join}
+use Rattle.bk_machine.proofs.ActsLogs.{placed-front}
 
 -- ---- numbers
 

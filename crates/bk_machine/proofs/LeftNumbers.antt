@@ -7,15 +7,16 @@ use Rattle.std.proofs.lemmas.List.{append-nil, length-append, take-append-drop}
 use Rattle.std.proofs.lemmas.List.Elements.{filter-append}
 use Rattle.std.proofs.lemmas.List.Filters.{length-filter_both}
 use Rattle.bk_world.specs.Cut.{end_behind, settled}
-use Rattle.bk_world.specs.ListLaws.{all_filter, all_mapped, all_middle, filter_no}
+use Rattle.bk_lemmas.specs.Lists.{all_mapped, all_middle, filter_no}
 use Rattle.bk_world.specs.Pending.{Pending, of_others, of_transaction, pending, pending_after}
 use Rattle.bk_world.specs.ReadingLaws.{numbered-append, pending-more}
 use Rattle.bk_world.specs.Records.{Counts, Deed, Logged, Said, more, numbered, database_made, table_made, begun, written, committed, rolled_back, undone, checkpointed, stamped, model_set, loaded, recovered}
 use Rattle.bk_world.specs.SettledLaws.{length-numbered}
-use Rattle.bk_world.specs.SoundLaws.{LieApart, follow-front, sound-lying}
+use Rattle.bk_world.specs.SoundLaws.{LieApart, follow-front, sound-lying, apart-filter}
 use Rattle.bk_world.specs.SoundLogs.{IsSound, MayCome, MayFollow, MayUndo}
 use Rattle.bk_world.specs.Telling.{telling}
 use Rattle.bk_world.specs.declared.transaction.Open.{Open}
+use Rattle.bk_world.specs.CrashLaws.{counts-front}
 use Rattle.bk_machine.specs.Checks.{kept_numbers, last_number, used_up}
 use Rattle.bk_machine.specs.Crash.{AreQuiet}
 use Rattle.bk_machine.specs.HeldLaws.{IsHeldBy, held-up, open-begin}
@@ -24,7 +25,6 @@ use Rattle.bk_machine.specs.SettledLaws.{counts-end}
 use Rattle.bk_machine.specs.Stays.{IsCutOf, IsFront, MayStay}
 use Rattle.bk_machine.specs.World.{Database, Held, World, held_in, log_of, without_begin}
 use Rattle.bk_machine.proofs.Bounded.{end-settled, front-bound}
-use Rattle.bk_machine.proofs.Settling.{counts-start}
 use Rattle.bk_machine.proofs.SettledSteps.{follow-rest}
 use Rattle.bk_machine.proofs.statements.Few.{few-pend, few-sessions, one-less, split}
 
@@ -58,14 +58,6 @@ numbers-held w session h sound is =
 none-before : (ws : List Pending) (v : Pending) → v.extents ≡ [] → LieApart (ws ++ v ∷ []) → AllByRecursion (λ (w : Pending). w.lsn < v.lsn) ws
 none-before [] v single apart = tt
 none-before (w ∷ ws) v single apart = (all_middle (λ (x : Pending). x.extents ≡ [] → w.lsn < x.lsn) ws v [] apart.0 single, none-before ws v single apart.1)
-
-apart-filter : (p : Pending → Bool) (ws : List Pending) → LieApart ws → LieApart (filter p ws)
-apart-filter p [] apart = tt
-apart-filter p (w ∷ ws) apart = by (p w) (apart-filter p ws apart.1)
-  where
-    by : (t : Bool) → LieApart (filter p ws) → LieApart (cond t (w ∷ filter p ws) (filter p ws))
-    by true rest = (all_filter (λ (v : Pending). v.extents ≡ [] → w.lsn < v.lsn) p ws apart.0, rest)
-    by false rest = rest
 
 -- two tests at once, and one after the other
 both-tests : (begin n : ℕ) (ws : List Pending) → filter (λ (w : Pending). w.begin == begin && w.lsn == n) ws ≡ filter (λ (w : Pending). w.lsn == n) (of_transaction begin ws)
@@ -136,7 +128,7 @@ pends-lost kept (r ∷ lost) end sound counts quiet =
     let front : List Logged = kept ++ r ∷ [] in
     let on : kept ++ r ∷ lost ≡ front ++ lost = sym (append_assoc kept (r ∷ []) lost) in
     let may : MayFollow kept (r ∷ lost) = follow-rest [] kept (r ∷ lost) sound in
-    let apart : LieApart (pending kept) = (sound-lying kept (1 + length kept) (follow-front [] kept (r ∷ lost) sound) (counts-start 1 end kept (r ∷ lost) counts)).apart in
+    let apart : LieApart (pending kept) = (sound-lying kept (1 + length kept) (follow-front [] kept (r ∷ lost) sound) (counts-front 1 end kept (r ∷ lost) counts)).apart in
     let one : length (pending kept) ≤ 1 + length (pending_after (pending kept) r.lsn r.begin r.deed) = pends-after kept r.lsn r.begin r.deed may.0 quiet.0 apart in
     let now : length (pending front) ≡ length (pending_after (pending kept) r.lsn r.begin r.deed) = ap length (pending-more kept (r ∷ [])) in
     let rest : length (pending front) ≤ length lost + length (pending (front ++ lost)) = pends-lost front lost end (subst IsSound on sound) (subst (λ (rs : List Logged). Counts 1 rs end) on counts) quiet.1 in

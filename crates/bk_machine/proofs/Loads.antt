@@ -4,7 +4,7 @@ use Rattle.std.specs.List.{AllByRecursion}
 use Rattle.std.specs.Str.{bytes_eq}
 use Rattle.bk_ids.specs.declared.guid.Guid.{Guid}
 use Rattle.bk_world.specs.Lines.{Grew, RecordLines, log_below}
-use Rattle.bk_world.specs.ListLaws.{all_both, all_filter, all_front, all_joined}
+use Rattle.bk_lemmas.specs.Lists.{all_both, all_filter, all_front, all_joined}
 use Rattle.bk_world.specs.Medium.{Reading, Slot, damaged, medium, medium_at, no_set, not_media, readable}
 use Rattle.bk_world.specs.Records.{Deed, Logged, Said, begun, checkpointed, committed, database_made, loaded, model_set, more, numbered, recovered as recovery_deed, rolled_back, stamped, table_made, undone, written}
 use Rattle.bk_world.specs.Telling.{model}

@@ -8,30 +8,19 @@ use Rattle.bk_ids.specs.declared.path.Branch.{Branch}
 use Rattle.bk_ids.specs.Path.{branch_at}
 use Rattle.bk_world.specs.History.{is_guid, at_branch}
 use Rattle.bk_world.specs.Lines.{RecordLines, has_record_line, line_on, log_below, logged_on}
-use Rattle.bk_world.specs.ListLaws.{all_mapped}
+use Rattle.bk_lemmas.specs.Lists.{all_mapped}
 use Rattle.bk_world.specs.Records.{Logged}
 use Rattle.bk_world.specs.Telling.{telling}
 use Rattle.bk_world.specs.ApartLaws.{along-on}
 use Rattle.bk_world.specs.SaidLaws.{filter-above}
+use Rattle.bk_machine.specs.JoinLaws.{rise-all, rise-line}
 use Rattle.bk_machine.specs.Crash.{LineLeft}
 use Rattle.bk_machine.specs.Sound.{IsHeld, IsOnce, IsPassed, IsReached, IsSoundLine, RiseFrom}
 use Rattle.bk_machine.specs.World.{World}
 
 -- ---- records that rise
 
-pub rise-all : (n : ℕ) (rs : List Logged) → RiseFrom n rs → AllByRecursion (λ r. n < r.lsn) rs
-rise-all n [] rise = tt
-rise-all n (r ∷ rs) rise = (rise.0, all_mapped (λ (s : Logged). r.lsn < s.lsn) (λ (s : Logged). n < s.lsn) (λ s lt. omega (arith, lt, rise.0)) rs (rise-all r.lsn rs rise.1))
-
 -- the line of a branch rises where all lines do
-pub rise-line : (w : World) (lines : RecordLines) (branch : Guid) → AllByRecursion (IsSoundLine w) lines → RiseFrom 0 (line_on lines branch).records
-rise-line w [] branch all = tt
-rise-line w (line ∷ lines) branch all = by (is_guid line.branch branch) (rise-line w lines branch all.1)
-  where
-    by : (t : Bool) → RiseFrom 0 (line_on lines branch).records → RiseFrom 0 (cond t line (line_on lines branch)).records
-    by true later = all.0.rises
-    by false later = later
-
 -- ---- what is reached
 
 reached-quiet : (rs : List Logged) (k : ℕ) → AllByRecursion (λ r. telling r.deed ≡ None) rs → IsReached rs k → ⊥

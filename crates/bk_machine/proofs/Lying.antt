@@ -5,7 +5,7 @@ use Rattle.std.specs.List.{AllByRecursion, filter, find}
 use Rattle.std.proofs.lemmas.List.{append-nil}
 use Rattle.bk_ids.specs.declared.record.Place.{Place}
 use Rattle.bk_world.specs.LastLaws.{is_its, last-all, last-dropped, last-kept, last-more, last-none}
-use Rattle.bk_world.specs.ListLaws.{all_both, all_filter, all_joined, all_mapped}
+use Rattle.bk_lemmas.specs.Lists.{all_both, all_filter, all_joined, all_mapped}
 use Rattle.bk_world.specs.Pending.{Pending, of_others, of_transaction, pending, pending_after}
 use Rattle.bk_world.specs.Places.{home_behind, homes, homes_after, last_of, later, place_behind, place_of}
 use Rattle.bk_world.specs.ReadingLaws.{homes-more, pending-more}
@@ -15,11 +15,11 @@ use Rattle.bk_world.specs.SoundLogs.{IsSound as IsSoundLog, MayCome, MayFollow}
 use Rattle.bk_world.specs.Telling.{entries, entries_from, tables}
 use Rattle.bk_world.specs.declared.database.FileSpec.{FileSpec}
 use Rattle.bk_world.specs.declared.database.TableSpec.{TableSpec}
+use Rattle.bk_world.specs.RowLaws.{row-same, row-itself}
 use Rattle.bk_machine.specs.Built.{IsNoLoad, LiesWell}
 use Rattle.bk_machine.specs.Sound.{ArePlaced, IsPlaced}
 use Rattle.bk_machine.proofs.ActsLogs.{tables-more}
 use Rattle.bk_machine.proofs.Left.{of-contained}
-use Rattle.bk_machine.proofs.Numbers.{row-own, row-same}
 
 -- ---- lists
 
@@ -40,7 +40,7 @@ find-more p (m ∷ made) more t e = by (p m) e (find-more p made more t)
 each-last : (ws : List Pending) → AllByRecursion (λ (w : Pending). last_of (id_of w.change) ws ≢ None) ws
 each-last ws = all-self (λ (w : Pending). last_of (id_of w.change) ws ≢ None) ws (λ w there none.
     let other : is_its (id_of w.change) w ≡ false = of-contained (λ (v : Pending). is_its (id_of w.change) v ≡ false) ws w (last-none (id_of w.change) ws none) there in
-    let own : is_its (id_of w.change) w ≡ true = row-own (id_of w.change) in
+    let own : is_its (id_of w.change) w ≡ true = row-itself (id_of w.change) in
     let wrong : true ≡ false = sym own ∙ other in
     cc)
 
@@ -222,7 +222,7 @@ module _ (files : List FileSpec) (ws : List Pending) (hs : RowId → Option Plac
     tied-written = record {
       writes = all_joined (λ (v : Pending). place_in (ws ++ w ∷ []) hs (id_of v.change) ≡ Some v.place) ws (w ∷ [])
           (all_mapped (λ (v : Pending). place_in ws hs (id_of v.change) ≡ Some v.place) (λ (v : Pending). place_in (ws ++ w ∷ []) hs (id_of v.change) ≡ Some v.place) (λ v was. stays (id_of v.change) v.place was) ws t.writes)
-          (lies-its (id_of w.change) (row-own (id_of w.change)), tt);
+          (lies-its (id_of w.change) (row-itself (id_of w.change)), tt);
       committed = λ id at home. stays id at (t.committed id at home);
       alone = λ a b at one two. apart a b at (lay a at one) (lay b at two);
       cells = λ id at there. cell id at (lay id at there);

@@ -5,7 +5,8 @@ use Rattle.std.proofs.lemmas.List.{length-map}
 use Rattle.bk_items.specs.declared.item.NewFile.{NewFile}
 use Rattle.bk_items.specs.declared.item.NewGroup.{NewGroup}
 use Rattle.bk_world.specs.declared.database.FileSpec.{FileSpec}
-use Rattle.bk_world.specs.ListLaws.{all_joined}
+use Rattle.bk_lemmas.specs.Lists.{all_joined}
+use Rattle.bk_machine.specs.NewFileLaws.{files-length}
 use Rattle.bk_machine.specs.Built.{AreFilesApart}
 use Rattle.bk_machine.specs.Files.{AreDataFiles, CountFrom, extents_in, most_extents, most_files}
 use Rattle.bk_machine.specs.statements.CreateDatabase.{files_in, files_of, new_files, new_groups, primary_files}
@@ -23,10 +24,6 @@ apart-from n (f ∷ files) all =
 
 -- ---- new files
 
-in-length : (n group : ℕ) (files : List NewFile) → length (files_in n group files) ≡ length files
-in-length n group [] = refl
-in-length n group (f ∷ files) = omega (arith, in-length (n + 1) group files)
-
 in-count : (n group : ℕ) (files : List NewFile) → CountFrom n (files_in n group files)
 in-count n group [] = tt
 in-count n group (f ∷ files) = (refl, in-count (n + 1) group files)
@@ -38,7 +35,7 @@ joined-count n m (f ∷ front) back is all more = (all.0, joined-count (n + 1) m
 of-count : (n group : ℕ) (groups : List NewGroup) → CountFrom n (files_of n group groups)
 of-count n group [] = tt
 of-count n group (g ∷ groups) =
-    joined-count n (n + length g.files) (files_in n group g.files) (files_of (n + length g.files) (group + 1) groups) (omega (arith, in-length n group g.files)) (in-count n group g.files)
+    joined-count n (n + length g.files) (files_in n group g.files) (files_of (n + length g.files) (group + 1) groups) (omega (arith, files-length n group g.files)) (in-count n group g.files)
     (of-count (n + length g.files) (group + 1) groups)
 
 in-grouped : (most n group : ℕ) (files : List NewFile) → group < most → AllByRecursion (λ (f : FileSpec). f.group < most) (files_in n group files)
@@ -68,9 +65,9 @@ new-files name primary groups few small =
     let most : ℕ = length (new_groups groups) in
     let groups-are : length (new_groups groups) ≡ 1 + length groups = groups-length groups in
     record {
-      some = omega (arith, length-append first others, in-length 1 0 own, some-primary name primary);
+      some = omega (arith, length-append first others, files-length 1 0 own, some-primary name primary);
       few = few;
-      numbered = joined-count 1 (length own + 1) first others (omega (arith, in-length 1 0 own)) (in-count 1 0 own) (of-count (length own + 1) 1 groups);
+      numbered = joined-count 1 (length own + 1) first others (omega (arith, files-length 1 0 own)) (in-count 1 0 own) (of-count (length own + 1) 1 groups);
       grouped = all_joined (λ (f : FileSpec). f.group < most) first others (in-grouped most 1 0 own (omega (arith, groups-are))) (of-grouped most (length own + 1) 1 groups (omega (arith, groups-are)));
       small = small;
     }

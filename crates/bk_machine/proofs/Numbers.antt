@@ -3,23 +3,15 @@ use Rattle.std.proofs.Common.{◌≡◌, ◌<◌, ◌≤◌, ℕ, zero, suc, ◌
 use Rattle.std.specs.Prelude.{◌==◌, ◌||◌}
 use Rattle.std.specs.List.{filter, list_any, AllByRecursion}
 use Rattle.std.proofs.lemmas.Bool.Decides.{nat_tests}
-use Rattle.bk_world.specs.ListLaws.{all_filter}
+use Rattle.bk_lemmas.specs.Lists.{all_filter}
 use Rattle.bk_world.specs.Records.{RowId, is_row}
+use Rattle.bk_world.specs.RowLaws.{row-same, row-itself}
 use Rattle.bk_machine.specs.Room.{each_once, has_row}
 
 -- ---- rows
 
-row-is : (a b : RowId) → a.0 ≡ b.0 → a.1 ≡ b.1 → a ≡ b
-row-is a b t k = λ x. (t x, k x)
-
-pub row-same : (a b : RowId) → is_row a b ≡ true → a ≡ b
-row-same a b e = row-is a b (grind (arith, nat_tests, e)) (grind (arith, nat_tests, e))
-
-pub row-own : (a : RowId) → is_row a a ≡ true
-row-own a = grind (arith, nat_tests)
-
 pub row-true : (a b : RowId) → a ≡ b → is_row a b ≡ true
-row-true a b e = let Is : RowId → Type 0 = λ c. is_row a c ≡ true in subst Is e (row-own a)
+row-true a b e = let Is : RowId → Type 0 = λ c. is_row a c ≡ true in subst Is e (row-itself a)
 
 -- ---- different numbers
 

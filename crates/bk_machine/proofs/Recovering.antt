@@ -10,7 +10,7 @@ use Rattle.std.proofs.lemmas.List.Sums.{count_by-le-length, length-filter}
 use Rattle.bk_ids.specs.declared.guid.Guid.{Guid}
 use Rattle.bk_ids.specs.declared.record.ExtentId.{ExtentId}
 use Rattle.bk_world.specs.Cut.{end_behind}
-use Rattle.bk_world.specs.ListLaws.{all_filter, all_joined, all_mapped, filter_every}
+use Rattle.bk_lemmas.specs.Lists.{all_filter, all_joined, all_mapped, filter_every}
 use Rattle.bk_world.specs.Pending.{Pending, load_writes, pending, pending_after, pending_from}
 use Rattle.bk_world.specs.ReadingLaws.{numbered-append, pending-append, pending-more, pending-settled, rise-length}
 use Rattle.bk_world.specs.Records.{Counts, Deed, Load, Logged, Said, begun, checkpointed, committed, database_made, loaded, model_set, more, numbered, recovered, rolled_back, stamped, table_made, undone, written}

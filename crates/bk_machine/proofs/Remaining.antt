@@ -7,7 +7,7 @@ use Rattle.bk_ids.specs.declared.guid.Guid.{Guid}
 use Rattle.bk_world.specs.Cut.{end_behind, settled}
 use Rattle.bk_world.specs.History.{is_guid}
 use Rattle.bk_world.specs.Lines.{MayGoOn, RecordLine, RecordLines, has_record_line, line_on}
-use Rattle.bk_world.specs.ListLaws.{all_both}
+use Rattle.bk_lemmas.specs.Lists.{all_both}
 use Rattle.bk_world.specs.Pending.{pending}
 use Rattle.bk_world.specs.Records.{Logged, numbered}
 use Rattle.bk_world.specs.Says.{settle_said}

@@ -8,26 +8,24 @@ use Rattle.std.proofs.lemmas.List.{length-map}
 use Rattle.std.proofs.lemmas.List.Folds.{list_any-append}
 use Rattle.bk_ids.specs.declared.record.Place.{Place}
 use Rattle.bk_world.specs.HomeLaws.{homed}
-use Rattle.bk_world.specs.ListLaws.{all_mapped}
+use Rattle.bk_lemmas.specs.Lists.{all_mapped}
 use Rattle.bk_world.specs.Pending.{Pending, pending}
 use Rattle.bk_world.specs.Places.{IsCellOf, IsFreePlace, homes, last_of, later, place_behind, place_of}
 use Rattle.bk_world.specs.Records.{Logged, RowId, id_of, is_row}
-use Rattle.bk_world.specs.RowLaws.{at_is}
+use Rattle.bk_world.specs.RowLaws.{at_is, row-same}
 use Rattle.bk_world.specs.Rows.{Rows}
 use Rattle.bk_world.specs.Telling.{row_at, rows, tables}
 use Rattle.bk_world.specs.declared.database.FileSpec.{FileSpec}
 use Rattle.bk_world.specs.declared.database.TableSpec.{TableSpec}
+use Rattle.bk_lemmas.specs.Tests.{clash}
 use Rattle.bk_machine.specs.Built.{AreFilesApart, FreeCell, IsBuiltLog, LiesWell}
 use Rattle.bk_machine.specs.Room.{each_once, group_extents, group_rows, has_row, in_group, is_full}
 use Rattle.bk_machine.specs.Sound.{AreNumbered, IsLog}
 use Rattle.bk_machine.proofs.Cells.{CellAt, cell-at, number-below, number-once, number_of}
 use Rattle.bk_machine.proofs.Lying.{lies-alone, lies-well}
-use Rattle.bk_machine.proofs.Numbers.{AllApart, Missing, RowsApart, at-most, once-apart, once-has, one-missing, row-same, row-true}
+use Rattle.bk_machine.proofs.Numbers.{AllApart, Missing, RowsApart, at-most, once-apart, once-has, one-missing, row-true}
 
 -- it can't be true and false
-clash : {A : Type 0} (b : Bool) → b ≡ true → b ≡ false → A
-clash b is isnt = let wrong : true ≡ false = sym is ∙ isnt in absurd (cc)
-
 -- ---- which rows there are
 
 eq-swap : (a b : ℕ) → (a == b) ≡ (b == a)

@@ -6,14 +6,16 @@ use Rattle.std.specs.Str.{bytes_eq}
 use Rattle.bk_items.specs.declared.item.ScriptEntry.{ScriptEntry}
 use Rattle.bk_world.specs.Cut.{end_behind, settled}
 use Rattle.bk_world.specs.Lines.{Grew, log_below}
-use Rattle.bk_world.specs.ListLaws.{all_both, all_filter, all_front, all_joined}
+use Rattle.bk_lemmas.specs.Lists.{all_both, all_filter, all_front, all_joined}
 use Rattle.bk_world.specs.Medium.{Reading, Slot, damaged, medium, no_set, not_media, readable, with_medium, without_medium}
-use Rattle.bk_world.specs.Pending.{Pending, pending}
-use Rattle.bk_world.specs.Records.{Logged, Said, numbered}
-use Rattle.bk_world.specs.Says.{settle_said, undoing}
+use Rattle.bk_world.specs.Pending.{pending}
+use Rattle.bk_world.specs.Records.{Logged, numbered}
+use Rattle.bk_world.specs.Says.{settle_said}
 use Rattle.bk_world.specs.declared.database.Status.{Status}
 use Rattle.bk_world.specs.declared.database.Status.TheVariants.{Online, Standby, Down}
 use Rattle.bk_world.specs.declared.database.Unit.{Unit as RestoreUnit}
+use Rattle.bk_machine.proofs.SettledSteps.{undoing-plain}
+use Rattle.bk_machine.specs.JoinLaws.{rise-line}
 use Rattle.bk_machine.specs.Acts.{done_all}
 use Rattle.bk_machine.specs.Built.{AreFilesApart, IsBuilt, IsBuiltReading, IsBuiltSlot, IsNoLoad, SayNoLoad}
 use Rattle.bk_machine.specs.Crash.{DatabaseLeft, StatusLeft, WorldLeft, cut_between, next_acts, open_begins}
@@ -28,7 +30,6 @@ use Rattle.bk_machine.proofs.Happened.{of-medium, with_units}
 use Rattle.bk_machine.proofs.Joined.{there-grew}
 use Rattle.bk_machine.proofs.Lasting.{event-grows}
 use Rattle.bk_machine.proofs.Loads.{BuiltIn, acts-built, built-same, databases-built, media-built, media-there, no-load-front, numbered-no-load, reading-built}
-use Rattle.bk_machine.proofs.Lost.{rise-line}
 use Rattle.bk_machine.specs.NamedLaws.{all-with}
 use Rattle.bk_machine.proofs.statements.Each.{statement-comes, statement-does, statement-plain}
 use Rattle.bk_machine.proofs.statements.Running.{Within, sound-behind, may-front, within-run}
@@ -108,14 +109,10 @@ restarted-built counter w sound built = record { databases = built.databases; me
 
 -- ---- crashes
 
-undoing-no-load : (ws : List Pending) → AllByRecursion (λ (s : Said). IsNoLoad s.deed) (undoing ws)
-undoing-no-load [] = tt
-undoing-no-load (w ∷ ws) = (tt, undoing-no-load ws)
-
 settled-no-load : (rs : List Logged) → AllByRecursion (λ (r : Logged). IsNoLoad r.deed) rs → AllByRecursion (λ (r : Logged). IsNoLoad r.deed) (settled rs)
 unfolding settled
 settled-no-load rs none =
-    all_joined (λ (r : Logged). IsNoLoad r.deed) rs (numbered (end_behind rs) (settle_said (pending rs))) none (numbered-no-load (end_behind rs) (settle_said (pending rs)) (undoing-no-load (reverse (pending rs))))
+    all_joined (λ (r : Logged). IsNoLoad r.deed) rs (numbered (end_behind rs) (settle_said (pending rs))) none (numbered-no-load (end_behind rs) (settle_said (pending rs)) (undoing-plain (reverse (pending rs))))
 
 module _ (before whole cut left : World) (is : IsWhole cut) (built : IsBuilt cut) (l : WorldLeft before whole cut left) where
   database-left : (old new : Database) → BuiltIn cut.history old → DatabaseLeft before whole cut left old new → BuiltIn left.history new

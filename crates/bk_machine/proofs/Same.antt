@@ -2,7 +2,7 @@
 use Rattle.std.proofs.Common.{◌≡◌, inr, ℕ, List, Option, refl, sym, ◌∙◌, ap, subst}
 use Rattle.std.specs.List.{AllByRecursion}
 use Rattle.bk_world.specs.Lines.{Grew}
-use Rattle.bk_world.specs.ListLaws.{all_both, all_mapped}
+use Rattle.bk_lemmas.specs.Lists.{all_mapped}
 use Rattle.bk_world.specs.declared.header.Header.{Header}
 use Rattle.bk_world.specs.GrowthLaws.{records-grown}
 use Rattle.bk_machine.specs.Acts.{done, medium_made, seated, set_sealed, turned}
@@ -10,7 +10,7 @@ use Rattle.bk_machine.specs.Events.{MediumAdded, MediumChanged, MediumRemoved, S
 use Rattle.bk_machine.specs.Same.{SameLogs}
 use Rattle.bk_machine.specs.SettledLaws.{logs-same}
 use Rattle.bk_machine.specs.Sound.{AreIdle, IsIdle, IsSound, IsWhole, IsWholeDatabase}
-use Rattle.bk_machine.specs.World.{Database, World, ended, log_of, opened, restarted}
+use Rattle.bk_machine.specs.World.{Database, World, log_of, restarted}
 use Rattle.bk_machine.proofs.Lasting.{event-grows}
 
 -- where the history has grown, logs are the same
@@ -23,14 +23,6 @@ same-grown old new is databases grew = record {
 
 pub same-reflexive : (w : World) → SameLogs w w
 same-reflexive w = logs-same w w refl refl
-
-pub same-on : (a b c : World) → SameLogs a b → SameLogs b c → SameLogs a c
-same-on a b c first second =
-    let OfLogs : List Database → Type 0 = AllByRecursion (λ (db : Database). log_of c.history db ≡ log_of b.history db) in record {
-      databases = second.databases ∙ first.databases;
-      logs = all_both (λ (db : Database). log_of b.history db ≡ log_of a.history db) (λ (db : Database). log_of c.history db ≡ log_of b.history db) (λ (db : Database). log_of c.history db ≡ log_of a.history db)
-          (λ db one two. two ∙ one) a.databases first.logs (subst OfLogs first.databases second.logs);
-    }
 
 pub same-idle : (old new : World) → SameLogs old new → AreIdle old → AreIdle new
 same-idle old new same idle = subst (AllByRecursion IsIdle) (sym same.databases) idle
@@ -54,14 +46,6 @@ unfolding done
 same-sealed w path header = logs-same w (done w (set_sealed path header)) refl refl
 
 -- runs
-
-pub same-opened : (w : World) → SameLogs w (opened w)
-unfolding opened
-same-opened w = logs-same w (opened w) refl refl
-
-pub same-ended : (w : World) → SameLogs w (ended w)
-unfolding ended
-same-ended w = logs-same w (ended w) refl refl
 
 pub same-restarted : (counter : ℕ) (w : World) → SameLogs w (restarted counter w)
 unfolding restarted

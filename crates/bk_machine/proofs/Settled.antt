@@ -11,7 +11,7 @@ use Rattle.bk_machine.specs.SettledLaws.{counts-end, zip-first}
 use Rattle.bk_machine.specs.Sound.{IsSound, IsWhole, IsWholeDatabase, OpenBy}
 use Rattle.bk_machine.specs.Stays.{IsFront}
 use Rattle.bk_machine.specs.World.{Database, World, log_of}
-use Rattle.bk_world.specs.ListLaws.{all_mapped}
+use Rattle.bk_lemmas.specs.Lists.{all_mapped}
 use Rattle.bk_machine.proofs.Crashed.{crash-reads}
 use Rattle.bk_machine.proofs.Sets.{set-whole}
 

@@ -8,7 +8,7 @@ use Rattle.bk_ids.specs.declared.record.RecoveryModel.{RecoveryModel}
 use Rattle.bk_world.specs.CrashLaws.{sound-settled}
 use Rattle.bk_world.specs.Cut.{end_behind, settled}
 use Rattle.bk_world.specs.Lines.{log_below}
-use Rattle.bk_world.specs.ListLaws.{all_mapped, all_middle}
+use Rattle.bk_lemmas.specs.Lists.{all_mapped, all_middle}
 use Rattle.bk_world.specs.Pending.{Pending, pending}
 use Rattle.bk_world.specs.ReadingLaws.{entries-settled, pending-settled}
 use Rattle.bk_world.specs.Records.{Counts, Logged, Said, more, numbered}
@@ -58,7 +58,7 @@ pointed-undoing : (m : RecoveryModel) (db : Database) (n : ℕ) (ws : List Pendi
 pointed-undoing m db n [] = refl
 pointed-undoing m db n (w ∷ ws) = pointed-undoing m db (n + 1) ws
 
-undoing-plain : (ws : List Pending) → AllByRecursion (λ (s : Said). IsNoLoad s.deed) (undoing ws)
+pub undoing-plain : (ws : List Pending) → AllByRecursion (λ (s : Said). IsNoLoad s.deed) (undoing ws)
 undoing-plain [] = tt
 undoing-plain (w ∷ ws) = (tt, undoing-plain ws)
 

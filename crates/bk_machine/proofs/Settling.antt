@@ -1,5 +1,5 @@
 -- A database of which a front of its log stays: its last line is cut there, and what was pending is undone behind it.
-use Rattle.std.proofs.Common.{◌≡◌, ◌≢◌, ◌<◌, ◌≤◌, ◌⊎◌, inl, inr, ℕ, zero, suc, ◌+◌, ◌-◌, Bool, true, false, cond, List, [], ◌∷◌, ◌++◌, length, reverse, Option, None, Some, refl, sym, ◌∙◌, ap, subst, eqb, filter, arith}
+use Rattle.std.proofs.Common.{◌≡◌, ◌<◌, ◌≤◌, ◌⊎◌, inl, inr, ℕ, zero, suc, ◌+◌, ◌-◌, Bool, true, false, cond, List, [], ◌∷◌, ◌++◌, length, reverse, Option, None, Some, refl, sym, ◌∙◌, ap, subst, eqb, filter, arith}
 use Rattle.std.specs.Prelude.{Contains}
 use Rattle.std.specs.List.{AllByRecursion, AllZip}
 use Rattle.std.proofs.lemmas.Bool.Decides.{nat_tests}
@@ -11,7 +11,7 @@ use Rattle.bk_ids.specs.declared.path.Branch.{Branch}
 use Rattle.bk_world.specs.Cut.{end_behind, settled}
 use Rattle.bk_world.specs.History.{along, at_branch, is_guid}
 use Rattle.bk_world.specs.Lines.{MayGoOn, RecordLine, RecordLines, has_record_line, line_on, log_below, logged_on, said_on, said_on_last}
-use Rattle.bk_world.specs.ListLaws.{all_filter, all_joined, all_mapped}
+use Rattle.bk_lemmas.specs.Lists.{all_filter, all_joined, all_mapped}
 use Rattle.bk_world.specs.Pending.{Pending, pending}
 use Rattle.bk_world.specs.Records.{Counts, Logged, Said, numbered}
 use Rattle.bk_world.specs.Says.{settle_said, undoing}
@@ -20,17 +20,19 @@ use Rattle.bk_world.specs.declared.database.Status.TheVariants.{Online}
 use Rattle.bk_world.specs.ApartLaws.{along-on}
 use Rattle.bk_world.specs.ElsewhereLaws.{along_at, guid_is, line_of-other}
 use Rattle.bk_world.specs.BranchLaws.{branch_at-last}
-use Rattle.bk_world.specs.SaidLaws.{filter-below, line_of-appended, records-said}
+use Rattle.bk_world.specs.SaidLaws.{filter-below, line_of-appended, records-said, numbered-below}
 use Rattle.bk_world.specs.SettledLaws.{end-more}
 use Rattle.bk_world.specs.SameLaws.{is_guid-refl}
+use Rattle.bk_world.specs.CrashLaws.{counts-front as counts-start}
+use Rattle.bk_machine.specs.JoinLaws.{rise-line}
 use Rattle.bk_machine.specs.Crash.{IsUndoing, LineLeft}
 use Rattle.bk_machine.specs.Sound.{IsPassed, IsSoundLine, IsWholeDatabase, RiseFrom}
 use Rattle.bk_machine.specs.Stays.{MayStay}
 use Rattle.bk_machine.specs.World.{Database, World, log_of}
-use Rattle.bk_machine.proofs.Histories.{below-numbered, counts-front, log-front, rise-said}
+use Rattle.bk_machine.proofs.Histories.{counts-front, log-front, rise-said}
 use Rattle.bk_machine.specs.SettledLaws.{counts-end}
 use Rattle.bk_machine.proofs.Left.{counts-below, none-lost, of-contained}
-use Rattle.bk_machine.proofs.Lost.{at-first, at-passed, has-left, rise-line}
+use Rattle.bk_machine.proofs.Lost.{at-first, at-passed, has-left}
 use Rattle.bk_machine.proofs.Truncated.{all-below, at-below, below, from, from-each, rise-filter, rise-splits, same-front}
 
 -- ---- a history with one line cut
@@ -71,12 +73,6 @@ has-cut (line ∷ h) b m g = by (is_guid line.branch b) (has-cut h b m g)
     by false later = ap (λ r. cond (is_guid line.branch g) true r) later
 
 -- ---- numbers
-
-pub counts-start : (n end : ℕ) (a b : List Logged) → Counts n (a ++ b) end → Counts n a (n + length a)
-counts-start n end [] b counts = let none : List Logged = [] in let same : n ≡ n + length none = omega arith in same
-counts-start n end (r ∷ a) b counts =
-    let on : (n + 1) + length a ≡ n + length (r ∷ a) = omega arith in
-    (counts.0, subst (Counts (n + 1) a) on (counts-start (n + 1) end a b counts.1))
 
 all-undoing : (n : ℕ) (ws : List Pending) → AllByRecursion (λ (r : Logged). IsUndoing r.deed) (numbered n (undoing ws))
 all-undoing n [] = tt
@@ -272,5 +268,5 @@ module _ (before whole cut : World) (sound : AllByRecursion (IsSoundLine cut) cu
               (all_joined (λ (r : Logged). r.lsn < end_behind (settled kept)) (below (end_behind kept) (line_on cut.history on.branch).records) (numbered (end_behind kept) said)
               (all_mapped (λ (r : Logged). r.lsn < end_behind kept) (λ (r : Logged). r.lsn < end_behind (settled kept)) (λ r lt. omega (arith, lt, ends)) (below (end_behind kept) (line_on cut.history on.branch).records)
               (all-below (end_behind kept) (line_on cut.history on.branch).records))
-              (subst (λ n. AllByRecursion (λ (r : Logged). r.lsn < n) (numbered (end_behind kept) said)) (sym ends) (below-numbered (end_behind kept) said)));
+              (subst (λ n. AllByRecursion (λ (r : Logged). r.lsn < n) (numbered (end_behind kept) said)) (sym ends) (numbered-below (end_behind kept) said)));
         }

@@ -2,10 +2,10 @@
 use Rattle.std.proofs.Common.{◌≡◌, ◌<◌, ◌≤◌, ℕ, Bool, true, false, cond, not, List, [], ◌∷◌, ◌++◌, length, refl, sym, ◌∙◌, ap, eqb, ltb, filter, arith}
 use Rattle.std.specs.List.{AllByRecursion}
 use Rattle.std.proofs.lemmas.Bool.Decides.{nat_tests}
-use Rattle.bk_world.specs.ListLaws.{all_mapped}
+use Rattle.bk_lemmas.specs.Lists.{all_mapped}
 use Rattle.bk_world.specs.Records.{Logged}
+use Rattle.bk_machine.specs.JoinLaws.{rise-all}
 use Rattle.bk_machine.specs.Sound.{RiseFrom}
-use Rattle.bk_machine.proofs.Lost.{rise-all}
 
 -- what lies below a number, and what doesn't
 abbrev pub below : ℕ → List Logged → List Logged

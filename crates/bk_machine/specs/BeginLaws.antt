@@ -4,7 +4,7 @@ use Rattle.std.specs.Prelude.{◌==◌}
 use Rattle.std.specs.List.{AllByRecursion}
 use Rattle.std.proofs.Math.Nat.{le-min, min-le_left, min-le_right}
 use Rattle.std.proofs.lemmas.Bool.Decides.{nat_tests}
-use Rattle.bk_world.specs.ListLaws.{all_filter, all_joined, all_mapped}
+use Rattle.bk_lemmas.specs.Lists.{all_filter, all_joined, all_mapped}
 use Rattle.bk_machine.specs.MayDo.{IsOpenOrNew}
 use Rattle.bk_machine.specs.Sound.{has_begin}
 use Rattle.bk_world.specs.declared.transaction.Open.{Open}

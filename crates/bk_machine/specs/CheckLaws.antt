@@ -29,10 +29,6 @@ was-found None rule a e = absurd cc
 was-found (Some b) rule a e = let same : b ≡ a = cc in cc
 
 -- of two tests of which none holds, the first doesn't, and the second doesn't; nor does the third of three
-pub first-false : (a b : Bool) → (a || b) ≡ false → a ≡ false
-first-false true b e = absurd cc
-first-false false b e = refl
-
 pub second-false : (a b : Bool) → (a || b) ≡ false → b ≡ false
 second-false true b e = absurd cc
 second-false false b e = e

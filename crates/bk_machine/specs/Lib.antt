@@ -30,3 +30,7 @@ pub mod TargetLaws
 pub mod FirstLaws
 pub mod SettledLaws
 pub mod ClosingLaws
+pub mod JoinLaws
+pub mod SameLaws
+pub mod SaysLaws
+pub mod NewFileLaws

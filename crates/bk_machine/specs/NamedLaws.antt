@@ -4,7 +4,7 @@ use Rattle.std.specs.List.{AllByRecursion}
 use Rattle.std.specs.Str.{bytes_eq}
 use Rattle.std.proofs.lemmas.Slice.Eq.{bytes_eq-Decides}
 use Rattle.bk_ids.specs.Name.{same_name, lowered}
-use Rattle.bk_world.specs.ListLaws.{all_both, all_mapped}
+use Rattle.bk_lemmas.specs.Lists.{all_both, all_mapped}
 use Rattle.bk_world.specs.SameLaws.{same_name-refl}
 use Rattle.bk_machine.specs.Sound.{Differ, AreDifferent}
 use Rattle.bk_machine.specs.World.{Database, database_named, with_database, without_database, with_new_database}

@@ -6,7 +6,7 @@ use Rattle.std.specs.List.{AllByRecursion, AllZip}
 use Rattle.std.proofs.lemmas.List.{append-nil}
 use Rattle.bk_world.specs.Cut.{end_behind, settled}
 use Rattle.bk_world.specs.Lines.{RecordLines, log_below}
-use Rattle.bk_world.specs.ListLaws.{all_mapped}
+use Rattle.bk_lemmas.specs.Lists.{all_mapped}
 use Rattle.bk_world.specs.Pending.{Pending, pending}
 use Rattle.bk_world.specs.Records.{Counts, Logged, numbered}
 use Rattle.bk_world.specs.Says.{settle_said}

@@ -2,7 +2,7 @@
 use Rattle.std.proofs.Common.{◌≡◌, ◌<◌, ◌≤◌, ℕ, ◌+◌, true, false, List, [], ◌++◌, length, Some, sym, subst, arith}
 use Rattle.std.specs.List.{AllByRecursion}
 use Rattle.bk_world.specs.declared.database.Status.TheVariants.{Online}
-use Rattle.bk_world.specs.ListLaws.{all_joined, all_mapped}
+use Rattle.bk_lemmas.specs.Lists.{all_joined, all_mapped}
 use Rattle.bk_world.specs.Pending.{Pending, of_transaction, pending}
 use Rattle.bk_world.specs.Records.{Logged, Said, more, numbered}
 use Rattle.bk_world.specs.SoundLogs.{undoes}

@@ -13,7 +13,7 @@ use Rattle.bk_parse.specs.Ahead.{Agrees, behind_it, left_over}
 use Rattle.bk_parse.specs.Laws.{quiet, done, stuck-ahead, and_then, branch, if_next, behind_by, behind_next, OneToken, taken, not_taken, one-ahead, one_then, at_end, text-one, keyword-ahead, sign-ahead, name-ahead, text-ahead, equal_text-ahead, equal_filled-ahead, equal_number-ahead}
 use Rattle.bk_media_forms.specs.declared.backup_options.BackupWord.{BackupWord}
 use Rattle.bk_media_forms.specs.declared.backup_options.BackupWord.TheVariants.{Init, NoInit, Format, NoFormat, Skip, NoSkip, Checksum, NoChecksum, Name, ExpireDate, RetainDays, CopyOnly, Differential, NoRecovery, NoTruncate, Idle}
-use Rattle.bk_media_forms.specs.Idle.{bare_word, value_word, skip_text, skip_number, skip_share, skip_value}
+use Rattle.bk_media_forms.specs.Idle.{bare_word, text_word, number_word, skip_text, skip_number, skip_share, skip_value}
 use Rattle.bk_media_forms.specs.Backup.{timed, time, equal_time, medium_word, set_word, valued_word, backup_word, joins, named, expiring, retained, idled, joined, joined_by, one_more, options_from, no_options, options, with_options}
 use Rattle.bk_media_forms.specs.Media.{disk, unit, units_from, some_units, units, backup_database, backup_log, backup, with_file, query_medium}
 
@@ -106,7 +106,7 @@ joined_by-ahead src o None more ts = stuck-ahead behind_it more ts
 joined_by-ahead src o (Some w) more ts = branch (joins o w) (behind_next ts (joined src o w) (joined-ahead src o w more)) (stuck-ahead behind_it more ts)
 
 one_more-ahead : (src : List ℕ) (log : Bool) (o : BackupOptions) (more ts : List Token) → Agrees behind_it more ts (one_more src log o ts) (one_more src log o (ts ++ more))
-unfolding one_more medium_word set_word valued_word bare_word value_word
+unfolding one_more medium_word set_word valued_word bare_word text_word number_word
 one_more-ahead src log o more [] = quiet (omega arith) (joined_by-ahead src o (backup_word src log []) more [])
 one_more-ahead src log o more (t ∷ ts) = joined_by-ahead src o (backup_word src log (t ∷ ts)) more (t ∷ ts)
 

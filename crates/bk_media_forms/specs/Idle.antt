@@ -22,21 +22,26 @@ bare_word src ts =
     else (if next_is src ts (codes "NO_COMPRESSION") then Some NoCompression
     else None)))))
 
--- an option that has a text or a number
-unfoldable pub value_word : List ℕ → List Token → Option IdleOption
-value_word src ts =
-    if next_is src ts (codes "STATS") then Some Stats
-    else (if next_is src ts (codes "DESCRIPTION") then Some Description
+-- an option that has a text
+unfoldable pub text_word : List ℕ → List Token → Option IdleOption
+text_word src ts =
+    if next_is src ts (codes "DESCRIPTION") then Some Description
     else (if next_is src ts (codes "MEDIANAME") then Some MediaName
     else (if next_is src ts (codes "MEDIADESCRIPTION") then Some MediaDescription
+    else None))
+
+-- an option that has a number, or may have one
+unfoldable pub number_word : List ℕ → List Token → Option IdleOption
+number_word src ts =
+    if next_is src ts (codes "STATS") then Some Stats
     else (if next_is src ts (codes "BUFFERCOUNT") then Some BufferCount
     else (if next_is src ts (codes "MAXTRANSFERSIZE") then Some MaxTransferSize
     else (if next_is src ts (codes "BLOCKSIZE") then Some BlockSize
-    else None))))))
+    else None)))
 
 -- an option without effect, by its word
 abbrev pub idle_word : List ℕ → List Token → Option IdleOption
-idle_word src ts = or_else (bare_word src ts) (value_word src ts)
+idle_word src ts = or_else (bare_word src ts) (or_else (text_word src ts) (number_word src ts))
 
 -- the option is there already
 abbrev pub is_marked : IdleOptions → IdleOption → Bool

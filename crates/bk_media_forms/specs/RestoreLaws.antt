@@ -12,7 +12,7 @@ use Rattle.bk_parse.specs.Ahead.{Agrees, behind_it, left_over}
 use Rattle.bk_parse.specs.Laws.{quiet, done, stuck-ahead, and_then, branch, if_next, behind_by, behind_next, OneToken, taken, not_taken, one-ahead, one_then, at_end, text-one, keyword-ahead, sign-ahead, name-ahead, text-ahead, filled_text-ahead, equal_text-ahead, equal_filled-ahead, equal_number-ahead}
 use Rattle.bk_media_forms.specs.declared.restore_options.RestoreWord.{RestoreWord}
 use Rattle.bk_media_forms.specs.declared.restore_options.RestoreWord.TheVariants.{File, Recovery, NoRecovery, Standby, StopAt, StopAtMark, StopBeforeMark, Replace, Partial, Move, Checksum, NoChecksum, Idle}
-use Rattle.bk_media_forms.specs.Idle.{bare_word, value_word, skip_value}
+use Rattle.bk_media_forms.specs.Idle.{bare_word, text_word, number_word, skip_value}
 use Rattle.bk_media_forms.specs.Backup.{time}
 use Rattle.bk_media_forms.specs.Media.{disk, units, query_medium}
 use Rattle.bk_media_forms.specs.Pages.{pages_of}
@@ -119,7 +119,7 @@ joined_by-ahead src o None more ts = stuck-ahead behind_it more ts
 joined_by-ahead src o (Some w) more ts = branch (joins o w) (behind_next ts (joined src o w) (joined-ahead src o w more)) (stuck-ahead behind_it more ts)
 
 one_more-ahead : (src : List ℕ) (from : Bool) (o : RestoreOptions) (more ts : List Token) → Agrees behind_it more ts (one_more src from o ts) (one_more src from o (ts ++ more))
-unfolding one_more ending_word stop_word change_word bare_word value_word
+unfolding one_more ending_word stop_word change_word bare_word text_word number_word
 one_more-ahead src from o more [] = quiet (omega arith) (joined_by-ahead src o (restore_word src from []) more [])
 one_more-ahead src from o more (t ∷ ts) = joined_by-ahead src o (restore_word src from (t ∷ ts)) more (t ∷ ts)
 

@@ -30,18 +30,27 @@ fn bare_word(src: &[u8], tokens: &[Token]) -> Option<IdleOption>
     }
 }
 
-#[tactic(auto, unfolding(crate::specs::Idle::value_word))]
-fn value_word(src: &[u8], tokens: &[Token]) -> Option<IdleOption>
-    ensures { result ≡ spec.value_word src.now tokens.now }
+#[tactic(auto, unfolding(crate::specs::Idle::text_word))]
+fn text_word(src: &[u8], tokens: &[Token]) -> Option<IdleOption>
+    ensures { result ≡ spec.text_word src.now tokens.now }
 {
-    if next_is(src, tokens, b"STATS") {
-        Some(IdleOption::Stats)
-    } else if next_is(src, tokens, b"DESCRIPTION") {
+    if next_is(src, tokens, b"DESCRIPTION") {
         Some(IdleOption::Description)
     } else if next_is(src, tokens, b"MEDIANAME") {
         Some(IdleOption::MediaName)
     } else if next_is(src, tokens, b"MEDIADESCRIPTION") {
         Some(IdleOption::MediaDescription)
+    } else {
+        None
+    }
+}
+
+#[tactic(auto, unfolding(crate::specs::Idle::number_word))]
+fn number_word(src: &[u8], tokens: &[Token]) -> Option<IdleOption>
+    ensures { result ≡ spec.number_word src.now tokens.now }
+{
+    if next_is(src, tokens, b"STATS") {
+        Some(IdleOption::Stats)
     } else if next_is(src, tokens, b"BUFFERCOUNT") {
         Some(IdleOption::BufferCount)
     } else if next_is(src, tokens, b"MAXTRANSFERSIZE") {
@@ -57,10 +66,9 @@ fn value_word(src: &[u8], tokens: &[Token]) -> Option<IdleOption>
 pub fn idle_word(src: &[u8], tokens: &[Token]) -> Option<IdleOption>
     ensures { result ≡ spec.idle_word src.now tokens.now }
 {
-    match bare_word(src, tokens) {
-        Some(option) => Some(option),
-        None => value_word(src, tokens),
-    }
+    bare_word(src, tokens)
+        .or_else(|| text_word(src, tokens))
+        .or_else(|| number_word(src, tokens))
 }
 
 /// The option is there already.

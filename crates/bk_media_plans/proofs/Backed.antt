@@ -11,8 +11,8 @@ use Rattle.bk_ids.specs.declared.guid.Guid.{Guid}
 use Rattle.bk_items.specs.declared.item.ScriptItem.TheVariants as script
 use Rattle.bk_items.specs.declared.item.UnitName.{UnitName}
 use Rattle.bk_items.specs.declared.options.BackupOptions.{BackupOptions}
-use Rattle.bk_machine.specs.Acts.{Act, based, done, drawn, gone_on, logged, medium_made, said_time, says, set_sealed, where_found}
-use Rattle.bk_machine.specs.CheckLaws.{first-false, is-none, not-refused, passed, second-false, was-found, was-online}
+use Rattle.bk_machine.specs.Acts.{Act, based, done, drawn, gone_on, logged, medium_made, said_time, says, set_sealed}
+use Rattle.bk_machine.specs.CheckLaws.{is-none, not-refused, passed, second-false, was-found, was-online}
 use Rattle.bk_machine.specs.Checks.{limit, online, or_refuse, outside, refuse_if, used_up, is_path}
 use Rattle.bk_machine.specs.Machine.{May}
 use Rattle.bk_machine.specs.MayDo.{HoldsOf, MayDo, MayDoAll, MayLog, MaySay}
@@ -39,6 +39,9 @@ use Rattle.bk_plans.specs.declared.parts.Part.{Part}
 use Rattle.bk_plans.specs.declared.parts.Plan.{Plan}
 use Rattle.bk_plans.specs.declared.parts.Plan.TheVariants.{Refused, Answered, Turned, Seated, Parts}
 use Rattle.bk_plans.specs.declared.refusal.Refusal.{Refusal}
+use Rattle.bk_lemmas.specs.Tests.{first_false}
+use Rattle.bk_world.specs.CrashLaws.{counts-length}
+use Rattle.bk_machine.specs.SaysLaws.{done-says}
 use Rattle.bk_media_plans.specs.Backups.{AreBegun, IsBackup, IsBackupPlan}
 use Rattle.bk_plans.specs.Checking.{IsRefused}
 use Rattle.bk_kept.specs.Keeps.{HoldsLive, Keeps, ShowsLog, database_of}
@@ -46,7 +49,6 @@ use Rattle.bk_plans.specs.Planned.{IsRefusedBy}
 use Rattle.bk_plans.specs.Planning.{AreParts, MakesMedium, Plans, SealsSet}
 use Rattle.bk_kept.specs.Stored.{IsDone}
 use Rattle.bk_plans.specs.PlanLaws.{DoWhatTheyMay, comes-found, comes-refused, plans-refusal}
-use Rattle.bk_plans.specs.SaidLaws.{counts-length}
 
 -- What was checked.
 
@@ -75,7 +77,7 @@ checked w line name units path options db e =
       named = named-own w.databases name db (was-found (database_named w.databases name) NoSuchDatabase two.found two.is ∙ ap (λ (d : Database). Some d) whole);
       online = subst (λ (d : Database). d.status ≡ Online) same up.up;
       absent = is-none (medium_at w.media path) (second-false (not (is_whole_backup units options && is_path path)) (is_some (medium_at w.media path)) (not-refused _ (NotBuilt line) one.found one.is));
-      left = subst (λ (d : Database). used_up d.end ≡ false) same (first-false (used_up three.found.end) (used_up w.counter) free);
+      left = subst (λ (d : Database). used_up d.end ≡ false) same (first_false (used_up three.found.end) (used_up w.counter) free);
       draws = second-false (used_up three.found.end) (used_up w.counter) free;
     }
 
@@ -96,10 +98,6 @@ pub record Laws : Type 0 where
 its-log : (v : World) (name : List ℕ) (db : Database) (said : List Said) (ts : List Open) → database_named v.databases name ≡ Some db → MayDo v (logged name said ts) → MayLog v db said ts
 its-log v name db said ts named may = subst (λ (o : Option Database). HoldsOf o (λ db. MayLog v db said ts)) named may
 
-says-is : (v : World) (name : List ℕ) (db : Database) (said : List Said) (ts : List Open) → database_named v.databases name ≡ Some db → done v (logged name said ts) ≡ says v db said ts
-unfolding done
-says-is v name db said ts named = ap (λ (o : Option Database). where_found v o (λ d. says v d said ts)) named
-
 media-said : (v : World) (db : Database) (said : List Said) (ts : List Open) → (says v db said ts).media ≡ v.media
 unfolding says
 media-said v db said ts = refl
@@ -115,7 +113,7 @@ behind : Laws → (v : World) (name : List ℕ) (db : Database) (said : List Sai
     → Behind v (done v (logged name said ts)) name (gone_on (model (log_of v.history db)) said ts db) (more (log_of v.history db) db.end said)
 behind laws v name db said ts sound named may =
     let says-so : MaySay v db said = (its-log v name db said ts named may).says in
-    let is : done v (logged name said ts) ≡ says v db said ts = says-is v name db said ts named in
+    let is : done v (logged name said ts) ≡ says v db said ts = done-says v name db said ts named in
     record {
       sound = laws.act v (logged name said ts) sound may;
       named = subst (λ (u : World). database_named u.databases name ≡ Some (gone_on (model (log_of v.history db)) said ts db)) (sym is) (laws.found v name db said ts sound.whole named says-so);

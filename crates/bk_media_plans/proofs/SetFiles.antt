@@ -1,12 +1,10 @@
 -- Paths of a set's files, checked one after the other or searched.
-use Rattle.std.proofs.Common.{◌≡◌, ℕ, Bool, true, false, cond, List, [], ◌∷◌, ◌++◌, map, Some, Result, Ok, Err, refl, sym, ◌∙◌, ap, subst}
+use Rattle.std.proofs.Common.{◌≡◌, ℕ, Bool, true, false, cond, List, [], ◌∷◌, ◌++◌, map, Some, Err, refl, sym, ◌∙◌, ap}
 use Rattle.std.specs.List.{find}
 use Rattle.std.specs.Prelude.{◌||◌}
 use Rattle.std.specs.Str.{bytes_eq}
 use Rattle.std.proofs.lemmas.List.Folds.{list_any-append}
-use Rattle.bk_machine.specs.Checks.{Checked, ◌>>=◌, has_path, free_paths, different_paths}
-use Rattle.bk_plans.specs.Checking.{IsCheck}
-use Rattle.bk_plans.specs.declared.refusal.Refusal.{Refusal}
+use Rattle.bk_machine.specs.Checks.{has_path, free_paths, different_paths}
 use Rattle.bk_world.specs.declared.header.HeaderFile.{HeaderFile}
 use Rattle.bk_world.specs.declared.rule.Rule.TheVariants.{FileInUse}
 use Rattle.bk_media_plans.specs.SetPaths.{file_check, first_repeated, stands}
@@ -52,7 +50,3 @@ different-from seen before (f ∷ files) are =
 
 pub different-found : (files : List HeaderFile) → different_paths [] (file_paths files) ≡ file_check (first_repeated [] files)
 different-found files = different-from [] [] files (λ path. refl)
-
--- behind a check that was passed
-pub passed-on : {A B C : Type 0} (view : C → B) (result : Result C Refusal) (first : Checked A) (next : A → Checked B) (a : A) → first ≡ Ok a → IsCheck view result (next a) → IsCheck view result (first >>= next)
-passed-on view result first next a is rest = subst (λ (c : Checked _). IsCheck view result (c >>= next)) (sym is) rest

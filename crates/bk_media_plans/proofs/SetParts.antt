@@ -10,7 +10,7 @@ use Rattle.bk_machine.specs.statements.Backup.{full_header}
 use Rattle.bk_set.specs.Conditions.{IsFrom, KeepParts, KeepTables, RiseFrom, has_table}
 use Rattle.bk_set.specs.declared.body.SetBody.{SetBody}
 use Rattle.bk_shown.specs.Shown.{IsFit, Shows}
-use Rattle.bk_world.specs.ListLaws.{all_mapped}
+use Rattle.bk_lemmas.specs.Lists.{all_mapped}
 use Rattle.bk_world.specs.Lines.{log_below}
 use Rattle.bk_world.specs.PlacedRows.{AreRowsOf, ComesBefore, RowsRise}
 use Rattle.bk_world.specs.Records.{Logged}

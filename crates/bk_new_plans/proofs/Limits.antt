@@ -16,8 +16,8 @@ use Rattle.bk_world.specs.declared.database.Storage.{Storage}
 use Rattle.bk_world.specs.declared.rule.Limit.TheVariants as which
 use Rattle.bk_world.specs.declared.rule.Rule.TheVariants.{LimitReached}
 use Rattle.bk_plans.specs.declared.refusal.Refusal.{Refusal}
-use Rattle.bk_plans.specs.declared.refusal.Refusal.TheVariants.{Broken, NoMemory}
 use Rattle.bk_plans.specs.Checking.{IsRefused}
+use Rattle.bk_plans.specs.CheckingLaws.{refused-first}
 use Rattle.bk_new_plans.specs.NewFiles.{capped}
 use Rattle.bk_new_plans.proofs.NewFiles.{cap-low, cap-test, groups-length, new-length}
 
@@ -36,10 +36,6 @@ chain-is s files groups extents one two three =
     ∙ ap (λ t. chain files groups t) (sym three)
 
 -- a check that is refused, whatever comes next
-refused-by : {A B : Type 0} (refusal : Refusal) (first : Checked A) (next : A → Checked B) → IsRefused refusal first → IsRefused refusal (first >>= next)
-refused-by (Broken rule) first next is = ap (λ f. f >>= next) is
-refused-by NoMemory first next is = tt
-
 -- ---- as they are made
 
 one-more : (n m : ℕ) → m ≡ n + 1 → nat_le 8 n ≡ nat_lt 8 m
@@ -60,7 +56,7 @@ module _ (name : List ℕ) (primary : List NewFile) (groups : List NewGroup) (lo
   pub at-files : (refusal : Refusal) → IsRefused refusal (refuse_if many (LimitReached which.Files)) → IsRefused refusal (check_limits (new_storage name primary groups log))
   at-files refusal is =
       subst (IsRefused refusal) (sym (chain-is (new_storage name primary groups log) many (nat_le 8 (length groups)) (nat_lt most_extents (extents_in (new_files name primary groups))) files-test groups-test refl))
-      (refused-by refusal (refuse_if many (LimitReached which.Files)) _ is)
+      (refused-first refusal (refuse_if many (LimitReached which.Files)) _ is)
 
   module _ (few : many ≡ false) where
     pub few-files : length (new_files name primary groups) ≤ 16
@@ -70,7 +66,7 @@ module _ (name : List ℕ) (primary : List NewFile) (groups : List NewGroup) (lo
     at-groups refusal is =
         subst (IsRefused refusal)
         (sym (chain-is (new_storage name primary groups log) false (nat_le 8 (length groups)) (nat_lt most_extents (extents_in (new_files name primary groups))) (sym few ∙ files-test) groups-test refl))
-        (refused-by refusal (refuse_if (nat_le 8 (length groups)) (LimitReached which.Groups)) _ is)
+        (refused-first refusal (refuse_if (nat_le 8 (length groups)) (LimitReached which.Groups)) _ is)
 
     module _ (few_groups : nat_le 8 (length groups) ≡ false) (made : List FileSpec) (made-is : made ≡ map capped (new_files name primary groups)) where
       pub few-made : length made ≤ 16

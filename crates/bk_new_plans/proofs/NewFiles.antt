@@ -15,7 +15,8 @@ use Rattle.bk_machine.specs.Checks.{is_name, is_path}
 use Rattle.bk_machine.specs.Files.{extents_in}
 use Rattle.bk_machine.specs.statements.CreateDatabase.{are_named, default_log, file_spec, files_in, files_of, is_named_file, is_named_group, is_named_log, new_files, new_groups, new_log_path, new_storage, primary_files, repeated}
 use Rattle.bk_world.specs.declared.database.FileSpec.{FileSpec}
-use Rattle.bk_world.specs.ListLaws.{all_joined}
+use Rattle.bk_lemmas.specs.Lists.{all_joined}
+use Rattle.bk_machine.specs.NewFileLaws.{files-length}
 use Rattle.bk_new_plans.proofs.Cuts.{default_log-named}
 use Rattle.bk_new_plans.specs.NewFiles.{capped}
 
@@ -74,10 +75,6 @@ module _ (before : List FileSpec) where
       omega (arith, few, more, own, ap length is, length-append before (map capped (files_in n (i + 1) g.files)), in-length n (i + 1) g.files)
 
 -- ---- how many
-
-pub files-length : (n group : ℕ) (files : List NewFile) → length (files_in n group files) ≡ length files
-files-length n group [] = refl
-files-length n group (f ∷ files) = omega (arith, files-length (n + 1) group files)
 
 of-length : (n group : ℕ) (groups : List NewGroup) → length (files_of n group groups) ≡ sum_by (λ (g : NewGroup). length g.files) groups
 of-length n group [] = refl

@@ -1,11 +1,11 @@
 -- CREATE DATABASE as it is planned.
-use Rattle.std.proofs.Common.{◌≡◌, ℕ, ◌+◌, min, false, List, Option, Result, Ok, refl, sym, ◌∙◌, ap, subst}
+use Rattle.std.proofs.Common.{◌≡◌, ℕ, ◌+◌, min, false, List, Option, Ok, refl, sym, ◌∙◌, ap, subst}
 use Rattle.bk_acts.specs.declared.act.StoredAct.TheVariants.{Created}
 use Rattle.bk_items.specs.declared.item.NewFile.{NewFile}
 use Rattle.bk_items.specs.declared.item.NewGroup.{NewGroup}
 use Rattle.bk_items.specs.declared.item.ScriptItem.TheVariants as script
 use Rattle.bk_machine.specs.Acts.{created, latest}
-use Rattle.bk_machine.specs.Checks.{Checked, ◌>>=◌, used_up}
+use Rattle.bk_machine.specs.Checks.{used_up}
 use Rattle.bk_machine.specs.Machine.{May}
 use Rattle.bk_machine.specs.Outcome.{Outcome, in_one}
 use Rattle.bk_machine.specs.World.{World}
@@ -16,16 +16,13 @@ use Rattle.bk_world.specs.declared.reply.Reply.TheVariants.{Done}
 use Rattle.bk_kept.specs.declared.kept.Kept.{Kept}
 use Rattle.bk_plans.specs.declared.parts.Plan.{Plan}
 use Rattle.bk_plans.specs.declared.refusal.Refusal.{Refusal}
-use Rattle.bk_plans.specs.Checking.{IsCheck, IsRefused}
+use Rattle.bk_plans.specs.Checking.{IsRefused}
 use Rattle.bk_kept.specs.Keeps.{Keeps}
 use Rattle.bk_plans.specs.Planned.{IsOne, IsRefusedBy}
 use Rattle.bk_plans.specs.Planning.{Plans}
 use Rattle.bk_plans.specs.PlanLaws.{DoWhatTheyMay, comes-found, comes-refused, plans-one, plans-refusal}
 
 -- behind a check that was passed
-pub passed-on : {A B C : Type 0} (view : C → B) (result : Result C Refusal) (first : Checked A) (next : A → Checked B) (a : A) → first ≡ Ok a → IsCheck view result (next a) → IsCheck view result (first >>= next)
-passed-on view result first next a is rest = subst (λ (c : Checked _). IsCheck view result (c >>= next)) (sym is) rest
-
 module _ (k : Kept) (line now : ℕ) (name : List ℕ) (primary : List NewFile) (groups : List NewGroup) (log : Option NewFile) where
   pub create-refused : (refusal : Refusal) (plan : Plan) → IsRefusedBy refusal plan → ((w : World) → Keeps w k → IsRefused refusal (check_create_database w line name primary groups log))
       → Plans k (λ w. Unit {0}) (record { item = script.CreateDatabase name primary groups log; line = line }) now plan

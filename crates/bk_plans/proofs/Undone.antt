@@ -1,9 +1,10 @@
 -- Pending writes that are undone one after the other, the last one first.
 use Rattle.std.proofs.Common.{◌≡◌, ◌<◌, ℕ, ◌+◌, ◌-◌, Bool, true, false, cond, List, [], ◌∷◌, ◌++◌, map, length, take, get_or, reverse, Option, Some, None, refl, sym, ◌∙◌, ap, subst}
 use Rattle.std.specs.Prelude.{◌==◌, filter}
-use Rattle.std.proofs.lemmas.List.{append-nil, get_or-reverse, length-reverse, map-append, reverse-append, take_more}
+use Rattle.std.proofs.lemmas.List.{append-nil, get_or-reverse, length-reverse, map-append, take_more}
 use Rattle.std.proofs.lemmas.List.Elements.{filter-append}
 use Rattle.std.proofs.Math.Seq.{take-length}
+use Rattle.bk_lemmas.specs.Lists.{reverse_cons}
 use Rattle.bk_plans.specs.Undoing.{those_of}
 use Rattle.bk_shown.specs.Shown.{pending_of}
 use Rattle.bk_shown.specs.declared.shown.Written.{Written}
@@ -18,9 +19,6 @@ those-append (Some begin) a b = filter-append (λ w. w.begin == begin) a b
 pub those-one : (only : Option ℕ) (w : Pending) → (is : Bool) → ((own : ℕ) → only ≡ Some own → is ≡ (w.begin == own)) → (only ≡ None → is ≡ true) → those_of only (w ∷ []) ≡ cond is (w ∷ []) []
 those-one None w is own all = ap (λ b. cond b (w ∷ []) []) (sym (all refl))
 those-one (Some begin) w is own all = ap (λ b. cond b (w ∷ []) []) (sym (own begin refl))
-
-reverse_cons : {X : Type 0} (x : X) (xs : List X) → reverse (x ∷ xs) ≡ reverse xs ++ x ∷ []
-reverse_cons x xs = reverse-append (x ∷ []) xs
 
 map-reversed : {X Y : Type 0} (f : X → Y) (xs : List X) → map f (reverse xs) ≡ reverse (map f xs)
 map-reversed f [] = refl

@@ -1,4 +1,5 @@
 pub mod Checking
+pub mod CheckingLaws
 pub mod Opened
 pub mod Paths
 pub mod Planning

@@ -12,7 +12,7 @@ use Rattle.bk_machine.specs.MayDo.{HoldsOf, MayDo, MayLog}
 use Rattle.bk_machine.specs.Outcome.{in_one}
 use Rattle.bk_machine.specs.World.{World, Database, database_named, log_of}
 use Rattle.bk_shown.specs.Shown.{AreNext, ArePlaced}
-use Rattle.bk_world.specs.Records.{Counts, Logged, Said, numbered}
+use Rattle.bk_world.specs.Records.{Logged, Said, numbered}
 use Rattle.bk_world.specs.SoundLogs.{MayFollow}
 use Rattle.bk_world.specs.declared.database.FileSpec.{FileSpec}
 use Rattle.bk_world.specs.declared.reply.Reply.{Reply}
@@ -21,16 +21,13 @@ use Rattle.bk_kept.specs.declared.kept.Database.{Database as KeptDatabase}
 use Rattle.bk_kept.specs.declared.kept.Kept.{Kept}
 use Rattle.bk_kept.specs.Keeps.{ShowsLog, database_of}
 use Rattle.bk_kept.specs.Stored.{IsDone}
+use Rattle.bk_world.specs.CrashLaws.{counts-length}
 use Rattle.bk_plans.specs.declared.parts.Plan.{Plan}
 use Rattle.bk_plans.specs.PlanLaws.{DoWhatTheyMay, InEach, Stores, plans-one}
 use Rattle.bk_plans.specs.Planned.{IsOne, SaysNow, SaysThen}
 use Rattle.bk_plans.specs.Planning.{Plans}
 
 -- records that count from a number on end behind their number
-pub counts-length : (n : ℕ) (rs : List Logged) (end : ℕ) → Counts n rs end → end ≡ n + length rs
-counts-length n [] end is = omega (arith, is)
-counts-length n (r ∷ rs) end is = let rest : end ≡ (n + 1) + length rs = counts-length (n + 1) rs end is.1 in omega (arith, rest)
-
 -- records that may follow, each in its place, may come next
 pub next-all : (files : List FileSpec) (rs : List Logged) (n : ℕ) (said : List Said) → n ≡ length rs + 1 → n + length said ≤ 2 ^ 62 → MayFollow rs (numbered n said) → ArePlaced files rs (numbered n said) → AreNext files rs (numbered n said)
 next-all files rs n [] from low may placed = tt

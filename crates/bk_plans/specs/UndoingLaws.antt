@@ -3,7 +3,8 @@ use Rattle.std.proofs.Common.{◌≡◌, ◌≤◌, ℕ, suc, ◌+◌, ◌^◌, 
 use Rattle.std.specs.Prelude.{◌==◌, filter}
 use Rattle.std.proofs.lemmas.List.{append-nil, length-append, length-reverse}
 use Rattle.bk_ids.specs.declared.guid.Guid.{Guid}
-use Rattle.bk_plans.specs.SaidLaws.{counts-length, next-all}
+use Rattle.bk_world.specs.CrashLaws.{counts-length}
+use Rattle.bk_plans.specs.SaidLaws.{next-all}
 use Rattle.bk_plans.specs.Undoing.{those_of}
 use Rattle.bk_shown.specs.Shown.{AreNext, ArePlaced}
 use Rattle.bk_world.specs.Pending.{Pending, of_transaction}

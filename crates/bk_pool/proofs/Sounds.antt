@@ -4,12 +4,10 @@ use Rattle.std.specs.Prelude.{slice_set, slice_index_or, MatchOption}
 use Rattle.std.proofs.lemmas.Bool.Decides.{eqb_tells}
 use Rattle.std.proofs.lemmas.List.{get_or-replicate, length-replicate, length-set}
 use Rattle.std.proofs.lemmas.Option.{slice_get_within, slice_get_read, get_or_from_slice_get}
+use Rattle.std.proofs.lemmas.Bool.{and_parts}
+use Rattle.bk_lemmas.specs.Tests.{equal_or_not}
 use Rattle.bk_pool.specs.Pool.{IsIn, IsAbsent, IsFound}
 use Rattle.bk_pool.specs.Sound.{page_eq, without, HoldsPage, Leads, Notes, IsSound}
-
--- two numbers are the same, or they aren't
-same_or_not : (i j : ℕ) → (j ≡ i) ⊎ (j ≢ i)
-same_or_not i j = elim (eqb_tells j i) [ inl same ↦ inl same.1 | inr other ↦ inr other.1 ]
 
 -- the test of two pages tells
 page_tells : (a b : ℕ × ℕ) → ((page_eq a b ≡ true) × (a ≡ b)) ⊎ ((page_eq a b ≡ false) × (a ≢ b))
@@ -59,7 +57,7 @@ pub dirty_sound : {pages : List (Option (ℕ × ℕ))} {dirty used : List Bool} 
 dirty_sound {pages = pages} {dirty = dirty} {used = used} i is holds = record {
   marks = length-set dirty i true ∙ is.marks;
   uses = length-set used i true ∙ is.uses;
-  held = λ j marked. elim (same_or_not i j) [
+  held = λ j marked. elim (equal_or_not j i) [
     | inl same ↦ subst (HoldsPage pages) (sym same) holds
     | inr other ↦ is.held j (sym (slice_get-set_other dirty i j true other) ∙ marked)
   ];
@@ -86,7 +84,7 @@ pub leads_put : (pages : List (Option (ℕ × ℕ))) (less index : ℕ × ℕ �
     → i < length pages → IsAbsent pages file page → LeadsOthers less pages i
     → ((q : ℕ × ℕ) → index q ≡ cond (page_eq (file, page) q) (Some i) (less q))
     → Leads index (slice_set pages i (Some (file, page)))
-leads_put pages less index i file page below absent others is j f p there = elim (same_or_not i j) [
+leads_put pages less index i file page below absent others is j f p there = elim (equal_or_not j i) [
   | inl same ↦
       let here : slice_get (slice_set pages i (Some (file, page))) j ≡ Some (Some (file, page)) = ap (slice_get (slice_set pages i (Some (file, page)))) same ∙ slice_get-set_same pages i (Some (file, page)) below in
       let both : ◌≡◌ {A = Option (Option (ℕ × ℕ))} (Some (Some (f, p))) (Some (Some (file, page))) = sym there ∙ here in
@@ -100,11 +98,6 @@ leads_put pages less index i file page below absent others is j f p there = elim
         | inr apart ↦ is (f, p) ∙ ap (λ (b : Bool). cond b (Some i) (less (f, p))) apart.0 ∙ others j f p other before
       ]
 ]
-
-both_true : (a b : Bool) → (a && b) ≡ true → (a ≡ true) × (b ≡ true)
-both_true true true both = (refl, refl)
-both_true true false both = absurd cc
-both_true false b both = absurd cc
 
 -- a page is put into a clean frame, in place of an old one, and the index notes it or isn't whole
 pub put_sound : (pages : List (Option (ℕ × ℕ))) (dirty used : List Bool) (before after : ℕ × ℕ → Option ℕ) (was is_noted : Bool) (i file page : ℕ) (old : Option (ℕ × ℕ))
@@ -121,23 +114,23 @@ put_sound pages dirty used before after was is_noted i file page old is clean ab
     record {
       marks = is.marks ∙ sym (length-set pages i (Some (file, page)));
       uses = length-set used i true ∙ is.uses ∙ sym (length-set pages i (Some (file, page)));
-      held = λ j marked. elim (same_or_not i j) [
+      held = λ j marked. elim (equal_or_not j i) [
         | inl same ↦ absurd (let both : ◌≡◌ {A = Option Bool} (Some true) (Some false) = sym marked ∙ (ap (slice_get dirty) same ∙ clean) in cc)
         | inr other ↦ let old = is.held j marked in (old.0, old.1, slice_get-set_other pages i j (Some (file, page)) other ∙ old.2)
       ];
-      once = λ j k f p at also. elim (same_or_not i j) [
-        | inl same ↦ elim (same_or_not i k) [
+      once = λ j k f p at also. elim (equal_or_not j i) [
+        | inl same ↦ elim (equal_or_not k i) [
           | inl too ↦ too ∙ sym same
           | inr other ↦ absurd (absent k (there k f p other also ∙ ap (λ (q : ℕ × ℕ). Some (Some q)) (here j f p same at)))
         ]
-        | inr other ↦ elim (same_or_not i k) [
+        | inr other ↦ elim (equal_or_not k i) [
           | inl same ↦ absurd (absent j (there j f p other at ∙ ap (λ (q : ℕ × ℕ). Some (Some q)) (here k f p same also)))
           | inr too ↦ is.once j k f p (there j f p other at) (there k f p too also)
         ]
       ];
       leads = λ whole.
           let held : slice_get pages i ≡ Some old = slice_get_read pages (length pages) i old refl below there_was in
-          let both = both_true was is_noted whole in
+          let both = and_parts was is_noted whole in
           leads_put pages (without before old) after i file page below absent (leads_without pages before i old is.once held (is.leads both.0)) (noted both.1);
     }
 

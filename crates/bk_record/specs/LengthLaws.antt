@@ -25,7 +25,7 @@ length-place place = omega (arith, length-append (bytes_of 2 place.file) (bytes_
 pub length-image : (image : List ℕ) → IsCell image → length image ≡ 128
 length-image image found = ap length found.1.1 ∙ length-cell_bytes found.0 found.1.0
 
-length-extents : (extents : List ExtentId) → length (flat_map extent_bytes extents) ≡ 6 * length extents
+pub length-extents : (extents : List ExtentId) → length (flat_map extent_bytes extents) ≡ 6 * length extents
 length-extents [] = refl
 length-extents (extent ∷ extents) =
     omega (arith, length-append (extent_bytes extent) (flat_map extent_bytes extents), length-append (bytes_of 2 extent.file) (bytes_of 4 extent.extent), length-bytes_of 2 extent.file, length-bytes_of 4 extent.extent, length-extents extents)

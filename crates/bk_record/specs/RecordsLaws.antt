@@ -33,7 +33,7 @@ one_before : (bytes : List ℕ) (r : Rec) (rest : List ℕ) → BeginsWith bytes
 one_before bytes r rest begins whole =
     whole_from bytes (r ∷ whole.0) (begins.is_record, whole.1.are_records) (begins.spelled ∙ ap (λ (b : List ℕ). spelling r ++ b) (whole_is rest whole.0 whole.1))
 
-all_more : (records : List Rec) (r : Rec) → AllByRecursion IsRecord records → IsRecord r → AllByRecursion IsRecord (records ++ r ∷ [])
+pub all_more : (records : List Rec) (r : Rec) → AllByRecursion IsRecord records → IsRecord r → AllByRecursion IsRecord (records ++ r ∷ [])
 all_more [] r all is = (is, tt)
 all_more (x ∷ records) r all is = (all.0, all_more records r all.1 is)
 
@@ -53,7 +53,7 @@ no_bad_one bytes records bad whole log = (one_log bytes records whole.0 bad None
 
 -- ---- the test
 
-some_bytes : (r : Rec) → 4 ≤ length (spelling r)
+pub some_bytes : (r : Rec) → 4 ≤ length (spelling r)
 unfolding spelling
 some_bytes r = omega (arith, length-append (bytes_of 4 (4 + length (inside r))) (inside r), length-bytes_of 4 (4 + length (inside r)))
 
@@ -116,7 +116,7 @@ pushed bytes r new (Err e) whole ok is err = subst AreRecords (sym err) whole
 
 -- ---- records behind others, and those from a number on
 
-all_records : (records others : List Rec) → AllByRecursion IsRecord records → AllByRecursion IsRecord others → AllByRecursion IsRecord (records ++ others)
+pub all_records : (records others : List Rec) → AllByRecursion IsRecord records → AllByRecursion IsRecord others → AllByRecursion IsRecord (records ++ others)
 all_records [] others all alls = alls
 all_records (r ∷ records) others all alls = (all.0, all_records records others all.1 alls)
 

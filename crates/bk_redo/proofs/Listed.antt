@@ -1,13 +1,10 @@
 -- The list of what records set.
-use Rattle.std.proofs.Common.{◌≡◌, ◌<◌, ℕ, List, [], ◌∷◌, ◌++◌, get_or, take, drop, Option, Some, Vec, Global, ap, ap₂, append-nil, take-append-drop, None, subst, ◌∙◌, sym, refl}
+use Rattle.std.proofs.Common.{◌≡◌, ◌<◌, ℕ, List, [], ◌++◌, get_or, take, drop, Option, Some, Vec, Global, ap, ap₂, take-append-drop, None, subst, ◌∙◌, sym, refl}
 use Rattle.std.proofs.lemmas.List.Elements.{filter-append, All-nil, All-append}
 use Rattle.std.proofs.lemmas.List.Sums.{fold-append}
 use Rattle.std.specs.Prelude.{IfSome}
-use Rattle.std.specs.List.{flat_map, AllByRecursion}
-use Rattle.std.proofs.lemmas.List.Concat.{flat_map-append}
 use Rattle.bk_ids.specs.declared.record.Rec.{Rec}
-use Rattle.bk_record.specs.Spelling.{spelling, IsRecord}
-use Rattle.bk_record.specs.Log.{IsLog}
+use Rattle.bk_record.specs.RecordsLaws.{log_append}
 use Rattle.bk_redo.specs.declared.place.PageAt.{PageAt}
 use Rattle.bk_redo.specs.declared.writes.CellWrite.{CellWrite}
 use Rattle.bk_redo.specs.declared.writes.Wanted.{Wanted}
@@ -38,28 +35,13 @@ listed_more places from to records others writes more new first second is =
 
 -- ---- two parts of a log
 
-all_records : (records others : List Rec) → AllByRecursion IsRecord records → AllByRecursion IsRecord others → AllByRecursion IsRecord (records ++ others)
-all_records [] others first second = second
-all_records (r ∷ records) others first second = (first.0, all_records records others first.1 second)
-
 -- whole records, and behind them whole records
-pub logs_joined : (front back : List ℕ) (records others : List Rec) → IsLog front records None → IsLog back others None → IsLog (front ++ back) (records ++ others) None
-logs_joined front back records others first second =
-    let spelled : front ≡ flat_map spelling records = first.spelled ∙ ap (λ (rest : List ℕ). flat_map spelling records ++ rest) first.ends ∙ append-nil (flat_map spelling records) in
-    let also : back ≡ flat_map spelling others = second.spelled ∙ ap (λ (rest : List ℕ). flat_map spelling others ++ rest) second.ends ∙ append-nil (flat_map spelling others) in
-    record {
-      rest = [];
-      spelled = ap₂ (λ (a b : List ℕ). a ++ b) spelled also ∙ sym (flat_map-append spelling records others) ∙ sym (append-nil (flat_map spelling (records ++ others)));
-      are_records = all_records records others first.are_records second.are_records;
-      ends = refl;
-    }
-
 pub parts_listed : (wanted : Wanted) (log front back : List ℕ) (ahead behind writes : List CellWrite) → IsListed wanted front ahead → IsListed wanted back behind
     → log ≡ front ++ back → writes ≡ ahead ++ behind → IsListed wanted log writes
 parts_listed wanted log front back ahead behind writes first second whole is =
     subst (λ (bytes : List ℕ). IsListed wanted bytes writes) (sym whole) (record {
       records = first.records ++ second.records;
-      whole = logs_joined front back first.records second.records first.whole second.whole;
+      whole = log_append front back first.records second.records first.whole second.whole;
       list = listed_more wanted.places.now wanted.from wanted.to first.records second.records ahead behind writes first.list second.list is;
     })
 

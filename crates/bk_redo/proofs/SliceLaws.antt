@@ -6,13 +6,13 @@ use Rattle.std.proofs.lemmas.List.Elements.{filter-append}
 use Rattle.std.proofs.lemmas.List.Sums.{fold-append}
 use Rattle.bk_ids.specs.declared.record.Rec.{Rec}
 use Rattle.bk_record.specs.Log.{IsLog}
+use Rattle.bk_record.specs.RecordsLaws.{log_append}
 use Rattle.bk_redo.specs.declared.place.PageAt.{PageAt}
 use Rattle.bk_redo.specs.PageStates.{PageState, fresh, page_of}
 use Rattle.bk_redo.specs.Effects.{touches, changed}
 use Rattle.bk_redo.specs.Redo.{RiseFrom, is_between, records_between, as_of, redone, redone_by}
 use Rattle.bk_redo.specs.Frames.{Becomes, FramesRedone}
 use Rattle.bk_redo.proofs.Between.{kept, skipped_early, skipped_late, between_split}
-use Rattle.bk_redo.proofs.Listed.{logs_joined}
 use Rattle.bk_redo.proofs.PageLaws.{untouched_same, redone_past, changed_by_none}
 
 -- ---- fronts
@@ -124,6 +124,6 @@ pub slices_join : (places : List PageAt) (from to : ℕ) (first second : List �
     → IsLog (first ++ second) (records ++ more) None × FramesRedone places (records_between from to (records ++ more)) old new
 slices_join places from to first second records more old middle new log ahead next behind =
     let Redone : List Rec → Type 0 = λ rs. FramesRedone places rs old new in (
-      logs_joined first second records more log next,
+      log_append first second records more log next,
       subst Redone (sym (filter-append (is_between from to) records more)) (frames_then places (records_between from to records) (records_between from to more) old middle new ahead behind),
     )

@@ -7,10 +7,10 @@ use Rattle.bk_machine.specs.statements.Target.{Target, check_key, check_lock, ch
 use Rattle.bk_world.specs.declared.rule.Limit.TheVariants.{Writes}
 use Rattle.bk_world.specs.declared.rule.Rule.{Rule}
 use Rattle.bk_world.specs.declared.rule.Rule.TheVariants.{DuplicateKey, GroupFull, LimitReached}
+use Rattle.bk_plans.specs.CheckingLaws.{refused-first}
 use Rattle.bk_row_plans.specs.Targets.{check_more}
 use Rattle.bk_plans.specs.Checking.{IsRefused}
 use Rattle.bk_plans.specs.declared.refusal.Refusal.{Refusal}
-use Rattle.bk_plans.specs.declared.refusal.Refusal.TheVariants.{Broken, NoMemory}
 
 -- behind one that was passed the next ones are passed, or refuse
 pub through : {A B : Type 0} (first : Checked A) (next : A → Checked B) (a : A) (b : B) → first ≡ Ok a → next a ≡ Ok b → (first >>= next) ≡ Ok b
@@ -20,10 +20,6 @@ pub refused-behind : {A B : Type 0} (refusal : Refusal) (first : Checked A) (nex
 refused-behind refusal first next a is rest = subst (λ (c : Checked _). IsRefused refusal (c >>= next)) (sym is) rest
 
 -- and where the first one refuses, they all do
-pub refused-first : {A B : Type 0} (refusal : Refusal) (first : Checked A) (next : A → Checked B) → IsRefused refusal first → IsRefused refusal (first >>= next)
-refused-first (Broken rule) first next is = ap (λ (c : Checked _). c >>= next) is
-refused-first NoMemory first next is = tt
-
 -- two of them in one
 pub joined : {A B C : Type 0} (first : Checked A) (second : A → Checked B) (next : B → Checked C) → ((first >>= second) >>= next) ≡ (first >>= (λ a. second a >>= next))
 joined (Err rule) second next = refl

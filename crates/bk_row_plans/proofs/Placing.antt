@@ -25,11 +25,12 @@ use Rattle.bk_world.specs.declared.database.TableSpec.{TableSpec}
 use Rattle.bk_world.specs.declared.rule.Rule.{Rule}
 use Rattle.bk_world.specs.declared.transaction.Open.{Open}
 use Rattle.bk_plans.specs.Checking.{IsBrokenBy, IsRefused}
+use Rattle.bk_machine.specs.ClosingLaws.{open-all}
 use Rattle.bk_row_plans.specs.Targets.{target_of}
 use Rattle.bk_plans.specs.declared.refusal.Refusal.{Refusal}
 use Rattle.bk_plans.specs.declared.refusal.Refusal.TheVariants.{Broken, NoMemory}
 use Rattle.bk_row_plans.proofs.FullGroups.{FullWhere}
-use Rattle.bk_row_plans.proofs.Seeing.{open-all, seen-lies, seen-short}
+use Rattle.bk_row_plans.proofs.Seeing.{seen-lies, seen-short}
 use Rattle.bk_row_plans.proofs.Sounds.{of-current}
 
 -- what a log shows, by the machine's word for the log

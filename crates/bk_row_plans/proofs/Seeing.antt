@@ -1,12 +1,10 @@
 -- What a transaction sees it could commit: a row that it sees lies somewhere, and its value fits into a cell.
-use Rattle.std.proofs.Common.{◌≡◌, ◌≤◌, ℕ, ◌+◌, Bool, true, false, cond, List, [], ◌∷◌, ◌++◌, length, Option, Some, None, refl, sym, ◌∙◌, ap, subst}
+use Rattle.std.proofs.Common.{◌≡◌, ◌≤◌, ℕ, ◌+◌, Bool, true, false, cond, List, [], ◌∷◌, ◌++◌, length, Option, Some, None, refl, sym, ◌∙◌, ap}
 use Rattle.std.specs.Prelude.{◌==◌, is_some}
 use Rattle.std.specs.List.{AllByRecursion, filter}
 use Rattle.bk_ids.specs.declared.record.Place.{Place}
-use Rattle.bk_machine.specs.World.{transaction_of}
 use Rattle.bk_shown.specs.Shown.{ArePlaced}
 use Rattle.bk_world.specs.declared.database.FileSpec.{FileSpec}
-use Rattle.bk_world.specs.declared.transaction.Open.{Open}
 use Rattle.bk_world.specs.HomeLaws.{homed}
 use Rattle.bk_world.specs.Pending.{Pending, of_transaction, pending}
 use Rattle.bk_world.specs.Places.{home_behind, homes, last_of, later, place_behind, place_of}
@@ -20,14 +18,6 @@ use Rattle.bk_world.specs.Telling.{row_at, rows, seen}
 -- Lists.
 
 -- what holds of all transactions holds of that of a session
-pub open-all : (P : Open → Type 0) (ts : List Open) (session : ℕ) (t : Open) → AllByRecursion P ts → transaction_of ts session ≡ Some t → P t
-open-all P [] session t all is = absurd (cc)
-open-all P (u ∷ ts) session t all is = by (u.session == session) is (open-all P ts session t all.1)
-  where
-    by : (b : Bool) → cond b (Some u) (transaction_of ts session) ≡ Some t → (transaction_of ts session ≡ Some t → P t) → P t
-    by true is later = let same : u ≡ t = cc in subst P same all.0
-    by false is later = later is
-
 -- where none of some writes is of a row, none of fewer is
 last-none : (id : RowId) (p : Pending → Bool) (ws : List Pending) → last_of id ws ≡ None → last_of id (filter p ws) ≡ None
 last-none id p [] none = refl

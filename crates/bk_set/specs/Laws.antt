@@ -16,6 +16,7 @@ use Rattle.bk_bytes.specs.CodecLaws.{followed-IsCodec, converted-IsCodec, counte
 use Rattle.bk_header.specs.Conditions.{IsHeader, KeepsConditions}
 use Rattle.bk_header.specs.Reading.{header_form}
 use Rattle.bk_header.specs.Laws.{header_form-IsCodec, header_form-spelling, header_keeps}
+use Rattle.bk_lemmas.specs.Lists.{all_tested}
 use Rattle.bk_set.specs.declared.body.SetBody.{SetBody}
 use Rattle.bk_record.specs.Records.{AreRecords}
 use Rattle.bk_set.specs.Conditions.{IsTable, Differ, AreDifferent, KeepTables, IsRow, has_table, IsFrom, RiseFrom, IsRowAmong, KeepParts, IsBody, KeepsBody}
@@ -26,10 +27,6 @@ use Rattle.std.proofs.lemmas.List.Elements.{All-from_recursion, recursion_from_A
 use Rattle.std.proofs.lemmas.Option.{same_Some}
 
 -- ---- tests
-
-all_true : {A : Type 0} (test : A → Bool) (P : A → Type 0) → ((x : A) → test x ≡ true → P x) → (xs : List A) → list_all test xs ≡ true → AllByRecursion P xs
-all_true test P is [] e = tt
-all_true test P is (x ∷ xs) e = let p = and_parts (test x) (list_all test xs) e in (is x p.0, all_true test P is xs p.1)
 
 all_from : {A : Type 0} (test : A → Bool) (P : A → Type 0) → ((x : A) → P x → test x ≡ true) → (xs : List A) → AllByRecursion P xs → list_all test xs ≡ true
 all_from test P is [] h = refl
@@ -57,7 +54,7 @@ different_true : (tables : List TableSpec) → are_different tables ≡ true →
 different_true [] e = tt
 different_true (table ∷ tables) e =
     let p = and_parts (list_all (differ table) tables) (are_different tables) e in
-    (all_true (differ table) (Differ table) (differ_true table) tables p.0, different_true tables p.1)
+    (all_tested (differ table) (Differ table) (differ_true table) tables p.0, different_true tables p.1)
 
 different_from : (tables : List TableSpec) → AreDifferent tables → are_different tables ≡ true
 different_from [] h = refl
@@ -70,7 +67,7 @@ tables_true groups tables e =
     record {
       few = leb-true _ _ q.0;
       different = different_true tables p.1;
-      groups_there = all_true (λ table. ltb table.group groups) (λ table. table.group < groups) (λ table t. ltb-true _ _ t) tables q.1;
+      groups_there = all_tested (λ table. ltb table.group groups) (λ table. table.group < groups) (λ table t. ltb-true _ _ t) tables q.1;
     }
 
 tables_from : (groups : ℕ) (tables : List TableSpec) → KeepTables groups tables → keep_tables groups tables ≡ true
@@ -247,7 +244,7 @@ pub body_keeps : (body : SetBody) → IsBody body → KeepsBody body
 body_keeps body is = parts_keep body (header_keeps body.header is.header) (body_parts body is)
 
 -- rows rise by table and key
-rise_pairs : (table key : ℕ) (rows : List PlacedRow) → RiseFrom table key rows → RowsRise rows
+pub rise_pairs : (table key : ℕ) (rows : List PlacedRow) → RiseFrom table key rows → RowsRise rows
 rise_pairs table key [] rise = tt
 rise_pairs table key (a ∷ []) rise = tt
 rise_pairs table key (a ∷ b ∷ rows) rise = (before a b rise.1.0, rise_pairs a.table (a.key + 1) (b ∷ rows) rise.1)

@@ -2,25 +2,18 @@
 use Rattle.std.proofs.Common.{◌≡◌, ℕ, Bool, true, false, not, cond, List, [], ◌∷◌, ◌++◌, Option, Some, None, ◌⊎◌, inl, inr, refl, sym, ◌∙◌, ap, subst}
 use Rattle.std.specs.Prelude.{◌==◌, ◌&&◌, is_some, if◌then◌else◌}
 use Rattle.std.specs.List.{filter, AllByRecursion}
-use Rattle.std.proofs.lemmas.Bool.{cases_Bool, and_from, and_parts, eq-eqb, eqb-true}
+use Rattle.std.proofs.lemmas.Bool.{cases_Bool, and_parts, eqb-true}
 use Rattle.std.proofs.lemmas.Option.{same_Some}
 use Rattle.bk_ids.specs.declared.record.Place.{Place}
 use Rattle.bk_world.specs.LastLaws.{is_its, last-all, last-dropped, last-kept, last-more, last-none, one, value_last}
-use Rattle.bk_world.specs.ListLaws.{all_filter, all_joined, all_mapped, all_middle}
+use Rattle.bk_lemmas.specs.Lists.{all_filter, all_joined, all_mapped, all_middle}
 use Rattle.bk_world.specs.Pending.{Pending, of_others, of_transaction}
 use Rattle.bk_world.specs.Places.{home_behind, last_of, later, place_behind}
 use Rattle.bk_world.specs.Records.{RowId, id_of, is_row}
+use Rattle.bk_world.specs.RowLaws.{row-same, row-itself}
+use Rattle.bk_lemmas.specs.Tests.{clash}
 use Rattle.bk_shown.specs.Shown.{OneWriter, PlacesAgree, lies_at}
 use Rattle.bk_shown.proofs.Lists.{all-each}
-
-pub row-itself : (id : RowId) → is_row id id ≡ true
-row-itself id = and_from _ _ (eq-eqb id.0 id.0 refl) (eq-eqb id.1 id.1 refl)
-
-pub row-same : (a b : RowId) → is_row a b ≡ true → a ≡ b
-row-same a b e = let parts = and_parts _ _ e in let table : a.0 ≡ b.0 = eqb-true _ _ parts.0 in let key : a.1 ≡ b.1 = eqb-true _ _ parts.1 in ap (λ (t : ℕ). (t, a.1)) table ∙ ap (λ (k : ℕ). (b.0, k)) key
-
-pub clash : {P : Type 0} (b : Bool) → b ≡ true → b ≡ false → P
-clash b is isnt = let wrong : true ≡ false = sym is ∙ isnt in absurd (cc)
 
 pub some-none : {P X : Type 0} (o : Option X) (x : X) → o ≡ Some x → o ≡ None → P
 some-none o x a b = let wrong : Some x ≡ None = sym a ∙ b in absurd (cc)

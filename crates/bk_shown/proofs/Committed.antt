@@ -6,19 +6,20 @@ use Rattle.std.proofs.lemmas.List.{append-nil}
 use Rattle.std.proofs.lemmas.Option.{same_Some}
 use Rattle.bk_ids.specs.declared.record.Place.{Place}
 use Rattle.bk_world.specs.LastLaws.{is_its, last-all, value-last, value_last}
-use Rattle.bk_world.specs.ListLaws.{all_filter, all_joined}
+use Rattle.bk_lemmas.specs.Lists.{all_filter, all_joined}
 use Rattle.bk_world.specs.Pending as log
-use Rattle.bk_world.specs.Pending.{Pending, changes_of, of_transaction, pending_after}
-use Rattle.bk_world.specs.Places.{homes, homes_after, last_of, place_behind, place_of, IsCellOf}
+use Rattle.bk_world.specs.Pending.{Pending, of_transaction, pending_after}
+use Rattle.bk_world.specs.Places.{homes, homes_after, last_of, place_of, IsCellOf}
 use Rattle.bk_world.specs.Records.{Counts, Deed, Logged, RowId, database_made, table_made, begun, written, committed, rolled_back, undone, checkpointed, stamped, model_set, loaded, recovered, id_of}
 use Rattle.bk_world.specs.SoundLogs.{MayCome, MayFollow}
 use Rattle.bk_world.specs.Telling as telling
-use Rattle.bk_world.specs.Telling.{row_at, seen}
+use Rattle.bk_world.specs.Telling.{row_at}
 use Rattle.bk_world.specs.ReadingLaws.{rows-commit}
 use Rattle.bk_world.specs.declared.database.FileSpec.{FileSpec}
 use Rattle.bk_world.specs.declared.database.TableSpec.{TableSpec}
+use Rattle.bk_world.specs.RowLaws.{row-same}
 use Rattle.bk_shown.specs.Shown.{ArePlaced, IsPlaced, LogKeeps, PlacesAgree, lies_at}
-use Rattle.bk_shown.proofs.Agree.{fewer-lies, lies-commit, lies-write, row-same, some-none}
+use Rattle.bk_shown.proofs.Agree.{fewer-lies, lies-commit, lies-write, some-none}
 use Rattle.bk_shown.proofs.Keeps.{keeps-more}
 use Rattle.bk_shown.proofs.Readings as reading
 use Rattle.bk_shown.proofs.Readings.{made_by, pending-with, place-with, rows-with, tables-with, with}

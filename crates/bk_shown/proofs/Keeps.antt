@@ -5,7 +5,7 @@ use Rattle.std.specs.List.{filter, AllByRecursion}
 use Rattle.std.proofs.lemmas.List.{append-nil}
 use Rattle.bk_ids.specs.declared.record.Place.{Place}
 use Rattle.bk_world.specs.declared.database.FileSpec.{FileSpec}
-use Rattle.bk_world.specs.ListLaws.{all_filter, all_joined, all_mapped}
+use Rattle.bk_lemmas.specs.Lists.{all_filter, all_joined, all_mapped}
 use Rattle.bk_world.specs.Pending.{Lies, Pending, pending, pending_after}
 use Rattle.bk_world.specs.Places.{homes, homes_after, place_of, IsFreePlace}
 use Rattle.bk_world.specs.ReadingLaws.{LieAt, lies-later, rise-filter, rise-one_more}

@@ -2,7 +2,7 @@
 use Rattle.std.proofs.Common.{◌≡◌, ◌<◌, Bool, true, false, cond, List, [], ◌∷◌, ◌++◌, map, refl, ◌∙◌, ap, subst, arith}
 use Rattle.std.specs.List.{filter, AllByRecursion}
 use Rattle.std.proofs.lemmas.Bool.Decides.{nat_tests}
-use Rattle.bk_world.specs.ListLaws.{all_mapped}
+use Rattle.bk_lemmas.specs.Lists.{all_mapped}
 use Rattle.bk_world.specs.Pending.{Pending, PendingRise}
 
 -- what holds at each place of a list holds of all

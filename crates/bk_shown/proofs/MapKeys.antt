@@ -1,22 +1,14 @@
 -- When the keys of the map of rows compare as equal.
-use Rattle.std.proofs.Common.{◌≡◌, ℕ, true, refl, sym, ap, ◌∙◌, ⊎_elim}
+use Rattle.std.proofs.Common.{◌≡◌, true, sym, ap, ◌∙◌, ⊎_elim}
 use Rattle.std.specs.Ordering.{nat_cmp, ordering_then, is_eq}
-use Rattle.std.specs.Cmp.{nat_cmp_is}
 use Rattle.std.specs.declared.cmp.Ordering.{Ordering}
-use Rattle.std.specs.declared.cmp.Ordering.TheVariants.{Less, Equal, Greater}
+use Rattle.std.specs.declared.cmp.Ordering.TheVariants.{Equal}
 use Rattle.std.specs.BTreeMap.{is_at}
 use Rattle.std.proofs.lemmas.Bool.{cases_Bool, and_from, and_parts, eq-eqb, eqb-true, false_from_ne_true, both_ways}
 use Rattle.std.proofs.lemmas.Map.Lookups.{exact_pairs, exact_unsigned}
 use Rattle.bk_groups.specs.Groups.{row_cmp}
 use Rattle.bk_world.specs.Records.{RowId, is_row}
-
-equal_from_is_eq : (o : Ordering) → is_eq o ≡ true → o ≡ Equal
-equal_from_is_eq Less e = cc
-equal_from_is_eq Equal e = refl
-equal_from_is_eq Greater e = cc
-
-nat_cmp-same : (a b : ℕ) → a ≡ b → nat_cmp a b ≡ Equal
-nat_cmp-same a b e = sym (nat_cmp_is a b Equal e)
+use Rattle.bk_lemmas.specs.Tests.{equal_from_is_eq, nat_cmp-same}
 
 -- rows that compare as equal are equal
 pub same_row : (id other : RowId) → is_at (row_cmp id) other ≡ true → id ≡ other

@@ -4,16 +4,16 @@ use Rattle.std.specs.Prelude.{◌==◌, ◌||◌, is_some, option_map, IfSome}
 use Rattle.std.specs.List.{find, AllByRecursion}
 use Rattle.std.proofs.lemmas.Bool.{eqb-true, eq-eqb}
 use Rattle.bk_world.specs.LastLaws.{one}
-use Rattle.bk_world.specs.ListLaws.{all_mapped}
+use Rattle.bk_lemmas.specs.Lists.{all_mapped}
 use Rattle.bk_world.specs.Pending.{Pending, changes_of, of_others, of_transaction}
 use Rattle.bk_world.specs.Places.{last_of, later}
 use Rattle.bk_world.specs.Records.{RowId, id_of, is_row}
 use Rattle.bk_world.specs.RowLaws.{value_behind}
+use Rattle.bk_lemmas.specs.Tests.{clash}
 use Rattle.bk_shown.specs.Shown.{OneWriter, pending_of}
 use Rattle.bk_shown.specs.Steps.{row_numbered}
 use Rattle.bk_shown.specs.Writes.{own_of, others_of, row_of, value_after, has_write, writer_of}
 use Rattle.bk_shown.specs.declared.shown.Written.{Written}
-use Rattle.bk_shown.proofs.Agree.{clash}
 use Rattle.bk_shown.proofs.Lists.{filter-mapped}
 
 pub own-mirror : (begin : ℕ) (ws : List Written) → map pending_of (own_of begin ws) ≡ of_transaction begin (map pending_of ws)

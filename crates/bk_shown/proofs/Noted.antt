@@ -9,12 +9,13 @@ use Rattle.bk_record.specs.Log.{IsLog, Left, Reads, BreaksOff}
 use Rattle.bk_record.specs.declared.walk.BadRecord.{BadRecord}
 use Rattle.bk_undo.specs.Spelled.{body_of, spelled}
 use Rattle.bk_world.specs.declared.database.FileSpec.{FileSpec}
-use Rattle.bk_world.specs.ListLaws.{all_filter, all_mapped}
+use Rattle.bk_lemmas.specs.Lists.{all_filter, all_mapped}
 use Rattle.bk_world.specs.Pending.{Lies, Pending, load_writes, pending, pending_after, pending_from}
 use Rattle.bk_world.specs.ReadingLaws.{pending-more}
 use Rattle.bk_world.specs.Records.{Counts, Deed, Logged, database_made, table_made, begun, written, committed, rolled_back, undone, checkpointed, stamped, model_set, loaded, recovered}
-use Rattle.bk_world.specs.SoundLogs.{IsSound, MayFollow}
+use Rattle.bk_world.specs.SoundLogs.{IsSound}
 use Rattle.bk_world.specs.Telling as telling
+use Rattle.bk_world.specs.SoundLaws.{follow-front}
 use Rattle.bk_shown.specs.Ends.{HoldsPending}
 use Rattle.bk_shown.specs.ReadLaws.{next-read, none-bad, none-left}
 use Rattle.bk_shown.specs.Shown.{ArePlaced, IsPlaced, LogKeeps, pending_of}
@@ -159,10 +160,6 @@ stay-all P ws vs (r ∷ rs) all =
 counts-front : (m : ℕ) (a b : List Logged) (n : ℕ) → Counts m (a ++ b) n → Counts m a (length a + m)
 counts-front m [] b n c = omega arith
 counts-front m (r ∷ a) b n c = let longer : length a + (m + 1) ≡ length (r ∷ a) + m = omega arith in (c.0, subst (Counts (m + 1) a) longer (counts-front (m + 1) a b n c.1))
-
-follow-front : (front a b : List Logged) → MayFollow front (a ++ b) → MayFollow front a
-follow-front front [] b f = tt
-follow-front front (r ∷ a) b f = (f.0, follow-front (front ++ r ∷ []) a b f.1)
 
 placed-front : (files : List FileSpec) (front a b : List Logged) → ArePlaced files front (a ++ b) → ArePlaced files front a
 placed-front files front [] b all = tt

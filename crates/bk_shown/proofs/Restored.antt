@@ -10,24 +10,24 @@ use Rattle.std.proofs.lemmas.List.{map-append}
 use Rattle.bk_groups.specs.Groups.{AreFiles, IsCell, Space, new_space, place_of as space_place, row_cmp}
 use Rattle.bk_ids.specs.declared.record.Place.{Place}
 use Rattle.bk_ids.specs.declared.record.RecoveryModel.{RecoveryModel}
-use Rattle.bk_world.specs.ListLaws.{all_front, all_middle, all_mapped}
+use Rattle.bk_lemmas.specs.Lists.{all_front, all_middle, all_mapped}
 use Rattle.bk_world.specs.Pending as log
 use Rattle.bk_world.specs.Pending.{Pending}
 use Rattle.bk_world.specs.PlacedRows.{ComesBefore, RowsRise, among, row_id}
 use Rattle.bk_world.specs.Places.{homes, last_of, place_behind, place_of}
 use Rattle.bk_world.specs.Records.{Logged, RowId, id_of, is_row}
 use Rattle.bk_world.specs.Telling as telling
-use Rattle.bk_world.specs.Telling.{row_at}
 use Rattle.bk_world.specs.declared.database.FileSpec.{FileSpec}
 use Rattle.bk_world.specs.declared.database.TableSpec.{TableSpec}
 use Rattle.bk_world.specs.declared.row.PlacedRow.{PlacedRow}
+use Rattle.bk_world.specs.RowLaws.{row-same}
 use Rattle.bk_shown.specs.Rows.{value_among}
 use Rattle.bk_shown.specs.Shown.{AreNumbered, IsOf, LogKeeps, Shows, group_among, lies_at, pending_of}
 use Rattle.bk_shown.specs.Steps.{AddsRow, HasRows, HasWrites, MakesTable, MayAdd, MayHold, MayLie, MayMake, MayPend, WritesRow, home_among}
 use Rattle.bk_shown.specs.Writes.{row_of}
 use Rattle.bk_shown.specs.declared.shown.Shown.{Shown}
 use Rattle.bk_shown.specs.declared.shown.Written.{Written}
-use Rattle.bk_shown.proofs.Agree.{last-place, lies-write, row-same, some-none}
+use Rattle.bk_shown.proofs.Agree.{last-place, lies-write, some-none}
 use Rattle.bk_shown.proofs.Committed.{Holds, find-kept, holds-all}
 use Rattle.bk_shown.proofs.Keeps.{keeps-along}
 use Rattle.bk_shown.proofs.Places.{cell-of}

@@ -15,7 +15,7 @@ use Rattle.bk_undo.specs.Spelled.{body_of, spelled}
 use Rattle.bk_world.specs.Entry.{RowChange}
 use Rattle.bk_world.specs.HomeLaws.{homed}
 use Rattle.bk_world.specs.LastLaws.{is_its, value-last, value_last}
-use Rattle.bk_world.specs.ListLaws.{all_mapped, all_middle, filter_passed}
+use Rattle.bk_lemmas.specs.Lists.{all_mapped, all_middle, filter_passed}
 use Rattle.bk_world.specs.Pending as log
 use Rattle.bk_world.specs.Pending.{Pending, changes_of, of_others, of_transaction, pending_after}
 use Rattle.bk_world.specs.Places.{homes, homes_after, last_of, place_of}

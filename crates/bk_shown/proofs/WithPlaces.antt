@@ -11,19 +11,18 @@ use Rattle.std.proofs.lemmas.Bool.Decides.{nat_tests}
 use Rattle.bk_groups.specs.Groups.{Space, row_cmp, place_of as space_place}
 use Rattle.bk_ids.specs.declared.record.Place.{Place}
 use Rattle.bk_world.specs.HomeLaws.{homed}
-use Rattle.bk_world.specs.ListLaws.{all_both, all_mapped}
+use Rattle.bk_lemmas.specs.Lists.{all_both, all_mapped}
 use Rattle.bk_world.specs.PlacedRows.{AreRowsOf, ComesBefore, RowsRise, among, row_id}
 use Rattle.bk_world.specs.Places.{homes}
 use Rattle.bk_world.specs.Records.{Logged, RowId, is_row}
 use Rattle.bk_world.specs.Telling as telling
-use Rattle.bk_world.specs.Telling.{row_at}
 use Rattle.bk_world.specs.declared.database.FileSpec.{FileSpec}
 use Rattle.bk_world.specs.declared.database.TableSpec.{TableSpec}
 use Rattle.bk_world.specs.declared.row.PlacedRow.{PlacedRow}
+use Rattle.bk_world.specs.RowLaws.{row-same, row-itself}
 use Rattle.bk_shown.specs.Rows.{RowValues, placed_in, value_among, with_place}
 use Rattle.bk_shown.specs.Shown.{IsFit, Shows}
 use Rattle.bk_shown.specs.declared.shown.Shown.{Shown}
-use Rattle.bk_shown.proofs.Agree.{row-itself, row-same}
 use Rattle.bk_shown.proofs.Committed.{Holds, ValueFits, holds-all}
 use Rattle.bk_shown.proofs.MapKeys.{key_is}
 use Rattle.bk_shown.proofs.Starts.{keeps-none}

@@ -52,7 +52,8 @@ impl Shown {
 
     /// The pending writes, in the order of their records.
     pub fn written(&self) -> &[Written]
-        ensures { (files : List FileSpec) (rs : List Logged) → Shows files rs self.now → map pending_of result.now ≡ pending.pending rs }
+        ensures same { result.now ≡ self.now.written.items }
+        ensures shown { (files : List FileSpec) (rs : List Logged) → Shows files rs self.now → map pending_of result.now ≡ pending.pending rs }
     {
         &self.written
     }

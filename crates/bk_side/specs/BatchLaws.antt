@@ -8,12 +8,10 @@ use Rattle.bk_device.specs.Calls.{contents, IsTorn, LeavesWrite}
 use Rattle.bk_device.specs.Disk.{Files}
 use Rattle.bk_device.specs.Laws.{torn-contents, length-read_at}
 use Rattle.bk_device.specs.Torn.{length-torn, read_at-torn, drop-torn}
+use Rattle.std.proofs.Math.Bool.{and-false}
+use Rattle.bk_lemmas.specs.Tests.{equal_or_not}
 use Rattle.bk_side.specs.Names.{name_of, AreDifferent}
 use Rattle.bk_side.specs.Pages.{Entry, page_eq, page_in, content_of, page_of, batched}
-
--- two numbers are the same, or they aren't
-pub same_or_not : (a b : ℕ) → (b ≡ a) ⊎ (b ≢ a)
-same_or_not a b = elim (eqb_tells b a) [ inl same ↦ inl same.1 | inr other ↦ inr other.1 ]
 
 -- the test of two pages tells
 pub page_tells : (a b : ℕ × ℕ) → ((page_eq a b ≡ true) × (a ≡ b)) ⊎ ((page_eq a b ≡ false) × (a ≢ b))
@@ -45,14 +43,10 @@ put_other e at page differ = elim (page_tells e.0 at) [
   | inr no' ↦ ap (λ (b : Bool). cond (b && length page == 8192) e.1 page) no'.0
 ]
 
-both_false : (b : Bool) → (b && false) ≡ false
-both_false true = refl
-both_false false = refl
-
 pub put_short : (e : Entry) (at : ℕ × ℕ) (page : List ℕ) → length page ≢ 8192 → put e at page ≡ page
 put_short e at page short = elim (eqb_tells (length page) 8192) [
   | inl whole ↦ absurd (short whole.1)
-  | inr no' ↦ ap (λ (b : Bool). cond (page_eq e.0 at && b) e.1 page) no'.0 ∙ ap (λ (b : Bool). cond b e.1 page) (both_false (page_eq e.0 at))
+  | inr no' ↦ ap (λ (b : Bool). cond (page_eq e.0 at && b) e.1 page) no'.0 ∙ ap (λ (b : Bool). cond b e.1 page) (and-false (page_eq e.0 at))
 ]
 
 -- an entry that doesn't fit a page leaves it
@@ -168,7 +162,7 @@ module _ (names : List (List ℕ)) (different : AreDifferent names) (file page :
 
   -- files keep their lengths
   pub torn_sizes : (other : ℕ) → length (content_of names after other) ≡ length (content_of names before other)
-  torn_sizes other = elim (same_or_not file other) [
+  torn_sizes other = elim (equal_or_not other file) [
     | inl same ↦
         let At : ℕ → Type 0 = λ f. length (content_of names after f) ≡ length (content_of names before f) in
         subst At (sym same) (ap length (content_at names after file name is) ∙ length-torn (8192 * page) 8192 (contents (before name)) (contents (after name)) inside torn_here ∙ sym (ap length (content_at names before file name is)))
@@ -177,7 +171,7 @@ module _ (names : List (List ℕ)) (different : AreDifferent names) (file page :
 
   -- and other pages their bytes
   pub torn_pages : (at : ℕ × ℕ) → (file, page) ≢ at → page_of names after at ≡ page_of names before at
-  torn_pages (f, p) differ = elim (same_or_not file f) [
+  torn_pages (f, p) differ = elim (equal_or_not f file) [
     | inl same ↦
         let apart : p ≢ page = λ at. differ (ap (λ (g : ℕ). (g, page)) (sym same) ∙ ap (λ (q : ℕ). (f, q)) (sym at)) in
         let At : ℕ → Type 0 = λ g. page_in (content_of names after g) p ≡ page_in (content_of names before g) p in

@@ -7,13 +7,12 @@ use Rattle.std.proofs.lemmas.List.{append-nil}
 use Rattle.bk_ids.specs.declared.record.Rec.{Rec}
 use Rattle.bk_ids.specs.declared.record.Body.{Body}
 use Rattle.bk_ids.specs.declared.record.Body.TheVariants.{RollbackEnd}
+use Rattle.bk_lemmas.specs.Lists.{all_joined, all_mapped, filter_every}
 use Rattle.bk_undo.specs.declared.pending.Pending.{Pending}
 use Rattle.bk_undo.specs.Losers.{closes, body_closes, is_open, writes, body_writes, pending, compensation, compensation_of, unnumbered, Rises}
 use Rattle.bk_undo.specs.Laws.{EndsNoneOf}
-use Rattle.bk_undo.proofs.Held.{all_joined}
 use Rattle.bk_undo.proofs.Replay.{pending-append}
-use Rattle.bk_undo.proofs.Rests.{filter_all, filter-reverse, lower, all_below, rest_part}
-use Rattle.bk_undo.proofs.Ties.{all_mapped}
+use Rattle.bk_undo.proofs.Rests.{filter-reverse, lower, all_below, rest_part}
 
 -- ---- records that write nothing
 
@@ -60,5 +59,5 @@ ends_leave n m records written ends front back rises low order more later done i
     let opened : AllByRecursion (λ (w : Pending). is_open ends w ≡ true) left = all_open ends left (subst Ends (sym rest) done) in
     ap (λ (rs : List Rec). map compensation_of (reverse (pending rs))) (all_below m (log ++ ends) (all_joined (λ (r : Rec). r.lsn < m) log ends high later))
     ∙ ap (λ (ws : List Pending). map compensation_of (reverse ws)) (closing_leaves log ends (all_mapped (EndsNoneOf back) (λ (r : Rec). writes r ≡ []) (end_writes back) ends done))
-    ∙ ap (map compensation_of) (filter-reverse (is_open ends) (pending log) ∙ filter_all (is_open ends) left opened)
+    ∙ ap (map compensation_of) (filter-reverse (is_open ends) (pending log) ∙ filter_every (is_open ends) left opened)
     ∙ rest

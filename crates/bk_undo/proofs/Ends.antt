@@ -4,11 +4,12 @@ use Rattle.std.specs.List.{AllByRecursion}
 use Rattle.std.proofs.lemmas.List.Elements.{filter-append}
 use Rattle.bk_bytes.specs.Cell.{Row}
 use Rattle.bk_ids.specs.declared.record.Place.{Place}
+use Rattle.bk_lemmas.specs.Lists.{all_both}
 use Rattle.bk_undo.specs.CellSteps.{SameCells, SameRows}
 use Rattle.bk_world.specs.Records.{RowId}
 use Rattle.bk_undo.specs.Cells.{CellWrite, IsOwn, Stored, Tied, WritesRise, is_place, row_in, writes_at}
 use Rattle.bk_undo.proofs.KeptTied.{led_to}
-use Rattle.bk_undo.proofs.Ties.{all_both, is_place-true, none_some, row_in_own}
+use Rattle.bk_undo.proofs.Ties.{is_place-true, none_some, row_in_own}
 
 -- a row keeps its place, or gives it up: then it isn't committed, and no write is pending there
 abbrev pub KeepsOrEnds : Stored → Stored → RowId → Type 0

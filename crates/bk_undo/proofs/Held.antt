@@ -1,32 +1,17 @@
 -- What the older part of a log adds to what is to be undone.
-use Rattle.std.proofs.Common.{◌≡◌, ◌≤◌, ◌<◌, ℕ, Bool, true, false, List, [], ◌∷◌, ◌++◌, map, reverse, refl, sym, ◌∙◌, ap, subst, arith}
+use Rattle.std.proofs.Common.{◌≡◌, ◌≤◌, ◌<◌, ℕ, List, [], ◌∷◌, ◌++◌, map, reverse, refl, sym, ◌∙◌, ap, subst, arith}
 use Rattle.std.specs.Prelude.{nat_lt}
 use Rattle.std.specs.List.{filter, AllByRecursion}
 use Rattle.std.proofs.lemmas.List.Elements.{filter-append}
 use Rattle.bk_ids.specs.declared.record.Rec.{Rec}
 use Rattle.bk_ids.specs.declared.record.Body.{Body}
 use Rattle.bk_ids.specs.declared.record.Body.TheVariants.{Write}
+use Rattle.bk_lemmas.specs.Lists.{all_front, all_joined, all_filter}
 use Rattle.bk_undo.specs.declared.pending.Pending.{Pending}
 use Rattle.bk_undo.specs.Losers.{is_open, writes, body_writes, pending, records_below, compensation, compensation_of}
 use Rattle.bk_undo.proofs.Replay.{pending-append}
 
 -- of lists whose elements have a property
-
-pub all_front : {X : Type 0} (P : X → Type 0) (xs ys : List X) → AllByRecursion P (xs ++ ys) → AllByRecursion P xs
-all_front P [] ys all = tt
-all_front P (x ∷ xs) ys all = (all.0, all_front P xs ys all.1)
-
-pub all_joined : {X : Type 0} (P : X → Type 0) (xs ys : List X) → AllByRecursion P xs → AllByRecursion P ys → AllByRecursion P (xs ++ ys)
-all_joined P [] ys front back = back
-all_joined P (x ∷ xs) ys front back = (front.0, all_joined P xs ys front.1 back)
-
-pub all_filter : {X : Type 0} (P : X → Type 0) (p : X → Bool) (xs : List X) → AllByRecursion P xs → AllByRecursion P (filter p xs)
-all_filter P p [] all = tt
-all_filter P p (x ∷ xs) all = step (p x) refl (all_filter P p xs all.1)
-  where
-    step : (b : Bool) → p x ≡ b → AllByRecursion P (filter p xs) → AllByRecursion P (filter p (x ∷ xs))
-    step true is rest = rw is (all.0, rest)
-    step false is rest = rw is rest
 
 -- the pending writes of early transactions
 

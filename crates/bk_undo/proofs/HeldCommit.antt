@@ -4,10 +4,12 @@ use Rattle.std.specs.Prelude.{◌==◌, is_some, if◌then◌else◌}
 use Rattle.std.specs.List.{filter, AllByRecursion}
 use Rattle.bk_ids.specs.declared.record.Mark.{Mark}
 use Rattle.bk_ids.specs.declared.record.Place.{Place}
+use Rattle.bk_lemmas.specs.Lists.{all_both, all_mapped, filter_no, filter_swap}
+use Rattle.bk_lemmas.specs.Tests.{clash}
 use Rattle.bk_undo.specs.CellSteps.{SameCells}
 use Rattle.bk_world.specs.Records.{Logged, RowId, is_row, more}
 use Rattle.bk_undo.specs.Cells.{IsOwn, Stored, Tied, is_place, rows_written, writes_at}
-use Rattle.bk_undo.proofs.Ties.{all_both, all_mapped, clash, filter_mapped, filter_no, filter_swap, is_place-true, same_row}
+use Rattle.bk_undo.proofs.Ties.{filter_mapped, is_place-true, same_row}
 use Rattle.std.proofs.lemmas.Bool.{cases_Bool}
 use Rattle.std.proofs.lemmas.Option.{same_Some}
 use Rattle.bk_undo.proofs.KeptTied.{commits_rows}

@@ -5,10 +5,12 @@ use Rattle.std.specs.List.{filter, AllByRecursion}
 use Rattle.std.proofs.lemmas.List.{map-append, append-nil}
 use Rattle.bk_ids.specs.declared.record.Place.{Place}
 use Rattle.bk_world.specs.Rows.{rows_of}
+use Rattle.bk_lemmas.specs.Lists.{all_both, all_mapped, all_middle, filter_no}
+use Rattle.bk_lemmas.specs.Tests.{clash}
 use Rattle.bk_undo.specs.CellSteps.{SetsCell, SameRows}
 use Rattle.bk_world.specs.Records.{Logged, RowId, id_of, more, numbered}
 use Rattle.bk_undo.specs.Cells.{IsOwn, Stored, Tied, is_place, writes_at}
-use Rattle.bk_undo.proofs.Ties.{all_both, all_mapped, all_middle, all_without, clash, filter_no, is_row-true, same_place, same_row}
+use Rattle.bk_undo.proofs.Ties.{all_without, is_row-true, same_place, same_row}
 use Rattle.std.proofs.lemmas.Bool.{cases_Bool}
 use Rattle.std.proofs.lemmas.Option.{same_Some}
 use Rattle.bk_undo.proofs.KeptTied.{undoes_write}

@@ -9,8 +9,9 @@ use Rattle.bk_ids.specs.declared.record.Place.{Place}
 use Rattle.bk_world.specs.Entry.{RowChange}
 use Rattle.bk_world.specs.Rows.{rows_of}
 use Rattle.bk_world.specs.Records.{Logged, RowId, id_of, is_row, more, numbered}
+use Rattle.bk_lemmas.specs.Lists.{all_both, all_mapped, filter_no, filter_swap}
 use Rattle.bk_undo.specs.Cells.{CellWrite, IsFreeOr, IsOwn, LeadsTo, Stored, Tied, is_place, row_in, rows_written, writes_at}
-use Rattle.bk_undo.proofs.Ties.{all_both, all_mapped, filter_mapped, filter_no, filter_swap, if_false, if_true, is_row-true, none_at, none_some, row_in_own, row_in_some, same_place, same_row}
+use Rattle.bk_undo.proofs.Ties.{filter_mapped, if_false, if_true, is_row-true, none_at, none_some, row_in_own, row_in_some, same_place, same_row}
 use Rattle.std.proofs.lemmas.Bool.{cases_Bool}
 use Rattle.bk_undo.proofs.KeptTied.{commits_rows, gives_place, leaves, writes_row}
 use Rattle.bk_undo.specs.Spelled.{cell, image}

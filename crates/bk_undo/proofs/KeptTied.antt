@@ -7,10 +7,11 @@ use Rattle.std.proofs.lemmas.Option.{same_Some}
 use Rattle.bk_bytes.specs.Cell.{Row}
 use Rattle.bk_ids.specs.declared.record.CellImage.{CellImage}
 use Rattle.bk_ids.specs.declared.record.Place.{Place}
+use Rattle.bk_lemmas.specs.Lists.{all_joined, all_filter, all_mapped, all_both, filter_every, filter_no, filter_swap, filter_passed}
+use Rattle.bk_lemmas.specs.Tests.{clash}
 use Rattle.bk_undo.specs.Cells.{RowId, CellWrite, Stored, Tied, AreRows, IsOwn, WritesRise, LeadsTo, is_place, is_row, value_in, row_in, writes_at, rows_written, nothing_stored}
 use Rattle.bk_undo.specs.CellSteps.{SameCells, SamePlaces, SameRows, WritesRow, CommitsRows, UndoesWrite, EndsRollback, LeavesRows, GivesPlace, EndsPlace}
-use Rattle.bk_undo.proofs.Held.{all_joined, all_filter}
-use Rattle.bk_undo.proofs.Ties.{clash, if_true, if_false, none_some, is_place-true, place_cases, row_cases, is_row-true, row_in_own, row_in_free_or, row_in_some, all_mapped, all_both, all_without, filter_every, filter_no, none_pass, filter_swap, filter_passed, at_more, at_other, at_without_other, at_last, at_front, all_at_without, leads_more, leads_less, led_own, rise_more, rise_filter, rise_without}
+use Rattle.bk_undo.proofs.Ties.{if_true, if_false, none_some, is_place-true, place_cases, row_cases, is_row-true, row_in_own, row_in_free_or, row_in_some, all_without, none_pass, at_more, at_other, at_without_other, at_last, at_front, all_at_without, leads_more, leads_less, led_own, rise_more, rise_filter, rise_without}
 
 -- ---- the beginning and the end
 

@@ -13,10 +13,9 @@ use Rattle.bk_ids.specs.declared.record.Rec.{Rec}
 use Rattle.bk_record.specs.Log.{IsLog}
 use Rattle.bk_record.specs.Spelling.{spelling, inside, kind_of, body_bytes, IsPlace, IsBody, IsRecord, KeepsLimits}
 use Rattle.bk_record.specs.LengthLaws.{inside_short}
+use Rattle.bk_lemmas.specs.Lists.{all_joined, all_filter, all_reverse}
 use Rattle.bk_undo.specs.declared.pending.Pending.{Pending}
 use Rattle.bk_undo.specs.Losers.{is_open, writes, body_writes, pending, records_below, compensation, compensation_of}
-use Rattle.bk_undo.proofs.Held.{all_joined, all_filter}
-use Rattle.bk_undo.proofs.Rests.{all_reverse}
 
 -- ---- limits
 

@@ -7,9 +7,10 @@ use Rattle.bk_ids.specs.declared.record.Body.{Body}
 use Rattle.bk_ids.specs.declared.record.Body.TheVariants.{Database, Table, Begin, Write, Commit, RollbackEnd, Compensation, Checkpoint, Stamp, Model, Bulk, Recovery}
 use Rattle.bk_ids.specs.declared.record.Place.{Place}
 use Rattle.bk_ids.specs.declared.record.Rec.{Rec}
+use Rattle.bk_lemmas.specs.Lists.{all_mapped}
 use Rattle.bk_undo.specs.Cells.{RowId, CellWrite, Stored, Tied, IsOwn, WritesRise, LeadsTo, row_in, writes_at}
 use Rattle.bk_undo.specs.CellSteps.{LoadsRows, BodyGoes, Goes}
-use Rattle.bk_undo.proofs.Ties.{place_cases, row_cases, none_some, row_in_own, all_mapped, none_at}
+use Rattle.bk_undo.proofs.Ties.{place_cases, row_cases, none_some, row_in_own, none_at}
 use Rattle.bk_undo.proofs.KeptTied.{led_to, leaves_all, ends_rollback, writes_row, commits_rows, undoes_write}
 
 -- ---- which of the loaded cells or rows

@@ -3,25 +3,18 @@ use Rattle.std.proofs.Common.{◌≡◌, ◌≤◌, ◌<◌, ℕ, Bool, true, fa
 use Rattle.std.specs.Prelude.{◌==◌, nat_lt}
 use Rattle.std.specs.List.{filter, list_all, AllByRecursion}
 use Rattle.std.proofs.lemmas.Bool.{lt-ltb, eq-eqb, ne_eqb, and_from, and_left, and_right}
-use Rattle.std.proofs.lemmas.List.{append-nil, reverse-append}
+use Rattle.std.proofs.lemmas.List.{append-nil}
 use Rattle.std.proofs.lemmas.List.Elements.{filter-append, filter_agree}
 use Rattle.std.proofs.lemmas.List.Folds.{list_all-append}
 use Rattle.bk_ids.specs.declared.record.Rec.{Rec}
 use Rattle.bk_ids.specs.declared.record.Body.{Body}
 use Rattle.bk_ids.specs.declared.record.Body.TheVariants.{Write, Compensation}
+use Rattle.bk_lemmas.specs.Lists.{all_joined, all_filter, filter_every, reverse_cons, all_reverse}
 use Rattle.bk_undo.specs.declared.pending.Pending.{Pending}
 use Rattle.bk_undo.specs.Losers.{closes, body_closes, is_open, writes, body_writes, pending, records_below, compensation, compensation_of, unnumbered, Rises}
-use Rattle.bk_undo.proofs.Held.{all_joined, all_filter}
 use Rattle.bk_undo.proofs.Replay.{pending-append}
 
 -- filters
-
-pub filter_all : {X : Type 0} (p : X → Bool) (xs : List X) → AllByRecursion (λ x. p x ≡ true) xs → filter p xs ≡ xs
-filter_all {X = X} p [] all = refl
-filter_all {X = X} p (x ∷ xs) all = rw all.0 (ap (λ (rest : List X). x ∷ rest) (filter_all p xs all.1))
-
-reverse_cons : {X : Type 0} (x : X) (xs : List X) → reverse (x ∷ xs) ≡ reverse xs ++ x ∷ []
-reverse_cons x xs = reverse-append (x ∷ []) xs
 
 pub filter-reverse : {X : Type 0} (p : X → Bool) (xs : List X) → reverse (filter p xs) ≡ filter p (reverse xs)
 filter-reverse {X = X} p [] = refl
@@ -140,12 +133,6 @@ pending_rises : (records : List Rec) → Rises records → RisesAll (pending rec
 pending_rises [] rises = tt
 pending_rises (r ∷ records) rises = one_rises (is_open records) r.lsn r.begin r.body (pending records) (pending_after r.lsn records rises.0) (pending_rises records rises.1)
 
-pub all_reverse : (P : Pending → Type 0) (ws : List Pending) → AllByRecursion P ws → AllByRecursion P (reverse ws)
-all_reverse P [] all = tt
-all_reverse P (w ∷ ws) all =
-    let All : List Pending → Type 0 = λ xs. AllByRecursion P xs in
-    subst All (sym (reverse_cons w ws)) (all_joined P (reverse ws) (w ∷ []) (all_reverse P ws all.1) (all.0, tt))
-
 falls_end : (xs : List Pending) (w : Pending) → AllByRecursion (λ (x : Pending). w.lsn < x.lsn) xs → Falls xs → Falls (xs ++ w ∷ [])
 falls_end [] w above falls = (tt, tt)
 falls_end (x ∷ xs) w above falls = (all_joined (λ (y : Pending). y.lsn < x.lsn) xs (w ∷ []) falls.0 (above.0, tt), falls_end xs w above.1 falls.1)
@@ -186,7 +173,7 @@ tests_below n [] low = tt
 tests_below n (r ∷ records) low = (lt-ltb r.lsn n low.0, tests_below n records low.1)
 
 pub all_below : (n : ℕ) (records : List Rec) → AllByRecursion (λ (r : Rec). r.lsn < n) records → records_below n records ≡ records
-all_below n records low = filter_all (λ (r : Rec). nat_lt r.lsn n) records (tests_below n records low)
+all_below n records low = filter_every (λ (r : Rec). nat_lt r.lsn n) records (tests_below n records low)
 
 pub lower : (n m : ℕ) (records : List Rec) → n ≤ m → AllByRecursion (λ (r : Rec). r.lsn < n) records → AllByRecursion (λ (r : Rec). r.lsn < m) records
 lower n m [] order low = tt
@@ -201,7 +188,7 @@ left_open ws written front back falls pt same =
     ∙ agree
     ∙ filter-append (is_left pt.done) pt.done pt.left
     ∙ ap (λ (xs : List Pending). xs ++ filter (is_left pt.done) pt.left) none
-    ∙ filter_all (is_left pt.done) pt.left (apart pt.done pt.left (subst Falls pt.whole falls))
+    ∙ filter_every (is_left pt.done) pt.left (apart pt.done pt.left (subst Falls pt.whole falls))
 
 pub rest_part : (n m : ℕ) (records written front back : List Rec) → Rises records → AllByRecursion (λ (r : Rec). r.lsn < n) records → n ≤ m → AllByRecursion (λ (r : Rec). r.lsn < m) written → compensation n records ≡ front ++ back → map unnumbered written ≡ front → compensation m (records ++ written) ≡ back
 rest_part n m records written front back rises low order more is same =

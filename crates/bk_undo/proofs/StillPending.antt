@@ -10,12 +10,13 @@ use Rattle.bk_ids.specs.declared.record.Body.{Body}
 use Rattle.bk_ids.specs.declared.record.Body.TheVariants.{Database, Table, Begin, Write, Commit, RollbackEnd, Compensation, Checkpoint, Stamp, Model, Bulk, Recovery}
 use Rattle.bk_ids.specs.declared.record.CellImage.{CellImage}
 use Rattle.bk_ids.specs.declared.record.Rec.{Rec}
+use Rattle.bk_lemmas.specs.Lists.{all_mapped, filter_every}
 use Rattle.bk_undo.specs.declared.pending.Pending.{Pending}
 use Rattle.bk_undo.specs.Losers.{is_open, body_closes, body_writes, writes, pending}
 use Rattle.bk_undo.specs.Cells.{CellWrite, Stored, Tied, WritesRise, pending_of}
 use Rattle.bk_undo.specs.CellSteps.{BodyGoes, Goes}
 use Rattle.bk_undo.proofs.Replay.{pending-append, pending_one, filter_none}
-use Rattle.bk_undo.proofs.Ties.{all_mapped, filter_every, filter_mapped, one_number}
+use Rattle.bk_undo.proofs.Ties.{filter_mapped, one_number}
 
 -- what one record leaves of the pending writes and adds to them
 abbrev after_body : ℕ → ℕ → Body → List Pending → List Pending

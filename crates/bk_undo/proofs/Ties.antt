@@ -8,12 +8,12 @@ use Rattle.std.proofs.lemmas.List.Elements.{filter-append}
 use Rattle.std.proofs.lemmas.Option.{same_Some}
 use Rattle.bk_bytes.specs.Cell.{Row}
 use Rattle.bk_ids.specs.declared.record.Place.{Place}
+use Rattle.bk_lemmas.specs.Lists.{all_mapped, all_middle, filter_every, filter_no}
+use Rattle.bk_lemmas.specs.Tests.{clash}
+use Rattle.bk_world.specs.RowLaws.{place-is}
 use Rattle.bk_undo.specs.Cells.{RowId, CellWrite, is_place, is_row, value_in, row_in, IsFreeOr, writes_at, LeadsTo, IsOwn, WritesRise}
 
 -- ---- tests
-
-pub clash : {A : Type 0} (b : Bool) → b ≡ true → b ≡ false → A
-clash b is isnt = let e : true ≡ false = sym is ∙ isnt in absurd (cc)
 
 pub if_true : {A : Type 0} (b : Bool) (x y : A) → b ≡ true → (if b then x else y) ≡ x
 if_true b x y is = rw is refl
@@ -26,14 +26,11 @@ none_some o x is isnt = absurd (cc)
 
 -- ---- places
 
-place_eq : (a b : Place) → a.file ≡ b.file → a.page ≡ b.page → a.slot ≡ b.slot → a ≡ b
-place_eq a b f p s = λ x. record { file = f x; page = p x; slot = s x }
-
 pub same_place : (a b : Place) → is_place a b ≡ true → a ≡ b
 same_place a b test =
     let first = and_parts (a.file == b.file) ((a.page == b.page) && (a.slot == b.slot)) test in
     let second = and_parts (a.page == b.page) (a.slot == b.slot) first.1 in
-    place_eq a b (eqb-true a.file b.file first.0) (eqb-true a.page b.page second.0) (eqb-true a.slot b.slot second.1)
+    place-is a b (eqb-true a.file b.file first.0) (eqb-true a.page b.page second.0) (eqb-true a.slot b.slot second.1)
 
 pub own_place : (a : Place) → is_place a a ≡ true
 own_place a =
@@ -91,29 +88,9 @@ row_in_some (Some row) id value e = elim (row_cases (row.table, row.key) id) [
 
 -- ---- lists
 
-pub all_mapped : {X : Type 0} (P Q : X → Type 0) → ((x : X) → P x → Q x) → (xs : List X) → AllByRecursion P xs → AllByRecursion Q xs
-all_mapped P Q leads [] all = tt
-all_mapped P Q leads (x ∷ xs) all = (leads x all.0, all_mapped P Q leads xs all.1)
-
-pub all_both : {X : Type 0} (P Q R : X → Type 0) → ((x : X) → P x → Q x → R x) → (xs : List X) → AllByRecursion P xs → AllByRecursion Q xs → AllByRecursion R xs
-all_both P Q R leads [] ps qs = tt
-all_both P Q R leads (x ∷ xs) ps qs = (leads x ps.0 qs.0, all_both P Q R leads xs ps.1 qs.1)
-
 pub all_without : {X : Type 0} (P : X → Type 0) (front : List X) (x : X) (back : List X) → AllByRecursion P (front ++ x ∷ back) → AllByRecursion P (front ++ back)
 all_without P [] x back all = all.1
 all_without P (y ∷ front) x back all = (all.0, all_without P front x back all.1)
-
-pub all_middle : {X : Type 0} (P : X → Type 0) (front : List X) (x : X) (back : List X) → AllByRecursion P (front ++ x ∷ back) → P x
-all_middle P [] x back all = all.0
-all_middle P (y ∷ front) x back all = all_middle P front x back all.1
-
-pub filter_every : {X : Type 0} (p : X → Bool) (xs : List X) → AllByRecursion (λ x. p x ≡ true) xs → filter p xs ≡ xs
-filter_every {X = X} p [] all = refl
-filter_every {X = X} p (x ∷ xs) all = rw all.0 (ap (λ (rest : List X). x ∷ rest) (filter_every p xs all.1))
-
-pub filter_no : {X : Type 0} (p : X → Bool) (xs : List X) → AllByRecursion (λ x. p x ≡ false) xs → filter p xs ≡ []
-filter_no p [] all = refl
-filter_no p (x ∷ xs) all = rw all.0 (filter_no p xs all.1)
 
 pub none_pass : {X : Type 0} (p : X → Bool) (xs : List X) → filter p xs ≡ [] → AllByRecursion (λ x. p x ≡ false) xs
 none_pass p [] e = tt
@@ -127,36 +104,6 @@ none_pass {X = X} p (x ∷ xs) e = step (p x) refl e (none_pass p xs)
     step false is e rest =
         let less : filter p (x ∷ xs) ≡ filter p xs = rw is refl in
         (is, rest (sym less ∙ e))
-
-pub filter_swap : {X : Type 0} (p q : X → Bool) (xs : List X) → filter p (filter q xs) ≡ filter q (filter p xs)
-filter_swap p q [] = refl
-filter_swap {X = X} p q (x ∷ xs) = step (p x) refl (q x) refl (filter_swap p q xs)
-  where
-    step : (a : Bool) → p x ≡ a → (b : Bool) → q x ≡ b → filter p (filter q xs) ≡ filter q (filter p xs) → filter p (filter q (x ∷ xs)) ≡ filter q (filter p (x ∷ xs))
-    step true is true also same =
-        let left : filter p (filter q (x ∷ xs)) ≡ x ∷ filter p (filter q xs) = rw also (rw is refl) in
-        let right : filter q (filter p (x ∷ xs)) ≡ x ∷ filter q (filter p xs) = rw is (rw also refl) in
-        left ∙ ap (λ (rest : List X). x ∷ rest) same ∙ sym right
-    step true is false other same =
-        let left : filter p (filter q (x ∷ xs)) ≡ filter p (filter q xs) = rw other refl in
-        let right : filter q (filter p (x ∷ xs)) ≡ filter q (filter p xs) = rw is (rw other refl) in
-        left ∙ same ∙ sym right
-    step false isnt true also same =
-        let left : filter p (filter q (x ∷ xs)) ≡ filter p (filter q xs) = rw also (rw isnt refl) in
-        let right : filter q (filter p (x ∷ xs)) ≡ filter q (filter p xs) = rw isnt refl in
-        left ∙ same ∙ sym right
-    step false isnt false other same =
-        let left : filter p (filter q (x ∷ xs)) ≡ filter p (filter q xs) = rw other refl in
-        let right : filter q (filter p (x ∷ xs)) ≡ filter q (filter p xs) = rw isnt refl in
-        left ∙ same ∙ sym right
-
-pub filter_passed : {X : Type 0} (p : X → Bool) (xs : List X) → AllByRecursion (λ x. p x ≡ true) (filter p xs)
-filter_passed p [] = tt
-filter_passed {X = X} p (x ∷ xs) = step (p x) refl (filter_passed p xs)
-  where
-    step : (b : Bool) → p x ≡ b → AllByRecursion (λ (y : X). p y ≡ true) (filter p xs) → AllByRecursion (λ (y : X). p y ≡ true) (filter p (x ∷ xs))
-    step true is rest = rw is (is, rest)
-    step false is rest = rw is rest
 
 pub filter_mapped : {X Y : Type 0} (f : X → Y) (p : Y → Bool) (q : X → Bool) → ((x : X) → p (f x) ≡ q x) → (xs : List X) → filter p (map f xs) ≡ map f (filter q xs)
 filter_mapped f p q same [] = refl

@@ -3,7 +3,7 @@ use Rattle.std.proofs.Common.{◌≡◌, ◌≤◌, ◌⊎◌, inl, inr, ℕ, �
 use Rattle.std.specs.Prelude.{◌==◌, ◌||◌}
 use Rattle.std.specs.List.{AllByRecursion}
 use Rattle.std.proofs.lemmas.Bool.Decides.{nat_tests}
-use Rattle.std.proofs.lemmas.List.{append-nil, length-append}
+use Rattle.std.proofs.lemmas.List.{length-append}
 use Rattle.bk_ids.specs.Path.{last_branch}
 use Rattle.bk_ids.specs.declared.guid.Guid.{Guid}
 use Rattle.bk_machine.specs.Acts.{done, gone_on, logged, says}
@@ -12,11 +12,13 @@ use Rattle.bk_machine.specs.Same.{SameLogs}
 use Rattle.bk_machine.specs.SettledLaws.{logs-same}
 use Rattle.bk_machine.specs.Sound.{AreNumbered, AreOpen, ArePlaced, IsSound, IsWhole, has_begin}
 use Rattle.bk_machine.specs.World.{Database, World, database_named, log_of, with_database}
-use Rattle.bk_waiting.proofs.Points.{done-says, found-behind, gone_on-files, gone_on-name, gone_on-path, gone_on-twice, said_on_last-twice, with-twice}
+use Rattle.bk_machine.specs.JoinLaws.{placed-join}
+use Rattle.bk_machine.specs.SaysLaws.{done-says}
+use Rattle.bk_waiting.proofs.Points.{found-behind, gone_on-files, gone_on-name, gone_on-path, gone_on-twice, said_on_last-twice, with-twice}
 use Rattle.bk_waiting.specs.Lagging.{SaysNoCheckpoint}
 use Rattle.bk_world.specs.declared.database.FileSpec.{FileSpec}
 use Rattle.bk_world.specs.Lines.{said_on_last}
-use Rattle.bk_world.specs.ListLaws.{all_mapped}
+use Rattle.bk_lemmas.specs.Lists.{all_mapped}
 use Rattle.bk_world.specs.ReadingLaws.{numbered-append}
 use Rattle.bk_world.specs.Records.{Logged, Said, more, numbered}
 use Rattle.bk_world.specs.SoundLaws.{follow-join}
@@ -37,11 +39,6 @@ of-begin P (t ∷ ts) n all there = by (t.begin == n) refl there (of-begin P ts 
     by : (b : Bool) → (t.begin == n) ≡ b → (b || has_begin ts n) ≡ true → (has_begin ts n ≡ true → P n) → P n
     by true is there later = let same : t.begin ≡ n = grind (arith, nat_tests, is) in subst P same all.0
     by false is there later = later there
-
-placed-join : (files : List FileSpec) (before a b : List Logged) → ArePlaced files before a → ArePlaced files (before ++ a) b → ArePlaced files before (a ++ b)
-placed-join files before [] b first second = subst (λ (front : List Logged). ArePlaced files front b) (append-nil before) second
-placed-join files before (r ∷ a) b first second =
-    (first.0, placed-join files (before ++ r ∷ []) a b first.1 (subst (λ (front : List Logged). ArePlaced files front b) (sym (append_assoc before (r ∷ []) a)) second))
 
 -- a database says this, and then those, which may come behind it
 module _ (w : World) (name : List ℕ) (db : Database) (said others : List Said) (between transactions : List Open) (there : database_named w.databases name ≡ Some db) where

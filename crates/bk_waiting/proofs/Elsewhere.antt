@@ -8,10 +8,11 @@ use Rattle.bk_machine.specs.NamedLaws.{all-changed, named-own, of-named}
 use Rattle.bk_machine.specs.Same.{SameLogs}
 use Rattle.bk_machine.specs.Sound.{AreNumbered, AreOpen, ArePlaced, IsSound, IsWholeDatabase}
 use Rattle.bk_machine.specs.World.{Database, World, database_named, log_of, with_database}
+use Rattle.bk_machine.specs.SaysLaws.{done-says}
 use Rattle.bk_waiting.proofs.AtOnce.{SaidLast}
-use Rattle.bk_waiting.proofs.Points.{done-databases, done-says}
+use Rattle.bk_waiting.proofs.Points.{done-databases}
 use Rattle.bk_world.specs.Lines.{log_below}
-use Rattle.bk_world.specs.ListLaws.{all_both}
+use Rattle.bk_lemmas.specs.Lists.{all_both}
 use Rattle.bk_world.specs.Records.{Counts, Logged, Said, more, numbered}
 use Rattle.bk_world.specs.SoundLogs.{MayFollow}
 use Rattle.bk_world.specs.Telling.{model, tables}

@@ -4,8 +4,7 @@ use Rattle.std.specs.List.{AllByRecursion}
 use Rattle.bk_acts.specs.declared.act.StoredAct.{StoredAct}
 use Rattle.bk_acts.specs.declared.act.StoredAct.TheVariants.{Logged as LoggedAct}
 use Rattle.bk_acts.specs.Meaning.{Spell}
-use Rattle.bk_kept.specs.Saying.{SaysNamed}
-use Rattle.bk_kept.specs.Stored.{IsDone}
+use Rattle.bk_kept.specs.Stored.{IsDone, SaysNamed}
 use Rattle.bk_machine.specs.Acts.{Act, logged, done, gone_on, says, where_found}
 use Rattle.bk_machine.specs.MayDo.{MayDo, MayLog, MaySay}
 use Rattle.bk_machine.specs.NamedLaws.{of-named}
@@ -13,13 +12,15 @@ use Rattle.bk_machine.specs.Same.{SameLogs, SameMedia}
 use Rattle.bk_machine.specs.Sound.{IsSound, IsWhole, has_begin}
 use Rattle.bk_machine.specs.World.{Database, World, database_named, log_of}
 use Rattle.bk_shown.specs.Shown.{AreNext}
-use Rattle.bk_waiting.proofs.Points.{done-says, found-behind, gone_on-files}
-use Rattle.bk_waiting.proofs.Saying.{TellNumber, done-so, found-has, held, next-more, of-found, says-so, spell-more}
+use Rattle.bk_machine.specs.SaysLaws.{done-says}
+use Rattle.bk_acts.specs.MeaningLaws.{TellNumber}
+use Rattle.bk_waiting.proofs.Points.{found-behind, gone_on-files}
+use Rattle.bk_waiting.proofs.Saying.{done-so, found-has, held, next-more, of-found, says-so, spell-more}
 use Rattle.bk_waiting.specs.Lagging.{IsBehind, IsWaiting, SaysNoCheckpoint}
 use Rattle.bk_waiting.specs.Waiting.{IsJoined, Joins, MayJoin, SpellNoCheckpoint, WaitsFor}
 use Rattle.bk_world.specs.declared.database.FileSpec.{FileSpec}
 use Rattle.bk_world.specs.declared.transaction.Open.{Open}
-use Rattle.bk_world.specs.ListLaws.{all_mapped}
+use Rattle.bk_lemmas.specs.Lists.{all_mapped}
 use Rattle.bk_world.specs.Records.{Logged, Said, more, numbered}
 use Rattle.bk_world.specs.Telling.{model}
 

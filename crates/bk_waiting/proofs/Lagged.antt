@@ -16,14 +16,15 @@ use Rattle.bk_machine.specs.SettledLaws.{counts-end, zip-second}
 use Rattle.bk_machine.specs.Sound.{IsHeld, IsSound, IsSoundSet, IsWhole, IsWholeDatabase, OpenBy, SetIn}
 use Rattle.bk_machine.specs.Stays.{IsCutOf, IsFront, MayStay}
 use Rattle.bk_machine.specs.World.{Database, World, database_named, log_of, with_database}
+use Rattle.bk_machine.specs.SaysLaws.{done-says}
 use Rattle.bk_waiting.proofs.AtOnce.{SaidLast, of-begin}
 use Rattle.bk_waiting.proofs.Elsewhere.{StaysRead, log-stays}
 use Rattle.bk_waiting.proofs.Opening.{each-waits}
-use Rattle.bk_waiting.proofs.Points.{done-databases, done-says, gone_on-still, quiet-still}
+use Rattle.bk_waiting.proofs.Points.{done-databases, gone_on-still, quiet-still}
 use Rattle.bk_waiting.specs.Lagging.{AreWaiting, IsBehind, IsWaiting, Lags, MayWait, SaysNoCheckpoint, IsNoCheckpoint, nothing_waits, one_waits}
 use Rattle.bk_world.specs.Cut.{end_behind, is_among, settled}
 use Rattle.bk_world.specs.Lines.{log_below}
-use Rattle.bk_world.specs.ListLaws.{all_both, all_mapped}
+use Rattle.bk_lemmas.specs.Lists.{all_both, all_mapped}
 use Rattle.bk_world.specs.Records.{Logged, Said, numbered}
 use Rattle.bk_world.specs.SoundLogs.{NoLoadPends}
 use Rattle.bk_world.specs.Telling.{model, telling}

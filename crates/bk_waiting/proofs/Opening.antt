@@ -6,10 +6,11 @@ use Rattle.bk_machine.specs.MayDo.{HoldsOf, MayLog}
 use Rattle.bk_machine.specs.NamedLaws.{of-named}
 use Rattle.bk_machine.specs.Sound.{AreIdle, IsIdle, has_begin}
 use Rattle.bk_machine.specs.World.{Database, World, database_named, log_of}
+use Rattle.bk_machine.specs.SaysLaws.{done-says}
 use Rattle.bk_waiting.proofs.AtOnce.{of-begin}
-use Rattle.bk_waiting.proofs.Points.{done-says, found-behind}
+use Rattle.bk_waiting.proofs.Points.{found-behind}
 use Rattle.bk_waiting.specs.Lagging.{AreWaiting, IsBehind, IsWaiting, MayWait}
-use Rattle.bk_world.specs.ListLaws.{all_joined, all_mapped}
+use Rattle.bk_lemmas.specs.Lists.{all_joined, all_mapped}
 use Rattle.bk_world.specs.Records.{Said}
 use Rattle.bk_world.specs.Telling.{model}
 use Rattle.bk_world.specs.declared.transaction.Open.{Open}

@@ -4,9 +4,10 @@ use Rattle.std.proofs.lemmas.List.{length-append}
 use Rattle.bk_ids.specs.Name.{lowered, same_name}
 use Rattle.bk_ids.specs.declared.guid.Guid.{Guid}
 use Rattle.bk_ids.specs.declared.record.RecoveryModel.{RecoveryModel}
-use Rattle.bk_machine.specs.Acts.{done, gone_on, logged, pointed, pointed_by, says, where_found}
+use Rattle.bk_machine.specs.Acts.{done, gone_on, logged, pointed, pointed_by, says}
 use Rattle.bk_machine.specs.NamedLaws.{name-of-named, named-alike, named-changed, named-own}
 use Rattle.bk_machine.specs.World.{Database, World, database_named, log_of, with_database}
+use Rattle.bk_machine.specs.SaysLaws.{point-over, done-says}
 use Rattle.bk_waiting.specs.Lagging.{IsNoCheckpoint, SaysNoCheckpoint}
 use Rattle.bk_world.specs.History.{is_guid}
 use Rattle.bk_world.specs.Lines.{RecordLine, RecordLines, longer_line, said_on, said_on_last}
@@ -16,21 +17,6 @@ use Rattle.bk_world.specs.Telling.{model, telling}
 use Rattle.bk_world.specs.declared.transaction.Open.{Open}
 
 -- ---- points
-
-point-over : (m : RecoveryModel) (db : Database) (n : ℕ) (deed : Deed) (kept checkpoint : ℕ)
-    → record (pointed_by m db n deed) { kept = kept; checkpoint = checkpoint } ≡ record db { kept = kept; checkpoint = checkpoint }
-point-over m db n (database_made time family branch) kept checkpoint = refl
-point-over m db n (table_made time spec) kept checkpoint = refl
-point-over m db n begun kept checkpoint = refl
-point-over m db n (written at before c) kept checkpoint = refl
-point-over m db n (committed time mark) kept checkpoint = refl
-point-over m db n rolled_back kept checkpoint = refl
-point-over m db n (undone at c number) kept checkpoint = refl
-point-over m db n (checkpointed time) kept checkpoint = refl
-point-over m db n (stamped time set) kept checkpoint = refl
-point-over m db n (model_set time new) kept checkpoint = refl
-point-over m db n (loaded load) kept checkpoint = refl
-point-over m db n (recovered branch) kept checkpoint = refl
 
 -- records move the points alone
 pointed-only : (m : RecoveryModel) (db : Database) (rs : List Logged) → pointed m db rs ≡ record db { kept = (pointed m db rs).kept; checkpoint = (pointed m db rs).checkpoint }
@@ -149,11 +135,6 @@ said_on_last-twice lines (Some branch) a b = said_on-twice lines branch a b
 -- ---- worlds
 
 -- what is logged is said by the database of that name
-pub done-says : (w : World) (name : List ℕ) (db : Database) (said : List Said) (transactions : List Open) → database_named w.databases name ≡ Some db
-    → done w (logged name said transactions) ≡ says w db said transactions
-unfolding done
-done-says w name db said transactions there = ap (λ (o : Option Database). where_found w o (λ d. says w d said transactions)) there
-
 -- which is found behind it
 pub found-behind : (w : World) (name : List ℕ) (db : Database) (said : List Said) (transactions : List Open) → database_named w.databases name ≡ Some db
     → database_named (says w db said transactions).databases name ≡ Some (gone_on (model (log_of w.history db)) said transactions db)

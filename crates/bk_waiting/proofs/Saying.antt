@@ -1,11 +1,10 @@
 -- What a stored act says in a world, and what two of them say one behind the other.
-use Rattle.std.proofs.Common.{◌≡◌, ◌<◌, ℕ, ◌+◌, List, [], ◌∷◌, ◌++◌, length, map, Option, None, Some, refl, sym, ◌∙◌, ap, subst, append_assoc, arith}
+use Rattle.std.proofs.Common.{◌≡◌, ℕ, ◌+◌, List, [], ◌∷◌, ◌++◌, length, map, Option, None, Some, refl, sym, ◌∙◌, ap, subst, append_assoc, arith}
 use Rattle.std.proofs.lemmas.List.{append-nil, map-append}
 use Rattle.bk_acts.specs.declared.act.StoredAct.TheVariants.{Logged as LoggedAct}
 use Rattle.bk_acts.specs.Meaning.{Spell}
 use Rattle.bk_ids.specs.declared.record.Rec.{Rec}
-use Rattle.bk_kept.specs.Saying.{SaysNamed}
-use Rattle.bk_kept.specs.Stored.{IsDone, IsTaken}
+use Rattle.bk_kept.specs.Stored.{IsDone, IsTaken, SaysNamed}
 use Rattle.bk_machine.specs.Acts.{Act, logged}
 use Rattle.bk_machine.specs.MayDo.{HoldsOf, MayDo}
 use Rattle.bk_machine.specs.World.{Database, World, database_named}
@@ -17,6 +16,8 @@ use Rattle.bk_world.specs.declared.database.FileSpec.{FileSpec}
 use Rattle.bk_world.specs.declared.transaction.Open.{Open}
 use Rattle.bk_world.specs.ReadingLaws.{numbered-append}
 use Rattle.bk_world.specs.Records.{Logged, Said, numbered}
+use Rattle.bk_machine.specs.SaysLaws.{holds-more}
+use Rattle.bk_acts.specs.MeaningLaws.{TellNumber, spell-from}
 
 -- The database of a name.
 
@@ -31,21 +32,7 @@ of-found found P db is holds = subst (λ (o : Option Database). HoldsOf o P) is 
 pub found-has : (found : Option Database) (P : Database → Type 0) (db : Database) → found ≡ Some db → P db → HoldsOf found P
 found-has found P db is holds = subst (λ (o : Option Database). HoldsOf o P) (sym is) holds
 
-holds-more : (found : Option Database) (P Q : Database → Type 0) → ((db : Database) → P db → Q db) → HoldsOf found P → HoldsOf found Q
-holds-more None P Q more holds = holds
-holds-more (Some db) P Q more holds = more db holds
-
 -- A stored act.
-
--- records that say something tell their first number
-abbrev pub TellNumber : Type 0
-TellNumber = (bytes : List ℕ) (n m : ℕ) (said others : List Said) → Spell bytes n said → Spell bytes m others → 0 < length said → n ≡ m
-
-spell-from : TellNumber → (bytes : List ℕ) (n m : ℕ) (said others : List Said) → Spell bytes n said → Spell bytes m others → Spell bytes m said
-spell-from tell bytes n m [] others spell other = spell
-spell-from tell bytes n m (s ∷ said) others spell other =
-    let same : n ≡ m = tell bytes n m (s ∷ said) others spell other (omega arith) in
-    subst (λ (k : ℕ). Spell bytes k (s ∷ said)) same spell
 
 -- an act is that a database says this, which it may
 pub record SaysSo (w : World) (name : List ℕ) (transactions : List Open) (bytes : List ℕ) (a : Act) : Type 0 where

@@ -10,7 +10,7 @@ use Rattle.bk_shown.specs.ReadLaws.{next-read, none-left}
 use Rattle.bk_undo.specs.Spelled.{body_of, spelled}
 use Rattle.bk_waiting.specs.Lagging.{AreWaiting, IsNoCheckpoint, MayWait, SaysNoCheckpoint}
 use Rattle.bk_waiting.specs.Waiting.{IsBeginOrWrite, IsOpenWrite, IsPlain}
-use Rattle.bk_world.specs.ListLaws.{all_joined}
+use Rattle.bk_lemmas.specs.Lists.{all_joined}
 use Rattle.bk_world.specs.Records.{Deed, Logged, Said, database_made, table_made, begun, written, committed, rolled_back, undone, checkpointed, stamped, model_set, loaded, recovered, numbered}
 use Rattle.bk_world.specs.Telling.{telling}
 use Rattle.bk_world.specs.declared.transaction.Open.{Open}
@@ -24,9 +24,6 @@ pub record SoFar (P : Logged → Type 0) (rs : List Logged) (left : List ℕ) : 
   pub splits : rs ≡ front ++ rest
   pub each : AllByRecursion P front
   pub spelled_is : IsLog left (map spelled rest) None
-
-pub none-so-far : (P : Logged → Type 0) (rs : List Logged) (bytes : List ℕ) → IsLog bytes (map spelled rs) None → SoFar P rs bytes
-none-so-far P rs bytes log = record { front = []; rest = rs; splits = refl; each = tt; spelled_is = log }
 
 more-so-far : (P : Logged → Type 0) (rs : List Logged) (left new : Left) (r : Rec) → SoFar P rs left.bytes → Reads left r new → ((l : Logged) → r ≡ spelled l → P l) → SoFar P rs new.bytes
 more-so-far P rs left new r so reads is =

@@ -1,5 +1,5 @@
 // What waits.
-ghost use Rattle.std.specs.Prelude.{◌≡◌, ◌↔◌, true, None, Some, MatchOption, IfOk, IsTrue, OnOk};
+ghost use Rattle.std.specs.Prelude.{◌≡◌, true, None, Some, MatchOption, IfOk, OnOk};
 ghost use Rattle.bk_acts.specs.declared.act.StoredAct.{StoredAct as StoredActOf};
 ghost use Rattle.bk_acts.specs.Spelling.{act_bytes, IsAct, KeepsAct};
 ghost use Rattle.bk_waiting.specs.Waiting.{IsSaid, Joins, KeepsOpen, MayJoin, joined};
@@ -64,13 +64,6 @@ impl Waiting {
         ensures { result ≡ None }
     {
         Waiting { act: None }
-    }
-
-    /// Whether nothing waits.
-    pub fn is_none(&self) -> bool
-        ensures { IsTrue result ↔ (self.now ≡ None) }
-    {
-        self.act.is_none()
     }
 
     /// Whether an act joins what waits: nothing waits, or both are what the database of one name says, and the act says no checkpoint.

@@ -11,7 +11,7 @@ use Rattle.bk_world.specs.Records.{Counts, Deed, Logged, Said, more, numbered, d
 use Rattle.bk_world.specs.Says.{settle_said, undoing}
 use Rattle.bk_world.specs.SoundLogs.{IsSound, MayFollow, NoLoadPends}
 use Rattle.bk_world.specs.Telling.{entries, entries_from, entry_of, telling}
-use Rattle.bk_world.specs.ListLaws.{all_front, all_middle}
+use Rattle.bk_lemmas.specs.Lists.{all_front, all_middle}
 use Rattle.bk_world.specs.ReadingLaws.{entries-more}
 use Rattle.bk_world.specs.AgainLaws.{undone-one, rise-one}
 use Rattle.bk_world.specs.SettledLaws.{end-more, nothing-pends, tells-same}
@@ -19,19 +19,19 @@ use Rattle.bk_world.specs.SoundLaws.{follow-front, follow-join, sound-rise}
 
 -- ---- numbers
 
-counts-front : (n end : ℕ) (a b : List Logged) → Counts n (a ++ b) end → Counts n a (n + length a)
+pub counts-front : (n end : ℕ) (a b : List Logged) → Counts n (a ++ b) end → Counts n a (n + length a)
 counts-front n end [] b counts = let none : List Logged = [] in let same : n ≡ n + length none = omega arith in same
 counts-front n end (r ∷ a) b counts =
     let on : (n + 1) + length a ≡ n + length (r ∷ a) = omega arith in
     (counts.0, subst (Counts (n + 1) a) on (counts-front (n + 1) end a b counts.1))
 
-counts-numbered : (n : ℕ) (said : List Said) → Counts n (numbered n said) (n + length said)
+pub counts-numbered : (n : ℕ) (said : List Said) → Counts n (numbered n said) (n + length said)
 counts-numbered n [] = let none : List Said = [] in let same : n ≡ n + length none = omega arith in same
 counts-numbered n (s ∷ said) =
     let on : (n + 1) + length said ≡ n + length (s ∷ said) = omega arith in
     (refl, subst (Counts (n + 1) (numbered (n + 1) said)) on (counts-numbered (n + 1) said))
 
-counts-join : (n m end : ℕ) (a b : List Logged) → Counts n a m → Counts m b end → Counts n (a ++ b) end
+pub counts-join : (n m end : ℕ) (a b : List Logged) → Counts n a m → Counts m b end → Counts n (a ++ b) end
 counts-join n m end [] b first then = subst (λ k. Counts k b end) (sym first) then
 counts-join n m end (r ∷ a) b first then = (first.0, counts-join (n + 1) m end a b first.1 then)
 
@@ -105,3 +105,7 @@ module _ (begins : List ℕ) (rs left : List Logged) (cut : IsCutLog begins rs l
 
   pub left-sound : IsSound rs → Counts 1 rs (end_behind rs) → IsSound left
   left-sound sound counts = subst IsSound (sym cut.is) (sound-settled cut.kept (follow-front [] cut.kept cut.lost (subst IsSound cut.splits sound)) (kept-counts counts) cut.loads)
+
+pub counts-length : (n : ℕ) (rs : List Logged) (end : ℕ) → Counts n rs end → end ≡ n + length rs
+counts-length n [] end is = omega (arith, is)
+counts-length n (r ∷ rs) end is = let rest : end ≡ (n + 1) + length rs = counts-length (n + 1) rs end is.1 in omega (arith, rest)

@@ -11,7 +11,7 @@ use Rattle.bk_world.specs.History.{is_guid, at_branch, along}
 use Rattle.bk_world.specs.ApartLaws.{along-on}
 use Rattle.bk_world.specs.SaidLaws.{numbered-above, line_of-appended}
 use Rattle.bk_world.specs.ElsewhereLaws.{HasSome, some_at, along_at, line_of-other, guid_is}
-use Rattle.bk_world.specs.ListLaws.{all_both, all_joined, all_mapped}
+use Rattle.bk_lemmas.specs.Lists.{all_both, all_joined, all_mapped}
 use Rattle.bk_world.specs.Records.{Counts, Logged, Said, numbered}
 use Rattle.bk_world.specs.Lines.{Grew, LineGrew, RecordLine, RecordLines, has_record_line, line_on, log_below, logged_on, said_on}
 

@@ -12,7 +12,6 @@ pub mod Says
 pub mod Lines
 pub mod SoundLogs
 pub mod Cut
-pub mod ListLaws
 pub mod ReadingLaws
 pub mod UndoLaws
 pub mod RowLaws

@@ -1,9 +1,9 @@
 -- What a log says with more behind it.
-use Rattle.std.proofs.Common.{◌≡◌, ◌<◌, ◌≤◌, ℕ, ◌+◌, Bool, true, false, not, ◌&&◌, cond, List, [], ◌∷◌, ◌++◌, reverse, Option, None, refl, sym, ◌∙◌, ap, subst, arith, append_assoc, length, add-zero, zero-add}
+use Rattle.std.proofs.Common.{◌≡◌, ◌<◌, ◌≤◌, ℕ, ◌+◌, Bool, true, false, not, ◌&&◌, cond, List, [], ◌∷◌, ◌++◌, reverse, Option, None, refl, sym, ◌∙◌, ap, arith, append_assoc, length, add-zero, zero-add}
 use Rattle.std.specs.Prelude.{◌==◌, ◌||◌}
 use Rattle.std.specs.List.{filter, list_any, AllByRecursion}
 use Rattle.std.proofs.lemmas.Bool.Decides.{nat_tests}
-use Rattle.std.proofs.lemmas.List.{append-nil, reverse-append}
+use Rattle.std.proofs.lemmas.List.{append-nil}
 use Rattle.std.proofs.lemmas.List.Elements.{filter-append}
 use Rattle.std.proofs.lemmas.List.Folds.{list_any-append}
 use Rattle.bk_ids.specs.declared.record.Mark.{Mark}
@@ -11,7 +11,7 @@ use Rattle.bk_ids.specs.declared.record.Place.{Place}
 use Rattle.bk_world.specs.Entry.{RowChange}
 use Rattle.bk_world.specs.Rows.{rows_of}
 use Rattle.bk_world.specs.FoldLaws.{rows_of-more}
-use Rattle.bk_world.specs.ListLaws.{all_filter, all_joined, all_mapped, filter_every, filter_no, filter_passed}
+use Rattle.bk_lemmas.specs.Lists.{all_filter, all_joined, all_mapped, filter_every, filter_no, filter_passed, reverse_cons, all_reverse}
 use Rattle.bk_world.specs.Records.{Logged, RowId, Said, more, numbered, rolled_back}
 use Rattle.bk_world.specs.Pending.{Lies, Pending, PendingRise, of_others, of_transaction, pending, pending_after, pending_from}
 use Rattle.bk_world.specs.Telling.{commit_entry, entries, entries_from, entry_of, rows, seen}
@@ -132,13 +132,6 @@ numbered-append n (s ∷ a) b =
     let on : (n + 1) + length a ≡ n + length (s ∷ a) = omega arith in
     ap (λ rs. (record { lsn = n; begin = s.begin; deed = s.deed }) ∷ rs) (numbered-append (n + 1) a b ∙ ap (λ m. numbered (n + 1) a ++ numbered m b) on)
 
-reverse_cons : {X : Type 0} (x : X) (xs : List X) → reverse (x ∷ xs) ≡ reverse xs ++ x ∷ []
-reverse_cons x xs = reverse-append (x ∷ []) xs
-
-all-reverse : {X : Type 0} (P : X → Type 0) (xs : List X) → AllByRecursion P xs → AllByRecursion P (reverse xs)
-all-reverse P [] all = tt
-all-reverse P (x ∷ xs) all = subst (AllByRecursion P) (sym (reverse_cons x xs)) (all_joined P (reverse xs) (x ∷ []) (all-reverse P xs all.1) (all.0, tt))
-
 -- a rollback tells no entry, and leaves what is pending of the others
 pub entries-rollback : (rs : List Logged) (n begin : ℕ) → entries (more rs n (rollback_said begin (pending rs))) ≡ entries rs
 entries-rollback rs n begin =
@@ -157,7 +150,7 @@ pending-rollback rs n begin =
     pending-more rs (numbered n (rollback_said begin (pending rs)))
     ∙ ap (pending_from (pending rs)) (numbered-append n (undoing vs) ((record { begin = begin; deed = rolled_back }) ∷ []))
     ∙ pending-append (pending rs) (numbered n (undoing vs)) (numbered m ((record { begin = begin; deed = rolled_back }) ∷ []))
-    ∙ undoing-others begin (pending rs) vs n (all-reverse (λ v. (v.begin == begin) ≡ true) (of_transaction begin (pending rs)) (filter_passed (λ v. v.begin == begin) (pending rs)))
+    ∙ undoing-others begin (pending rs) vs n (all_reverse (λ v. (v.begin == begin) ≡ true) (of_transaction begin (pending rs)) (filter_passed (λ v. v.begin == begin) (pending rs)))
 
 -- ---- a transaction of one row
 

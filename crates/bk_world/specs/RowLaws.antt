@@ -7,6 +7,8 @@ use Rattle.std.specs.declared.cmp.Ordering.TheVariants.{Less, Equal, Greater}
 use Rattle.std.specs.BTreeMap.{insert_entry, is_at}
 use Rattle.std.specs.Map.{lookup, remove_entry}
 use Rattle.std.proofs.lemmas.Bool.Decides.{nat_tests}
+use Rattle.std.proofs.lemmas.Bool.{and_parts, eqb-true, and_from, eq-eqb}
+use Rattle.bk_ids.specs.declared.record.Place.{Place}
 use Rattle.bk_world.specs.Entry.{Entry, Change, RowChange, rows_set, table_made, model_set, nothing}
 use Rattle.bk_world.specs.Rows.{Rows, with_row, rows_changed, rows_of, rows_after}
 use Rattle.bk_world.specs.Records.{Logged, RowId, id_of, is_row}
@@ -175,3 +177,14 @@ rise-of table es (e ∷ entries) rise = rise-of table (rows_after table es e.cha
 pub rise-rows : (rs : List Logged) (table : ℕ) → RowsRise (rows rs table)
 unfolding rows
 rise-rows rs table = rise-of table [] (entries rs) tt
+
+-- rows and places that are the same
+
+pub row-itself : (id : RowId) → is_row id id ≡ true
+row-itself id = and_from _ _ (eq-eqb id.0 id.0 refl) (eq-eqb id.1 id.1 refl)
+
+pub row-same : (a b : RowId) → is_row a b ≡ true → a ≡ b
+row-same a b e = let parts = and_parts _ _ e in let table : a.0 ≡ b.0 = eqb-true _ _ parts.0 in let key : a.1 ≡ b.1 = eqb-true _ _ parts.1 in ap (λ (t : ℕ). (t, a.1)) table ∙ ap (λ (k : ℕ). (b.0, k)) key
+
+pub place-is : (a b : Place) → a.file ≡ b.file → a.page ≡ b.page → a.slot ≡ b.slot → a ≡ b
+place-is a b f p s = λ x. record { file = f x; page = p x; slot = s x }

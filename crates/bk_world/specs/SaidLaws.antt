@@ -9,7 +9,7 @@ use Rattle.bk_ids.specs.declared.path.Branch.{Branch}
 use Rattle.bk_ids.specs.Path.{last_branch, branch_at}
 use Rattle.bk_world.specs.History.{is_guid, at_branch, along}
 use Rattle.bk_world.specs.BranchLaws.{branch_at-last, along-same}
-use Rattle.bk_world.specs.ListLaws.{all_joined, all_mapped}
+use Rattle.bk_lemmas.specs.Lists.{all_joined, all_mapped}
 use Rattle.bk_world.specs.Records.{Logged, Said, numbered}
 use Rattle.bk_world.specs.Lines.{MayGoOn, RecordLine, RecordLines, has_record_line, line_on, log_below, logged_on, longer_line, said_on, said_on_last}
 
@@ -70,7 +70,7 @@ pub numbered-above : (n : ℕ) (said : List Said) → AllByRecursion (λ r. n �
 numbered-above n [] = tt
 numbered-above n (s ∷ said) = (omega arith, all_mapped (λ r. n + 1 ≤ r.lsn) (λ r. n ≤ r.lsn) (λ r le. omega arith) (numbered (n + 1) said) (numbered-above (n + 1) said))
 
-numbered-below : (n : ℕ) (said : List Said) → AllByRecursion (λ r. r.lsn < n + length said) (numbered n said)
+pub numbered-below : (n : ℕ) (said : List Said) → AllByRecursion (λ r. r.lsn < n + length said) (numbered n said)
 numbered-below n [] = tt
 numbered-below n (s ∷ said) =
     let on : (n + 1) + length said ≡ n + length (s ∷ said) = omega arith in

@@ -8,7 +8,7 @@ use Rattle.bk_world.specs.Cut.{end_behind}
 use Rattle.bk_world.specs.Pending.{Pending, PendingRise, pending, pending_after, load_writes}
 use Rattle.bk_world.specs.Records.{Counts, Deed, Load, Logged, database_made, table_made, begun, written, committed, rolled_back, undone, checkpointed, stamped, model_set, loaded, recovered}
 use Rattle.bk_world.specs.SoundLogs.{MayCome, MayFollow, NoLoadPends}
-use Rattle.bk_world.specs.ListLaws.{all_joined, all_mapped, all_filter}
+use Rattle.bk_lemmas.specs.Lists.{all_joined, all_mapped, all_filter}
 use Rattle.bk_world.specs.ReadingLaws.{pending-more}
 
 -- ---- fronts
@@ -32,7 +32,7 @@ apart-join : (ws vs : List Pending) → LieApart ws → LieApart vs → AllByRec
 apart-join [] vs first then across = then
 apart-join (w ∷ ws) vs first then across = (all_joined (λ v. v.extents ≡ [] → w.lsn < v.lsn) ws vs first.0 across.0, apart-join ws vs first.1 then across.1)
 
-apart-filter : (p : Pending → Bool) (ws : List Pending) → LieApart ws → LieApart (filter p ws)
+pub apart-filter : (p : Pending → Bool) (ws : List Pending) → LieApart ws → LieApart (filter p ws)
 apart-filter p [] apart = tt
 apart-filter p (w ∷ ws) apart = step (p w) (apart-filter p ws apart.1)
   where

@@ -5,7 +5,7 @@ use Rattle.std.specs.List.{filter, AllByRecursion}
 use Rattle.std.proofs.lemmas.Bool.Decides.{nat_tests}
 use Rattle.std.proofs.lemmas.List.Elements.{filter-append}
 use Rattle.bk_world.specs.Pending.{Pending, PendingRise}
-use Rattle.bk_world.specs.ListLaws.{all_mapped, all_middle, filter_every}
+use Rattle.bk_lemmas.specs.Lists.{all_mapped, all_middle, filter_every}
 
 rise-below : (front : List Pending) (w : Pending) (back : List Pending) → PendingRise (front ++ w ∷ back) → AllByRecursion (λ v. v.lsn < w.lsn) front
 rise-below [] w back rise = tt

@@ -221,15 +221,48 @@ fn remove(session: &Session, device: &mut MemDevice) -> Result<String, AllocErro
     }
 }
 
-pub(crate) fn run(session: &Session, device: &mut MemDevice) -> Result<String, AllocError>
+// The bytes of the records from one number to below another, where the log has them.
+fn part(session: &Session, device: &mut MemDevice) -> Result<String, LogError>
     requires { IsSettled (disk_of device.old) }
 {
-    if session.how == "remove" {
-        return remove(session, device);
+    let db = session.name.parse().unwrap_or(0);
+    let (from, to) = (number(session.content), number(session.meant));
+    let log = Log::load(session.alloc, device, db)?;
+    if from < log.kept() || to < from || log.stored() < to {
+        let none = String::from_str(session.alloc, "no such records")?;
+        return Ok(none);
     }
+    let bytes = log.bytes(session.alloc, device, from, to)?;
+    let part = shown(session.alloc, &bytes)?;
+    Ok(part)
+}
+
+fn bytes_between(session: &Session, device: &mut MemDevice) -> Result<String, AllocError>
+    requires { IsSettled (disk_of device.old) }
+{
+    match part(session, device) {
+        Ok(part) => Ok(part),
+        Err(error) => format!(in session.alloc; "{error}"),
+    }
+}
+
+// Makes the calls on the log that is made or loaded.
+fn call_all(session: &Session, device: &mut MemDevice) -> Result<String, AllocError>
+    requires { IsSettled (disk_of device.old) }
+{
     match play(session, device) {
         Ok(log) => told(session.alloc, &log),
         Err(error) => format!(in session.alloc; "{error}"),
+    }
+}
+
+pub(crate) fn run(session: &Session, device: &mut MemDevice) -> Result<String, AllocError>
+    requires { IsSettled (disk_of device.old) }
+{
+    match session.how {
+        "bytes" => bytes_between(session, device),
+        "remove" => remove(session, device),
+        _ => call_all(session, device),
     }
 }
 

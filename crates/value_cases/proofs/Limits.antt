@@ -1,20 +1,15 @@
 -- A record that has a spelling keeps the limits that writing it asks for.
-use Rattle.std.proofs.Common.{◌≡◌, ℕ, ◌+◌, ◌*◌, ◌^◌, ◌<◌, List, [], ◌∷◌, ◌++◌, length, replicate, Option, Some, None, refl, arith, length-append}
-use Rattle.std.specs.Prelude.{IfSome}
+use Rattle.std.proofs.Common.{◌≡◌, ℕ, ◌+◌, ◌*◌, ◌^◌, ◌<◌, List, ◌++◌, length, replicate, arith, length-append}
 use Rattle.std.specs.List.{flat_map}
 use Rattle.bk_ids.specs.declared.record.ExtentId.{ExtentId}
-use Rattle.bk_ids.specs.declared.record.Mark.{Mark}
 use Rattle.bk_ids.specs.declared.record.Rec.{Rec}
 use Rattle.bk_ids.specs.declared.record.Body.{Body}
 use Rattle.bk_ids.specs.declared.record.Body.TheVariants.{Database, Table, Begin, Write, Commit, RollbackEnd, Compensation, Checkpoint, Stamp, Model, Bulk, Recovery}
 use Rattle.bk_bytes.specs.Field.{bytes_of}
 use Rattle.bk_bytes.specs.FieldLaws.{length-bytes_of}
-use Rattle.bk_record.specs.Spelling.{text_bytes, extent_bytes, body_bytes, kind_of, inside, IsDescription, IsMark, IsBody, IsRecord, KeepsLimits, KeepsMarkLimits}
-
-length-extents : (extents : List ExtentId) → length (flat_map extent_bytes extents) ≡ 6 * length extents
-length-extents [] = refl
-length-extents (extent ∷ extents) =
-    omega (arith, length-append (extent_bytes extent) (flat_map extent_bytes extents), length-append (bytes_of 2 extent.file) (bytes_of 4 extent.extent), length-bytes_of 2 extent.file, length-bytes_of 4 extent.extent, length-extents extents)
+use Rattle.bk_record.specs.Spelling.{text_bytes, extent_bytes, body_bytes, kind_of, inside, IsBody, IsRecord, KeepsLimits}
+use Rattle.bk_record.specs.LengthLaws.{length-extents}
+use Rattle.bk_acts.specs.TransactionLaws.{mark-keeps}
 
 length-load : (table first count : ℕ) (value : List ℕ) (extents : List ExtentId) → length (body_bytes (Bulk table first count value extents)) ≡ 22 + length value + 6 * length extents
 length-load table first count value extents =
@@ -42,20 +37,12 @@ length-inside r =
       length-bytes_of 8 r.begin,
     )
 
-description_kept : (description : Option (List ℕ)) → IsDescription description → IfSome description (λ text. (0 < length text) × (length text < 2 ^ 16))
-description_kept None h = tt
-description_kept (Some text) h = (omega (arith, h.least_bytes), omega (arith, h.most_bytes))
-
-mark_kept : (mark : Option Mark) → IsMark mark → KeepsMarkLimits mark
-mark_kept None h = tt
-mark_kept (Some mark) h = description_kept mark.description h.1
-
 body_kept : (body : Body) → IsBody body → 24 + length (body_bytes body) < 2 ^ 32 → KeepsLimits body
 body_kept (Database time family branch) h short = tt
 body_kept (Table time number name group) h short = tt
 body_kept Begin h short = tt
 body_kept (Write place before after) h short = (h.0.slot, h.1)
-body_kept (Commit time mark) h short = mark_kept mark h.1
+body_kept (Commit time mark) h short = mark-keeps mark h.1
 body_kept RollbackEnd h short = tt
 body_kept (Compensation place cell undone) h short = (h.0.slot, h.1.0)
 body_kept (Checkpoint time) h short = tt

@@ -19,6 +19,7 @@ use Rattle.bk_world.specs.Pending.{pending}
 use Rattle.bk_world.specs.Records.{Logged, Said, checkpointed, more, numbered, stamped}
 use Rattle.bk_world.specs.Says.{alone}
 use Rattle.bk_world.specs.Telling.{model, telling, time}
+use Rattle.bk_lemmas.specs.Tests.{first_false}
 use Rattle.bk_machine.specs.Acts.{based, done, drawn, gone_on, logged, medium_made, said_time, says, set_sealed}
 use Rattle.bk_machine.specs.Built.{IsBuilt, IsBuiltLog, SayNoLoad}
 use Rattle.bk_machine.specs.Checks.{is_path, kept_numbers, last_number, limit, online, or_refuse, outside, refuse_if, used_up}
@@ -30,7 +31,7 @@ use Rattle.bk_machine.proofs.Acting.{act-sound}
 use Rattle.bk_machine.proofs.LeftNumbers.{below-kept, numbers-there}
 use Rattle.bk_machine.proofs.Loads.{BuiltIn, act-built}
 use Rattle.bk_machine.specs.NamedLaws.{named-own, of-named}
-use Rattle.bk_machine.specs.CheckLaws.{Up, first-false, not-refused, passed, was-found, was-online}
+use Rattle.bk_machine.specs.CheckLaws.{Up, not-refused, passed, was-found, was-online}
 use Rattle.bk_machine.specs.Outcome.{Outcome}
 use Rattle.bk_machine.proofs.statements.Facts.{Facts, facts-of, opens-those, own-checkpoint, own-stamp}
 use Rattle.bk_machine.proofs.statements.Numbering.{numbers-loud}
@@ -62,7 +63,7 @@ checked w line name units path options db e =
       named = named-own w.databases name db (was-found (database_named w.databases name) NoSuchDatabase two.found two.is ∙ ap (λ (d : Database). Some d) whole);
       up = subst (λ (d : Database). d.status ≡ Online) whole up.online;
       low = subst (λ (d : Database). used_up d.end ≡ false) same
-          (first-false (used_up three.found.end) (used_up w.counter) (not-refused (used_up three.found.end || used_up w.counter) (LimitReached Lsn) four.found four.is));
+          (first_false (used_up three.found.end) (used_up w.counter) (not-refused (used_up three.found.end || used_up w.counter) (LimitReached Lsn) four.found four.is));
     }
 
 -- ---- records that change nothing

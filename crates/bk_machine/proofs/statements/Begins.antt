@@ -6,7 +6,7 @@ use Rattle.std.proofs.lemmas.Bool.Decides.{nat_tests}
 use Rattle.std.proofs.lemmas.List.{append-nil}
 use Rattle.bk_ids.specs.declared.record.Place.{Place}
 use Rattle.bk_world.specs.Entry.{RowChange}
-use Rattle.bk_world.specs.ListLaws.{all_filter, all_joined, all_mapped, all_middle, filter_passed}
+use Rattle.bk_lemmas.specs.Lists.{all_filter, all_joined, all_mapped, all_middle, filter_passed}
 use Rattle.bk_world.specs.Pending.{Pending, load_writes, of_transaction, pending, pending_after}
 use Rattle.bk_world.specs.ReadingLaws.{pending-more}
 use Rattle.bk_world.specs.Records.{Counts, Deed, Load, Logged, database_made, table_made, begun, written, committed, rolled_back, undone, checkpointed, stamped, model_set, loaded, recovered}

@@ -7,7 +7,7 @@ use Rattle.std.proofs.Common.{◌≡◌, inl, ℕ, suc, true, not, List, [], ◌
 use Rattle.std.specs.Prelude.{◌==◌}
 use Rattle.std.specs.List.{AllByRecursion}
 use Rattle.bk_world.specs.Cut.{is_among}
-use Rattle.bk_world.specs.ListLaws.{all_both, all_filter, all_mapped}
+use Rattle.bk_lemmas.specs.Lists.{all_both, all_filter, all_mapped}
 use Rattle.bk_world.specs.Pending.{pending}
 use Rattle.bk_world.specs.Records.{Said}
 use Rattle.bk_world.specs.Says.{rollback_said}

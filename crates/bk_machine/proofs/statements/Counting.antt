@@ -4,10 +4,10 @@ use Rattle.std.specs.Prelude.{◌==◌}
 use Rattle.std.specs.List.{AllByRecursion}
 use Rattle.std.proofs.lemmas.Bool.Decides.{nat_tests}
 use Rattle.bk_ids.specs.Name.{same_name}
-use Rattle.bk_world.specs.ListLaws.{all_both, all_mapped}
+use Rattle.bk_lemmas.specs.Lists.{all_both, all_mapped}
 use Rattle.bk_world.specs.declared.database.Status.{Status}
 use Rattle.bk_world.specs.declared.database.Status.TheVariants.{Online, Standby, Down}
-use Rattle.bk_machine.specs.Acts.{Act, done, gone_on, where_found}
+use Rattle.bk_machine.specs.Acts.{Act, done, where_found}
 use Rattle.bk_machine.specs.Closing.{AreClosing, IsFirst, count_open}
 use Rattle.bk_machine.specs.ClosingLaws.{none-open}
 use Rattle.bk_machine.specs.HeldLaws.{IsHeldBy, held-is, held-none, held-up, open-begin, open-session}

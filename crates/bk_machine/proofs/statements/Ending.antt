@@ -6,7 +6,7 @@ use Rattle.std.proofs.lemmas.Bool.Decides.{nat_tests}
 use Rattle.std.proofs.lemmas.List.{append-nil, length-append, length-reverse, reverse-append, reverse-reverse}
 use Rattle.bk_ids.specs.declared.record.Mark.{Mark}
 use Rattle.bk_world.specs.FoldLaws.{tables_of-more}
-use Rattle.bk_world.specs.ListLaws.{all_both, all_filter, all_front, all_joined, all_mapped, all_middle, filter_passed}
+use Rattle.bk_lemmas.specs.Lists.{all_both, all_filter, all_joined, all_mapped, all_middle, filter_passed, filter_swap}
 use Rattle.bk_world.specs.Pending.{Pending, PendingRise, of_others, of_transaction, pending}
 use Rattle.bk_world.specs.ReadingLaws.{entries-commit, entries-rollback, pending-more, rise-filter}
 use Rattle.bk_world.specs.Records.{Logged, Said, more, numbered, rolled_back}
@@ -64,7 +64,7 @@ module _ (rs : List Logged) (n : ℕ) (ts : List Open) (opens : AreOpen rs n ts)
 
   no-writes : AllByRecursion (λ w. w.begin < n) (pending rs) → length (of_transaction n (pending rs)) ≤ most_writes
   no-writes lies =
-      let nothing : of_transaction n (pending rs) ≡ [] = Rattle.bk_world.specs.ListLaws.filter_no (λ (w : Pending). w.begin == n) (pending rs) (all_mapped (λ w. w.begin < n) (λ w. (w.begin == n) ≡ false) (λ w lt. grind (arith, nat_tests, lt)) (pending rs) lies) in
+      let nothing : of_transaction n (pending rs) ≡ [] = Rattle.bk_lemmas.specs.Lists.filter_no (λ (w : Pending). w.begin == n) (pending rs) (all_mapped (λ w. w.begin < n) (λ w. (w.begin == n) ≡ false) (λ w lt. grind (arith, nat_tests, lt)) (pending rs) lies) in
       let count : length (of_transaction n (pending rs)) ≡ 0 = ap length nothing in
       omega (arith, count)
 
@@ -153,16 +153,6 @@ tables-commit rs n begin time mark = ap tables_of (entries-commit rs n begin tim
 -- ---- ROLLBACK
 
 -- two tests, one after the other
-commute : {X : Type 0} (p q : X → Bool) (xs : List X) → filter p (filter q xs) ≡ filter q (filter p xs)
-commute p q [] = refl
-commute {X = X} p q (x ∷ xs) = by (p x) refl (q x) refl (commute p q xs)
-  where
-    by : (a : Bool) → p x ≡ a → (b : Bool) → q x ≡ b → filter p (filter q xs) ≡ filter q (filter p xs) → filter p (cond b (x ∷ filter q xs) (filter q xs)) ≡ filter q (cond a (x ∷ filter p xs) (filter p xs))
-    by true ep true eq rest = rw (ep, eq) (ap (λ (ys : List X). x ∷ ys) rest)
-    by true ep false eq rest = rw eq rest
-    by false ep true eq rest = rw ep rest
-    by false ep false eq rest = rest
-
 rolled-follows : (rs : List Logged) (n begin : ℕ) (vs : List Pending) → PendingRise (pending rs) → NoLoadPends rs → reverse (of_transaction begin (pending rs)) ≡ vs → MayFollow rs (numbered n (undoing vs ++ within begin rolled_back))
 rolled-follows rs n begin [] rise none is = (sym (reverse-reverse (of_transaction begin (pending rs))) ∙ ap reverse is, tt)
 rolled-follows rs n begin (v ∷ vs) rise none is =
@@ -176,7 +166,7 @@ rolled-follows rs n begin (v ∷ vs) rise none is =
     let undone : Pending → Bool = λ w. not (w.begin == v.begin && w.lsn == v.lsn) in
     let now : pending next ≡ filter undone (pending rs) = pending-more rs (numbered n (undoing (v ∷ []))) in
     let own_now : of_transaction begin (pending next) ≡ reverse vs =
-    ap (of_transaction begin) now ∙ commute (λ (w : Pending). w.begin == begin) undone (pending rs) ∙ ap (filter undone) own
+    ap (of_transaction begin) now ∙ filter_swap (λ (w : Pending). w.begin == begin) undone (pending rs) ∙ ap (filter undone) own
     ∙ filter-undone (reverse vs) v [] (subst PendingRise own (rise-filter (λ (w : Pending). w.begin == begin) (pending rs) rise)) ∙ append-nil (reverse vs) in
     let rest : reverse (of_transaction begin (pending next)) ≡ vs = ap reverse own_now ∙ reverse-reverse vs in (
       record { before = reverse vs; write = v; last = ap (λ b. of_transaction b (pending rs)) same ∙ own; single = single; place = refl; back = refl; number = refl },

@@ -7,7 +7,7 @@ use Rattle.bk_ids.specs.declared.guid.Guid.{Guid}
 use Rattle.bk_ids.specs.declared.record.Place.{Place}
 use Rattle.bk_world.specs.Cut.{is_among}
 use Rattle.bk_world.specs.Entry.{RowChange}
-use Rattle.bk_world.specs.ListLaws.{all_mapped}
+use Rattle.bk_lemmas.specs.Lists.{all_mapped}
 use Rattle.bk_world.specs.Records.{Said, checkpointed, stamped, table_made}
 use Rattle.bk_world.specs.Says.{alone, single_said}
 use Rattle.bk_world.specs.Telling.{telling}
@@ -26,7 +26,7 @@ use Rattle.bk_world.specs.declared.transaction.Open.{Open}
 use Rattle.bk_machine.specs.World.{Database, World, database_named}
 use Rattle.bk_world.specs.declared.reply.Reply.{Reply}
 use Rattle.bk_world.specs.declared.reply.Reply.TheVariants.{Refused}
-use Rattle.bk_machine.proofs.Cutting.{HaveNumbers, IsOwn, OpensOwn}
+use Rattle.bk_machine.proofs.Cutting.{HaveNumbers, IsOwn, OpensOwn, more-own, among-own}
 use Rattle.bk_machine.proofs.Ends.{IsSteady}
 use Rattle.bk_machine.proofs.Left.{of-contained}
 
@@ -107,15 +107,8 @@ or-true false = refl
 pub later : (b : ℕ) (bs : List ℕ) (n : ℕ) → is_among bs n ≡ true → is_among (b ∷ bs) n ≡ true
 later b bs n is = ap (λ t. (b == n) || t) is ∙ or-true (b == n)
 
-pub later-each : (b : ℕ) (bs : List ℕ) (ts : List Open) → AllByRecursion (λ (t : Open). is_among bs t.begin ≡ true) ts → AllByRecursion (λ (t : Open). is_among (b ∷ bs) t.begin ≡ true) ts
-later-each b bs ts all = all_mapped (λ (t : Open). is_among bs t.begin ≡ true) (λ (t : Open). is_among (b ∷ bs) t.begin ≡ true) (λ t is. later b bs t.begin is) ts all
-
-pub among-themselves : (ts : List Open) → AllByRecursion (λ (t : Open). is_among (begins_of ts) t.begin ≡ true) ts
-among-themselves [] = tt
-among-themselves (t ∷ ts) = (itself t.begin (begins_of ts), later-each t.begin (begins_of ts) ts (among-themselves ts))
-
 pub among-there : (ts : List Open) (t : Open) → Contains ts t → is_among (begins_of ts) t.begin ≡ true
-among-there ts t there = of-contained (λ (u : Open). is_among (begins_of ts) u.begin ≡ true) ts t (among-themselves ts) there
+among-there ts t there = of-contained (λ (u : Open). is_among (begins_of ts) u.begin ≡ true) ts t (among-own ts) there
 
 -- ---- what a database says
 
@@ -147,4 +140,4 @@ own-within w db t said transactions named there all n quiet =
 -- the same transactions are open
 pub opens-those : (w : World) (db : Database) (said : List Said) → database_named w.databases db.name ≡ Some db → OpensOwn w (logged db.name said db.transactions)
 opens-those w db said named =
-    subst (λ (o : Option Database). AllByRecursion (λ (t : Open). is_among (begins_in o) t.begin ≡ true) db.transactions) (sym named) (later-each db.end (begins_of db.transactions) db.transactions (among-themselves db.transactions))
+    subst (λ (o : Option Database). AllByRecursion (λ (t : Open). is_among (begins_in o) t.begin ≡ true) db.transactions) (sym named) (more-own db.end (begins_of db.transactions) db.transactions (among-own db.transactions))

@@ -6,7 +6,7 @@ use Rattle.std.proofs.lemmas.Bool.Decides.{nat_tests}
 use Rattle.std.proofs.lemmas.List.{length-map}
 use Rattle.std.proofs.lemmas.List.Filters.{length-filter_both}
 use Rattle.std.proofs.lemmas.Map.Steps.{length-le_from_distinct_below}
-use Rattle.bk_world.specs.ListLaws.{all_mapped, filter_every}
+use Rattle.bk_lemmas.specs.Lists.{all_mapped, filter_every}
 use Rattle.bk_world.specs.Pending.{Pending, of_others, of_transaction, pending}
 use Rattle.bk_world.specs.Records.{Logged}
 use Rattle.bk_world.specs.SoundLogs.{most_pending}

@@ -1,7 +1,6 @@
 -- A front of what may be said may be said, and acts that are cut leave a whole world.
 use Rattle.std.proofs.Common.{◌≡◌, ℕ, zero, suc, ◌+◌, List, [], ◌∷◌, ◌++◌, length, take, drop, Option, None, Some, refl, sym, ◌∙◌, ap, subst, append_assoc}
 use Rattle.std.proofs.lemmas.List.{take-append-drop}
-use Rattle.bk_world.specs.declared.database.TableSpec.{TableSpec}
 use Rattle.bk_world.specs.Pending.{pending}
 use Rattle.bk_world.specs.ReadingLaws.{numbered-append}
 use Rattle.bk_world.specs.Records.{Logged, Said, more, numbered}
@@ -16,14 +15,10 @@ use Rattle.bk_machine.specs.NamedLaws.{named-own}
 use Rattle.bk_machine.specs.Sound.{AreNumbered, ArePlaced, IsWhole}
 use Rattle.bk_world.specs.declared.transaction.Open.{Open}
 use Rattle.bk_machine.specs.World.{World, Database, database_named, log_of}
-use Rattle.bk_machine.proofs.ActsLogs.{placed-front, tables-more}
+use Rattle.bk_machine.proofs.ActsLogs.{placed-front, tables-more, numbered-front}
 use Rattle.bk_machine.proofs.ActsSays.{says-whole}
 
 -- ---- what is said
-
-numbers-front : (n : ℕ) (a b : List TableSpec) → AreNumbered n (a ++ b) → AreNumbered n a
-numbers-front n [] b are = tt
-numbers-front n (t ∷ a) b are = (are.0, numbers-front (n + 1) a b are.1)
 
 pub says-front : (w : World) (db : Database) (said : List Said) (n : ℕ) → MaySay w db said → MaySay w db (take n said)
 says-front w db said n may =
@@ -35,7 +30,7 @@ says-front w db said n may =
     ap (λ ss. tables (rs ++ ss)) whole ∙ (ap tables (sym (append_assoc rs front back)) ∙ tables-more (rs ++ front) back) in record {
       online = may.online;
       may = follow-front rs front back (subst (MayFollow rs) whole may.may);
-      tables = numbers-front 1 (tables (rs ++ front)) _ (subst (AreNumbered 1) made may.tables);
+      tables = numbered-front 1 (tables (rs ++ front)) _ (subst (AreNumbered 1) made may.tables);
       places = placed-front db.files rs front back (subst (ArePlaced db.files rs) whole may.places);
     }
 

@@ -2,7 +2,7 @@
 use Rattle.std.proofs.Common.{◌≡◌, ℕ, List, [], ◌∷◌, Option, Some, None, refl, ◌∙◌}
 use Rattle.std.specs.List.{AllByRecursion}
 use Rattle.bk_ids.specs.declared.record.RecoveryModel.{RecoveryModel}
-use Rattle.bk_world.specs.ListLaws.{all_joined, all_mapped}
+use Rattle.bk_lemmas.specs.Lists.{all_joined, all_mapped}
 use Rattle.bk_world.specs.Telling.{model}
 use Rattle.bk_world.specs.Records.{Deed, Logged, numbered, database_made, table_made, begun, written, committed, rolled_back, undone, checkpointed, stamped, model_set, loaded, recovered as recovery}
 use Rattle.bk_machine.specs.NamedLaws.{all-placed, all-with, all-without}

@@ -12,6 +12,7 @@ use Rattle.bk_world.specs.Lines.{log_below}
 use Rattle.bk_world.specs.Medium.{medium, medium_at, readable}
 use Rattle.bk_world.specs.Records.{Logged}
 use Rattle.bk_world.specs.SoundLogs.{NoLoadPends}
+use Rattle.bk_lemmas.specs.Tests.{first_false}
 use Rattle.bk_machine.specs.Acts.{Recovery, done, drawn, taken_over, units_in}
 use Rattle.bk_machine.specs.Checks.{different_paths, free_paths, is_name, is_path, kept_numbers, others, outside, paths_of, refuse_if, used_up}
 use Rattle.bk_machine.specs.MayDo.{MayDoAll}
@@ -29,7 +30,7 @@ use Rattle.bk_machine.proofs.Histories.{counts-positive}
 use Rattle.bk_machine.specs.NamedLaws.{named-changed}
 use Rattle.bk_machine.proofs.Sets.{set-sound}
 use Rattle.bk_machine.specs.FirstLaws.{first-in}
-use Rattle.bk_machine.specs.CheckLaws.{first-false, not-refused, passed}
+use Rattle.bk_machine.specs.CheckLaws.{not-refused, passed}
 use Rattle.bk_machine.specs.FindingLaws.{found-new}
 use Rattle.bk_machine.specs.ReadyLaws.{holds-of}
 
@@ -46,7 +47,7 @@ low-set w name replace header u e =
     let five = passed (free_paths (paths_of (others w.databases name)) (set_paths header)) _ u four.then in
     let six = passed (different_paths [] (set_paths header)) _ u five.then in
     let seven = passed (refuse_if (nat_le 64 (length header.path)) PathFull) _ u six.then in
-    first-false (used_up header.last) (used_up w.counter) (not-refused (used_up header.last || used_up w.counter) (LimitReached Lsn) u seven.then)
+    first_false (used_up header.last) (used_up w.counter) (not-refused (used_up header.last || used_up w.counter) (LimitReached Lsn) u seven.then)
 
 -- it is on the medium, and its numbers aren't used up
 record IsFound (w : World) (path : List ℕ) (header : Header) : Type 0 where

@@ -6,7 +6,7 @@ use Rattle.bk_ids.specs.declared.record.Place.{Place}
 use Rattle.bk_items.specs.declared.rows.RowStatement.{RowStatement}
 use Rattle.bk_items.specs.declared.rows.RowStatement.TheVariants.{Insert, Update, Delete, Select, BulkInsert}
 use Rattle.bk_world.specs.HomeLaws.{homed}
-use Rattle.bk_world.specs.ListLaws.{all_mapped}
+use Rattle.bk_lemmas.specs.Lists.{all_mapped}
 use Rattle.bk_world.specs.LastLaws.{last-dropped, last-none, value-last, value_last}
 use Rattle.bk_world.specs.Pending.{Pending, changes_of, of_transaction, pending}
 use Rattle.bk_world.specs.RowLaws.{rise-rows, row-changed}

@@ -1,12 +1,12 @@
 -- BEGIN, COMMIT, ROLLBACK and `:session n` do acts that may be done.
-use Rattle.std.proofs.Common.{◌≡◌, ◌≢◌, ◌<◌, ◌≤◌, inl, inr, ℕ, ◌+◌, Bool, true, false, not, ◌&&◌, List, [], ◌∷◌, ◌++◌, length, Option, None, Some, refl, sym, ◌∙◌, ap, subst, arith}
+use Rattle.std.proofs.Common.{◌≡◌, ◌≤◌, inl, ℕ, ◌+◌, Bool, true, false, not, ◌&&◌, List, [], ◌∷◌, ◌++◌, Option, None, Some, refl, sym, ◌∙◌, ap, subst, arith}
 use Rattle.std.specs.Prelude.{◌==◌, is_some, nat_le, nat_lt, reverse, Ok, Contains}
 use Rattle.std.specs.List.{AllByRecursion}
 use Rattle.std.proofs.lemmas.Bool.Decides.{nat_tests}
 use Rattle.bk_ids.specs.declared.record.Mark.{Mark}
 use Rattle.bk_items.specs.declared.item.NamedTransaction.{NamedTransaction}
 use Rattle.bk_world.specs.Cut.{end_behind, is_among}
-use Rattle.bk_world.specs.ListLaws.{all_filter, all_joined}
+use Rattle.bk_lemmas.specs.Lists.{all_filter, all_joined}
 use Rattle.bk_world.specs.Pending.{Pending, of_transaction, pending}
 use Rattle.bk_world.specs.ReadingLaws.{pending-commit, pending-rollback}
 use Rattle.bk_world.specs.Records.{Counts, Logged, Said, rolled_back}

@@ -1,5 +1,5 @@
 -- One row is written: in a transaction of its own, which begins, writes and commits, or in the open one of the session.
-use Rattle.std.proofs.Common.{◌≡◌, ◌⊎◌, ◌<◌, ◌≤◌, inl, inr, ℕ, suc, ◌+◌, Bool, true, false, not, ◌&&◌, List, [], ◌∷◌, ◌++◌, length, Option, None, Some, refl, sym, ◌∙◌, ap, subst, arith}
+use Rattle.std.proofs.Common.{◌≡◌, ◌⊎◌, ◌<◌, ◌≤◌, inl, inr, ℕ, suc, ◌+◌, Bool, true, false, List, [], ◌∷◌, ◌++◌, length, Option, None, Some, refl, sym, ◌∙◌, ap, subst, arith}
 use Rattle.std.specs.Prelude.{◌==◌, nat_le}
 use Rattle.std.specs.List.{find, AllByRecursion}
 use Rattle.std.proofs.lemmas.Bool.Decides.{nat_tests}
@@ -8,7 +8,7 @@ use Rattle.std.proofs.lemmas.List.Elements.{filter-append}
 use Rattle.bk_ids.specs.declared.record.Place.{Place}
 use Rattle.bk_world.specs.declared.database.TableSpec.{TableSpec}
 use Rattle.bk_world.specs.Entry.{RowChange}
-use Rattle.bk_world.specs.ListLaws.{all_joined, all_mapped, filter_no}
+use Rattle.bk_lemmas.specs.Lists.{all_joined, all_mapped, filter_no}
 use Rattle.bk_world.specs.Pending.{Pending, changes_of, of_transaction, pending}
 use Rattle.bk_world.specs.Places.{homes, place_behind, place_of, last_of, IsCellOf, IsFreePlace}
 use Rattle.bk_world.specs.ReadingLaws.{entries-more, homes-more, pending-more, pending-single}

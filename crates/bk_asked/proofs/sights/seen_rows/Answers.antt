@@ -6,7 +6,7 @@ use Rattle.bk_asked.proofs.sights.seen_rows.Goals as goal
 pub returns : goal.returns
 returns c = λ w keeps shows.
     sees-laid w c.args.database.now c.in-Some.transaction.now c.args.table.now c.in_ok-rows.rows.items c.lay_over.new.rows.items c.written-written.result.now (sym (ap (option_map (λ t. t.now)) c.in-Some.is) ∙ c.own_open.ensures w keeps) shows
-    (c.in_ok-rows.ensures c.args.database.now.files) (c.written-written.ensures c.args.database.now.files) c.in_ok-lay_over.ensures
+    (c.in_ok-rows.ensures c.args.database.now.files) (c.written-written.ensures.shown c.args.database.now.files) c.in_ok-lay_over.ensures
 
 pub returns-in_default : goal.returns-in_default
 returns-in_default c = λ w keeps shows.

@@ -50,7 +50,7 @@ returns-clause-answered g c =
       crashes = λ t. telling-cut _ _ one.outcome _ _ _ _ c.in_ok-reply.ensures.ready (c.in_ok-reply.ensures.stored t) (c.in_ok-reply.ensures.media t) (one.does t)
           (one.crash t).told text (executing-cut _ one.outcome _ _ (one.crash t)) (c.in_ok-tell.ensures.effect t);
       text = λ t. c.in_ok-tell.ensures.told t ∙ ap (λ bytes. (g.D.Device.disk c.execute.new.dev).told ++ bytes) text ∙ ap (λ told. told ++ reply_text one.outcome.reply) (one.crash t).told;
-      which = c.is_refusal.ensures ∙ ap is_refusal (sym one.replies);
+      which = c.is_refusal-refused.ensures ∙ ap is_refusal (sym one.replies);
       still = λ t w stands still.
           let rests = one.still t w stands still in
           record { files = spares-then (spares-nothing rests.device) (spares-telling (c.in_ok-tell.ensures.effect t)); reserves = rests.reserves };
@@ -64,4 +64,4 @@ returns-in_err-reply-clause-broken g c t h w stands =
     c.in_err-reply.ensures.broken t (ap Err (executed-broken c.in_err-reply.field-0.0 same)) w stands
 
 pub returns-clause-stored : goal.returns-clause-stored
-returns-clause-stored g c t = told-stored (c.execute.new.self) _ _ _ (c.in_ok-tell.ensures.effect t) (c.in_ok-reply.ensures.stored t)
+returns-clause-stored g c t = told-stored (c.execute.new.instance) _ _ _ (c.in_ok-tell.ensures.effect t) (c.in_ok-reply.ensures.stored t)

@@ -41,14 +41,14 @@ returns-in_err-close-clause-unchanged g c t h =
 pub returns-in-AtTheEnd-clause-executed : goal.returns-in-AtTheEnd-clause-executed
 returns-in-AtTheEnd-clause-executed g c ss are =
     all-ended c.crashes_leave_worlds.ensures _ _ _ _ _ _ _ _ (λ t. g.met.D.Device.lawful t c.args.device.now) c.in_ok-instance.ensures.crash c.in_ok-instance.ensures.spares
-    _ _ c.in_ok-instance.ensures.media c.in_ok-instance.ensures.stands _ _ c.close.new.self (let answered = c.in_ok-ended.ensures.answered ss are in rw c.in-AtTheEnd.is at answered) c.in_ok-close.ensures.crash
+    _ _ c.in_ok-instance.ensures.media c.in_ok-instance.ensures.stands _ _ c.close.new.instance (let answered = c.in_ok-ended.ensures.answered ss are in rw c.in-AtTheEnd.is at answered) c.in_ok-close.ensures.crash
     (record { still = c.in_ok-instance.ensures.still; exact = c.in_ok-instance.ensures.exact }) (record { still = c.in_ok-close.ensures.still; spares = c.in_ok-close.ensures.spares }) c.in_ok-ended.ensures.others
     c.in_ok-close.ensures.stored c.in_ok-close.ensures.media c.in_ok-close.ensures.closed
 
 pub returns-clause-executed : goal.returns-clause-executed
 returns-clause-executed g c ss are =
     stopped-there c.crashes_leave_worlds.ensures _ _ _ _ _ _ _ _ (λ t. g.met.D.Device.lawful t c.args.device.now) c.in_ok-instance.ensures.crash c.in_ok-instance.ensures.spares
-    _ _ c.in_ok-instance.ensures.media c.in_ok-instance.ensures.stands _ _ c.close.new.self (let answered = c.in_ok-ended.ensures.answered ss are in rw c.in-AtARefusal.is at answered) c.in_ok-close.ensures.crash
+    _ _ c.in_ok-instance.ensures.media c.in_ok-instance.ensures.stands _ _ c.close.new.instance (let answered = c.in_ok-ended.ensures.answered ss are in rw c.in-AtARefusal.is at answered) c.in_ok-close.ensures.crash
     (record { still = c.in_ok-instance.ensures.still; exact = c.in_ok-instance.ensures.exact }) (record { still = c.in_ok-close.ensures.still; spares = c.in_ok-close.ensures.spares }) c.in_ok-ended.ensures.others
     c.in_ok-close.ensures.stored c.in_ok-close.ensures.media c.in_ok-close.ensures.closed
 

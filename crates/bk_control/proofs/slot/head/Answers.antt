@@ -1,6 +1,6 @@
 use Rattle.std.proofs.Common.{◌≡◌, ◌∙◌, ap, replicate, length, List, ℕ, ◌++◌, refl}
-use Rattle.bk_control.specs.Slots.{number_bytes}
-use Rattle.bk_control.proofs.Filled.{head_joined, length-number_bytes}
+use Rattle.bk_lemmas.specs.Numbers.{length-number_bytes, number_bytes}
+use Rattle.bk_control.proofs.Filled.{head_joined}
 use Rattle.bk_control.proofs.slot.head.Goals as goal
 
 pub returns : goal.returns

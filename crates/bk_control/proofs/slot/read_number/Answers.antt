@@ -1,4 +1,4 @@
-use Rattle.bk_control.specs.Slots.{number}
+use Rattle.bk_lemmas.specs.Numbers.{number}
 use Rattle.bk_control.proofs.slot.read_number.Goals as goal
 
 pub returns : goal.returns

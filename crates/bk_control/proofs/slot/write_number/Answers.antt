@@ -1,6 +1,6 @@
 use Rattle.std.proofs.Common.{◌∙◌, ap, arith, ◌++◌, List, ℕ}
 use Rattle.std.proofs.lemmas.List.{drop_all, append-nil}
-use Rattle.bk_control.specs.Slots.{number_bytes}
+use Rattle.bk_lemmas.specs.Numbers.{number_bytes}
 use Rattle.bk_control.proofs.slot.write_number.Goals as goal
 
 pub returns : goal.returns

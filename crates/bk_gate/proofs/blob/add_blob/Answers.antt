@@ -1,7 +1,7 @@
-use Rattle.std.proofs.Common.{◌≡◌, ◌+◌, ◌++◌, ◌∙◌, ap, arith, length, List, ℕ}
+use Rattle.std.proofs.Common.{◌≡◌, ◌+◌, ◌++◌, ◌∙◌, ap, arith, length, List, ℕ, refl}
 use Rattle.bk_device.specs.Calls.{contents, written, read_at}
 use Rattle.bk_gate.specs.BlobLaws.{adds, adds_length}
-use Rattle.bk_gate.proofs.Steps.{keeps_then}
+use Rattle.bk_gate.proofs.Steps.{keeps_then, only_cause, last_cause}
 use Rattle.bk_gate.proofs.blob.add_blob.Goals as goal
 
 pub returns-clause-begun : goal.returns-clause-begun
@@ -40,3 +40,35 @@ pub returns-clause-crash : goal.returns-clause-crash
 returns-clause-crash g c t =
     let disk = g.D.Device.disk in
     keeps_then c.args.name.now (disk c.args.dev.now) (disk c.make_room.new.dev) (disk c.append.new.dev) (c.in_ok-make_room.ensures.sealed t) (c.make_room.ensures.crash t) (c.append.ensures.crash t)
+
+pub make_room-requires-clause-at : goal.make_room-requires-clause-at
+make_room-requires-clause-at g c = c.requires.at
+
+pub make_room-requires-clause-room : goal.make_room-requires-clause-room
+make_room-requires-clause-room g c = c.requires.room
+
+pub append-requires-clause-behind : goal.append-requires-clause-behind
+append-requires-clause-behind g c small = omega (arith, small, c.saturating_add.ensures, c.saturating_add-2.ensures)
+
+pub append-requires-clause-quiet : goal.append-requires-clause-quiet
+append-requires-clause-quiet g c t =
+    let at = c.requires.at t in
+    (at.0, c.in_ok-make_room.ensures.quiet t at.0 at.1)
+
+pub returns-in_err-make_room-clause-crash : goal.returns-in_err-make_room-clause-crash
+returns-in_err-make_room-clause-crash g c = c.make_room.ensures.crash
+
+pub returns-in_err-make_room-clause-cause : goal.returns-in_err-make_room-clause-cause
+returns-in_err-make_room-clause-cause g c = only_cause c.in_err-make_room.ensures.cause (λ _. refl)
+
+pub returns-in_err-append-clause-cause : goal.returns-in_err-append-clause-cause
+returns-in_err-append-clause-cause g c = last_cause c.in_ok-make_room.ensures.cause c.in_err-append.ensures.cause (λ _. refl)
+
+pub returns-clause-quiet : goal.returns-clause-quiet
+returns-clause-quiet g c t spans at = c.in_ok-append.ensures.quiet t spans (c.in_ok-make_room.ensures.quiet t spans at)
+
+pub returns-clause-sealed : goal.returns-clause-sealed
+returns-clause-sealed g c t = c.in_ok-append.ensures.sealed t ∙ c.in_ok-make_room.ensures.sealed t
+
+pub returns-clause-cause : goal.returns-clause-cause
+returns-clause-cause g c = last_cause c.in_ok-make_room.ensures.cause c.in_ok-append.ensures.cause (λ is. is)

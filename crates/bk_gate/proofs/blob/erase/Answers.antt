@@ -1,4 +1,6 @@
-use Rattle.bk_gate.proofs.Steps.{erase_crash, erase_quiet, no_spans}
+use Rattle.std.proofs.Common.{refl, inl, arith}
+use Rattle.bk_device.specs.Compose.{effect_weaken}
+use Rattle.bk_gate.proofs.Steps.{erase_crash, erase_quiet, no_spans, only_cause, last_cause}
 use Rattle.bk_gate.proofs.blob.erase.Goals as goal
 
 pub returns-in_err-write_durably-clause-crash : goal.returns-in_err-write_durably-clause-crash
@@ -22,3 +24,27 @@ pub returns-clause-sealed : goal.returns-clause-sealed
 returns-clause-sealed g c t =
     let at = c.requires t in
     no_spans c.args.name.now (g.D.Device.disk c.write_durably.new.dev) (erase_quiet at.0 c.args.end c.args.name.now (g.D.Device.disk c.settle.new.dev) (g.D.Device.disk c.write_durably.new.dev) (c.in_ok-settle.ensures.quiet t at.0 at.1) (c.in_ok-write_durably.ensures.written t) (c.in_ok-write_durably.ensures.durable t))
+
+pub settle-requires : goal.settle-requires
+settle-requires g c t = ((c.requires t).0, (c.requires t).1)
+
+pub write_durably-requires-clause-inside : goal.write_durably-requires-clause-inside
+write_durably-requires-clause-inside g c t =
+    let at = c.requires t in
+    let stands = (c.in_ok-settle.ensures.quiet t at.0 at.1).stands in
+    omega (arith, stands.is_gate.1)
+
+pub write_durably-requires-clause-settled : goal.write_durably-requires-clause-settled
+write_durably-requires-clause-settled g c = c.in_ok-settle.ensures.durable
+
+pub returns-in_err-settle-clause-crash : goal.returns-in_err-settle-clause-crash
+returns-in_err-settle-clause-crash g c t = effect_weaken (λ image kept. inl kept) (c.settle.ensures.crash t)
+
+pub returns-in_err-settle-clause-cause : goal.returns-in_err-settle-clause-cause
+returns-in_err-settle-clause-cause g c = only_cause c.in_err-settle.ensures.cause (λ _. refl)
+
+pub returns-in_err-write_durably-clause-cause : goal.returns-in_err-write_durably-clause-cause
+returns-in_err-write_durably-clause-cause g c = last_cause c.in_ok-settle.ensures.cause c.in_err-write_durably.ensures.cause (λ _. refl)
+
+pub returns-clause-cause : goal.returns-clause-cause
+returns-clause-cause g c = last_cause c.in_ok-settle.ensures.cause c.in_ok-write_durably.ensures.cause (λ is. is)

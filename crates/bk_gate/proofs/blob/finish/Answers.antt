@@ -1,8 +1,9 @@
-use Rattle.std.proofs.Common.{◌≡◌, ◌≤◌, ◌<◌, ◌^◌, ◌+◌, ◌∙◌, [], ◌∷◌, length, ap, subst, sym, arith, List, ℕ}
+use Rattle.std.proofs.Common.{◌≡◌, ◌≤◌, ◌<◌, ◌^◌, ◌+◌, ◌∙◌, [], ◌∷◌, length, ap, subst, sym, arith, List, ℕ, refl}
 use Rattle.bk_device.specs.Calls.{contents, written, read_at}
-use Rattle.bk_gate.specs.Gate.{IsPrepared}
 use Rattle.bk_gate.specs.BlobLaws.{prepares, prepares_blob}
-use Rattle.bk_gate.proofs.Steps.{keeps_then}
+use Rattle.bk_gate.specs.Blobs.{sealed}
+use Rattle.bk_gate.specs.Gate.{IsPrepared}
+use Rattle.bk_gate.proofs.Steps.{keeps_then, only_cause, last_cause}
 use Rattle.bk_gate.proofs.blob.finish.Goals as goal
 
 pub returns-clause-prepared : goal.returns-clause-prepared
@@ -57,3 +58,47 @@ returns-clause-crash g c t =
     let name = c.args.name.now in
     keeps_then name (disk c.args.dev.now) (disk c.lay_length.new.dev) (disk c.settle.new.dev) (c.in_ok-lay_length.ensures.sealed t) (c.lay_length.ensures.crash t)
     (keeps_then name (disk c.lay_length.new.dev) (disk c.append.new.dev) (disk c.settle.new.dev) (c.in_ok-append.ensures.sealed t) (c.append.ensures.crash t) (c.settle.ensures.crash t))
+
+pub lay_length-requires : goal.lay_length-requires
+lay_length-requires g c = c.requires.quiet
+
+pub append-requires-clause-behind : goal.append-requires-clause-behind
+append-requires-clause-behind g c small = omega (arith, small, c.saturating_add.ensures, c.saturating_add-2.ensures)
+
+pub append-requires-clause-quiet : goal.append-requires-clause-quiet
+append-requires-clause-quiet g c t =
+    let quiet = c.requires.quiet t in
+    (quiet.0, c.in_ok-lay_length.ensures.quiet t quiet.0 quiet.1)
+
+pub settle-requires : goal.settle-requires
+settle-requires g c t =
+    let quiet = c.requires.quiet t in
+    (quiet.0, c.in_ok-append.ensures.quiet t quiet.0 (c.in_ok-lay_length.ensures.quiet t quiet.0 quiet.1))
+
+pub returns-in_err-lay_length-clause-crash : goal.returns-in_err-lay_length-clause-crash
+returns-in_err-lay_length-clause-crash g c = c.lay_length.ensures.crash
+
+pub returns-in_err-lay_length-clause-cause : goal.returns-in_err-lay_length-clause-cause
+returns-in_err-lay_length-clause-cause g c = only_cause c.in_err-lay_length.ensures.cause (λ _. refl)
+
+pub returns-in_err-append-clause-cause : goal.returns-in_err-append-clause-cause
+returns-in_err-append-clause-cause g c = last_cause c.in_ok-lay_length.ensures.cause c.in_err-append.ensures.cause (λ _. refl)
+
+pub returns-in_err-settle-clause-cause : goal.returns-in_err-settle-clause-cause
+returns-in_err-settle-clause-cause g c =
+    last_cause c.in_ok-lay_length.ensures.cause (last_cause c.in_ok-append.ensures.cause c.in_err-settle.ensures.cause (λ _. refl)) (λ is. is)
+
+pub returns-clause-quiet : goal.returns-clause-quiet
+returns-clause-quiet g c t spans quiet =
+    c.in_ok-settle.ensures.quiet t spans (c.in_ok-append.ensures.quiet t spans (c.in_ok-lay_length.ensures.quiet t spans quiet))
+
+pub returns-clause-durable : goal.returns-clause-durable
+returns-clause-durable g c = c.in_ok-settle.ensures.durable
+
+pub returns-clause-sealed : goal.returns-clause-sealed
+returns-clause-sealed g c t =
+    ap sealed (c.in_ok-settle.ensures.same t) ∙ c.in_ok-append.ensures.sealed t ∙ c.in_ok-lay_length.ensures.sealed t
+
+pub returns-clause-cause : goal.returns-clause-cause
+returns-clause-cause g c =
+    last_cause c.in_ok-lay_length.ensures.cause (last_cause c.in_ok-append.ensures.cause c.in_ok-settle.ensures.cause (λ is. is)) (λ is. is)

@@ -1,6 +1,6 @@
 use Rattle.std.proofs.Common.{◌≡◌, ◌+◌, ◌∙◌, max, length, ap, subst, sym, arith, List, ℕ}
 use Rattle.bk_device.specs.Calls.{contents, written, read_at}
-use Rattle.bk_gate.specs.Blobs.{number_bytes}
+use Rattle.bk_lemmas.specs.Numbers.{number_bytes}
 use Rattle.bk_gate.specs.Gate.{IfThere}
 use Rattle.bk_gate.specs.BlobLaws.{sizes, sizes_length, sizes_blob}
 use Rattle.bk_gate.proofs.blob.lay_length.Goals as goal

@@ -1,8 +1,10 @@
-use Rattle.std.proofs.Common.{◌≡◌, ◌+◌, ◌++◌, ◌∷◌, [], ◌∙◌, take, length, ap, sym, subst, arith, List, ℕ}
+use Rattle.std.proofs.Common.{◌≡◌, ◌+◌, ◌++◌, ◌∷◌, [], ◌∙◌, take, length, ap, sym, subst, arith, List, ℕ, refl}
 use Rattle.bk_device.specs.Calls.{contents, written}
-use Rattle.bk_gate.specs.Blobs.{number_bytes}
-use Rattle.bk_gate.specs.Gate.{IsLaid}
+use Rattle.bk_lemmas.specs.Numbers.{number_bytes}
 use Rattle.bk_gate.specs.BlobLaws.{laid_at_once}
+use Rattle.bk_gate.specs.Blobs.{sealed}
+use Rattle.bk_gate.specs.Gate.{IsLaid}
+use Rattle.bk_gate.proofs.Steps.{only_cause, last_cause, keeps_then}
 use Rattle.bk_gate.proofs.blob.lay_short.Goals as goal
 
 pub returns-clause-laid : goal.returns-clause-laid
@@ -17,3 +19,50 @@ returns-clause-laid g c t =
     let quiet = c.requires.quiet t in
     let Laid : List ℕ → Type 0 = IsLaid c.args.end bytes in
     subst Laid (sym file) (laid_at_once c.args.end bytes before quiet.1.inside (omega (arith, c.requires.short)))
+
+pub append-requires-clause-behind : goal.append-requires-clause-behind
+append-requires-clause-behind g c small = omega (arith, small, c.saturating_add.ensures)
+
+pub append-requires-clause-inside : goal.append-requires-clause-inside
+append-requires-clause-inside g c t =
+    let quiet = c.requires.quiet t in
+    omega (arith, quiet.1.inside, c.saturating_add.ensures)
+
+pub append-requires-clause-quiet : goal.append-requires-clause-quiet
+append-requires-clause-quiet g c = c.requires.quiet
+
+pub settle-requires : goal.settle-requires
+settle-requires g c t =
+    let quiet = c.requires.quiet t in
+    (quiet.0, c.in_ok-append.ensures.quiet t quiet.0 quiet.1)
+
+pub returns-in_err-append-clause-crash : goal.returns-in_err-append-clause-crash
+returns-in_err-append-clause-crash g c = c.append.ensures.crash
+
+pub returns-in_err-append-clause-cause : goal.returns-in_err-append-clause-cause
+returns-in_err-append-clause-cause g c = only_cause c.in_err-append.ensures.cause (λ _. refl)
+
+pub returns-in_err-settle-clause-crash : goal.returns-in_err-settle-clause-crash
+returns-in_err-settle-clause-crash g c t =
+    let disk = g.D.Device.disk in
+    keeps_then c.args.name.now (disk c.args.dev.now) (disk c.append.new.dev) (disk c.settle.new.dev) (c.in_ok-append.ensures.sealed t) (c.append.ensures.crash t) (c.settle.ensures.crash t)
+
+pub returns-in_err-settle-clause-cause : goal.returns-in_err-settle-clause-cause
+returns-in_err-settle-clause-cause g c = last_cause c.in_ok-append.ensures.cause c.in_err-settle.ensures.cause (λ _. refl)
+
+pub returns-clause-quiet : goal.returns-clause-quiet
+returns-clause-quiet g c t spans quiet = c.in_ok-settle.ensures.quiet t spans (c.in_ok-append.ensures.quiet t spans quiet)
+
+pub returns-clause-durable : goal.returns-clause-durable
+returns-clause-durable g c = c.in_ok-settle.ensures.durable
+
+pub returns-clause-sealed : goal.returns-clause-sealed
+returns-clause-sealed g c t = ap sealed (c.in_ok-settle.ensures.same t) ∙ c.in_ok-append.ensures.sealed t
+
+pub returns-clause-crash : goal.returns-clause-crash
+returns-clause-crash g c t =
+    let disk = g.D.Device.disk in
+    keeps_then c.args.name.now (disk c.args.dev.now) (disk c.append.new.dev) (disk c.settle.new.dev) (c.in_ok-append.ensures.sealed t) (c.append.ensures.crash t) (c.settle.ensures.crash t)
+
+pub returns-clause-cause : goal.returns-clause-cause
+returns-clause-cause g c = last_cause c.in_ok-append.ensures.cause c.in_ok-settle.ensures.cause (λ is. is)

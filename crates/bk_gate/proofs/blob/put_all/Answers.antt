@@ -1,5 +1,5 @@
 use Rattle.std.proofs.Common.{arith}
-use Rattle.bk_gate.specs.Blobs.{number_bytes}
+use Rattle.bk_lemmas.specs.Numbers.{number_bytes}
 use Rattle.bk_gate.specs.BlobLaws as laws
 use Rattle.bk_gate.proofs.blob.put_all.Goals as goal
 

@@ -1,4 +1,4 @@
-use Rattle.bk_gate.specs.Blobs.{number}
+use Rattle.bk_lemmas.specs.Numbers.{number}
 use Rattle.bk_gate.proofs.blob.read_number.Goals as goal
 
 pub returns : goal.returns

@@ -1,6 +1,7 @@
-use Rattle.std.proofs.Common.{◌≡◌, ◌<◌, Bool, subst, arith}
+use Rattle.std.proofs.Common.{◌≡◌, ◌<◌, Bool, subst, arith, refl, inl}
+use Rattle.bk_device.specs.Compose.{effect_weaken}
 use Rattle.bk_gate.specs.Gate.{IsAt}
-use Rattle.bk_gate.proofs.Steps.{seal_crash, seal_value, open_quiet}
+use Rattle.bk_gate.proofs.Steps.{seal_crash, seal_value, open_quiet, only_cause, last_cause}
 use Rattle.bk_gate.proofs.blob.seal_blob.Goals as goal
 
 pub finish-requires-clause-quiet : goal.finish-requires-clause-quiet
@@ -63,3 +64,43 @@ pub returns-then-len-eq0-clause-quiet : goal.returns-then-len-eq0-clause-quiet
 returns-then-len-eq0-clause-quiet g c t spans at =
     let none : c.args.len ≡ 0 = omega arith in
     rw none (c.in_ok-next.ensures.quiet t spans at)
+
+pub append_blob-requires : goal.append_blob-requires
+append_blob-requires g c = c.requires.at
+
+pub returns-in_err-next-clause-cause : goal.returns-in_err-next-clause-cause
+returns-in_err-next-clause-cause g c = only_cause c.in_err-next.ensures.cause (λ _. refl)
+
+pub returns-then-len-eq0-clause-durable : goal.returns-then-len-eq0-clause-durable
+returns-then-len-eq0-clause-durable g c = c.in_ok-next.ensures.durable
+
+pub returns-then-len-eq0-clause-cause : goal.returns-then-len-eq0-clause-cause
+returns-then-len-eq0-clause-cause g c = only_cause c.in_ok-next.ensures.cause (λ is. is)
+
+pub finish-requires-clause-inside : goal.finish-requires-clause-inside
+finish-requires-clause-inside g c t = (c.requires.room t (omega arith)).1
+
+pub write_durably-requires-clause-inside : goal.write_durably-requires-clause-inside
+write_durably-requires-clause-inside g c t =
+    let at = c.requires.at t in
+    let more : 0 < c.args.len = omega arith in
+    let Is : Bool → Type 0 = λ b. IsAt at.0 c.args.end b c.args.name.now (g.D.Device.disk c.args.dev.now) in
+    (c.in_ok-finish.ensures.quiet t at.0 (subst Is (c.requires.room t more).0 at.1)).stands.within
+
+pub write_durably-requires-clause-settled : goal.write_durably-requires-clause-settled
+write_durably-requires-clause-settled g c = c.in_ok-finish.ensures.durable
+
+pub returns-in_err-finish-clause-crash : goal.returns-in_err-finish-clause-crash
+returns-in_err-finish-clause-crash g c t = effect_weaken (λ image kept. inl kept) (c.finish.ensures.crash t)
+
+pub returns-in_err-finish-clause-cause : goal.returns-in_err-finish-clause-cause
+returns-in_err-finish-clause-cause g c = only_cause c.in_err-finish.ensures.cause (λ _. refl)
+
+pub returns-in_err-write_durably-clause-cause : goal.returns-in_err-write_durably-clause-cause
+returns-in_err-write_durably-clause-cause g c = last_cause c.in_ok-finish.ensures.cause c.in_err-write_durably.ensures.cause (λ _. refl)
+
+pub returns-clause-durable : goal.returns-clause-durable
+returns-clause-durable g c = c.in_ok-write_durably.ensures.durable
+
+pub returns-clause-cause : goal.returns-clause-cause
+returns-clause-cause g c = last_cause c.in_ok-finish.ensures.cause c.in_ok-write_durably.ensures.cause (λ is. is)

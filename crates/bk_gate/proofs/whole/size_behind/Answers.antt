@@ -1,5 +1,5 @@
 use Rattle.std.proofs.Common.{◌≡◌, ◌+◌, ◌-◌, ℕ, take, drop, sym, ap, ◌∙◌, arith}
-use Rattle.bk_gate.specs.Blobs.{number}
+use Rattle.bk_lemmas.specs.Numbers.{number}
 use Rattle.bk_gate.specs.BlobLaws.{is_blob, no_blob, short_blob, long_blob}
 use Rattle.bk_gate.proofs.whole.size_behind.Goals as goal
 use Rattle.bk_gate.proofs.whole.size_behind.Goals.{else-file-gate-eq1-via-then-file-gate-eq1+else-size-file, else-file-gate-eq1-via-else-file-gate-eq1}

@@ -1,4 +1,5 @@
-use Rattle.bk_machine.proofs.Same.{same-ended, same-idle, same-medium_added, same-medium_changed, same-medium_made, same-medium_removed, same-on, same-opened, same-reflexive, same-restarted, same-sealed, same-seated, same-standby_removed, same-turned}
+use Rattle.bk_machine.specs.SameLaws.{same-ended, same-on, same-opened}
+use Rattle.bk_machine.proofs.Same.{same-idle, same-medium_added, same-medium_changed, same-medium_made, same-medium_removed, same-reflexive, same-restarted, same-sealed, same-seated, same-standby_removed, same-turned}
 use Rattle.bk_machine.proofs.same_laws.logs_that_stay.Goals as goal
 
 pub returns-clause-reflexive : goal.returns-clause-reflexive

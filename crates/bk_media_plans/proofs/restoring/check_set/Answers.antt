@@ -6,8 +6,8 @@ use Rattle.bk_machine.specs.Checks.{Checked, ◌>>=◌}
 use Rattle.bk_machine.specs.World.{Database}
 use Rattle.bk_machine.specs.statements.Restore.{check_family, check_number, check_set, check_tail, check_unused}
 use Rattle.bk_plans.specs.Checking.{IsCheck}
+use Rattle.bk_plans.specs.CheckingLaws.{passed-on}
 use Rattle.bk_media_plans.specs.Restoring.{check_header}
-use Rattle.bk_media_plans.proofs.SetFiles.{passed-on}
 use Rattle.bk_media_plans.proofs.restoring.check_set.Goals as goal
 
 pub returns : goal.returns

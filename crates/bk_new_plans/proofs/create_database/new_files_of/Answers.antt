@@ -1,12 +1,12 @@
 -- The checks of CREATE DATABASE behind the texts of its statement.
-use Rattle.std.proofs.Common.{◌≡◌, sym, ◌∙◌, ap, subst}
+use Rattle.std.proofs.Common.{sym, ◌∙◌, ap, subst}
 use Rattle.bk_machine.specs.Checks.{refuse_if}
 use Rattle.bk_machine.specs.statements.CreateDatabase.{check_free}
 use Rattle.bk_plans.specs.Checking.{IsCheck}
 use Rattle.bk_world.specs.declared.database.Storage.{Storage}
 use Rattle.bk_world.specs.declared.rule.Limit.TheVariants.{Databases}
 use Rattle.bk_world.specs.declared.rule.Rule.TheVariants.{DatabaseExists, LimitReached}
-use Rattle.bk_new_plans.proofs.PlannedCreateDatabase.{passed-on}
+use Rattle.bk_plans.specs.CheckingLaws.{passed-on}
 use Rattle.bk_new_plans.proofs.create_database.new_files_of.Goals as goal
 
 pub returns-clause-check : goal.returns-clause-check

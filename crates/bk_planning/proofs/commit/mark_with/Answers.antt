@@ -12,7 +12,7 @@ unfolding log_of
 returns-then-has_written-clause-is c = λ w shows.
     let d = c.args.database.now in
     let t = c.args.transaction.now in
-    let pends = c.written.ensures d.files (log_of w.history (database_of d)) shows in
+    let pends = c.written.ensures.shown d.files (log_of w.history (database_of d)) shows in
     if-ok _ _ c.own_mark.result
     (λ mark same. same ∙ sym (marked t.begin c.written.result.now t.mark (sym c.has_written.ensures ∙ c.if-has_written.true)) ∙ ap (λ (ws : List Pending). mark_with (of_transaction t.begin ws) t.mark) pends) c.own_mark.ensures.same
 
@@ -21,5 +21,5 @@ unfolding log_of
 returns-clause-is c = λ w shows.
     let d = c.args.database.now in
     let t = c.args.transaction.now in
-    let pends = c.written.ensures d.files (log_of w.history (database_of d)) shows in
+    let pends = c.written.ensures.shown d.files (log_of w.history (database_of d)) shows in
     sym (unmarked t.begin c.written.result.now t.mark (sym c.has_written.ensures ∙ c.if-has_written.false)) ∙ ap (λ (ws : List Pending). mark_with (of_transaction t.begin ws) t.mark) pends

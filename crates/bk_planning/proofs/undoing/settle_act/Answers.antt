@@ -18,7 +18,7 @@ returns-clause-says c =
     let records = c.in_ok-said.said.records in
     if-ok _ _ c.logged.result
     (λ act is.
-    says-settle d act records written (λ w shows. c.written-written.ensures d.files (log_of w.history (database_of d)) shows) (is ∙ ap (λ (ts : List Open). Logged d.name ts records) (c.new-2.ensures ∙ c.new.ensures.items))
+    says-settle d act records written (λ w shows. c.written-written.ensures.shown d.files (log_of w.history (database_of d)) shows) (is ∙ ap (λ (ts : List Open). Logged d.name ts records) (c.new-2.ensures ∙ c.new.ensures.items))
     (subst (λ (n : ℕ). Spell records n (settle_said (map pending_of written))) c.end.ensures.same c.in_ok-said.ensures.undoes.spell) c.in_ok-has_numbers.ensures)
     c.logged.ensures.is
 
@@ -31,7 +31,7 @@ returns-clause-is_done c =
     if-ok _ _ c.logged.result
     (λ act is w named shows may.
     settle-done w d act named shows
-    (says-settle d act records written (λ v sh. c.written-written.ensures d.files (log_of v.history (database_of d)) sh) (is ∙ ap (λ (ts : List Open). Logged d.name ts records) (c.new-2.ensures ∙ c.new.ensures.items))
+    (says-settle d act records written (λ v sh. c.written-written.ensures.shown d.files (log_of v.history (database_of d)) sh) (is ∙ ap (λ (ts : List Open). Logged d.name ts records) (c.new-2.ensures ∙ c.new.ensures.items))
     (subst (λ (n : ℕ). Spell records n (settle_said (map pending_of written))) c.end.ensures.same c.in_ok-said.ensures.undoes.spell) c.in_ok-has_numbers.ensures)
     may)
     c.logged.ensures.is

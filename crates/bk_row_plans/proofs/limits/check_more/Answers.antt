@@ -4,8 +4,9 @@ use Rattle.bk_machine.specs.statements.Target.{Target, has_all_writes}
 use Rattle.bk_plans.specs.Checking.{IsRefused}
 use Rattle.bk_world.specs.declared.rule.Limit.TheVariants.{Writes}
 use Rattle.bk_world.specs.declared.rule.Rule.TheVariants.{LimitReached}
+use Rattle.bk_plans.specs.CheckingLaws.{refused-first}
 use Rattle.bk_row_plans.specs.Targets.{check_more, target_of}
-use Rattle.bk_row_plans.proofs.Chains.{refused-behind, refused-first, through}
+use Rattle.bk_row_plans.proofs.Chains.{refused-behind, through}
 use Rattle.bk_row_plans.proofs.limits.check_more.Goals as goal
 
 pub returns-in_err-refuse_if-clause-check : goal.returns-in_err-refuse_if-clause-check

@@ -5,8 +5,9 @@ use Rattle.bk_machine.specs.statements.Target.{Target, check_key, check_lock, ch
 use Rattle.bk_plans.specs.Checking.{IsRefused}
 use Rattle.bk_world.specs.declared.rule.Limit.TheVariants.{Writes}
 use Rattle.bk_world.specs.declared.rule.Rule.TheVariants.{LimitReached}
+use Rattle.bk_plans.specs.CheckingLaws.{refused-first}
 use Rattle.bk_row_plans.specs.Targets.{check_left, target_of}
-use Rattle.bk_row_plans.proofs.Chains.{found-is, left-is, refused-behind, refused-first, through}
+use Rattle.bk_row_plans.proofs.Chains.{found-is, left-is, refused-behind, through}
 use Rattle.bk_row_plans.proofs.rows.check_write.Goals as goal
 
 pub returns-in_err-check_left-clause-check : goal.returns-in_err-check_left-clause-check

@@ -1,6 +1,5 @@
 use Rattle.bk_waiting.proofs.Joined.{Laws, first-waits, joined-done, waits-still}
 use Rattle.bk_waiting.proofs.laws.what_waits_is_joined.Goals as goal
-use Rattle.bk_waiting.specs.Lagging.{one_waits}
 
 pub returns : goal.returns
 returns c =
@@ -22,5 +21,4 @@ returns c =
       first = first-waits laws c.logs_that_stay.ensures.reflexive;
       stays = waits-still laws;
       «open» = λ waiting old w waits idle. c.what_waits_may_be_said_at_once.ensures.«open» old w waits.act waits.waits waits.behind idle;
-      lost = λ waiting old w waits. one_waits old w waits.act waits.waits waits.behind;
     }

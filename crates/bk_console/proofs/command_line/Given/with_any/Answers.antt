@@ -1,5 +1,4 @@
-use Rattle.std.proofs.Common.{Some, refl}
-use Rattle.std.proofs.Common.{codes}
+use Rattle.std.proofs.Common.{Some, refl, codes}
 use Rattle.bk_console.specs.Words.{with_stop, with_other, behind}
 use Rattle.bk_console.proofs.Taking.{taken, given_of, adds-stop, adds-instance, adds-end, adds-other, any-next}
 use Rattle.bk_console.specs.declared.command_line.Next.TheVariants.{Anything, InstanceNumber, Directory}

@@ -1,6 +1,6 @@
 use Rattle.std.proofs.lemmas.Result.{err_from_is_err_and}
 use Rattle.bk_device.specs.Laws.{nothing_then}
-use Rattle.bk_home.specs.Laws.{same_error}
+use Rattle.bk_lemmas.specs.Tests.{same_error}
 use Rattle.bk_home.proofs.Steps.{opened_files, broken_record}
 use Rattle.bk_home.specs.declared.error.HomeError.TheVariants.{Broken}
 use Rattle.bk_home.proofs.home.Home.open.Goals as goal

@@ -1,6 +1,6 @@
 use Rattle.std.proofs.Common.{refl}
-use Rattle.bk_instance.proofs.Standing.{media-after, media-durable, stays-none}
-use Rattle.bk_instance.proofs.Touching.{own-none, own-touched}
+use Rattle.bk_instance.specs.StandsLaws.{media-after, media-durable, stays-none}
+use Rattle.bk_instance.specs.TouchedLaws.{own-none, own-touched}
 use Rattle.bk_instance.proofs.WaitingActs.{flushed-crash, flushed-stands, waiting-in}
 use Rattle.bk_instance.proofs.instance.Instance.flush.Goals as goal
 

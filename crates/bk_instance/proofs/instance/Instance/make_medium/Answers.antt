@@ -9,11 +9,12 @@ use Rattle.bk_kept.specs.declared.kept.Kept.{Kept}
 use Rattle.bk_plans.specs.declared.parts.Part.TheVariants as part
 use Rattle.bk_instance.specs.Media.{IfDurable}
 use Rattle.bk_instance.specs.Stands.{IsOurs}
-use Rattle.bk_instance.specs.Steps.{CutsPart, DoesPart}
-use Rattle.bk_instance.proofs.MadeMedia.{begins, files-apart, made-does, made-file, made-named, made-unnamed, one-durable, own-kept, part-none}
-use Rattle.bk_instance.proofs.Texts.{text-bytes}
-use Rattle.bk_instance.proofs.Standing.{home-fine, media-after, media-durable}
-use Rattle.bk_instance.proofs.Touching.{touches-medium, touches-own}
+use Rattle.bk_instance.specs.Parts.{CutsPart, DoesPart}
+use Rattle.bk_instance.proofs.MadeMedia.{begins, files-apart, made-does, made-file, made-named, made-unnamed, one-durable, own-kept}
+use Rattle.bk_instance.specs.PartLaws.{part-none}
+use Rattle.bk_instance.specs.TextLaws.{text-bytes}
+use Rattle.bk_instance.specs.StandsLaws.{home-fine, media-after, media-durable}
+use Rattle.bk_instance.specs.TouchedLaws.{touches-medium, touches-own}
 use Rattle.bk_instance.proofs.instance.Instance.make_medium.Goals as goal
 
 pub returns-in_err-reserve-clause-crash : goal.returns-in_err-reserve-clause-crash

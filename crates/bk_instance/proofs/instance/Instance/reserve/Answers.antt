@@ -1,6 +1,6 @@
 use Rattle.std.proofs.Common.{◌+◌, None, refl}
-use Rattle.bk_instance.proofs.Standing.{stays-none, stays-reserved, stands-on, media-after, media-durable}
-use Rattle.bk_instance.proofs.Touching.{own-none, own-touched}
+use Rattle.bk_instance.specs.StandsLaws.{stays-none, stays-reserved, stands-on, media-after, media-durable}
+use Rattle.bk_instance.specs.TouchedLaws.{own-none, own-touched}
 use Rattle.bk_instance.proofs.instance.Instance.reserve.Goals as goal
 
 pub returns-then-n-eq0-clause-crash : goal.returns-then-n-eq0-clause-crash

@@ -4,8 +4,8 @@ use Rattle.bk_device.specs.Compose.{effect_then}
 use Rattle.bk_device.specs.Laws.{nothing_yet, nothing_then, nothing_by_sync}
 use Rattle.bk_media.specs.Names.{medium_file}
 use Rattle.bk_instance.proofs.Seals.{SealLaws, seal-nothing, seal-synced, seals-on, seal-added, seal-done, seal-stored, seal-calm, seal-does, seal-unloaded}
-use Rattle.bk_instance.proofs.Texts.{text-bytes}
-use Rattle.bk_instance.proofs.Touching.{touches-medium, touches-none, touches-nothing, touches-sync}
+use Rattle.bk_instance.specs.TextLaws.{text-bytes}
+use Rattle.bk_instance.specs.TouchedLaws.{touches-medium, touches-none, touches-nothing, touches-sync}
 use Rattle.bk_instance.proofs.instance.Instance.seal_set.Goals as goal
 
 pub returns-in_err-file-clause-crash : goal.returns-in_err-file-clause-crash

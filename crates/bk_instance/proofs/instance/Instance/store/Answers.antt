@@ -4,16 +4,15 @@ use Rattle.bk_home.specs.declared.record.Record.{Record}
 use Rattle.bk_kept.specs.declared.kept.Kept.{Kept}
 use Rattle.bk_plans.specs.declared.parts.Part.TheVariants as part
 use Rattle.bk_waiting.specs.Waiting.{Joins}
-use Rattle.bk_instance.proofs.StoredActs.{stored-none}
-use Rattle.bk_instance.proofs.Touching.{touches-own}
-use Rattle.bk_instance.proofs.WaitingActs.{on-ok, then-cut, then-does, then-none}
+use Rattle.bk_instance.specs.PartLaws.{part-none, on-ok, then-cut, then-does, then-none}
+use Rattle.bk_instance.specs.TouchedLaws.{touches-own}
 use Rattle.bk_instance.proofs.instance.Instance.store.Goals as goal
 
 pub store_joined-requires-2-clause-joins : goal.store_joined-requires-2-clause-joins
 store_joined-requires-2-clause-joins g c = subst (λ o. Joins o c.args.act.now) (sym c.in_ok-flush.ensures.none) tt
 
 pub returns-in_err-flush-clause-crash : goal.returns-in_err-flush-clause-crash
-returns-in_err-flush-clause-crash g c tells = stored-none c.args.self.now (g.D.Device.disk c.args.dev.now) (g.D.Device.disk c.flush.new.dev) c.args.act.now (c.flush.ensures.crash tells)
+returns-in_err-flush-clause-crash g c tells = part-none c.args.self.now (g.D.Device.disk c.args.dev.now) (g.D.Device.disk c.flush.new.dev) (part.Stored c.args.act.now) (c.flush.ensures.crash tells)
 
 pub returns-in_err-flush-clause-spares : goal.returns-in_err-flush-clause-spares
 returns-in_err-flush-clause-spares g c tells = touches-own (c.flush.ensures.spares tells)

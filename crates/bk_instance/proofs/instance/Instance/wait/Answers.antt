@@ -13,5 +13,5 @@ returns-clause-ready c = record {
 
 pub returns-clause-does : goal.returns-clause-does
 returns-clause-does c =
-    waits-does (record { sound = c.acts_keep_worlds_sound.ensures.act; first = c.what_waits_is_joined.ensures.first; more = c.what_waits_is_joined.ensures.more }) c.args.self.now (record c.args.self.now { waiting = c.add.new.self; kept = c.apply.new.self }) c.args.act.now
+    waits-does (record { sound = c.acts_keep_worlds_sound.ensures.act; first = c.what_waits_is_joined.ensures.first; more = c.what_waits_is_joined.ensures.more }) c.args.self.now (record c.args.self.now { waiting = c.add.new.self; kept = c.apply.new.kept }) c.args.act.now
     c.in_ok-add.ensures.added c.requires.may c.in_ok-apply.ensures.ok

@@ -2,9 +2,9 @@ use Rattle.std.proofs.Common.{◌≡◌, ◌+◌, List, [], ◌∷◌, ◌++◌,
 use Rattle.bk_ids.specs.declared.record.Rec.{Rec}
 use Rattle.bk_record.specs.Spelling.{spelling}
 use Rattle.bk_log.specs.contracts.log.Log.{the_view}
-use Rattle.bk_log.specs.BatchLaws.{part_more, records_more}
+use Rattle.bk_segments.specs.BatchLaws.{part_more, records_more}
 use Rattle.bk_log.specs.Log.{Kept}
-use Rattle.bk_log.specs.Records.{IsPart, records_in}
+use Rattle.bk_segments.specs.Records.{IsPart, records_in}
 use Rattle.bk_log.proofs.log.Log.append.Goals as goal
 
 pub invariant_of-self-2 : goal.invariant_of-self-2

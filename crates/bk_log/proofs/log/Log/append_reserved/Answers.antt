@@ -2,9 +2,9 @@ use Rattle.std.proofs.Common.{◌≡◌, ◌≤◌, ◌+◌, ◌-◌, List, [], 
 use Rattle.bk_ids.specs.declared.record.Rec.{Rec}
 use Rattle.bk_record.specs.Spelling.{spelling}
 use Rattle.bk_log.specs.contracts.log.Log.{the_view}
-use Rattle.bk_log.specs.BatchLaws.{part_more, records_more}
+use Rattle.bk_segments.specs.BatchLaws.{part_more, records_more}
 use Rattle.bk_log.specs.Log.{Kept}
-use Rattle.bk_log.specs.Records.{IsPart, records_in}
+use Rattle.bk_segments.specs.Records.{IsPart, records_in}
 use Rattle.bk_log.proofs.log.Log.append_reserved.Goals as goal
 
 pub encode_reserved-requires-clause-room : goal.encode_reserved-requires-clause-room

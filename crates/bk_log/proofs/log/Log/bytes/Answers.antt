@@ -3,9 +3,10 @@ use Rattle.std.specs.List.{flat_map}
 use Rattle.std.proofs.lemmas.List.{drop-drop}
 use Rattle.bk_ids.specs.declared.record.Rec.{Rec}
 use Rattle.bk_record.specs.Spelling.{spelling}
-use Rattle.bk_log.specs.FileLaws.{all_blobs}
-use Rattle.bk_log.specs.Log.{Kept, IsLog, blobs_of, value_of}
-use Rattle.bk_log.specs.Records.{records_of, joined}
+use Rattle.bk_segments.specs.FileLaws.{all_blobs}
+use Rattle.bk_log.specs.Log.{Kept, IsLog, value_of}
+use Rattle.bk_segments.specs.Files.{blobs_of}
+use Rattle.bk_segments.specs.Records.{records_of, joined}
 use Rattle.bk_log.proofs.Parts.{joined_spelled, records_are, part_spelled, places_rise}
 use Rattle.bk_log.proofs.log.Log.bytes.Goals as goal
 

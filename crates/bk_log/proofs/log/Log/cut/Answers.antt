@@ -2,9 +2,10 @@ use Rattle.std.proofs.Common.{◌≡◌, ◌≤◌, ◌<◌, ◌⊎◌, ◌+◌,
 use Rattle.std.specs.Prelude.{slice_get, ◌||◌}
 use Rattle.bk_device.specs.Effects.{Effect}
 use Rattle.bk_log.specs.contracts.log.Log.{the_view}
-use Rattle.bk_log.specs.declared.segments.Segment.{Segment}
-use Rattle.bk_log.specs.Control.{read_control}
-use Rattle.bk_log.specs.Log.{Kept, BeginsAt, IsOwn, IsLog, LogIs, segment_file, shown, value_of, cut_at}
+use Rattle.bk_segments.specs.declared.segments.Segment.{Segment}
+use Rattle.bk_segments.specs.Control.{read_control}
+use Rattle.bk_log.specs.Log.{Kept, IsLog, value_of}
+use Rattle.bk_segments.specs.Files.{BeginsAt, IsOwn, LogIs, segment_file, shown, cut_at}
 use Rattle.bk_log.proofs.Cuts.{moved, cleared, IsMove, moved_kept, moved_crash, cut_second, cut_between, cut_third, cut_gone, cleared_log, cleared_value}
 use Rattle.bk_log.proofs.log.Log.cut.Goals as goal
 

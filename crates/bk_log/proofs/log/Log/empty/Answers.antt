@@ -3,10 +3,11 @@ use Rattle.std.specs.Prelude.{◌||◌}
 use Rattle.bk_device.specs.Disk.{IsDurable}
 use Rattle.bk_device.specs.Effects.{Effect}
 use Rattle.bk_log.specs.contracts.log.Log.{the_view}
-use Rattle.bk_log.specs.Control.{read_control, IsSound}
-use Rattle.bk_log.specs.BatchLaws.{part_none, records_none}
-use Rattle.bk_log.specs.Records.{IsPart, records_in}
-use Rattle.bk_log.specs.Log.{Kept, IsAdded, IsOwn, IsLog, LogIs, segment_file, blobs_at, emptied, shown, value_of}
+use Rattle.bk_segments.specs.Control.{read_control, IsSound}
+use Rattle.bk_segments.specs.BatchLaws.{part_none, records_none}
+use Rattle.bk_segments.specs.Records.{IsPart, records_in}
+use Rattle.bk_log.specs.Log.{Kept, IsLog, value_of}
+use Rattle.bk_segments.specs.Files.{IsAdded, IsOwn, LogIs, segment_file, blobs_at, emptied, shown}
 use Rattle.bk_log.proofs.Cuts.{cleared, cleared_sound, cleared_log, cleared_value}
 use Rattle.bk_log.proofs.Resets.{begun, begun_sound, begun_kept, begun_put, emptied_second, emptied_third}
 use Rattle.bk_log.proofs.log.Log.empty.Goals as goal

@@ -1,7 +1,8 @@
 use Rattle.std.proofs.Common.{◌≡◌, [], sym, subst}
 use Rattle.bk_log.specs.contracts.log.Log.{the_view}
 use Rattle.bk_log.specs.Laws.{log_waits}
-use Rattle.bk_log.specs.Log.{Kept, IsLog, value_of, with_more}
+use Rattle.bk_log.specs.Log.{Kept, IsLog, value_of}
+use Rattle.bk_segments.specs.Files.{with_more}
 use Rattle.bk_log.proofs.Steps.{none_added, nothing_added, none_crash}
 use Rattle.bk_log.proofs.log.Log.flush_reserved.Goals as goal
 

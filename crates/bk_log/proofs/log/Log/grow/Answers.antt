@@ -1,9 +1,10 @@
 use Rattle.std.proofs.Common.{◌≡◌, ◌≤◌, ◌<◌, ◌^◌, ◌+◌, List, [], ◌∷◌, ◌++◌, ℕ, Some, sym, ap, subst, ◌∙◌, arith}
 use Rattle.bk_device.specs.Effects.{Effect}
 use Rattle.bk_log.specs.contracts.log.Log.{the_view}
-use Rattle.bk_log.specs.Control.{read_control}
-use Rattle.bk_log.specs.declared.segments.Segment.{Segment}
-use Rattle.bk_log.specs.Log.{Kept, IsAdded, IsOwn, IsLog, LogIs, shown, value_of}
+use Rattle.bk_segments.specs.Control.{read_control}
+use Rattle.bk_segments.specs.declared.segments.Segment.{Segment}
+use Rattle.bk_log.specs.Log.{Kept, IsLog, value_of}
+use Rattle.bk_segments.specs.Files.{IsAdded, IsOwn, LogIs, shown}
 use Rattle.bk_log.proofs.Growing.{next, next_sound, log_again, begun_crash, begun_log, grown_crash, grown_log, grown_value}
 use Rattle.bk_log.proofs.Steps.{stay_crash}
 use Rattle.bk_log.proofs.log.Log.grow.Goals as goal

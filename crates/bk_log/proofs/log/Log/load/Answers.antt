@@ -1,9 +1,10 @@
 use Rattle.std.proofs.Common.{◌≡◌, ◌≤◌, ◌<◌, ◌⊎◌, ◌+◌, ℕ, None, subst}
 use Rattle.std.proofs.lemmas.Result.{err_from_is_err_and}
 use Rattle.bk_device.specs.Effects.{Effect}
-use Rattle.bk_log.specs.declared.error.LogError.TheVariants.{Foreign}
-use Rattle.bk_log.specs.Log.{Kept, IsBeside, segment_file}
-use Rattle.bk_log.proofs.Errors.{same_error}
+use Rattle.bk_segments.specs.declared.error.LogError.TheVariants.{Foreign}
+use Rattle.bk_lemmas.specs.Tests.{same_error}
+use Rattle.bk_log.specs.Log.{Kept}
+use Rattle.bk_segments.specs.Files.{IsBeside, segment_file}
 use Rattle.bk_log.proofs.Cuts.{load_then, load_stands, load_tidy}
 use Rattle.bk_log.proofs.Makes.{load_nothing}
 use Rattle.bk_log.proofs.log.Log.load.Goals as goal

@@ -1,9 +1,9 @@
 use Rattle.std.proofs.Common.{◌<◌, ◌^◌, List, ℕ, sym, ap, subst, ◌∙◌, arith}
-use Rattle.bk_log.specs.BatchLaws.{part_none, records_none}
-use Rattle.bk_log.specs.declared.segments.Segment.{Segment}
-use Rattle.bk_log.specs.Control.{read_control}
-use Rattle.bk_log.specs.Log.{IsAdded}
-use Rattle.bk_log.specs.Records.{IsPart, records_in}
+use Rattle.bk_segments.specs.BatchLaws.{part_none, records_none}
+use Rattle.bk_segments.specs.declared.segments.Segment.{Segment}
+use Rattle.bk_segments.specs.Control.{read_control}
+use Rattle.bk_segments.specs.Files.{IsAdded}
+use Rattle.bk_segments.specs.Records.{IsPart, records_in}
 use Rattle.bk_log.proofs.Makes.{made_sound, made_untouched, made_value, made_crash, made_log}
 use Rattle.bk_log.proofs.log.Log.make.Goals as goal
 

@@ -2,10 +2,11 @@ use Rattle.std.proofs.Common.{◌≡◌, ◌≤◌, ◌⊎◌, List, ℕ, Some, 
 use Rattle.bk_device.specs.Compose.{effect_weaken}
 use Rattle.bk_device.specs.Effects.{Effect}
 use Rattle.bk_log.specs.contracts.log.Log.{the_view}
-use Rattle.bk_log.specs.declared.head.Head.{Head}
-use Rattle.bk_log.specs.Control.{read_control}
-use Rattle.bk_log.specs.FileLaws.{shown_cut, shown_same}
-use Rattle.bk_log.specs.Log.{Kept, IsOwn, IsLog, LogIs, Logged, shown, value_of, cut_at}
+use Rattle.bk_segments.specs.declared.head.Head.{Head}
+use Rattle.bk_segments.specs.Control.{read_control}
+use Rattle.bk_segments.specs.FileLaws.{shown_cut, shown_same}
+use Rattle.bk_log.specs.Log.{Kept, IsLog, value_of}
+use Rattle.bk_segments.specs.Files.{IsOwn, LogIs, Logged, shown, cut_at}
 use Rattle.bk_log.proofs.Steps.{put_crash, put_log, put_blobs, cut_sound}
 use Rattle.bk_log.proofs.log.Log.move_kept.Goals as goal
 

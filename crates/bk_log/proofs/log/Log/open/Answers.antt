@@ -1,29 +1,21 @@
-use Rattle.std.proofs.Common.{◌≡◌, ◌+◌, List, ℕ, length, sym, ap, subst, ◌∙◌, arith}
+use Rattle.std.proofs.Common.{◌≡◌, ◌+◌, List, ℕ, length, inl, inr, refl, sym, ap, subst, ◌∙◌, arith}
 use Rattle.std.proofs.lemmas.Result.{err_from_is_err_and}
-use Rattle.bk_device.specs.Laws.{nothing_then}
-use Rattle.bk_log.specs.declared.error.LogError.TheVariants.{Foreign}
-use Rattle.bk_log.specs.BatchLaws.{part_none, records_none}
-use Rattle.bk_log.specs.Records.{IsPart, records_in}
-use Rattle.bk_log.proofs.Errors.{same_error}
-use Rattle.bk_log.proofs.Makes.{settled, control_settled, last_foreign, load_log}
+use Rattle.bk_segments.specs.declared.error.LogError.TheVariants.{Foreign}
+use Rattle.bk_segments.specs.BatchLaws.{part_none, records_none}
+use Rattle.bk_segments.specs.Files.{control_file, segment_file}
+use Rattle.bk_segments.specs.Records.{IsPart, records_in}
+use Rattle.bk_lemmas.specs.Tests.{same_error}
+use Rattle.bk_log.proofs.Makes.{load_log}
 use Rattle.bk_log.proofs.log.Log.open.Goals as goal
 
 pub returns-in_err-found-clause-foreign : goal.returns-in_err-found-clause-foreign
 returns-in_err-found-clause-foreign g c t =
-    let p = err_from_is_err_and c.from_residual.result c.from_residual.ensures.1 in
+    let p = err_from_is_err_and c.from_residual-in_err-found.result c.from_residual-in_err-found.ensures.1 in
     rw (p.1, p.2) (λ is. c.in_err-found.ensures.foreign t (same_error c.in_err-found.field-0.0 Foreign is))
-
-pub returns-in_err-gate-clause-foreign : goal.returns-in_err-gate-clause-foreign
-returns-in_err-gate-clause-foreign g c t =
-    let p = err_from_is_err_and c.from_residual-in_err-gate.result c.from_residual-in_err-gate.ensures.1 in
-    rw (p.1, p.2) (λ is. absurd (last_foreign c.args.db c.in_ok-found.found.head c.in_ok-found.ensures.sound.front (c.in_ok-found.ensures.begun t) (c.find.ensures.effect t) (c.in_err-gate.ensures.foreign t (same_error c.in_err-gate.field-0.0 Foreign is))))
-
-pub returns-in_err-gate-clause-effect : goal.returns-in_err-gate-clause-effect
-returns-in_err-gate-clause-effect g c t = nothing_then (g.met.D.Device.lawful t c.args.dev.now) (c.find.ensures.effect t) (c.open_last.ensures.effect t)
 
 pub invariant_of-result : goal.invariant_of-result
 invariant_of-result g c = (
-  (λ fit. c.in_ok-gate.ensures.none),
+  (λ fit. c.in_ok-found.ensures.gate.1),
   c.in_ok-found.ensures.room.0,
   c.in_ok-found.ensures.room.1,
   omega (arith, c.in_ok-spelled.ensures.capacity),
@@ -41,11 +33,6 @@ returns-clause-none g c = ap records_in c.new.ensures.items ∙ records_none
 pub returns-clause-stands : goal.returns-clause-stands
 returns-clause-stands g c t durable =
     let count : c.in_ok-found.found.head.front + length c.in_ok-found.found.segments.items ≡ c.in_ok-found.found.head.back + 1 = omega (arith, c.in_ok-found.ensures.count) in
-    let first = c.find.ensures.effect t in
-    let second = c.open_last.ensures.effect t in
-    load_log c.args.db c.in_ok-found.found.head c.in_ok-found.found.note.items c.in_ok-found.found.stored (g.D.Device.disk c.args.dev.now) (g.D.Device.disk c.open_last.new.dev) c.in_ok-found.found.control c.in_ok-gate.gate c.in_ok-found.found.segments.items c.in_ok-found.found.stored _ _ _ _
-    (c.in_ok-found.ensures.segments t) count durable (nothing_then (g.met.D.Device.lawful t c.args.dev.now) first second) c.in_ok-found.ensures.name c.in_ok-gate.ensures.name (control_settled (g.D.Device.disk c.args.dev.now) c.args.db durable (c.in_ok-found.ensures.stands t) second)
-    (c.in_ok-gate.ensures.stands t (settled c.args.db c.in_ok-found.found.head.back durable first)) c.in_ok-found.ensures.reads c.in_ok-found.ensures.sound (c.in_ok-found.ensures.begun t) (c.in_ok-found.ensures.run t) c.in_ok-found.ensures.inside c.in_ok-found.ensures.small
-
-pub returns-clause-effect : goal.returns-clause-effect
-returns-clause-effect g c t = nothing_then (g.met.D.Device.lawful t c.args.dev.now) (c.find.ensures.effect t) (c.open_last.ensures.effect t)
+    load_log c.args.db c.in_ok-found.found.head c.in_ok-found.found.note.items c.in_ok-found.found.stored (g.D.Device.disk c.args.dev.now) (g.D.Device.disk c.find.new.dev) c.in_ok-found.found.control c.in_ok-found.found.gate c.in_ok-found.found.segments.items c.in_ok-found.found.stored _ _ _ _
+    (c.in_ok-found.ensures.segments t) count durable (c.find.ensures.effect t) c.in_ok-found.ensures.name c.in_ok-found.ensures.gate.0 (c.in_ok-found.ensures.stands t (durable (control_file c.args.db) (inl refl)))
+    (c.in_ok-found.ensures.last t (durable (segment_file c.args.db c.in_ok-found.found.head.back) (inr (c.in_ok-found.found.head.back, refl)))) c.in_ok-found.ensures.reads c.in_ok-found.ensures.sound (c.in_ok-found.ensures.begun t) (c.in_ok-found.ensures.run t) c.in_ok-found.ensures.inside c.in_ok-found.ensures.small

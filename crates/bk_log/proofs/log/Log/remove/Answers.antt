@@ -1,5 +1,6 @@
 use Rattle.std.proofs.Common.{rules, ◌+◌, ◌∙◌}
-use Rattle.bk_log.proofs.Removals.{remove_nothing, remove_between, remove_all, removed_foreign, none_held, unheld_foreign, unheld_moved}
+use Rattle.bk_segments.specs.Files.{Holds}
+use Rattle.bk_log.proofs.Removals.{remove_nothing, remove_between, remove_all, removed_foreign, removed_begun, none_held, unheld_foreign, unheld_moved}
 use Rattle.bk_log.proofs.log.Log.remove.Goals as goal
 
 pub returns-in_err-head-clause-crash : goal.returns-in_err-head-clause-crash
@@ -31,3 +32,12 @@ pub returns-clause-crash : goal.returns-clause-crash
 returns-clause-crash g c t durable =
     remove_all c.args.db c.in-Some.head.gone (c.in-Some.head.back + 2) c.deref.result.now (g.D.Device.disk c.args.dev.now) (g.D.Device.disk c.find_head.new.dev) (g.D.Device.disk c.remove_segments.new.dev) (g.D.Device.disk c.remove_durably.new.dev)
     (c.deref.ensures ∙ c.in_ok-name.ensures) durable (c.find_head.ensures.effect t) (c.remove_segments.ensures.crash t) (c.remove_durably.ensures.crash t)
+
+pub returns-clause-begun : goal.returns-clause-begun
+returns-clause-begun g c t =
+    let holds : Holds (g.D.Device.disk c.args.dev.now).files c.args.db c.in-Some.head = rw c.in-Some.is at (c.in_ok-head.ensures.some t) in
+    removed_begun c.args.db c.in-Some.head c.deref.result.now (g.D.Device.disk c.args.dev.now) (g.D.Device.disk c.remove_segments.new.dev) (g.D.Device.disk c.remove_durably.new.dev)
+    (c.deref.ensures ∙ c.in_ok-name.ensures) holds (c.in_ok-remove_segments.ensures.gone t) (c.remove_durably.ensures.crash t)
+
+pub returns-in_default-clause-begun : goal.returns-in_default-clause-begun
+returns-in_default-clause-begun g c t head holds = absurd (c.in_ok-head.ensures.none t (search rules) head holds)

@@ -2,9 +2,10 @@ use Rattle.std.proofs.Common.{◌+◌, List, [], inl, sym, subst}
 use Rattle.bk_device.specs.Compose.{effect_weaken}
 use Rattle.bk_device.specs.Effects.{Effect, IsName}
 use Rattle.bk_log.specs.contracts.log.Log.{the_view}
-use Rattle.bk_log.specs.declared.segments.Segment.{Segment}
+use Rattle.bk_segments.specs.declared.segments.Segment.{Segment}
 use Rattle.bk_log.specs.Laws.{log_marked}
-use Rattle.bk_log.specs.Log.{Kept, IsAdded, IsLog, segment_file, value_of}
+use Rattle.bk_log.specs.Log.{Kept, IsLog, value_of}
+use Rattle.bk_segments.specs.Files.{IsAdded, segment_file}
 use Rattle.bk_log.proofs.Growing.{begun_crash, begun_log, begun_value}
 use Rattle.bk_log.proofs.Resets.{reset_crash}
 use Rattle.bk_log.proofs.Steps.{none_crash}

@@ -2,9 +2,10 @@ use Rattle.std.proofs.Common.{◌≡◌, ◌≤◌, ◌+◌, ◌⊎◌, List, []
 use Rattle.bk_device.specs.Effects.{Effect, IsName}
 use Rattle.bk_gate.specs.Blobs.{sealed}
 use Rattle.bk_log.specs.contracts.log.Log.{the_view}
-use Rattle.bk_log.specs.BatchLaws.{part_none, records_none}
-use Rattle.bk_log.specs.Log.{Kept, IsOwn, IsLog, LogIs, shown, value_of, with_more}
-use Rattle.bk_log.specs.Records.{IsPart, records_in}
+use Rattle.bk_segments.specs.BatchLaws.{part_none, records_none}
+use Rattle.bk_log.specs.Log.{Kept, IsLog, value_of}
+use Rattle.bk_segments.specs.Files.{IsOwn, LogIs, shown, with_more}
+use Rattle.bk_segments.specs.Records.{IsPart, records_in}
 use Rattle.bk_log.proofs.Steps.{add_crash, add_value, add_log}
 use Rattle.bk_log.proofs.log.Log.seal.Goals as goal
 

@@ -2,8 +2,9 @@ use Rattle.std.proofs.Common.{◌≡◌, ◌⊎◌, ◌++◌, List, ℕ, refl, s
 use Rattle.std.specs.Prelude.{◌||◌}
 use Rattle.bk_device.specs.Effects.{Effect}
 use Rattle.bk_log.specs.contracts.log.Log.{the_view}
-use Rattle.bk_log.specs.Control.{read_control}
-use Rattle.bk_log.specs.Log.{Kept, IsOwn, IsLog, LogIs, value_of}
+use Rattle.bk_segments.specs.Control.{read_control}
+use Rattle.bk_log.specs.Log.{Kept, IsLog, value_of}
+use Rattle.bk_segments.specs.Files.{IsOwn, LogIs}
 use Rattle.bk_log.proofs.Steps.{put_crash, put_log, noted}
 use Rattle.bk_log.proofs.log.Log.set_note.Goals as goal
 

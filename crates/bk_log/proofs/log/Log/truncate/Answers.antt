@@ -1,6 +1,7 @@
 use Rattle.std.proofs.Common.{List, drop, sym, ap, subst, ◌∙◌, arith}
-use Rattle.bk_log.specs.declared.segments.Segment.{Segment}
-use Rattle.bk_log.specs.Log.{Kept, BeginsAt}
+use Rattle.bk_segments.specs.declared.segments.Segment.{Segment}
+use Rattle.bk_log.specs.Log.{Kept}
+use Rattle.bk_segments.specs.Files.{BeginsAt}
 use Rattle.bk_log.proofs.Cuts.{least_kept, least_cut}
 use Rattle.bk_log.proofs.log.Log.truncate.Goals as goal
 

@@ -1,0 +1,10 @@
+//! How an instance executes a statement: each makes one step of the written machine.
+#![tactic(auto)]
+
+mod backing_up;
+mod executing;
+mod first_set;
+mod following;
+mod restoring;
+
+pub use executing::execute;

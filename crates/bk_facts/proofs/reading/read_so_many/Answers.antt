@@ -1,0 +1,18 @@
+use Rattle.std.proofs.lemmas.Result.{err_from_is_err_and}
+use Rattle.bk_bytes.specs.Codec.{times_at}
+use Rattle.bk_bytes.specs.LoopLaws.{goes_on, is_done}
+use Rattle.bk_facts.specs.Facts.{file_form}
+use Rattle.bk_facts.proofs.FactCodes.{refuses_list}
+use Rattle.bk_facts.proofs.reading.read_so_many.Goals as goal
+
+pub returns-in_err-file : goal.returns-in_err-file
+returns-in_err-file c =
+    let p = err_from_is_err_and c.from_residual.result c.from_residual.ensures.1 in
+    rw (p.1, p.2) (refuses_list file_form.reading c.loop.files.items c.args.count c.loop.counter c.loop.rest.now (times_at file_form.reading c.args.count c.args.bytes.now) c.in_err-file.field-0.0 c.loop-test.true c.in_err-file.ensures c.loop.invariant)
+
+pub loop-preserved : goal.loop-preserved
+loop-preserved c =
+    rw c.in_ok-push.ensures.items (goes_on file_form.reading c.loop.files.items c.args.count c.loop.counter c.loop.rest.now c.in_ok-file.file c.in_ok-file.after.now (times_at file_form.reading c.args.count c.args.bytes.now) c.loop-test.true c.in_ok-file.ensures c.loop.invariant)
+
+pub returns : goal.returns
+returns c = is_done file_form.reading c.loop.files.items c.args.count c.loop.counter c.loop.rest.now (times_at file_form.reading c.args.count c.args.bytes.now) c.loop-test.false c.loop.invariant

@@ -1,0 +1,19 @@
+use bk_ids::{Lsn, Sequence, Text};
+
+/// A data file of a database.
+#[derive(Debug, Drop)]
+pub struct DataFile {
+    /// Its path, 1 to 100 bytes.
+    pub path: Text,
+    /// How many pages it has, header pages included.
+    pub pages: u32,
+}
+
+/// What a database's note holds before that of the layer above.
+#[derive(Debug, Drop)]
+pub struct Facts {
+    /// The number of the latest checkpoint.
+    pub checkpoint: Lsn,
+    /// The data files, numbered 1, 2, .. in their order.
+    pub files: Sequence<DataFile>,
+}

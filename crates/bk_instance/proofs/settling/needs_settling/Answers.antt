@@ -1,9 +1,0 @@
-use Rattle.std.proofs.Common.{◌∙◌, sym, ap}
-use Rattle.std.specs.Prelude.{◌==◌, ◌&&◌, length, not}
-use Rattle.bk_instance.proofs.SettledPlaces.{needs-kept}
-use Rattle.bk_instance.proofs.settling.needs_settling.Goals as goal
-
-pub returns : goal.returns
-returns c w shows =
-    c.has_pending.ensures ∙ ap (λ b. b && not (length c.as_slice-transactions.result.now == 0 && length c.written-writes.result.now == 0)) c.is_online.ensures
-    ∙ needs-kept w c.args.database.now c.as_slice-transactions.result.now c.written-writes.result.now c.as_slice-transactions.ensures c.written-writes.ensures shows

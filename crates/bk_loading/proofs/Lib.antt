@@ -1,0 +1,12 @@
+pub mod Closes
+pub mod Events
+pub mod Joins
+pub mod Loads
+pub mod MediumAt
+pub mod Opened
+pub mod Replays
+pub mod RolledBack
+pub mod SettledOpen
+pub mod SettledPlaces
+pub mod StandingFiles
+pub mod Touching

@@ -1,0 +1,7 @@
+use Rattle.std.proofs.Common.{◌≡◌, map, take}
+use Rattle.bk_kept.specs.Keeps.{database_of}
+use Rattle.bk_machine.specs.Closing as closing
+use Rattle.bk_loading.proofs.closing.count_open.Given as goal
+
+abbrev pub invariant-loop-database : goal.invariant-loop-database
+invariant-loop-database l = l.count ≡ closing.count_open (map database_of (take l.database-index l.kept.databases.items))

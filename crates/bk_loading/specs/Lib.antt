@@ -1,0 +1,4 @@
+pub mod Closing
+pub mod Errors
+pub mod Events
+pub mod Loading
