@@ -10,6 +10,7 @@ ghost use Rattle.bk_machine.specs.World.{World};
 ghost use Rattle.bk_machine.specs.statements.Target as target;
 ghost use Rattle.bk_world.specs.Lines.{RecordLines};
 ghost use Rattle.bk_kept.specs.Keeps.{IsKept, Keeps, database_of};
+ghost use Rattle.bk_kept.specs.Numbers.{CanEnd, LeaveNumbers};
 ghost use Rattle.bk_asked.specs.Asked.{held_of, least_in, least_with};
 
 use bk_kept::{Database, Kept};
@@ -47,6 +48,7 @@ pub fn own_open<'a>(kept: &Kept, database: &'a Database) -> Option<&'a Open>
 fn held_among(databases: &[Database], session: u8) -> Option<Held<'_>>
     ensures found { option_map held_of result ≡ world.held_in (map database_of databases.now) session }
     ensures kept { (history : RecordLines) → AllByRecursion (IsKept history) databases.now → IfSome result (λ h. IsKept history h.database.now) }
+    ensures numbers { LeaveNumbers databases.now → IfSome result (λ h. CanEnd h.database.now) }
 {
     for database in databases {
         if let Some(transaction) = open_of(database, session) {
@@ -63,6 +65,7 @@ fn held_among(databases: &[Database], session: u8) -> Option<Held<'_>>
 pub fn held_by(kept: &Kept, session: u8) -> Option<Held<'_>>
     ensures found { (w : World) → Keeps w kept.now → option_map held_of result ≡ world.held_in w.databases session }
     ensures kept { (w : World) → Keeps w kept.now → IfSome result (λ h. IsKept w.history h.database.now) }
+    ensures numbers { LeaveNumbers kept.now.databases.items → IfSome result (λ h. CanEnd h.database.now) }
 {
     held_among(&kept.databases, session)
 }
@@ -71,6 +74,7 @@ pub fn held_by(kept: &Kept, session: u8) -> Option<Held<'_>>
 pub fn own_held(kept: &Kept) -> Option<Held<'_>>
     ensures found { (w : World) → Keeps w kept.now → option_map held_of result ≡ world.own_held w }
     ensures kept { (w : World) → Keeps w kept.now → IfSome result (λ h. IsKept w.history h.database.now) }
+    ensures numbers { LeaveNumbers kept.now.databases.items → IfSome result (λ h. CanEnd h.database.now) }
 {
     held_by(kept, kept.session)
 }
@@ -126,6 +130,7 @@ fn least_open(kept: &Kept) -> Option<u8>
 pub fn first_held(kept: &Kept) -> Option<Held<'_>>
     ensures first { (w : World) → Keeps w kept.now → MatchOption result (AllByRecursion (λ db. db.transactions ≡ []) w.databases) (λ h. IsFirst w (held_of h)) }
     ensures kept { (w : World) → Keeps w kept.now → IfSome result (λ h. IsKept w.history h.database.now) }
+    ensures numbers { LeaveNumbers kept.now.databases.items → IfSome result (λ h. CanEnd h.database.now) }
 {
     let session = least_open(kept)?;
     held_by(kept, session)

@@ -167,7 +167,3 @@ settled-again i a b settled others stored durable name content may = by (same-co
     by (inr other) =
         let off : NotOurs name = λ is. other (ours is) in
         settled name content (others.nothing_more name off content may) ∙ sym (others.same name off)
-
--- nothing was done
-pub keeps-same : (names : List ℕ → Type 0) (a : Disk) → KeepsFiles names a a
-keeps-same names a = record { same = λ name at. refl; nothing_more = λ name at content may. may }

@@ -1,7 +1,7 @@
 -- What a crash of a run leaves, from the files that it leaves.
-use Rattle.std.proofs.Common.{◌≡◌, ◌<◌, ◌≤◌, ◌⊎◌, ℕ, zero, suc, List, [], ◌∷◌, ◌++◌, length, take, None, inl, inr, refl, sym, ◌∙◌, ap, subst, arith, length-append}
+use Rattle.std.proofs.Common.{◌≡◌, ◌<◌, ◌≤◌, ◌⊎◌, ℕ, List, [], ◌∷◌, ◌++◌, length, take, None, inl, inr, refl, sym, ◌∙◌, ap, subst, arith, length-append}
 use Rattle.std.specs.List.{AllByRecursion}
-use Rattle.std.proofs.lemmas.List.{append-nil, take-append-le, length-map, map-append}
+use Rattle.std.proofs.lemmas.List.{append-nil, take-append-le, take_all, length-map, map-append}
 use Rattle.std.proofs.lemmas.Bool.{cases_lt}
 use Rattle.std.proofs.lemmas.Grind.{flat_map-append}
 use Rattle.std.proofs.Math.Seq.{take-append_seam, take-length, drop-append_seam}
@@ -65,19 +65,13 @@ closing-alone w (act ∷ a) (next ∷ b) (held, first, is, rest) (other, second,
 
 -- Bytes.
 
-take-over : (bytes : List ℕ) (n : ℕ) → length bytes ≤ n → take n bytes ≡ bytes
-take-over [] zero le = refl
-take-over [] (suc n) le = refl
-take-over (b ∷ bytes) zero le = absurd (omega (arith, le))
-take-over (b ∷ bytes) (suc n) le = ap (λ bs. b ∷ bs) (take-over bytes n (omega (arith, le)))
-
 -- a front of some bytes, and no more than there are
 front-within : (bytes told heard : List ℕ) → TellsFront bytes told heard → (n : ℕ) × (heard ≡ told ++ take n bytes) × (n ≤ length bytes)
 front-within bytes told heard front = by (cases_lt front.0 (length bytes))
   where
     by : (front.0 < length bytes) ⊎ (length bytes ≤ front.0) → (n : ℕ) × (heard ≡ told ++ take n bytes) × (n ≤ length bytes)
     by (inl below) = (front.0, front.1, omega (arith, below))
-    by (inr above) = (length bytes, front.1 ∙ ap (λ b. told ++ b) (take-over bytes front.0 above ∙ sym (take-length bytes)), omega arith)
+    by (inr above) = (length bytes, front.1 ∙ ap (λ b. told ++ b) (take_all front.0 bytes above ∙ sym (take-length bytes)), omega arith)
 
 -- no statement was begun
 pub LeavesOf-none : CrashLaws → (number : ℕ) (w : World) (outcomes : List Outcome) (told : List ℕ) (image : Files) (heard : List ℕ) → StandsNear number image (opened w) → heard ≡ told

@@ -53,17 +53,6 @@ not_ended : (n : ℕ) → 1 < n → (n ≡ 0) ⊎ (n ≡ 1) → ⊥
 not_ended n above (inl h) = omega (arith, h)
 not_ended n above (inr h) = omega (arith, h)
 
-pub answered-as : (e : AnswerError) → answer_status e ≡ status.NotAnInstance → ⊥
-answered-as answer.Console h = cc h
-answered-as answer.Device h = cc h
-answered-as answer.NoMemory h = cc h
-answered-as answer.Broken h = cc h
-
-pub closed-as : (e : ExecuteError) → close_status e ≡ status.NotAnInstance → ⊥
-closed-as execute.Fault h = cc h
-closed-as execute.NoMemory h = cc h
-closed-as execute.Broken h = cc h
-
 -- What comes only from what is broken.
 
 pub load-broken : (e : LoadError) → load_status e ≡ status.Broken → (e ≡ load.Broken) ⊎ (e ≡ load.Unsettled)

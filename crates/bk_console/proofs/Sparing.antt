@@ -5,6 +5,7 @@ use Rattle.bk_device.specs.Calls.{ChangesNothing, Elapses, TellsBytes, TellsFron
 use Rattle.bk_device.specs.Compose.{keeps_by_effect, keeps_by_nothing, keeps_by_telling, keeps_then}
 use Rattle.bk_device.specs.Disk.{Files, Disk, MayLeave}
 use Rattle.bk_device.specs.Effects.{Effect, MayLeaveOthers}
+use Rattle.bk_device.specs.Laws.{nothing_yet}
 use Rattle.bk_home.specs.Home.{IsOwn}
 use Rattle.bk_instance.specs.declared.instance.Instance.{Instance}
 use Rattle.bk_instance.specs.Stands.{StandsFor}
@@ -20,10 +21,10 @@ use Rattle.bk_machine.specs.Writes.{ActsWrite, IsStill, IsTurn}
 use Rattle.bk_world.specs.Text.{reply_text}
 use Rattle.bk_console.specs.Answers.{Asked, CutShort, CutWithin}
 use Rattle.bk_console.specs.Spares.{AreStill, OutcomesWrite, Spares}
-use Rattle.bk_console.proofs.Asking.{elapses-none, elapses-then, elapses-weaken, keeps-same, silent-cut, silent-front}
+use Rattle.bk_console.proofs.Asking.{elapses-none, elapses-then, elapses-weaken, silent-cut, silent-front}
 
 pub spares-none : {touched : List ℕ → Type 0} (a : Disk) → Spares touched a a
-spares-none a = record { files = keeps-same _ a; crashes = elapses-none _ a }
+spares-none a = record { files = keeps_by_nothing (nothing_yet a); crashes = elapses-none _ a }
 
 pub spares-then : {touched : List ℕ → Type 0} {a b c : Disk} → Spares touched a b → Spares touched b c → Spares touched a c
 spares-then {touched} {a} {b} {c} first second = record {

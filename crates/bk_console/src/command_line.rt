@@ -4,9 +4,9 @@ ghost use Rattle.std.specs.String.{string_bytes};
 ghost use Rattle.bk_console.specs.Given.{meant_before, Takes, TakesWord};
 ghost use Rattle.bk_console.specs.Words as spec;
 ghost use Rattle.bk_console.specs.Words.{options_of, as_asked, number_of, behind, with_dir, with_stop, with_instance, with_other};
-ghost use Rattle.bk_console.specs.declared.command_line.WordsError.TheVariants.{Usage};
+ghost use Rattle.bk_console.specs.declared.command_line.WordsError.TheVariants.{NoMemory, Usage};
 
-use std::alloc::Global;
+use std::alloc::{AllocError, Global};
 use thiserror::Error;
 
 /// Why the words weren't taken.
@@ -18,6 +18,14 @@ pub enum WordsError {
     /// Memory was wanting.
     #[error("out of memory")]
     NoMemory,
+}
+
+impl From<AllocError> for WordsError {
+    ghost from_gives = { λ _ e. e ≡ NoMemory };
+
+    fn from(_: AllocError) -> Self {
+        WordsError::NoMemory
+    }
 }
 
 /// What the words ask for.
@@ -147,14 +155,11 @@ impl<'a> Given<'a> {
         if self.next == Next::InstanceNumber {
             return Err(WordsError::Usage);
         }
-        match String::from_str(alloc, dir) {
-            Ok(dir) => Ok(Options {
-                dir,
-                stop: self.stop,
-                instance: self.instance.unwrap_or(1),
-            }),
-            Err(_) => Err(WordsError::NoMemory),
-        }
+        Ok(Options {
+            dir: String::from_str(alloc, dir)?,
+            stop: self.stop,
+            instance: self.instance.unwrap_or(1),
+        })
     }
 }
 

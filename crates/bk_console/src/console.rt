@@ -127,10 +127,19 @@ fn over_instance<D: Device, C: Clock>(
 {
     crashes_leave_worlds();
     let mut instance = load(alloc, device, options.instance)?;
-    let ended = answer_all(alloc, &mut instance, script, options.stop, device, clock)?;
-    close(&mut instance, device)?;
-    match ended {
-        Ended::AtTheEnd => Ok(()),
-        Ended::AtARefusal => Err(Status::StoppedAtRefusal),
+    match answer_all(alloc, &mut instance, script, options.stop, device, clock) {
+        Ok(ended) => {
+            let closed = close(&mut instance, device);
+            drop(instance);
+            closed?;
+            match ended {
+                Ended::AtTheEnd => Ok(()),
+                Ended::AtARefusal => Err(Status::StoppedAtRefusal),
+            }
+        }
+        Err(error) => {
+            drop(instance);
+            Err(Status::from(error))
+        }
     }
 }

@@ -1,6 +1,6 @@
 -- What a statement knows of a world by a read of a medium's file.
 use Rattle.std.proofs.Common.{◌≡◌, ℕ, Bool, List, Option, None, Some, Ok, Err, refl, sym, ◌∙◌, ap, subst}
-use Rattle.std.specs.Prelude.{Result, is_some}
+use Rattle.std.specs.Prelude.{IsErrOf, Result, is_some}
 use Rattle.std.specs.Str.{IsUtf8}
 use Rattle.bk_bytes.specs.Field.{AreBytes}
 use Rattle.bk_device.specs.Calls.{ChangesNothing}
@@ -11,8 +11,13 @@ use Rattle.bk_media.specs.Media.{read_medium}
 use Rattle.bk_media.specs.Names.{medium_file}
 use Rattle.bk_media_plans.specs.Restoring.{FindsFirst}
 use Rattle.bk_set.specs.declared.body.SetBody.{SetBody}
+use Rattle.bk_shown.specs.declared.error.TakeError.{TakeError}
+use Rattle.bk_shown.specs.declared.error.TakeError.TheVariants.{NoMemory, Unfit}
 use Rattle.bk_world.specs.declared.rule.Rule.{Rule}
 use Rattle.bk_world.specs.Medium.{medium_at}
+use Rattle.bk_instance.specs.Errors.{taken_error}
+use Rattle.bk_instance.specs.declared.error.ExecuteError.{ExecuteError}
+use Rattle.bk_instance.specs.declared.error.ExecuteError.TheVariants.{Broken}
 use Rattle.bk_instance.specs.declared.instance.Instance.{Instance}
 use Rattle.bk_executing.specs.First.{IsFirst}
 use Rattle.bk_instance.specs.Stands.{IsReady, IsStored, StandsFor}
@@ -52,3 +57,8 @@ knows-first i a b disk path first ready stored call utf8 same is = record {
   call = call;
   known = λ told w stands. finds-first i a disk first w (subst AreBytes same (text-bytes path utf8)) (subst (λ p. IsFirst (a.files (medium_file p)) first) same (is told)) stands;
 }
+
+-- a run that ends as broken by what couldn't be planned ends so by a set that isn't fit
+pub unfit-broken : {A B : Type 0} (e : TakeError) → IsErrOf {T = A} {E = ExecuteError} (Err (taken_error e)) Broken → IsErrOf {T = B} {E = TakeError} (Err e) Unfit
+unfit-broken Unfit is = refl
+unfit-broken NoMemory is = absurd (cc)

@@ -7,6 +7,7 @@ use Rattle.bk_device.specs.Disk.{Files, Disk}
 use Rattle.bk_device.specs.Effects.{Effect}
 use Rattle.bk_machine.specs.Acts.{Act, done, done_all, seated, turned}
 use Rattle.bk_machine.specs.Same.{SameLogs, SameMedia}
+use Rattle.bk_machine.specs.SettledLaws.{logs-same, media-same}
 use Rattle.bk_machine.specs.Sound.{IsSound}
 use Rattle.bk_machine.specs.World.{World}
 use Rattle.bk_plans.specs.declared.parts.Part.{Part}
@@ -104,43 +105,33 @@ pub plan-none : (old : Instance) (disk : Disk) (p : Plan) → IsReady old → Is
 plan-none old disk p ready stored =
     effect_weaken (λ image here durable number w acts stands are. cut-none old.waiting number w acts image (here durable number w stands)) (stays-none old disk ready stored)
 
--- what is kept of sessions
-pub record TurnLaws : Type 0 where
-  pub transitive : (a b c : World) → SameLogs a b → SameLogs b c → SameLogs a c
-  pub turned_media : (w : World) (name : Option (List ℕ)) → SameMedia w (done w (turned name))
-  pub seated_media : (w : World) (session : ℕ) → SameMedia w (done w (seated session))
-  pub turned : (w : World) (name : Option (List ℕ)) → SameLogs w (done w (turned name))
-  pub seated : (w : World) (session : ℕ) → SameLogs w (done w (seated session))
-  -- what waits goes on waiting
-  pub stays : (waiting : StoredAct) (old w v : World) → WaitsFor waiting old w → SameLogs w v → SameMedia w v → w.counter ≡ v.counter → WaitsFor waiting old v
+-- what waits goes on waiting where databases, logs and media are the same
+abbrev pub WaitStays : Type 0
+WaitStays = (waiting : StoredAct) (old w v : World) → WaitsFor waiting old w → SameLogs w v → SameMedia w v → w.counter ≡ v.counter → WaitsFor waiting old v
 
 -- files that hold a world hold each with the same databases, logs, media and counter
-holds-same : TurnLaws → (waiting : Option StoredAct) (files : Files) (w v : World) → SameLogs w v → SameMedia w v → w.counter ≡ v.counter → HoldsBehind waiting files w → HoldsBehind waiting files v
-holds-same laws None files w v logs media counter holds = record { made = made-same v laws.transitive holds.made logs; media = media-as w v None files media holds.media }
-holds-same laws (Some waiting) files w v logs media counter holds = record { old = holds.old; sound = holds.sound; holds = holds.holds; waits = laws.stays waiting holds.old w v holds.waits logs media counter }
-
-turned-counter : (w : World) (name : Option (List ℕ)) → w.counter ≡ (done w (turned name)).counter
-unfolding done
-turned-counter w name = refl
-
-seated-counter : (w : World) (session : ℕ) → w.counter ≡ (done w (seated session)).counter
-unfolding done
-seated-counter w session = refl
+holds-same : WaitStays → (waiting : Option StoredAct) (files : Files) (w v : World) → SameLogs w v → SameMedia w v → w.counter ≡ v.counter → HoldsBehind waiting files w → HoldsBehind waiting files v
+holds-same stays None files w v logs media counter holds = record { made = made-same v holds.made logs; media = media-as w v None files media holds.media }
+holds-same stays (Some waiting) files w v logs media counter holds = record { old = holds.old; sound = holds.sound; holds = holds.holds; waits = stays waiting holds.old w v holds.waits logs media counter }
 
 -- and an instance stands for it that keeps its sessions
-stands-same : TurnLaws → (old new : Instance) (disk : Disk) (w v : World) → new.waiting ≡ old.waiting → IsSound v → Keeps v new.kept → SameLogs w v → SameMedia w v → w.counter ≡ v.counter → StandsFor old disk w → StandsFor new disk v
-stands-same laws old new disk w v waiting sound keeps logs media counter stands = record {
+stands-same : WaitStays → (old new : Instance) (disk : Disk) (w v : World) → new.waiting ≡ old.waiting → IsSound v → Keeps v new.kept → SameLogs w v → SameMedia w v → w.counter ≡ v.counter → StandsFor old disk w → StandsFor new disk v
+stands-same stays old new disk w v waiting sound keeps logs media counter stands = record {
   sound = sound;
   keeps = keeps;
-  holds = subst (λ o. HoldsBehind o disk.files v) (sym waiting) (holds-same laws old.waiting disk.files w v logs media counter stands.holds);
+  holds = subst (λ o. HoldsBehind o disk.files v) (sym waiting) (holds-same stays old.waiting disk.files w v logs media counter stands.holds);
 }
 
-pub turned-does : (laws : TurnLaws) (old new : Instance) (disk : Disk) (name : Option (List ℕ)) → new.waiting ≡ old.waiting → ((w : World) → Keeps w old.kept → Keeps (done w (turned name)) new.kept) → DoesPlan old disk (plan.Turned name) new disk
-turned-does laws old new disk name waiting keeps w acts stands are sound =
+pub turned-does : (stays : WaitStays) (old new : Instance) (disk : Disk) (name : Option (List ℕ)) → new.waiting ≡ old.waiting → ((w : World) → Keeps w old.kept → Keeps (done w (turned name)) new.kept) → DoesPlan old disk (plan.Turned name) new disk
+unfolding done
+turned-does stays old new disk name waiting keeps w acts stands are sound =
+    let v : World = done w (turned name) in
     subst (λ a. StandsFor new disk (done_all w a)) (sym are)
-    (stands-same laws old new disk w (done w (turned name)) waiting (subst (λ a. IsSound (done_all w a)) are sound) (keeps w stands.keeps) (laws.turned w name) (laws.turned_media w name) (turned-counter w name) stands)
+    (stands-same stays old new disk w v waiting (subst (λ a. IsSound (done_all w a)) are sound) (keeps w stands.keeps) (logs-same w v refl refl) (media-same w v refl refl refl) refl stands)
 
-pub seated-does : (laws : TurnLaws) (old new : Instance) (disk : Disk) (session : ℕ) → new.waiting ≡ old.waiting → ((w : World) → Keeps w old.kept → Keeps (done w (seated session)) new.kept) → DoesPlan old disk (plan.Seated session) new disk
-seated-does laws old new disk session waiting keeps w acts stands are sound =
+pub seated-does : (stays : WaitStays) (old new : Instance) (disk : Disk) (session : ℕ) → new.waiting ≡ old.waiting → ((w : World) → Keeps w old.kept → Keeps (done w (seated session)) new.kept) → DoesPlan old disk (plan.Seated session) new disk
+unfolding done
+seated-does stays old new disk session waiting keeps w acts stands are sound =
+    let v : World = done w (seated session) in
     subst (λ a. StandsFor new disk (done_all w a)) (sym are)
-    (stands-same laws old new disk w (done w (seated session)) waiting (subst (λ a. IsSound (done_all w a)) are sound) (keeps w stands.keeps) (laws.seated w session) (laws.seated_media w session) (seated-counter w session) stands)
+    (stands-same stays old new disk w v waiting (subst (λ a. IsSound (done_all w a)) are sound) (keeps w stands.keeps) (logs-same w v refl refl) (media-same w v refl refl refl) refl stands)

@@ -17,7 +17,6 @@ ghost use Rattle.bk_plans.specs.declared.parts.Part.TheVariants as part;
 use bk_acts::StoredAct;
 use bk_device::Device;
 use bk_instance::{ExecuteError, Instance};
-use bk_machine::{logs_that_stay, media_that_stay};
 use bk_plans::{Part, Plan};
 use bk_waiting::what_waits_is_joined;
 use bk_world::Reply;
@@ -123,8 +122,6 @@ pub(crate) fn follow<D: Device>(
     ensures broken { D.tells → IsErrOf result Broken → IsNoPlan instance.old (D.disk dev.old) plan }
     ensures cause { HasCause D.disk_faults D.tell_faults dev.old dev.new (IsErrOf result Fault) }
 {
-    logs_that_stay();
-    media_that_stay();
     what_waits_is_joined();
     match plan {
         Plan::Refused { rule } => Ok(Reply::Refused { rule }),

@@ -1,4 +1,3 @@
-pub mod KeptMedia
 pub mod MadeMedia
 pub mod Seals
 pub mod StoredActs

@@ -1,56 +1,33 @@
 -- A medium is made, while the record names it.
-use Rattle.std.proofs.Common.{◌≡◌, ◌≢◌, ◌≤◌, ◌⊎◌, inl, inr, ℕ, zero, suc, ◌+◌, Bool, true, false, List, [], Option, None, Some, refl, sym, ◌∙◌, ap, subst, arith}
-use Rattle.std.specs.Prelude.{if◌then◌else◌, ◌&&◌, option_map, slice_get}
-use Rattle.std.specs.Str.{bytes_eq}
+use Rattle.std.proofs.Common.{◌≡◌, ◌≤◌, ◌⊎◌, inl, inr, ℕ, ◌+◌, List, [], Option, None, Some, refl, sym, ◌∙◌, ap, subst, arith}
 use Rattle.bk_bytes.specs.Field.{AreBytes}
-use Rattle.bk_device.specs.Compose.{effect_widen, keeps_by_effect, durable_kept}
+use Rattle.bk_device.specs.Compose.{effect_then, effect_widen}
 use Rattle.bk_device.specs.Disk.{Files, Disk, IsDurable}
-use Rattle.bk_device.specs.Effects.{Effect, IsName, KeepsFiles}
-use Rattle.bk_device.specs.Names.{same_or_other}
+use Rattle.bk_device.specs.Effects.{Effect, IsName}
 use Rattle.bk_gate.specs.Blobs.{sealed}
 use Rattle.bk_home.specs.declared.record.Record.{Record}
 use Rattle.bk_home.specs.Home.{HomeIs, IsHome, IsOwn, Kept as KeptHome, blobs_of}
-use Rattle.bk_home.specs.Laws.{home_left}
-use Rattle.bk_machine.specs.Acts.{Act, done, medium_made, set_sealed}
-use Rattle.bk_machine.specs.MayDo.{MayDo}
+use Rattle.bk_home.specs.Laws.{home_left, home_files_kept}
+use Rattle.bk_machine.specs.Acts.{Act, done, medium_made}
 use Rattle.bk_machine.specs.Same.{SameLogs}
-use Rattle.bk_machine.specs.Sound.{IsSound}
+use Rattle.bk_machine.specs.SettledLaws.{logs-same}
 use Rattle.bk_machine.specs.World.{World}
-use Rattle.bk_media.specs.Laws.{nothing_sealed, sets_read, sets_are, names_differ}
-use Rattle.bk_media.specs.Media.{HasSets, LeavesMade, found_at, read_medium}
+use Rattle.bk_media.specs.Laws.{none_read, nothing_sealed, sets_read, sets_are}
+use Rattle.bk_media.specs.Media.{HasSets, LeavesMade, read_medium}
 use Rattle.bk_media.specs.Names.{medium_file}
 use Rattle.bk_kept.specs.declared.kept.Kept.{Kept}
 use Rattle.bk_plans.specs.declared.parts.Part.TheVariants as part
 use Rattle.bk_kept.specs.Keeps.{Keeps}
 use Rattle.bk_plans.specs.Planning.{MakesMedium}
-use Rattle.bk_set.specs.declared.body.SetBody.{SetBody}
-use Rattle.bk_set.specs.declared.found.Found.TheVariants.{Holds}
-use Rattle.bk_set.specs.Found.{found}
-use Rattle.bk_world.specs.declared.header.Header.{Header}
-use Rattle.bk_world.specs.Medium.{Reading, medium, medium_at}
+use Rattle.bk_world.specs.Medium.{medium, medium_at}
 use Rattle.bk_instance.specs.declared.instance.Instance.{Instance}
-use Rattle.bk_instance.specs.Media.{KeepsMedia, MediaAreDurable, IfDurable, is_begun, shown_medium}
+use Rattle.bk_instance.specs.Media.{KeepsMedia, MediaAreDurable, IfDurable, is_begun}
 use Rattle.bk_instance.specs.Stands.{AreMade, Covers, HoldsWorld, IsReady, StandsFor, IsOurs}
 use Rattle.bk_instance.specs.Parts.{CutsPart, DoesPart}
-use Rattle.bk_instance.specs.MediaLaws.{SameMedia, found-in, shown-sealed}
-use Rattle.bk_instance.proofs.KeptMedia.{is-self, not-other, medium-here, medium-other}
-use Rattle.bk_instance.specs.StandsLaws.{Fits, not-own, own-widens, made-same, covers-now, covers-old}
+use Rattle.bk_instance.specs.MediaLaws.{SameMedia, shown-sealed}
+use Rattle.bk_instance.specs.MediumLaws.{NamesAtMost, SameOthers, begun-shown, files-apart, media-at, no-set, not-other, with_medium-other, with_medium-own}
+use Rattle.bk_instance.specs.StandsLaws.{ActsKeepSound, Fits, not-own, own-kept, own-widens, made-same, media-after, media-durable, one-durable, covers-now, covers-old}
 use Rattle.bk_instance.specs.HoldsLaws.{covers-either, covers-now as covers-world, holds-none, holds-now}
-
--- what acts on media keep
-pub record MediaLaws : Type 0 where
-  pub sound : (w : World) (act : Act) → IsSound w → MayDo w act → IsSound (done w act)
-  pub transitive : (a b c : World) → SameLogs a b → SameLogs b c → SameLogs a c
-  pub made : (w : World) (path : List ℕ) → SameLogs w (done w (medium_made path))
-  pub sealed : (w : World) (path : List ℕ) (header : Header) → SameLogs w (done w (set_sealed path header))
-
--- the same media but this one
-abbrev pub SameOthers : Files → List ℕ → Files → Type 0
-SameOthers files path image = (other : List ℕ) → AreBytes other → other ≢ path → image (medium_file other) ≡ files (medium_file other)
-
--- the files of two media at different paths
-pub files-apart : (path other : List ℕ) → AreBytes path → AreBytes other → other ≢ path → medium_file other ≢ medium_file path
-files-apart path other bytes are apart same = apart (sym (names_differ path other bytes are (sym same)))
 
 -- A file in which nothing is sealed.
 
@@ -59,71 +36,29 @@ unfolding read_medium
 unread-sealed None none = nothing_sealed
 unread-sealed (Some file) none = absurd (cc)
 
-none-found : (file : Option (List ℕ)) (p : ℕ) (body : SetBody) → sealed file ≡ [] → found_at file p ≡ Some (Holds body) → ⊥
-none-found file p body none is =
-    let some : is_begun (sealed file) ≡ false = (found-in file p body is).some in
-    let begun : is_begun (sealed file) ≡ true = ap is_begun none in
-    absurd (cc)
-
-both-shown : (t b : Bool) (reading : Option Reading) → t ≡ true → b ≡ true → (if t && b then None else reading) ≡ None
-both-shown true true reading is begun = refl
-both-shown true false reading is begun = absurd (cc)
-both-shown false b reading is begun = absurd (cc)
-
-begun-shown : (path : List ℕ) (file : Option (List ℕ)) → sealed file ≡ [] → shown_medium (Some path) path file ≡ None
-begun-shown path file none = both-shown (bytes_eq path path) (is_begun (sealed file)) (read_medium file) (is-self path) (ap is_begun none)
-
-other-shown : (path other : List ℕ) (file : Option (List ℕ)) → other ≢ path → shown_medium (Some path) other file ≡ read_medium file
-other-shown path other file apart = ap (λ (t : Bool). if t && is_begun (sealed file) then None else read_medium file) (not-other path other apart)
-
 -- a medium that is only being made isn't one of the world
 begun-media : (w : World) (path : List ℕ) (before image : Files) → KeepsMedia w None before → medium_at w.media path ≡ None → sealed (image (medium_file path)) ≡ [] → SameOthers before path image → KeepsMedia w (Some path) image
-begun-media w path before image media absent none others = record {
-  read = λ other are. elim (same_or_other path other) [
-    | inl is ↦ subst (λ o. medium_at w.media o ≡ shown_medium (Some path) o (image (medium_file o))) (sym is) (absent ∙ sym (begun-shown path (image (medium_file path)) none))
-    | inr apart ↦ media.read other are ∙ ap read_medium (sym (others other are apart)) ∙ sym (other-shown path other (image (medium_file other)) apart)
-  ];
-  carried = λ other p body are is. elim (same_or_other path other) [
-    | inl same ↦ absurd (none-found (image (medium_file path)) p body none (subst (λ o. found_at (image (medium_file o)) p ≡ Some (Holds body)) same is))
-    | inr apart ↦ media.carried other p body are (ap (λ f. found_at f p) (sym (others other are apart)) ∙ is)
-  ];
-}
+begun-media w path before image media absent none others =
+    let file : Option (List ℕ) = image (medium_file path) in
+    media-at w w (Some path) before image path (inr refl) media others (absent ∙ sym (begun-shown path file (ap is_begun none))) (λ other apart. refl)
+    (λ other p body are is. media.carried other p body are is) (λ p body is. absurd (no-set file (none_read file none).0 p body is))
 
 -- A medium without sets.
-
-empty-found : (file : Option (List ℕ)) (p : ℕ) (body : SetBody) → HasSets [] file → found_at file p ≡ Some (Holds body) → ⊥
-unfolding found_at
-empty-found file zero body has is = absurd (cc)
-empty-found file (suc i) body has is =
-    let none : option_map found (slice_get [] i) ≡ Some (Holds body) = ap (λ (s : List (List ℕ)). option_map found (slice_get s i)) (sym (sets_are [] file has)) ∙ is in
-    absurd (cc)
-
--- a record names this medium, or none
-abbrev pub NamesAtMost : List ℕ → Option (List ℕ) → Type 0
-NamesAtMost path making = (making ≡ None) ⊎ (making ≡ Some path)
-
-named-shown : (path other : List ℕ) (making : Option (List ℕ)) (file : Option (List ℕ)) → NamesAtMost path making → other ≢ path → shown_medium making other file ≡ read_medium file
-named-shown path other making file (inl none) apart = ap (λ m. shown_medium m other file) none
-named-shown path other making file (inr some) apart = ap (λ m. shown_medium m other file) some ∙ other-shown path other file apart
 
 made-media : (w : World) (path : List ℕ) (making : Option (List ℕ)) (before image : Files) → KeepsMedia w None before → NamesAtMost path making → HasSets [] (image (medium_file path)) → SameOthers before path image → KeepsMedia (done w (medium_made path)) making image
 unfolding done
 made-media w path making before image media named has others =
-    let some : is_begun (sealed (image (medium_file path))) ≡ false = ap is_begun has in
-    let reads : read_medium (image (medium_file path)) ≡ Some (medium []) = sets_read [] (image (medium_file path)) has in
-    record {
-      read = λ other are. elim (same_or_other path other) [
-        | inl is ↦ subst (λ o. medium_at (done w (medium_made path)).media o ≡ shown_medium making o (image (medium_file o))) (sym is)
-            (medium-here w.media path (medium []) ∙ sym reads ∙ sym (shown-sealed making path (image (medium_file path)) some))
-        | inr apart ↦ medium-other w.media path other (medium []) apart ∙ media.read other are ∙ ap read_medium (sym (others other are apart)) ∙ sym (named-shown path other making (image (medium_file other)) named apart)
-      ];
-      carried = λ other p body are is. elim (same_or_other path other) [
-        | inl same ↦ absurd (empty-found (image (medium_file path)) p body has (subst (λ o. found_at (image (medium_file o)) p ≡ Some (Holds body)) same is))
-        | inr apart ↦ media.carried other p body are (ap (λ f. found_at f p) (sym (others other are apart)) ∙ is)
-      ];
-    }
+    let file : Option (List ℕ) = image (medium_file path) in
+    media-at w (done w (medium_made path)) making before image path named media others
+    (with_medium-own w.media path (medium []) ∙ sym (sets_read [] file has) ∙ sym (shown-sealed making path file (ap is_begun has)))
+    (λ other apart. with_medium-other w.media path other (medium []) (not-other path other apart))
+    (λ other p body are is. media.carried other p body are is) (λ p body is. absurd (no-set file (sets_are [] file has) p body is))
 
 -- The world behind it.
+
+same-made : (w : World) (path : List ℕ) → SameLogs w (done w (medium_made path))
+unfolding done
+same-made w path = logs-same w (done w (medium_made path)) refl refl
 
 made-keeps : (w : World) (path : List ℕ) (k : Kept) → Keeps w k → Keeps (done w (medium_made path)) (record k { counter = k.counter + 1 })
 unfolding done
@@ -162,41 +97,41 @@ naming-covers {i = i} {disk = disk} {path = path} {r = r} b number w act image s
     covers-old number i w (blobs_of disk.files) image r now.sound now.keeps.number now.keeps.counter holds.made (begins-fits b) home
     (subst (λ making. KeepsMedia w making image) (sym b.named) (begun-media w path disk.files image holds.media makes.absent none others))
 
-world-covers : (laws : MediaLaws) (i : Instance) (disk : Disk) (path : List ℕ) (q : Record) (number : ℕ) (w : World) (image : Files) → StandsFor i disk w → HoldsWorld disk.files w → q.number ≡ i.kept.number → i.kept.counter + 1 ≤ q.counter → q.counter ≤ i.kept.counter + 1024
+world-covers : (laws : ActsKeepSound) (i : Instance) (disk : Disk) (path : List ℕ) (q : Record) (number : ℕ) (w : World) (image : Files) → StandsFor i disk w → HoldsWorld disk.files w → q.number ≡ i.kept.number → i.kept.counter + 1 ≤ q.counter → q.counter ≤ i.kept.counter + 1024
     → NamesAtMost path q.making → HomeIs image q (blobs_of disk.files) → SameOthers disk.files path image → HasSets [] (image (medium_file path)) → Covers number image (done w (medium_made path))
 unfolding done
 world-covers laws i disk path q number w image stands holds is_number no_less no_more named home others has =
     let least : w.counter + 1 ≤ q.counter = omega (arith, stands.keeps.counter, no_less) in
     let most : q.counter ≤ w.counter + 1 + 1024 = omega (arith, stands.keeps.counter, no_more) in
     record {
-      sound = laws.sound w (medium_made path) stands.sound tt;
+      sound = laws w (medium_made path) stands.sound tt;
       «record» = q;
       blobs = blobs_of disk.files;
       holds = inr home;
       instance = stands.keeps.number ∙ sym is_number;
       no_less = least;
       no_more = most;
-      made = made-same (done w (medium_made path)) laws.transitive holds.made (laws.made w path);
+      made = made-same (done w (medium_made path)) holds.made (same-made w path);
       media = made-media w path q.making disk.files image holds.media named has others;
     }
 
-made-covers : {old i : Instance} {first disk : Disk} {path : List ℕ} {r : Record} → MediaLaws → Begins old i first disk path r → (q : Record) → q.number ≡ r.number → q.counter ≡ r.counter → NamesAtMost path q.making
+made-covers : {old i : Instance} {first disk : Disk} {path : List ℕ} {r : Record} → ActsKeepSound → Begins old i first disk path r → (q : Record) → q.number ≡ r.number → q.counter ≡ r.counter → NamesAtMost path q.making
     → (number : ℕ) (w : World) (act : Act) (image : Files) → StandsFor old first w → MakesMedium w path act → HomeIs image q (blobs_of disk.files) → SameOthers disk.files path image → HasSets [] (image (medium_file path)) → Covers number image (done w act)
 made-covers {i = i} {disk = disk} {path = path} laws b q is_number counter named number w act image stands makes home others has =
     subst (λ a. Covers number image (done w a)) (sym makes.is)
     (world-covers laws i disk path q number w image (b.on w stands) (holds-world w b stands) (is_number ∙ b.number) (omega (arith, counter, b.counter, b.reserved)) (omega (arith, counter, b.counter, b.ready.no_more)) named home others has)
 
-pub made-does : (laws : MediaLaws) (old i j : Instance) (first disk after : Disk) (path : List ℕ) → i.waiting ≡ None → j.waiting ≡ None → ((w : World) → StandsFor old first w → StandsFor i disk w) → j.kept ≡ record i.kept { counter = i.kept.counter + 1 } → blobs_of after.files ≡ blobs_of disk.files
+pub made-does : (laws : ActsKeepSound) (old i j : Instance) (first disk after : Disk) (path : List ℕ) → i.waiting ≡ None → j.waiting ≡ None → ((w : World) → StandsFor old first w → StandsFor i disk w) → j.kept ≡ record i.kept { counter = i.kept.counter + 1 } → blobs_of after.files ≡ blobs_of disk.files
     → SameOthers disk.files path after.files → HasSets [] (after.files (medium_file path)) → DoesPart old first (part.MediumMade path) j after
 made-does laws old i j first disk after path none still on kept blobs others has w act stood makes =
     let stands : StandsFor i disk w = on w stood in
     let holds : HoldsWorld disk.files w = holds-now i.waiting disk.files w none stands.holds in
     let v : World = done w (medium_made path) in
     subst (λ a. StandsFor j after (done w a)) (sym makes.is) (record {
-      sound = laws.sound w (medium_made path) stands.sound tt;
+      sound = laws w (medium_made path) stands.sound tt;
       keeps = subst (Keeps v) (sym kept) (made-keeps w path i.kept stands.keeps);
       holds = holds-none j.waiting after.files v still (record {
-        made = subst (λ b. AreMade b v) (sym blobs) (made-same v laws.transitive holds.made (laws.made w path));
+        made = subst (λ b. AreMade b v) (sym blobs) (made-same v holds.made (same-made w path));
         media = made-media w path None disk.files after.files holds.media (inl refl) has others;
       });
     })
@@ -213,7 +148,7 @@ made-named {old = old} {i = i} {first = first} {disk = disk} {after = after} {pa
     ]) effect
 
 -- its file is made
-pub made-file : {old i : Instance} {first disk before after : Disk} {path : List ℕ} {r : Record} (home : KeptHome) → MediaLaws → Begins old i first disk path r → IsHome before home → home.«record» ≡ r → blobs_of before.files ≡ blobs_of disk.files
+pub made-file : {old i : Instance} {first disk before after : Disk} {path : List ℕ} {r : Record} (home : KeptHome) → ActsKeepSound → Begins old i first disk path r → IsHome before home → home.«record» ≡ r → blobs_of before.files ≡ blobs_of disk.files
     → (MediaAreDurable first → MediaAreDurable before) → SameMedia disk.files before.files → Effect (IsName (medium_file path)) (λ image. LeavesMade (before.may (medium_file path)) (image (medium_file path))) before after
     → Effect IsOurs (IfDurable first (CutsPart old first (part.MediumMade path))) before after
 made-file {old = old} {disk = disk} {before = before} {path = path} {r = r} home laws b stored is_record blobs calm same effect =
@@ -232,7 +167,7 @@ made-file {old = old} {disk = disk} {before = before} {path = path} {r = r} home
     ]) effect
 
 -- the record names none any more
-pub made-unnamed : {old i : Instance} {first disk before after : Disk} {path : List ℕ} {r : Record} (a q : Record) → MediaLaws → Begins old i first disk path r → a ≡ r → q.number ≡ r.number → q.counter ≡ r.counter → q.making ≡ None → blobs_of before.files ≡ blobs_of disk.files
+pub made-unnamed : {old i : Instance} {first disk before after : Disk} {path : List ℕ} {r : Record} (a q : Record) → ActsKeepSound → Begins old i first disk path r → a ≡ r → q.number ≡ r.number → q.counter ≡ r.counter → q.making ≡ None → blobs_of before.files ≡ blobs_of disk.files
     → (MediaAreDurable first → MediaAreDurable before) → SameOthers disk.files path before.files → HasSets [] (before.files (medium_file path))
     → Effect IsOwn (λ image. HomeIs image a (blobs_of before.files) ⊎ HomeIs image q (blobs_of before.files)) before after → Effect IsOurs (IfDurable first (CutsPart old first (part.MediumMade path))) before after
 made-unnamed {first = first} {disk = disk} {before = before} {after = after} {path = path} {r = r} a q laws b is_record is_number counter none blobs calm others has effect =
@@ -244,15 +179,15 @@ made-unnamed {first = first} {disk = disk} {before = before} {after = after} {pa
       | inr home ↦ inr (made-covers laws b q is_number counter (inl none) number w act image stands is (subst (HomeIs image q) blobs home) beside made)
     ]) effect
 
--- What is done to one medium.
-
--- own files stay
-pub own-kept : {P : Files → Type 0} (before after : Disk) (path : List ℕ) → Effect (IsName (medium_file path)) P before after → KeepsFiles IsOwn before after
-own-kept before after path effect = keeps_by_effect (λ name own is. not-own path (subst IsOwn is own)) effect
-
--- and nothing more is pending in media
-pub one-durable : {P : Files → Type 0} (before after : Disk) (path : List ℕ) → AreBytes path → Effect (IsName (medium_file path)) P before after → IsDurable after (medium_file path) → MediaAreDurable before → MediaAreDurable after
-one-durable before after path bytes effect mine durable other are = elim (same_or_other path other) [
-  | inl same ↦ subst (λ o. IsDurable after (medium_file o)) (sym same) mine
-  | inr apart ↦ durable_kept {names = IsName (medium_file other)} (medium_file other) refl (keeps_by_effect (λ name is at. files-apart path other bytes are apart (sym is ∙ at)) effect) (durable other are)
-]
+-- all of it
+pub made-cut : {old i : Instance} {first disk named made after : Disk} {path : List ℕ} {r : Record} (home : KeptHome) (q : Record) → ActsKeepSound → Begins old i first disk path r → (MediaAreDurable first → MediaAreDurable disk)
+    → Effect IsOwn (λ image. HomeIs image i.home.«record» (blobs_of disk.files) ⊎ HomeIs image r (blobs_of disk.files)) disk named → IsHome named home → home.«record» ≡ r → blobs_of named.files ≡ blobs_of disk.files
+    → Effect (IsName (medium_file path)) (λ image. LeavesMade (named.may (medium_file path)) (image (medium_file path))) named made → IsDurable made (medium_file path) → HasSets [] (made.files (medium_file path))
+    → q.number ≡ r.number → q.counter ≡ r.counter → q.making ≡ None → Effect IsOwn (λ image. HomeIs image home.«record» (blobs_of made.files) ⊎ HomeIs image q (blobs_of made.files)) made after
+    → Effect IsOurs (IfDurable first (CutsPart old first (part.MediumMade path))) disk after
+made-cut {first = first} {disk = disk} {named = named} {made = made} {path = path} home q laws b calm naming stands is_record blobs making durable has is_number counter none unnaming =
+    let calmed : MediaAreDurable first → MediaAreDurable named = λ was. media-durable disk named naming (calm was) in
+    let same : SameMedia disk.files named.files = media-after disk named naming in
+    let beside : SameOthers disk.files path made.files = λ other are apart. making.others (medium_file other) (files-apart path other b.bytes are apart) ∙ same other are in
+    effect_then (made-named b calm naming) (effect_then (made-file home laws b stands is_record blobs calmed same making)
+    (made-unnamed home.«record» q laws b is_record is_number counter none ((home_files_kept (own-kept named made path making)).1 ∙ blobs) (λ was. one-durable named made path making durable (calmed was)) beside has unnaming))

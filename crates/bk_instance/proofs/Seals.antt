@@ -1,24 +1,22 @@
 -- A set is sealed behind those on a medium.
-use Rattle.std.proofs.Common.{◌≡◌, ◌≢◌, ◌⊎◌, inl, inr, ℕ, zero, suc, Bool, true, false, cond, List, [], ◌∷◌, ◌++◌, map, Option, None, Some, Ok, Err, refl, sym, ◌∙◌, ap, subst, arith}
-use Rattle.std.specs.Prelude.{not, option_map, slice_get, Result, IsErrAnd, IsErrOf}
-use Rattle.std.specs.Str.{bytes_eq}
-use Rattle.std.proofs.lemmas.Slice.Eq.{bytes_eq-Decides}
+use Rattle.std.proofs.Common.{◌≡◌, ◌⊎◌, inl, inr, ℕ, zero, suc, List, [], ◌∷◌, ◌++◌, map, Option, None, Some, Ok, Err, refl, sym, ◌∙◌, ap, subst}
+use Rattle.std.specs.Prelude.{option_map, slice_get, Result, IsErrAnd, IsErrOf}
 use Rattle.bk_bytes.specs.Field.{AreBytes}
 use Rattle.bk_device.specs.Calls.{ChangesNothing, CallsOn, LeavesSame}
-use Rattle.bk_device.specs.Compose.{effect_then, effect_widen, effect_of_sync, effect_of_nothing, keeps_by_effect}
+use Rattle.bk_device.specs.Compose.{effect_then, effect_widen, effect_of_sync, effect_of_nothing}
 use Rattle.bk_device.specs.Disk.{Files, Disk, IsDurable}
 use Rattle.bk_device.specs.Effects.{Effect, IsName, KeepsFiles}
-use Rattle.bk_device.specs.Names.{same_or_other}
-use Rattle.bk_home.specs.Home.{HomeIs, IsOwn, blobs_of, made_file, control_file, rows_file}
+use Rattle.bk_home.specs.Home.{HomeIs, IsOwn, blobs_of}
 use Rattle.bk_home.specs.Laws.{home_left, home_kept, home_files_kept}
-use Rattle.bk_machine.specs.Acts.{Act, done, set_sealed, with_slot}
+use Rattle.bk_machine.specs.Acts.{done, set_sealed, with_slot}
 use Rattle.bk_machine.specs.MayDo.{MayDo}
 use Rattle.bk_machine.specs.Same.{SameLogs}
+use Rattle.bk_machine.specs.SettledLaws.{logs-same}
 use Rattle.bk_machine.specs.Sound.{IsSound}
 use Rattle.bk_machine.specs.World.{World}
 use Rattle.bk_media.specs.declared.error.LoadError.{LoadError as MediumError}
 use Rattle.bk_media.specs.declared.error.LoadError.TheVariants as load
-use Rattle.bk_media.specs.Laws.{names_differ, sets_are, sets_read, added_read}
+use Rattle.bk_media.specs.Laws.{sets_are, sets_read, added_read}
 use Rattle.bk_media.specs.Media.{HasSets, HasAdded, LeavesAdded, read_medium, found_at, sets_of, slot_in}
 use Rattle.bk_media.specs.Names.{medium_file}
 use Rattle.bk_kept.specs.Keeps.{Keeps}
@@ -31,56 +29,18 @@ use Rattle.bk_set.specs.Found.{found}
 use Rattle.bk_set.specs.FoundLaws.{set_found}
 use Rattle.bk_set.specs.Spelling.{set_bytes}
 use Rattle.bk_world.specs.declared.header.Header.{Header}
-use Rattle.bk_world.specs.Medium.{Slot, Reading, not_media, readable, medium, medium_at, with_medium, without_medium}
+use Rattle.bk_world.specs.Medium.{Slot, Reading, not_media, readable, medium, medium_at}
 use Rattle.bk_instance.specs.declared.error.ExecuteError.{ExecuteError}
 use Rattle.bk_instance.specs.declared.error.ExecuteError.TheVariants.{Broken}
 use Rattle.bk_instance.specs.Errors.{medium_error}
 use Rattle.bk_instance.specs.declared.instance.Instance.{Instance}
 use Rattle.bk_instance.specs.Media.{KeepsMedia, MediaAreDurable, IfDurable}
-use Rattle.bk_instance.specs.Stands.{AreMade, nothing, one_more, Covers, HoldsWorld, IsReady, IsStored, StandsFor, IsOurs}
+use Rattle.bk_instance.specs.Stands.{AreMade, Covers, HoldsWorld, IsReady, IsStored, StandsFor, IsOurs}
 use Rattle.bk_instance.specs.Parts.{CutsPart, DoesPart, IsNoPart}
-use Rattle.bk_instance.specs.StandsLaws.{covers-left}
+use Rattle.bk_instance.specs.MediumLaws.{SameOthers, files-apart, media-at, not-other, with_medium-other, with_medium-own}
+use Rattle.bk_instance.specs.StandsLaws.{ActsKeepSound, covers-left, covers-ready, made-same, not-own, one-durable, own-kept}
 use Rattle.bk_instance.specs.RestLaws.{stands-nothing, stored-nothing, calm-nothing}
 use Rattle.bk_instance.specs.HoldsLaws.{covers-either, holds-none, holds-now, media-behind}
-
--- Names.
-
-first-of : List ℕ → ℕ
-first-of [] = 0
-first-of (c ∷ cs) = c
-
--- no medium has one of the instance's own names
-not-own : (path : List ℕ) → IsOwn (medium_file path) → ⊥
-unfolding medium_file first-of
-not-own path own = elim own [
-  | inl made ↦ differ (first-of (medium_file path)) (first-of made_file) refl refl (ap first-of made)
-  | inr next ↦ elim next [
-    | inl control ↦ differ (first-of (medium_file path)) (first-of control_file) refl refl (ap first-of control)
-    | inr rows ↦ differ (first-of (medium_file path)) (first-of rows_file) refl refl (ap first-of rows)
-  ]
-]
-  where
-    differ : (n m : ℕ) → n ≡ 109 → m ≡ 115 → n ≡ m → ⊥
-    differ n m a b same = absurd (omega (arith, a, b, same))
-
--- A medium at a path.
-
-other-stays : (media : List (List ℕ × Reading)) (path other : List ℕ) → bytes_eq path other ≡ false → medium_at (without_medium media path) other ≡ medium_at media other
-other-stays [] path other apart = refl
-other-stays (m ∷ media) path other apart = by (other-stays media path other apart) (bytes_eq m.0 path) refl
-  where
-    by : medium_at (without_medium media path) other ≡ medium_at media other → (t : Bool) → bytes_eq m.0 path ≡ t
-        → medium_at (cond (not t) (m ∷ without_medium media path) (without_medium media path)) other ≡ cond (bytes_eq m.0 other) (Some m.1) (medium_at media other)
-    by later true is =
-        let same : m.0 ≡ path = (bytes_eq-Decides m.0 path).0 is in
-        later ∙ sym (ap (λ p. cond (bytes_eq p other) (Some m.1) (medium_at media other)) same ∙ ap (λ t. cond t (Some m.1) (medium_at media other)) apart)
-    by later false is = ap (λ r. cond (bytes_eq m.0 other) (Some m.1) r) later
-
-other-there : (media : List (List ℕ × Reading)) (path other : List ℕ) (reading : Reading) → bytes_eq path other ≡ false → medium_at (with_medium media path reading) other ≡ medium_at media other
-other-there media path other reading apart = ap (λ t. cond t (Some reading) (medium_at (without_medium media path) other)) apart ∙ other-stays media path other apart
-
-own-there : (media : List (List ℕ × Reading)) (path : List ℕ) (reading : Reading) → medium_at (with_medium media path reading) path ≡ Some reading
-own-there media path reading = ap (λ t. cond t (Some reading) (medium_at (without_medium media path) path)) ((bytes_eq-Decides path path).1 refl)
 
 -- What is found there.
 
@@ -121,55 +81,24 @@ sets-found sets a b (suc i) has other = ap (λ s. option_map found (slice_get s 
 
 -- The media of a world.
 
--- the same media but this one
-abbrev pub SameBeside : List ℕ → Files → Files → Type 0
-SameBeside path files image = (other : List ℕ) → AreBytes other → medium_file other ≢ medium_file path → image (medium_file other) ≡ files (medium_file other)
-
-apart-name : (path other : List ℕ) → AreBytes path → AreBytes other → bytes_eq path other ≡ false → medium_file other ≢ medium_file path
-apart-name path other bytes other_bytes differ same =
-    let path_is : path ≡ other = names_differ path other bytes other_bytes (sym same) in
-    let yes : bytes_eq path other ≡ true = (bytes_eq-Decides path other).1 path_is in
-    cc
-
--- the medium at a path becomes another, and the others stay
-media-beside : (w v : World) (files image : Files) (path : List ℕ) → AreBytes path → KeepsMedia w None files → SameBeside path files image
-    → medium_at v.media path ≡ read_medium (image (medium_file path)) → ((other : List ℕ) → bytes_eq path other ≡ false → medium_at v.media other ≡ medium_at w.media other)
-    → ((body : SetBody) → Carries w.history body → Carries v.history body) → ((p : ℕ) (body : SetBody) → found_at (image (medium_file path)) p ≡ Some (Holds body) → Carries v.history body) → KeepsMedia v None image
-media-beside w v files image path path_bytes keeps others own beside carried holds_own = record {
-  read = λ other bytes. read other bytes (bytes_eq path other) refl;
-  carried = λ other p body bytes is. holds other p body bytes is (bytes_eq path other) refl;
-}
-  where
-    read : (other : List ℕ) → AreBytes other → (t : Bool) → bytes_eq path other ≡ t → medium_at v.media other ≡ read_medium (image (medium_file other))
-    read other bytes true is =
-        let same : path ≡ other = (bytes_eq-Decides path other).0 is in
-        subst (λ p. medium_at v.media p ≡ read_medium (image (medium_file p))) same own
-    read other bytes false is =
-        beside other is ∙ keeps.read other bytes ∙ ap read_medium (sym (others other bytes (apart-name path other path_bytes bytes is)))
-
-    holds : (other : List ℕ) (p : ℕ) (b : SetBody) → AreBytes other → found_at (image (medium_file other)) p ≡ Some (Holds b) → (t : Bool) → bytes_eq path other ≡ t → Carries v.history b
-    holds other p b bytes is true same_bytes =
-        let same : path ≡ other = (bytes_eq-Decides path other).0 same_bytes in
-        holds_own p b (subst (λ q. found_at (image (medium_file q)) p ≡ Some (Holds b)) (sym same) is)
-    holds other p b bytes is false apart =
-        carried b (keeps.carried other p b bytes (ap (λ f. found_at f p) (sym (others other bytes (apart-name path other path_bytes bytes apart))) ∙ is))
-
 -- the sets stay
-media-stay : (w : World) (files image : Files) (path : List ℕ) (sets : List (List ℕ)) → AreBytes path → KeepsMedia w None files → SameBeside path files image → HasSets sets (files (medium_file path)) → HasSets sets (image (medium_file path)) → KeepsMedia w None image
+media-stay : (w : World) (files image : Files) (path : List ℕ) (sets : List (List ℕ)) → AreBytes path → KeepsMedia w None files → SameOthers files path image → HasSets sets (files (medium_file path)) → HasSets sets (image (medium_file path)) → KeepsMedia w None image
 media-stay w files image path sets bytes keeps others has there =
-    media-beside w w files image path bytes keeps others
-    (keeps.read path bytes ∙ sets_read sets (files (medium_file path)) has ∙ sym (sets_read sets (image (medium_file path)) there)) (λ other apart. refl) (λ body c. c)
+    media-at w w None files image path (inl refl) keeps others
+    (keeps.read path bytes ∙ sets_read sets (files (medium_file path)) has ∙ sym (sets_read sets (image (medium_file path)) there)) (λ other apart. refl)
+    (λ other p body are is. keeps.carried other p body are is)
     (λ p body is. keeps.carried path p body bytes (sym (sets-found sets (files (medium_file path)) (image (medium_file path)) p has there) ∙ is))
 
 -- or there is one more
-media-sealed : (w : World) (files image : Files) (path : List ℕ) (sets : List (List ℕ)) (body : SetBody) → AreBytes path → KeepsMedia w None files → SameBeside path files image → HasSets sets (files (medium_file path)) → HasAdded sets body (image (medium_file path))
+media-sealed : (w : World) (files image : Files) (path : List ℕ) (sets : List (List ℕ)) (body : SetBody) → AreBytes path → KeepsMedia w None files → SameOthers files path image → HasSets sets (files (medium_file path)) → HasAdded sets body (image (medium_file path))
     → Carries w.history body → KeepsMedia (done w (set_sealed path body.header)) None image
 unfolding done
 media-sealed w files image path sets body bytes keeps others has added carries =
     let was : medium_at w.media path ≡ Some (medium (map slot_in sets)) = keeps.read path bytes ∙ sets_read sets (files (medium_file path)) has in
-    media-beside w (done w (set_sealed path body.header)) files image path bytes keeps others
-    (own-there w.media path (with_slot (medium_at w.media path) (readable body.header)) ∙ ap (λ (r : Option Reading). Some (with_slot r (readable body.header))) was ∙ sym (added_read sets body (image (medium_file path)) added))
-    (λ other apart. other-there w.media path other (with_slot (medium_at w.media path) (readable body.header)) apart) (λ b c. c)
+    media-at w (done w (set_sealed path body.header)) None files image path (inl refl) keeps others
+    (with_medium-own w.media path (with_slot (medium_at w.media path) (readable body.header)) ∙ ap (λ (r : Option Reading). Some (with_slot r (readable body.header))) was ∙ sym (added_read sets body (image (medium_file path)) added))
+    (λ other apart. with_medium-other w.media path other (with_slot (medium_at w.media path) (readable body.header)) (not-other path other apart))
+    (λ other p b are is. keeps.carried other p b are is)
     (λ p b is. elim (added-holds sets body b (files (medium_file path)) (image (medium_file path)) p has added is) [
       | inl found_before ↦ keeps.carried path p b bytes found_before
       | inr new ↦ subst (Carries w.history) (sym new) carries
@@ -177,51 +106,13 @@ media-sealed w files image path sets body bytes keeps others has added carries =
 
 -- The world behind the act.
 
--- what the machine's laws say of a set that is sealed
-pub record SealLaws : Type 0 where
-  pub sound : (w : World) (act : Act) → IsSound w → MayDo w act → IsSound (done w act)
-  pub then : (a b c : World) → SameLogs a b → SameLogs b c → SameLogs a c
-  pub same : (w : World) (path : List ℕ) (header : Header) → SameLogs w (done w (set_sealed path header))
-
-made-beside : {blobs : List (List ℕ)} {w : World} (v : World) → SealLaws → AreMade blobs w → SameLogs w v → AreMade blobs v
-made-beside v laws (nothing w none) same = nothing v (same.databases ∙ none)
-made-beside v laws (one_more front old w stored act made sound is is_done behind) same =
-    one_more front old v stored act made sound is is_done (laws.then (done old act) w v behind same)
+same-sealed : (w : World) (path : List ℕ) (header : Header) → SameLogs w (done w (set_sealed path header))
+unfolding done
+same-sealed w path header = logs-same w (done w (set_sealed path header)) refl refl
 
 keeps-sealed : (w : World) (k : Kept) (path : List ℕ) (header : Header) → Keeps w k → Keeps (done w (set_sealed path header)) k
 unfolding done
 keeps-sealed w k path header keeps = record { number = keeps.number; counter = keeps.counter; session = keeps.session; sessions = keeps.sessions; databases = keeps.databases; kept = keeps.kept }
-
--- own files with the same record and blobs, and the media of the world behind: a crash leaves that world
-covers-behind : (number : ℕ) (laws : SealLaws) (i : Instance) (disk : Disk) (w : World) (image : Files) (path : List ℕ) (body : SetBody) → IsReady i → StandsFor i disk w → HoldsWorld disk.files w → HomeIs image i.home.«record» (blobs_of disk.files)
-    → MayDo w (set_sealed path body.header) → KeepsMedia (done w (set_sealed path body.header)) None image → Covers number image (done w (set_sealed path body.header))
-covers-behind number laws i disk w image path body ready stands holds home may media =
-    let keeps : Keeps (done w (set_sealed path body.header)) i.kept = keeps-sealed w i.kept path body.header stands.keeps in
-    record {
-      sound = laws.sound w (set_sealed path body.header) stands.sound may;
-      «record» = i.home.«record»;
-      blobs = blobs_of disk.files;
-      holds = inr home;
-      instance = keeps.number ∙ ready.number;
-      no_less = omega (arith, keeps.counter, ready.no_less);
-      no_more = omega (arith, keeps.counter, ready.no_more);
-      made = made-beside (done w (set_sealed path body.header)) laws holds.made (laws.same w path body.header);
-      media = subst (λ making. KeepsMedia (done w (set_sealed path body.header)) making image) (sym ready.none) media;
-    }
-
--- and where the media are those that were, the world before
-covers-before : (number : ℕ) (i : Instance) (disk : Disk) (w : World) (image : Files) → IsReady i → StandsFor i disk w → HoldsWorld disk.files w → HomeIs image i.home.«record» (blobs_of disk.files) → KeepsMedia w None image → Covers number image w
-covers-before number i disk w image ready stands holds home media = record {
-  sound = stands.sound;
-  «record» = i.home.«record»;
-  blobs = blobs_of disk.files;
-  holds = inr home;
-  instance = stands.keeps.number ∙ ready.number;
-  no_less = omega (arith, stands.keeps.counter, ready.no_less);
-  no_more = omega (arith, stands.keeps.counter, ready.no_more);
-  made = holds.made;
-  media = subst (λ making. KeepsMedia w making image) (sym ready.none) media;
-}
 
 -- Calls.
 
@@ -243,33 +134,32 @@ pub record SealsOn (i : Instance) (a c : Disk) (path : List ℕ) : Type 0 where
   pub bytes : AreBytes path
   pub has : HasSets (sets_of (c.files (medium_file path))) (c.files (medium_file path))
 
-own-stays : {P : Files → Type 0} (c d : Disk) (path : List ℕ) → Effect (IsName (medium_file path)) P c d → KeepsFiles IsOwn c d
-own-stays c d path effect = keeps_by_effect (λ name own is. not-own path (subst IsOwn is own)) effect
-
-cuts-added : (laws : SealLaws) (i : Instance) (a c : Disk) (path : List ℕ) (body : SetBody) (image : Files) → SealsOn i a c path → LeavesAdded (sets_of (c.files (medium_file path))) body (image (medium_file path))
-    → HomeIs image i.home.«record» (blobs_of c.files) → (MediaAreDurable a → SameBeside path c.files image) → IfDurable a (CutsPart i a (SetSealed path body)) image
+cuts-added : (laws : ActsKeepSound) (i : Instance) (a c : Disk) (path : List ℕ) (body : SetBody) (image : Files) → SealsOn i a c path → LeavesAdded (sets_of (c.files (medium_file path))) body (image (medium_file path))
+    → HomeIs image i.home.«record» (blobs_of c.files) → (MediaAreDurable a → SameOthers c.files path image) → IfDurable a (CutsPart i a (SetSealed path body)) image
 cuts-added laws i a c path body image on here home others durable number w act stands is =
     let now : StandsFor i c w = stands-nothing i a c w on.call stands in
     let holds : HoldsWorld c.files w = holds-now i.waiting c.files w on.none now.holds in
     elim here [
-      | inl same ↦ inl (covers-either i.waiting number image w (covers-before number i c w image on.ready now holds home (media-stay w c.files image path (sets_of (c.files (medium_file path))) on.bytes holds.media (others durable) on.has same)))
+      | inl same ↦ inl (covers-either i.waiting number image w (covers-ready number i w (blobs_of c.files) image on.ready now.sound now.keeps holds.made home (media-stay w c.files image path (sets_of (c.files (medium_file path))) on.bytes holds.media (others durable) on.has same)))
       | inr added ↦
-          let may : MayDo w (set_sealed path body.header) = subst (MayDo w) is.is is.may in
-          inr (subst (λ x. Covers number image (done w x)) (sym is.is) (covers-behind number laws i c w image path body on.ready now holds home may
+          let behind : World = done w (set_sealed path body.header) in
+          let sound : IsSound behind = laws w (set_sealed path body.header) now.sound (subst (MayDo w) is.is is.may) in
+          let made : AreMade (blobs_of c.files) behind = made-same behind holds.made (same-sealed w path body.header) in
+          inr (subst (λ x. Covers number image (done w x)) (sym is.is) (covers-ready number i behind (blobs_of c.files) image on.ready sound (keeps-sealed w i.kept path body.header now.keeps) made home
           (media-sealed w c.files image path (sets_of (c.files (medium_file path))) body on.bytes holds.media (others durable) on.has added is.carries)))
     ]
 
-added-at : (laws : SealLaws) (i : Instance) (a c d : Disk) (path : List ℕ) (body : SetBody) → SealsOn i a c path
+added-at : (laws : ActsKeepSound) (i : Instance) (a c d : Disk) (path : List ℕ) (body : SetBody) → SealsOn i a c path
     → Effect (IsName (medium_file path)) (λ image. LeavesAdded (sets_of (c.files (medium_file path))) body (image (medium_file path))) c d → Effect IsOurs (IfDurable a (CutsPart i a (SetSealed path body))) a d
 added-at laws i a c d path body on effect =
     effect_then (seal-nothing i a c path body on.ready on.stored on.call)
     (effect_widen (λ name is. inr (path, on.bytes, is))
     (λ image here rest. cuts-added laws i a c path body image on here
     (home_left image (stored-nothing i a c on.call on.stored) (λ name own. rest name (λ is. not-own path (subst IsOwn is own)) (inl own)))
-    (λ durable other are apart. calm-nothing on.call durable other are (image (medium_file other)) (rest (medium_file other) apart (inr (other, are, refl))))) effect)
+    (λ durable other are apart. calm-nothing on.call durable other are (image (medium_file other)) (rest (medium_file other) (files-apart path other on.bytes are apart) (inr (other, are, refl))))) effect)
 
 -- a set is added: a crash leaves the world before, or the one behind
-pub seal-added : (laws : SealLaws) (i : Instance) (a c d : Disk) (path name : List ℕ) (body : SetBody) → SealsOn i a c path → name ≡ medium_file path
+pub seal-added : (laws : ActsKeepSound) (i : Instance) (a c d : Disk) (path name : List ℕ) (body : SetBody) → SealsOn i a c path → name ≡ medium_file path
     → Effect (IsName name) (λ image. LeavesAdded (sets_of (c.files name)) body (image name)) c d → Effect IsOurs (IfDurable a (CutsPart i a (SetSealed path body))) a d
 seal-added laws i a c d path name body on is_name effect =
     added-at laws i a c d path body on (subst (λ n. Effect (IsName n) (λ image. LeavesAdded (sets_of (c.files n)) body (image n)) c d) is_name effect)
@@ -279,25 +169,22 @@ seal-added laws i a c d path name body on is_name effect =
 -- the medium has the set, and nothing else was changed
 pub record IsAdded (c d : Disk) (path : List ℕ) (body : SetBody) : Type 0 where
   pub own : KeepsFiles IsOwn c d
-  pub beside : SameBeside path c.files d.files
+  pub beside : SameOthers c.files path d.files
   pub calm : MediaAreDurable c → MediaAreDurable d
   pub added : HasAdded (sets_of (c.files (medium_file path))) body (d.files (medium_file path))
 
-added-by : {P : Files → Type 0} (c d : Disk) (path : List ℕ) (body : SetBody) → Effect (IsName (medium_file path)) P c d → HasAdded (sets_of (c.files (medium_file path))) body (d.files (medium_file path)) → IsDurable d (medium_file path) → IsAdded c d path body
-added-by c d path body effect added durable = record {
-  own = own-stays c d path effect;
-  beside = λ other are apart. effect.others (medium_file other) apart;
-  calm = λ calm other are. elim (same_or_other (medium_file path) (medium_file other)) [
-    | inl same ↦ subst (IsDurable d) (sym same) durable
-    | inr apart ↦ λ content may. calm other are content (effect.others_left (medium_file other) apart content may) ∙ sym (effect.others (medium_file other) apart)
-  ];
+added-by : {P : Files → Type 0} (c d : Disk) (path : List ℕ) (body : SetBody) → AreBytes path → Effect (IsName (medium_file path)) P c d → HasAdded (sets_of (c.files (medium_file path))) body (d.files (medium_file path)) → IsDurable d (medium_file path) → IsAdded c d path body
+added-by c d path body bytes effect added durable = record {
+  own = own-kept c d path effect;
+  beside = λ other are apart. effect.others (medium_file other) (files-apart path other bytes are apart);
+  calm = one-durable c d path effect durable;
   added = added;
 }
 
-pub seal-done : (c d : Disk) (path name : List ℕ) (body : SetBody) → name ≡ medium_file path → Effect (IsName name) (λ image. LeavesAdded (sets_of (c.files name)) body (image name)) c d → HasAdded (sets_of (c.files name)) body (d.files name)
+pub seal-done : (c d : Disk) (path name : List ℕ) (body : SetBody) → AreBytes path → name ≡ medium_file path → Effect (IsName name) (λ image. LeavesAdded (sets_of (c.files name)) body (image name)) c d → HasAdded (sets_of (c.files name)) body (d.files name)
     → IsDurable d name → IsAdded c d path body
-seal-done c d path name body is_name effect added durable =
-    added-by c d path body (subst (λ n. Effect (IsName n) (λ image. LeavesAdded (sets_of (c.files n)) body (image n)) c d) is_name effect)
+seal-done c d path name body bytes is_name effect added durable =
+    added-by c d path body bytes (subst (λ n. Effect (IsName n) (λ image. LeavesAdded (sets_of (c.files n)) body (image n)) c d) is_name effect)
     (subst (λ n. HasAdded (sets_of (c.files n)) body (d.files n)) is_name added) (subst (IsDurable d) is_name durable)
 
 pub seal-stored : (i : Instance) (a c d : Disk) (path : List ℕ) (body : SetBody) → SealsOn i a c path → IsAdded c d path body → IsStored d i
@@ -306,21 +193,21 @@ seal-stored i a c d path body on is = home_kept is.own (stored-nothing i a c on.
 pub seal-calm : (i : Instance) (a c d : Disk) (path : List ℕ) (body : SetBody) → SealsOn i a c path → IsAdded c d path body → MediaAreDurable a → MediaAreDurable d
 seal-calm i a c d path body on is calm = is.calm (calm-nothing on.call calm)
 
-stands-behind : (laws : SealLaws) (i : Instance) (a c d : Disk) (path : List ℕ) (body : SetBody) (w : World) → SealsOn i a c path → IsAdded c d path body → StandsFor i a w → MayDo w (set_sealed path body.header) → Carries w.history body
+stands-behind : (laws : ActsKeepSound) (i : Instance) (a c d : Disk) (path : List ℕ) (body : SetBody) (w : World) → SealsOn i a c path → IsAdded c d path body → StandsFor i a w → MayDo w (set_sealed path body.header) → Carries w.history body
     → StandsFor i d (done w (set_sealed path body.header))
 stands-behind laws i a c d path body w on is stands may carries =
     let now : StandsFor i c w = stands-nothing i a c w on.call stands in
     let holds : HoldsWorld c.files w = holds-now i.waiting c.files w on.none now.holds in
     record {
-      sound = laws.sound w (set_sealed path body.header) now.sound may;
+      sound = laws w (set_sealed path body.header) now.sound may;
       keeps = keeps-sealed w i.kept path body.header now.keeps;
       holds = holds-none i.waiting d.files (done w (set_sealed path body.header)) on.none (record {
-        made = subst (λ blobs. AreMade blobs (done w (set_sealed path body.header))) (sym (home_files_kept is.own).1) (made-beside (done w (set_sealed path body.header)) laws holds.made (laws.same w path body.header));
+        made = subst (λ blobs. AreMade blobs (done w (set_sealed path body.header))) (sym (home_files_kept is.own).1) (made-same (done w (set_sealed path body.header)) holds.made (same-sealed w path body.header));
         media = media-sealed w c.files d.files path (sets_of (c.files (medium_file path))) body on.bytes holds.media is.beside on.has is.added carries;
       });
     }
 
-pub seal-does : (laws : SealLaws) (i : Instance) (a c d : Disk) (path : List ℕ) (body : SetBody) → SealsOn i a c path → IsAdded c d path body → DoesPart i a (SetSealed path body) i d
+pub seal-does : (laws : ActsKeepSound) (i : Instance) (a c d : Disk) (path : List ℕ) (body : SetBody) → SealsOn i a c path → IsAdded c d path body → DoesPart i a (SetSealed path body) i d
 seal-does laws i a c d path body on is w act stands part =
     subst (λ x. StandsFor i d (done w x)) (sym part.is) (stands-behind laws i a c d path body w on is stands (subst (MayDo w) part.is part.may) part.carries)
 

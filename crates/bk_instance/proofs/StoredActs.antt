@@ -9,11 +9,12 @@ use Rattle.bk_device.specs.Effects.{Effect}
 use Rattle.bk_home.specs.Home.{HomeIs, IsOwn, blobs_of}
 use Rattle.bk_machine.specs.Acts.{Act, done, says, goes_online, where_found}
 use Rattle.bk_machine.specs.MayDo.{MayDo}
-use Rattle.bk_machine.specs.Same.{SameLogs}
+use Rattle.bk_machine.specs.SettledLaws.{logs-same}
 use Rattle.bk_machine.specs.Sound.{IsSound, SetIn}
 use Rattle.bk_machine.specs.World.{World, Database, database_named}
 use Rattle.bk_waiting.specs.Waiting.{IsJoined, Joins, WaitsFor, joined}
 use Rattle.bk_plans.specs.declared.parts.Part.TheVariants as part
+use Rattle.bk_kept.specs.declared.kept.Kept.{Kept}
 use Rattle.bk_kept.specs.Keeps.{Keeps}
 use Rattle.bk_kept.specs.Stored.{IsDone, drawn_by}
 use Rattle.bk_world.specs.declared.header.Header.{Header}
@@ -23,13 +24,12 @@ use Rattle.bk_instance.specs.Media.{KeepsMedia, MediaAreDurable, IfDurable}
 use Rattle.bk_instance.specs.Stands.{AreMade, one_more, Covers, CoversBy, HoldsBehind, IsReady, StandsFor, IsOurs}
 use Rattle.bk_instance.specs.Parts.{CutsPart, DoesPart}
 use Rattle.bk_instance.specs.MediaLaws.{SameMedia, media-in, media-on}
-use Rattle.bk_instance.specs.StandsLaws.{own-widens, covers-now}
+use Rattle.bk_instance.specs.StandsLaws.{ActsKeepSound, own-widens, covers-now}
 use Rattle.bk_instance.specs.HoldsLaws.{holds-none, media-as}
 
 -- what the machine's acts keep
 pub record ActLaws : Type 0 where
-  pub sound : (w : World) (act : Act) → IsSound w → MayDo w act → IsSound (done w act)
-  pub reflexive : (w : World) → SameLogs w w
+  pub sound : ActsKeepSound
   pub sets : (w : World) (path : List ℕ) (header : Header) → IsSound w → SetIn w path header → (act : Act) → MayDo w act → log_below (done w act).history header.path header.last ≡ log_below w.history header.path header.last
   -- what waits is joined
   pub more : (waiting : StoredAct) (old w : World) (stored : StoredAct) (act : Act) → IsSound old → IsSound w → WaitsFor waiting old w → IsDone w stored act → Joins (Some waiting) stored → IsJoined (Some waiting) old w stored act
@@ -65,7 +65,7 @@ pub record DoneIn (waiting : Option StoredAct) (stored : StoredAct) (act : Act) 
 pub done-in : (laws : ActLaws) (waiting : Option StoredAct) (files : Files) (w : World) (stored : StoredAct) (act : Act) → IsSound w → HoldsBehind waiting files w → IsDone w stored act → IsAct (joined waiting stored) → Joins waiting stored
     → DoneIn waiting stored act w files
 done-in laws None files w stored act sound holds is is_act joins = record {
-  made = one_more (blobs_of files) w (done w act) stored act holds.made sound is_act is (laws.reflexive (done w act));
+  made = one_more (blobs_of files) w (done w act) stored act holds.made sound is_act is (logs-same (done w act) (done w act) refl refl);
   media = stored-keeps laws w stored act files sound is holds.media;
 }
 done-in laws (Some waiting) files w stored act sound holds is is_act joins =
@@ -84,6 +84,10 @@ pub record TakesIn (i j : Instance) (stored : StoredAct) (bytes : List ℕ) : Ty
   pub number : j.kept.number ≡ i.kept.number
   pub counter : j.kept.counter ≡ i.kept.counter + drawn_by stored
   pub reserved : i.kept.counter + drawn_by stored ≤ i.home.«record».counter
+
+-- what it draws is reserved
+pub reserves-drawn : (old i : Instance) (n : ℕ) (stored : StoredAct) → old.kept.counter + n ≤ i.home.«record».counter → i.kept ≡ old.kept → n ≡ drawn_by stored → i.kept.counter + drawn_by stored ≤ i.home.«record».counter
+reserves-drawn old i n stored enough same drawn = omega (arith, enough, ap (λ (k : Kept). k.counter) same, drawn)
 
 stored-in : (laws : ActLaws) (i j : Instance) (disk : Disk) (w : World) (stored : StoredAct) (act : Act) (bytes : List ℕ) → TakesIn i j stored bytes → StandsFor i disk w → IsDone w stored act → DoneIn i.waiting stored act w disk.files
 stored-in laws i j disk w stored act bytes takes stands is = done-in laws i.waiting disk.files w stored act stands.sound stands.holds is takes.is_act takes.joins

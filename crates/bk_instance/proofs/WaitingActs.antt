@@ -8,18 +8,17 @@ use Rattle.bk_device.specs.Disk.{Files, Disk}
 use Rattle.bk_device.specs.Effects.{Effect}
 use Rattle.bk_home.specs.Home.{HomeIs, IsOwn, blobs_of}
 use Rattle.bk_machine.specs.Acts.{Act, done}
-use Rattle.bk_machine.specs.MayDo.{MayDo}
 use Rattle.bk_machine.specs.Sound.{IsSound}
 use Rattle.bk_machine.specs.World.{World}
 use Rattle.bk_kept.specs.Keeps.{Keeps}
 use Rattle.bk_kept.specs.Stored.{IsDone, drawn_by}
 use Rattle.bk_waiting.specs.Waiting.{IsJoined, IsSaid, Joins, MayJoin, WaitsFor, joined}
 use Rattle.bk_instance.specs.declared.instance.Instance.{Instance}
-use Rattle.bk_instance.specs.Media.{KeepsMedia, IfDurable}
+use Rattle.bk_instance.specs.Media.{IfDurable}
 use Rattle.bk_instance.specs.Stands.{AreMade, one_more, HoldsBefore, HoldsBehind, IsReady, StandsFor, IsOurs}
 use Rattle.bk_instance.specs.Parts.{DoesInMemory, Stays}
 use Rattle.bk_instance.specs.MediaLaws.{SameMedia, media-in}
-use Rattle.bk_instance.specs.StandsLaws.{covers-now, covers-old, own-widens, ready-fits}
+use Rattle.bk_instance.specs.StandsLaws.{ActsKeepSound, covers-now, covers-ready, own-widens}
 use Rattle.bk_instance.specs.HoldsLaws.{covers-either, holds-none, media-behind}
 
 -- What waits is stored.
@@ -65,8 +64,8 @@ flushed-crash i before after bytes ready in_it effect =
     own-widens before before after (λ durable. durable) (λ image here same number w stands. elim here [
       | inl home ↦ covers-now number i before w image ready stands home same
       | inr home ↦ covers-either i.waiting number image w
-          (covers-old number i w (blobs_of before.files ++ bytes ∷ []) image i.home.«record» stands.sound stands.keeps.number stands.keeps.counter (made-behind i before w bytes in_it stands) (ready-fits i ready) home
-          (subst (λ making. KeepsMedia w making image) (sym ready.none) (media-in w None before.files image same (media-behind i.waiting before.files w stands.holds))))
+          (covers-ready number i w (blobs_of before.files ++ bytes ∷ []) image ready stands.sound stands.keeps (made-behind i before w bytes in_it stands) home
+          (media-in w None before.files image same (media-behind i.waiting before.files w stands.holds)))
     ]) effect
 
 -- nothing waited
@@ -77,7 +76,7 @@ none-stands i j disk w same stands = subst (λ x. StandsFor x disk w) (sym same)
 
 -- what the laws say of acts that wait
 pub record WaitLaws : Type 0 where
-  pub sound : (w : World) (act : Act) → IsSound w → MayDo w act → IsSound (done w act)
+  pub sound : ActsKeepSound
   pub first : (w : World) (stored : StoredAct) (act : Act) → IsSound w → IsDone w stored act → MayJoin None stored → WaitsFor stored w (done w act)
   pub more : (waiting : StoredAct) (old w : World) (stored : StoredAct) (act : Act) → IsSound old → IsSound w → WaitsFor waiting old w → IsDone w stored act → Joins (Some waiting) stored → IsJoined (Some waiting) old w stored act
 

@@ -9,6 +9,8 @@ use Rattle.bk_media.specs.declared.error.LoadError.{LoadError as MediumError}
 use Rattle.bk_media.specs.declared.error.LoadError.TheVariants as medium
 use Rattle.bk_media.specs.declared.error.MakeError.{MakeError}
 use Rattle.bk_media.specs.declared.error.MakeError.TheVariants as make
+use Rattle.bk_shown.specs.declared.error.TakeError.{TakeError}
+use Rattle.bk_shown.specs.declared.error.TakeError.TheVariants as take
 use Rattle.bk_instance.specs.declared.error.ExecuteError.{ExecuteError}
 use Rattle.bk_instance.specs.declared.error.ExecuteError.TheVariants.{Fault, NoMemory, Broken}
 
@@ -21,6 +23,10 @@ home_error home.NoMemory = NoMemory
 abbrev pub apply_error : ApplyError → ExecuteError
 apply_error apply.Unfit = Broken
 apply_error apply.NoMemory = NoMemory
+
+abbrev pub taken_error : TakeError → ExecuteError
+taken_error take.Unfit = Broken
+taken_error take.NoMemory = NoMemory
 
 abbrev pub made_error : MakeError → ExecuteError
 made_error make.Fault = Fault

@@ -3,6 +3,7 @@ pub mod Errors
 pub mod HoldsLaws
 pub mod Media
 pub mod MediaLaws
+pub mod MediumLaws
 pub mod PartLaws
 pub mod Parts
 pub mod RestLaws

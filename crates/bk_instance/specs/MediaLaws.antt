@@ -119,5 +119,3 @@ media-on w v making files same stay media = record {
   read = λ path bytes. ap (λ m. medium_at m path) same ∙ media.read path bytes;
   carried = λ path p body bytes is. carries-same w.history v.history body (stay path body.header (set-in w making files path p body media bytes is)) (media.carried path p body bytes is);
 }
-
--- Files with the same sets.

@@ -14,6 +14,7 @@ use Rattle.bk_waiting.specs.Lagging.{Lags}
 use Rattle.bk_machine.specs.World.{World}
 use Rattle.bk_media.specs.Names.{medium_file}
 use Rattle.bk_kept.specs.Keeps.{Keeps}
+use Rattle.bk_kept.specs.Numbers.{LeaveNumbers}
 use Rattle.bk_kept.specs.Stored.{IsDone}
 use Rattle.bk_instance.specs.declared.instance.Instance.{Instance}
 use Rattle.bk_instance.specs.Media.{KeepsMedia}
@@ -81,13 +82,14 @@ pub record CutIn (number : ℕ) (w : World) (acts : List Act) (files : Files) : 
 
 -- An instance.
 
--- what an instance keeps agrees with its record, between two statements
+-- What an instance keeps agrees with its record, between two statements, and its databases leave numbers for what is never refused.
 pub record IsReady (i : Instance) : Type 0 where
   pub fit : i.home.failed ≡ false
   pub number : i.kept.number ≡ i.home.«record».number
   pub no_less : i.kept.counter ≤ i.home.«record».counter
   pub no_more : i.home.«record».counter ≤ i.kept.counter + 1024
   pub none : i.home.«record».making ≡ None
+  pub numbers : LeaveNumbers i.kept.databases.items
 
 -- nothing is pending in its own files
 abbrev pub IsStored : Disk → Instance → Type 0

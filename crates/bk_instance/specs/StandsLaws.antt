@@ -1,16 +1,19 @@
 -- From an instance that stands for a world to what a crash leaves of it.
 use Rattle.std.proofs.Common.{◌≡◌, ◌≤◌, ◌⊎◌, inl, inr, ℕ, ◌+◌, List, [], ◌∷◌, Option, None, Some, refl, sym, ◌∙◌, ap, subst, arith}
 use Rattle.bk_acts.specs.declared.act.StoredAct.{StoredAct}
-use Rattle.bk_device.specs.Compose.{effect_widen, effect_none}
-use Rattle.bk_device.specs.Disk.{Files, Disk}
-use Rattle.bk_device.specs.Effects.{Effect, MayLeaveOwn}
+use Rattle.bk_device.specs.Compose.{effect_widen, effect_none, keeps_by_effect}
+use Rattle.bk_device.specs.Disk.{Files, Disk, IsDurable}
+use Rattle.bk_device.specs.Effects.{Effect, IsName, KeepsFiles, MayLeaveOwn}
+use Rattle.bk_device.specs.Names.{same_or_other}
 use Rattle.bk_home.specs.declared.record.Record.{Record}
 use Rattle.bk_home.specs.declared.error.HomeError.{HomeError}
 use Rattle.bk_home.specs.declared.error.HomeError.TheVariants as home
 use Rattle.bk_home.specs.Home.{HomeIs, IsOwn, IsTrouble, blobs_of, made_file, control_file, rows_file}
 use Rattle.bk_home.specs.Laws.{home_left}
-use Rattle.bk_machine.specs.Acts.{done}
+use Rattle.bk_machine.specs.Acts.{Act, done}
+use Rattle.bk_machine.specs.MayDo.{MayDo}
 use Rattle.bk_machine.specs.Same.{SameLogs}
+use Rattle.bk_machine.specs.SameLaws.{same-on}
 use Rattle.bk_machine.specs.Sound.{IsSound}
 use Rattle.bk_machine.specs.World.{World}
 use Rattle.bk_media.specs.Names.{medium_file}
@@ -60,6 +63,17 @@ own-widens first before after calm leads effect =
     effect_widen (λ name own. inl own)
     (λ image here others durable. leads image here (λ path bytes. calm durable path bytes (image (medium_file path)) (others (medium_file path) (not-own path) (inr (path, bytes, refl))))) effect
 
+-- what is done to one medium leaves own files
+pub own-kept : {P : Files → Type 0} (before after : Disk) (path : List ℕ) → Effect (IsName (medium_file path)) P before after → KeepsFiles IsOwn before after
+own-kept before after path effect = keeps_by_effect (λ name own is. not-own path (subst IsOwn is own)) effect
+
+-- and nothing more is pending in media
+pub one-durable : {P : Files → Type 0} (before after : Disk) (path : List ℕ) → Effect (IsName (medium_file path)) P before after → IsDurable after (medium_file path) → MediaAreDurable before → MediaAreDurable after
+one-durable before after path effect mine durable other are = elim (same_or_other (medium_file path) (medium_file other)) [
+  | inl same ↦ subst (IsDurable after) (sym same) mine
+  | inr apart ↦ λ content may. durable other are content (effect.others_left (medium_file other) apart content may) ∙ sym (effect.others (medium_file other) apart)
+]
+
 pub own-left : (disk : Disk) (image : Files) → MayLeaveOwn IsOurs disk image → MayLeaveOwn IsOwn disk image
 own-left disk image left name own = left name (inl own)
 
@@ -68,11 +82,15 @@ media-left disk image durable left path bytes = durable path bytes (image (mediu
 
 -- Acts that are made.
 
+-- acts keep worlds sound
+abbrev pub ActsKeepSound : Type 0
+ActsKeepSound = (w : World) (act : Act) → IsSound w → MayDo w act → IsSound (done w act)
+
 -- a world with the same databases and logs is made by the same acts
-pub made-same : {blobs : List (List ℕ)} {w : World} (v : World) → ((a b c : World) → SameLogs a b → SameLogs b c → SameLogs a c) → AreMade blobs w → SameLogs w v → AreMade blobs v
-made-same v law (nothing w none) same = nothing v (same.databases ∙ none)
-made-same v law (one_more front old w stored act made sound is done_so behind) same =
-    one_more front old v stored act made sound is done_so (law (done old act) w v behind same)
+pub made-same : {blobs : List (List ℕ)} {w : World} (v : World) → AreMade blobs w → SameLogs w v → AreMade blobs v
+made-same v (nothing w none) same = nothing v (same.databases ∙ none)
+made-same v (one_more front old w stored act made sound is done_so behind) same =
+    one_more front old v stored act made sound is done_so (same-on (done old act) w v behind same)
 
 -- A record that fits what an instance keeps, once it has drawn so many GUIDs.
 pub record Fits (i : Instance) (drawn : ℕ) (r : Record) : Type 0 where
@@ -97,6 +115,11 @@ covers-old number i w blobs image r sound same counter made fits home media = re
   made = made;
   media = media;
 }
+
+-- and so with the instance's own record
+pub covers-ready : (number : ℕ) (i : Instance) (w : World) (blobs : List (List ℕ)) (image : Files) → IsReady i → IsSound w → Keeps w i.kept → AreMade blobs w → HomeIs image i.home.«record» blobs → KeepsMedia w None image → Covers number image w
+covers-ready number i w blobs image ready sound keeps made home media =
+    covers-old number i w blobs image i.home.«record» sound keeps.number keeps.counter made (ready-fits i ready) home (subst (λ making. KeepsMedia w making image) (sym ready.none) media)
 
 covers-held : (number : ℕ) (i : Instance) (disk : Disk) (w : World) (image : Files) (r : Record) → IsSound w → w.instance ≡ i.kept.number → w.counter ≡ i.kept.counter → HoldsWorld disk.files w → Fits i 0 r → r.making ≡ None
     → HomeIs image r (blobs_of disk.files) → SameMedia disk.files image → Covers number image w
@@ -130,18 +153,20 @@ stays-left i disk image ready stored left durable number w stands = covers-left 
 pub stays-none : (i : Instance) (disk : Disk) → IsReady i → IsStored disk i → Effect IsOurs (IfDurable disk (Stays i disk)) disk disk
 stays-none i disk ready stored = effect_none disk (λ image left. stays-left i disk image ready stored left)
 
--- GUIDs are reserved.
+-- another record is put that fits
+pub stays-put : (i : Instance) (before after : Disk) (next : Record) → IsReady i → Fits i 0 next → next.making ≡ None
+    → Effect IsOwn (λ image. HomeIs image i.home.«record» (blobs_of before.files) ⊎ HomeIs image next (blobs_of before.files)) before after → Effect IsOurs (IfDurable before (Stays i before)) before after
+stays-put i before after next ready fits none effect =
+    own-widens before before after (λ durable. durable) (λ image here same n w stands. elim here [
+      | inl old ↦ covers-now n i before w image ready stands old same
+      | inr new ↦ covers-none n i before w image next stands fits none new same
+    ]) effect
 
-pub reserved-fits : (i : Instance) (next : Record) → next.number ≡ i.kept.number → next.counter ≡ i.kept.counter + 1024 → Fits i 0 next
-reserved-fits i next number counter = record { number = sym number; no_less = omega (arith, counter); no_more = omega (arith, counter) }
-
+-- one that reserves GUIDs does
 pub stays-reserved : (i : Instance) (before after : Disk) (next : Record) → IsReady i → next.number ≡ i.kept.number → next.counter ≡ i.kept.counter + 1024 → next.making ≡ None
     → Effect IsOwn (λ image. HomeIs image i.home.«record» (blobs_of before.files) ⊎ HomeIs image next (blobs_of before.files)) before after → Effect IsOurs (IfDurable before (Stays i before)) before after
 stays-reserved i before after next ready number counter none effect =
-    own-widens before before after (λ durable. durable) (λ image here same n w stands. elim here [
-      | inl old ↦ covers-now n i before w image ready stands old same
-      | inr new ↦ covers-none n i before w image next stands (reserved-fits i next number counter) none new same
-    ]) effect
+    stays-put i before after next ready (record { number = sym number; no_less = omega (arith, counter); no_more = omega (arith, counter) }) none effect
 
 -- an instance stands for the same where media and blobs are the same, and what waits
 pub stands-on : (i j : Instance) (before after : Disk) (w : World) → j.kept ≡ i.kept → j.waiting ≡ i.waiting → blobs_of after.files ≡ blobs_of before.files → SameMedia before.files after.files → StandsFor i before w → StandsFor j after w

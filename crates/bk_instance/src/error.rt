@@ -6,6 +6,7 @@ ghost use Rattle.bk_instance.specs.Errors as errors;
 use bk_device::Failed;
 use bk_home::HomeError;
 use bk_media::{AddError, LoadError as MediumError, MakeError};
+use bk_shown::TakeError;
 use bk_taking::ApplyError;
 use std::alloc::AllocError;
 use thiserror::Error;
@@ -59,6 +60,17 @@ impl From<ApplyError> for ExecuteError {
         match error {
             ApplyError::Unfit => ExecuteError::Broken,
             ApplyError::NoMemory => ExecuteError::NoMemory,
+        }
+    }
+}
+
+impl From<TakeError> for ExecuteError {
+    ghost from_gives = { λ error e. e ≡ errors.taken_error error };
+
+    fn from(error: TakeError) -> Self {
+        match error {
+            TakeError::Unfit => ExecuteError::Broken,
+            TakeError::NoMemory => ExecuteError::NoMemory,
         }
     }
 }

@@ -8,7 +8,8 @@ use std::alloc::Global;
 /// An instance: its own files on a device, and what it keeps in memory. What open transactions say waits there until a statement
 /// comes whose reply promises something.
 ///
-/// Between two calls its record names no medium, and reserves at most 1,024 GUIDs that weren't drawn.
+/// Between two calls its record names no medium, and reserves at most 1,024 GUIDs that weren't drawn; its databases leave numbers for
+/// what is never refused.
 #[derive(Drop)]
 pub struct Instance {
     /// Where its memory comes from.

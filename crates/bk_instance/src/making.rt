@@ -5,7 +5,7 @@ use crate::instance::Instance;
 use bk_device::Device;
 use bk_home::Record;
 use bk_ids::Text;
-use bk_machine::{acts_keep_worlds_sound, logs_that_stay};
+use bk_machine::acts_keep_worlds_sound;
 use bk_media::{Medium, medium_file};
 use bk_set::SetBody;
 
@@ -40,7 +40,6 @@ impl Instance {
         ensures cause { HasCause D.disk_faults D.tell_faults dev.old dev.new (IsErrOf result Fault) }
     {
         acts_keep_worlds_sound();
-        logs_that_stay();
         let alloc = self.alloc;
         let at = path.as_str();
         self.reserve(dev, 1)?;
@@ -86,7 +85,6 @@ impl Instance {
         ensures cause { HasCause D.disk_faults D.tell_faults dev.old dev.new (IsErrOf result Fault) }
     {
         acts_keep_worlds_sound();
-        logs_that_stay();
         let alloc = self.alloc;
         let file = medium_file(alloc, path.as_str())?;
         dev.sync(&file)?;

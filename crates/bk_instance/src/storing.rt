@@ -5,7 +5,7 @@ use crate::instance::Instance;
 use bk_acts::StoredAct;
 use bk_device::Device;
 use bk_home::Record;
-use bk_machine::{acts_keep_worlds_sound, logs_that_stay, sets_that_stay};
+use bk_machine::{acts_keep_worlds_sound, sets_that_stay};
 use bk_taking::{apply, draws};
 use bk_waiting::{Waiting, what_waits_is_joined};
 
@@ -156,7 +156,6 @@ impl Instance {
         ensures cause { HasCause D.disk_faults D.tell_faults dev.old dev.new (IsErrOf result Fault) }
     {
         acts_keep_worlds_sound();
-        logs_that_stay();
         sets_that_stay();
         what_waits_is_joined();
         self.reserve(dev, draws(act))?;

@@ -66,6 +66,7 @@ impl Kept {
         ensures err { OnErr result ((w : World) → Keeps w self.old → Keeps w self.new) }
         ensures number { self.new.number ≡ self.old.number }
         ensures counter { self.new.counter ≡ self.old.counter }
+        ensures databases { self.new.databases ≡ self.old.databases }
     {
         set_current(&mut self.sessions, self.session, name)
     }
@@ -75,6 +76,7 @@ impl Kept {
         ensures seated { (w : World) → Keeps w self.old → Keeps (done w (seated session)) self.new }
         ensures number { self.new.number ≡ self.old.number }
         ensures counter { self.new.counter ≡ self.old.counter }
+        ensures databases { self.new.databases ≡ self.old.databases }
     {
         self.session = session;
     }

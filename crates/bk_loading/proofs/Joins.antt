@@ -1,5 +1,5 @@
 -- Histories that are joined: each branch has the longer one of two lines, of which the other is a front.
-use Rattle.std.proofs.Common.{inl, inr, [], sym, ◌∙◌, subst, arith}
+use Rattle.std.proofs.Common.{inl, inr, [], sym, ◌∙◌, subst}
 use Rattle.std.proofs.lemmas.List.{append-nil}
 use Rattle.bk_world.specs.Lines.{Grew, RecordLine, RecordLines, line_on}
 use Rattle.bk_machine.specs.Events.{Joins}

@@ -2,7 +2,6 @@ pub mod Closes
 pub mod Events
 pub mod Joins
 pub mod Loads
-pub mod MediumAt
 pub mod Opened
 pub mod Replays
 pub mod RolledBack

@@ -1,42 +1,38 @@
 -- How an instance is loaded: its own files are opened, and a medium that was being made is let go.
-use Rattle.std.proofs.Common.{◌≡◌, ◌≢◌, ◌⊎◌, inl, inr, ℕ, zero, suc, true, false, nat_eq, List, [], ◌∷◌, length, map, Option, None, Some, refl, sym, ◌∙◌, ap, subst, arith}
-use Rattle.std.specs.Prelude.{slice_get, option_map}
-use Rattle.std.specs.Str.{bytes_eq}
+use Rattle.std.proofs.Common.{◌≡◌, ◌⊎◌, inl, inr, ℕ, suc, true, false, nat_eq, List, [], ◌∷◌, length, map, Option, None, Some, refl, sym, ◌∙◌, ap, subst, arith}
 use Rattle.std.proofs.lemmas.Bool.Decides.{nat_tests}
-use Rattle.std.proofs.lemmas.Slice.Eq.{bytes_eq-Decides}
 use Rattle.std.proofs.lemmas.Option.{same_Some}
 use Rattle.bk_bytes.specs.Field.{AreBytes}
 use Rattle.bk_device.specs.Calls.{contents, ChangesNothing}
-use Rattle.bk_device.specs.Compose.{effect_none, effect_weaken, effect_widen, effect_then, effect_of_nothing, keeps_by_nothing, keeps_by_effect}
+use Rattle.bk_device.specs.Compose.{effect_none, effect_weaken, effect_widen, effect_then, effect_of_nothing, keeps_by_nothing}
 use Rattle.bk_device.specs.Laws.{durable_by_nothing}
 use Rattle.bk_device.specs.Disk.{Files, Disk, IsDurable, IsSettled}
 use Rattle.bk_device.specs.Effects.{Effect, MayLeaveOwn, IsName}
-use Rattle.bk_device.specs.Names.{same_or_other, true_or_false}
+use Rattle.bk_device.specs.Names.{same_or_other}
 use Rattle.bk_gate.specs.Blobs.{sealed, spans_of, part_of, IsGateFile}
 use Rattle.bk_gate.specs.BlobLaws.{foreign_blobs, gate_blobs}
 use Rattle.bk_home.specs.declared.record.Record.{Record}
 use Rattle.bk_home.specs.Home.{Kept as KeptHome, IsNotMade, IsMade, HomeIs, IsHome, IsOwn, AreDurable, blobs_of, fresh, made_file, control_file, rows_file}
-use Rattle.bk_home.specs.Laws.{home_files, home_blobs, home_left, home_kept, home_durable, own_made, own_rows, blobs_same}
+use Rattle.bk_home.specs.Laws.{home_files, home_files_kept, home_blobs, home_left, home_kept, home_durable, own_made}
 use Rattle.bk_machine.specs.Sound.{IsSound}
 use Rattle.bk_machine.specs.World.{World, opened}
-use Rattle.bk_media.specs.Laws.{nothing_sealed, none_read}
+use Rattle.bk_media.specs.Laws.{nothing_sealed}
 use Rattle.bk_media.specs.Media.{read_medium, found_at}
 use Rattle.bk_media.specs.Names.{medium_file}
 use Rattle.bk_kept.specs.Keeps.{KeepsDatabases, session_of}
 use Rattle.bk_kept.specs.Stored.{Carries}
 use Rattle.bk_set.specs.declared.body.SetBody.{SetBody}
 use Rattle.bk_set.specs.declared.found.Found.TheVariants as was
-use Rattle.bk_set.specs.Found.{found}
 use Rattle.bk_instance.specs.RestLaws.{calm-nothing}
 use Rattle.bk_instance.specs.declared.instance.Instance.{Instance}
 use Rattle.bk_machine.specs.SameLaws.{same-opened}
 use Rattle.bk_loading.specs.Loading.{CoversExactly, IsCleared, LeavesCleared, LeavesHeld, LetsGo, MakeNone, ShowMade}
-use Rattle.bk_instance.specs.Media.{KeepsMedia, MediaAreDurable, IfDurable, shown_medium, is_making, is_begun}
+use Rattle.bk_instance.specs.Media.{KeepsMedia, MediaAreDurable, IfDurable, shown_medium, is_begun}
 use Rattle.bk_instance.specs.Stands.{AreMade, Holds, StandsFor, IsOurs}
-use Rattle.bk_instance.specs.MediaLaws.{SameMedia, media-in}
-use Rattle.bk_loading.proofs.Opened.{exactly-same, media-opened, settled-exactly, media-kept}
-use Rattle.bk_instance.specs.StandsLaws.{not-own}
-use Rattle.bk_loading.proofs.Replays.{made-same}
+use Rattle.bk_instance.specs.MediaLaws.{SameMedia, media-in, shown-sealed}
+use Rattle.bk_instance.specs.MediumLaws.{SameOthers, begun-shown, files-apart, nothing-found, nothing-read, other-shown}
+use Rattle.bk_loading.proofs.Opened.{exactly-same, media-opened, settled-exactly}
+use Rattle.bk_instance.specs.StandsLaws.{made-same, media-durable, not-own, one-durable, own-kept}
 use Rattle.bk_instance.specs.HoldsLaws.{holds-none}
 
 -- a run begins in a sound world
@@ -209,7 +205,7 @@ pub open-media : (number : ℕ) (a b c : Disk) → IsSettled a → ChangesNothin
 open-media number a b c settled nothing made new path bytes =
     let calm : IsSettled b = settled-on nothing settled in
     elim (made-or-not b.files) [
-      | inl not ↦ media-kept b c path (new not (calm made_file)) (calm (medium_file path))
+      | inl not ↦ media-durable b c (new not (calm made_file)) (λ other are. calm (medium_file other)) path bytes
       | inr is ↦ durable_by_nothing (medium_file path) (made is) (calm (medium_file path))
     ]
 
@@ -230,44 +226,12 @@ begun-count file spans is same = by spans ∙ ap is_begun (ap (map (part_of (con
 pub begun-foreign : (file : Option (List ℕ)) → (IsGateFile (contents file) → ⊥) → true ≡ is_begun (sealed file)
 begun-foreign file foreign = sym (ap is_begun (foreign_blobs (contents file) foreign))
 
--- in the file that is gone no set is found
-none-found : (p : ℕ) → found_at None p ≡ None
-unfolding found_at
-none-found zero = refl
-none-found (suc before) = ap (λ (sets : List (List ℕ)). option_map found (slice_get sets before)) (none_read None nothing_sealed).0
-
+-- nor where there is no file
 gone-begun : (file : Option (List ℕ)) → file ≡ None → is_begun (sealed file) ≡ true
 gone-begun file gone = ap (λ (f : Option (List ℕ)). is_begun (sealed f)) gone ∙ ap is_begun nothing_sealed
 
-gone-read : (file : Option (List ℕ)) → file ≡ None → read_medium file ≡ None
-unfolding read_medium
-gone-read file gone = ap read_medium gone
-
--- how the medium that is being made is shown, and how another one
-
-making-itself : (making : List ℕ) → is_making (Some making) making ≡ true
-making-itself making = (bytes_eq-Decides making making).1 refl
-
-begun-shown : (making : List ℕ) (file : Option (List ℕ)) → is_begun (sealed file) ≡ true → shown_medium (Some making) making file ≡ None
-begun-shown making file begun = rw (making-itself making, begun) refl
-
-sealed-shown : (making : List ℕ) (file : Option (List ℕ)) → is_begun (sealed file) ≡ false → shown_medium (Some making) making file ≡ read_medium file
-sealed-shown making file begun = rw (making-itself making, begun) refl
-
-other-shown : (making path : List ℕ) (file : Option (List ℕ)) → path ≢ making → shown_medium (Some making) path file ≡ read_medium file
-other-shown making path file differ =
-    let test : bytes_eq making path ≡ false = elim (true_or_false (bytes_eq making path)) [
-      | inl is ↦ absurd (differ (sym ((bytes_eq-Decides making path).0 is)))
-      | inr is ↦ is
-    ] in
-    rw test refl
-
--- media at other paths are as they were
-abbrev pub OtherMedia : List ℕ → Files → Files → Type 0
-OtherMedia making files image = (path : List ℕ) → AreBytes path → path ≢ making → image (medium_file path) ≡ files (medium_file path)
-
 -- what sets hold stays so where no more files than the one medium are gone
-carried-cleared : (w : World) (making : List ℕ) (files image : Files) → (image (medium_file making) ≡ files (medium_file making)) ⊎ (image (medium_file making) ≡ None) → OtherMedia making files image
+carried-cleared : (w : World) (making : List ℕ) (files image : Files) → (image (medium_file making) ≡ files (medium_file making)) ⊎ (image (medium_file making) ≡ None) → SameOthers files making image
     → ((path : List ℕ) (p : ℕ) (body : SetBody) → AreBytes path → found_at (files (medium_file path)) p ≡ Some (was.Holds body) → Carries w.history body)
     → (path : List ℕ) (p : ℕ) (body : SetBody) → AreBytes path → found_at (image (medium_file path)) p ≡ Some (was.Holds body) → Carries w.history body
 carried-cleared w making files image cleared others carried path p body bytes is =
@@ -277,9 +241,7 @@ carried-cleared w making files image cleared others carried path p body bytes is
         | inl kept ↦
             let Same : List ℕ → Type 0 = λ n. image (medium_file n) ≡ files (medium_file n) in
             on path bytes (subst Same (sym same) kept) is
-        | inr gone ↦
-            let none : found_at (image (medium_file path)) p ≡ None = ap (λ (n : List ℕ). found_at (image (medium_file n)) p) same ∙ ap (λ (f : Option (List ℕ)). found_at f p) gone ∙ none-found p in
-            absurd cc
+        | inr gone ↦ absurd (nothing-found (image (medium_file path)) (ap (λ (n : List ℕ). image (medium_file n)) same ∙ gone) p body is)
       ]
     ]
   where
@@ -288,7 +250,7 @@ carried-cleared w making files image cleared others carried path p body bytes is
 
 -- while a record names it, the medium is shown as before
 pub media-clearing : (w : World) (making : List ℕ) (files image : Files) → (image (medium_file making) ≡ files (medium_file making)) ⊎ ((is_begun (sealed (files (medium_file making))) ≡ true) × (image (medium_file making) ≡ None))
-    → OtherMedia making files image → KeepsMedia w (Some making) files → KeepsMedia w (Some making) image
+    → SameOthers files making image → KeepsMedia w (Some making) files → KeepsMedia w (Some making) image
 media-clearing w making files image cleared others media = record {
   read = λ path bytes.
       media.read path bytes ∙
@@ -305,7 +267,7 @@ media-clearing w making files image cleared others media = record {
 }
 
 -- and once it is cleared, no record need name it
-pub media-cleared : (w : World) (making : List ℕ) (files image : Files) → IsCleared (files (medium_file making)) (image (medium_file making)) → OtherMedia making files image → KeepsMedia w (Some making) files → KeepsMedia w None image
+pub media-cleared : (w : World) (making : List ℕ) (files image : Files) → IsCleared (files (medium_file making)) (image (medium_file making)) → SameOthers files making image → KeepsMedia w (Some making) files → KeepsMedia w None image
 media-cleared w making files image cleared others media = record {
   read = λ path bytes.
       media.read path bytes ∙
@@ -314,8 +276,8 @@ media-cleared w making files image cleared others media = record {
         | inl same ↦
             let Shown : List ℕ → Type 0 = λ n. shown_medium (Some making) n (files (medium_file n)) ≡ read_medium (image (medium_file n)) in
             subst Shown (sym same) (elim cleared [
-              | inl gone ↦ begun-shown making (files (medium_file making)) gone.0 ∙ sym (gone-read (image (medium_file making)) gone.1)
-              | inr kept ↦ sealed-shown making (files (medium_file making)) kept.0 ∙ ap read_medium (sym kept.1)
+              | inl gone ↦ begun-shown making (files (medium_file making)) gone.0 ∙ sym (nothing-read (image (medium_file making)) gone.1)
+              | inr kept ↦ shown-sealed (Some making) making (files (medium_file making)) kept.0 ∙ ap read_medium (sym kept.1)
             ])
       ];
   carried = carried-cleared w making files image (elim cleared [ inl gone ↦ inr gone.1 | inr kept ↦ inl kept.1 ]) others media.carried;
@@ -327,10 +289,6 @@ media-cleared w making files image cleared others media = record {
 abbrev pub Clears : List ℕ → Disk → Disk → Type 0
 Clears path a b = Effect (IsName (medium_file path)) (λ image. LeavesCleared (a.may (medium_file path)) (a.files (medium_file path)) (image (medium_file path))) a b
 
--- different paths have different names
-abbrev pub NamesDiffer : Type 0
-NamesDiffer = (path other : List ℕ) → AreBytes path → AreBytes other → medium_file path ≡ medium_file other → path ≡ other
-
 -- nothing was done
 pub let-go-none : (disk : Disk) (home : KeptHome) → IsHome disk home → Effect IsOurs (IfDurable disk (LetsGo home.«record» disk.files)) disk disk
 let-go-none disk home is = effect_none disk (λ image left durable. record {
@@ -341,35 +299,26 @@ let-go-none disk home is = effect_none disk (λ image left durable. record {
   media = λ w media. media-in w home.«record».making disk.files image (λ path bytes. durable path bytes (image (medium_file path)) (left (medium_file path) (inr (path, bytes, refl)))) media;
 })
 
-off-own : (path : List ℕ) (name : List ℕ) → IsOwn name → IsName (medium_file path) name → ⊥
-off-own path name own at = not-own path (subst IsOwn at own)
-
 -- what is done to a medium leaves the home and its blobs
 pub home-cleared : (path : List ℕ) (a b : Disk) (home : KeptHome) → Clears path a b → IsHome a home → IsHome b home
-home-cleared path a b home effect is = home_kept (keeps_by_effect (λ name own at. off-own path name own at) effect) is
+home-cleared path a b home effect is = home_kept (own-kept a b path effect) is
 
 pub blobs-cleared : (path : List ℕ) (a b : Disk) → Clears path a b → blobs_of b.files ≡ blobs_of a.files
-blobs-cleared path a b effect = blobs_same a.files b.files (effect.others rows_file (off-own path rows_file own_rows))
+blobs-cleared path a b effect = (home_files_kept (own-kept a b path effect)).1
 
--- and the other media
-pub media-left-durable : (path : List ℕ) (a b : Disk) → Clears path a b → MediaAreDurable a → IsDurable b (medium_file path) → MediaAreDurable b
-media-left-durable path a b effect durable cleared other bytes =
-    elim (same_or_other (medium_file path) (medium_file other)) [
-      | inl same ↦
-          let Durable : List ℕ → Type 0 = λ n. IsDurable b n in
-          subst Durable (sym same) cleared
-      | inr differ ↦ λ content may. durable other bytes content (effect.others_left (medium_file other) differ content may) ∙ sym (effect.others (medium_file other) differ)
-    ]
+-- and nothing more is pending in media
+pub durable-cleared : (path : List ℕ) (a b : Disk) → Clears path a b → IsDurable b (medium_file path) → MediaAreDurable a → MediaAreDurable b
+durable-cleared path a b effect = one-durable a b path effect
 
 -- its file is removed, or not
-pub let-go-clear : (path : List ℕ) (a b : Disk) (home : KeptHome) → NamesDiffer → IsHome a home → AreBytes path → home.«record».making ≡ Some path
+pub let-go-clear : (path : List ℕ) (a b : Disk) (home : KeptHome) → IsHome a home → AreBytes path → home.«record».making ≡ Some path
     → Clears path a b → Effect IsOurs (IfDurable a (LetsGo home.«record» a.files)) a b
-let-go-clear path a b home names is bytes making effect =
+let-go-clear path a b home is bytes making effect =
     effect_widen (λ name at. inr (path, bytes, at)) (λ image here others durable.
-    let other : OtherMedia path a.files image = λ p are differ. durable p are (image (medium_file p)) (others (medium_file p) (λ at. differ (names p path are bytes at)) (inr (p, are, refl))) in
+    let other : SameOthers a.files path image = λ p are differ. durable p are (image (medium_file p)) (others (medium_file p) (files-apart path p bytes are differ) (inr (p, are, refl))) in
     record {
       «record» = home.«record»;
-      home = home_left image is (λ name own. others name (off-own path name own) (inl own));
+      home = home_left image is (λ name own. others name (λ at. not-own path (subst IsOwn at own)) (inl own));
       number = refl;
       counter = refl;
       media = λ w media.
@@ -381,15 +330,15 @@ let-go-clear path a b home names is bytes making effect =
     }) effect
 
 -- and then the record names it no longer
-let-go-put : (path : List ℕ) (a b c : Disk) (home : KeptHome) (next : Record) → NamesDiffer → AreBytes path → home.«record».making ≡ Some path
+let-go-put : (path : List ℕ) (a b c : Disk) (home : KeptHome) (next : Record) → AreBytes path → home.«record».making ≡ Some path
     → Clears path a b
     → IsCleared (a.files (medium_file path)) (b.files (medium_file path)) → (IsDurable a (medium_file path) → IsDurable b (medium_file path))
     → next.number ≡ home.«record».number → next.counter ≡ home.«record».counter → next.making ≡ None
     → Effect IsOwn (λ image. HomeIs image home.«record» (blobs_of b.files) ⊎ HomeIs image next (blobs_of b.files)) b c → Effect IsOurs (IfDurable a (LetsGo home.«record» a.files)) b c
-let-go-put path a b c home next names bytes making first cleared calm number counter none effect =
+let-go-put path a b c home next bytes making first cleared calm number counter none effect =
     effect_widen (λ name own. inl own) (λ image here others durable.
-    let there : SameMedia b.files image = λ p are. media-left-durable path a b first durable (calm (durable path bytes)) p are (image (medium_file p)) (others (medium_file p) (not-own p) (inr (p, are, refl))) in
-    let other : OtherMedia path a.files image = λ p are differ. there p are ∙ first.others (medium_file p) (λ at. differ (names p path are bytes at)) in
+    let there : SameMedia b.files image = λ p are. one-durable a b path first (calm (durable path bytes)) durable p are (image (medium_file p)) (others (medium_file p) (not-own p) (inr (p, are, refl))) in
+    let other : SameOthers a.files path image = λ p are differ. there p are ∙ first.others (medium_file p) (files-apart path p bytes are differ) in
     let Blobs : Record → List (List ℕ) → Type 0 = HomeIs image in
     let Is : Option (List ℕ) → Type 0 = λ file. IsCleared (a.files (medium_file path)) file in
     let now : IsCleared (a.files (medium_file path)) (image (medium_file path)) = subst Is (sym (there path bytes)) cleared in
@@ -418,25 +367,25 @@ let-go-put path a b c home next names bytes making first cleared calm number cou
           }
     ]) effect
 
-pub let-go-then : (path : List ℕ) (a b c : Disk) (home : KeptHome) (next : Record) → NamesDiffer → IsHome a home → AreBytes path → home.«record».making ≡ Some path
+pub let-go-then : (path : List ℕ) (a b c : Disk) (home : KeptHome) (next : Record) → IsHome a home → AreBytes path → home.«record».making ≡ Some path
     → Clears path a b
     → IsCleared (a.files (medium_file path)) (b.files (medium_file path)) → (IsDurable a (medium_file path) → IsDurable b (medium_file path))
     → next.number ≡ home.«record».number → next.counter ≡ home.«record».counter → next.making ≡ None
     → Effect IsOwn (λ image. HomeIs image home.«record» (blobs_of b.files) ⊎ HomeIs image next (blobs_of b.files)) b c → Effect IsOurs (IfDurable a (LetsGo home.«record» a.files)) a c
-let-go-then path a b c home next names is bytes making first cleared calm number counter none second =
-    effect_then (let-go-clear path a b home names is bytes making first) (let-go-put path a b c home next names bytes making first cleared calm number counter none second)
+let-go-then path a b c home next is bytes making first cleared calm number counter none second =
+    effect_then (let-go-clear path a b home is bytes making first) (let-go-put path a b c home next bytes making first cleared calm number counter none second)
 
 -- what was let go, behind both
 pub lets-none : (disk : Disk) (home : KeptHome) → IsHome disk home → LetsGo home.«record» disk.files disk.files
 lets-none disk home is = record { «record» = home.«record»; home = home_files is; number = refl; counter = refl; media = λ w media. media }
 
-pub lets-both : (path : List ℕ) (a b c : Disk) (home after : KeptHome) (next : Record) → NamesDiffer → AreBytes path → home.«record».making ≡ Some path
+pub lets-both : (path : List ℕ) (a b c : Disk) (home after : KeptHome) (next : Record) → AreBytes path → home.«record».making ≡ Some path
     → Clears path a b → IsCleared (a.files (medium_file path)) (b.files (medium_file path))
     → next.number ≡ home.«record».number → next.counter ≡ home.«record».counter → next.making ≡ None
     → IsHome c after → after.«record» ≡ next → blobs_of c.files ≡ blobs_of b.files → {P : Files → Type 0} → Effect IsOwn P b c → LetsGo home.«record» a.files c.files
-lets-both path a b c home after next names bytes making first cleared number counter none is same blobs second =
+lets-both path a b c home after next bytes making first cleared number counter none is same blobs second =
     let there : SameMedia b.files c.files = λ p are. second.others (medium_file p) (not-own p) in
-    let other : OtherMedia path a.files c.files = λ p are differ. there p are ∙ first.others (medium_file p) (λ at. differ (names p path are bytes at)) in
+    let other : SameOthers a.files path c.files = λ p are differ. there p are ∙ first.others (medium_file p) (files-apart path p bytes are differ) in
     let Is : Option (List ℕ) → Type 0 = λ file. IsCleared (a.files (medium_file path)) file in
     let now : IsCleared (a.files (medium_file path)) (c.files (medium_file path)) = subst Is (sym (there path bytes)) cleared in
     let Home : List (List ℕ) → Type 0 = λ bs. HomeIs c.files after.«record» bs in
@@ -504,7 +453,7 @@ instance-stands begins number i disk w is n counter session sessions none waitin
         kept = databases.kept;
       };
       holds = holds-none i.waiting disk.files (opened w) waiting (record {
-        made = made-same (blobs_of disk.files) w (opened w) (same-opened w) made.made;
+        made = made-same (opened w) made.made (same-opened w);
         media = media-opened w None disk.files (subst Media none made.media);
       });
     }

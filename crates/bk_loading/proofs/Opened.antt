@@ -1,18 +1,23 @@
 -- What files hold where a run begins, where a crash leaves them, or where other files change.
-use Rattle.std.proofs.Common.{◌≡◌, inl, inr, ℕ, List, Option, refl, sym, ◌∙◌}
+use Rattle.std.proofs.Common.{◌≡◌, ◌≤◌, inl, inr, ℕ, List, Option, refl, ◌∙◌}
 use Rattle.bk_device.specs.Calls.{ChangesNothing}
-use Rattle.bk_device.specs.Disk.{Files, Disk, IsDurable, IsSettled}
-use Rattle.bk_device.specs.Effects.{Effect, MayLeaveOwn}
+use Rattle.bk_device.specs.Disk.{Files, Disk, IsSettled}
+use Rattle.bk_device.specs.Effects.{MayLeaveOwn}
 use Rattle.bk_home.specs.declared.record.Record.{Record}
 use Rattle.bk_home.specs.Home.{IsOwn, blobs_of, made_file, rows_file}
 use Rattle.bk_home.specs.Laws.{home_same, own_made, blobs_same}
-use Rattle.bk_machine.specs.World.{World, ended, opened}
+use Rattle.bk_machine.specs.Sound.{IsSound}
+use Rattle.bk_machine.specs.World.{World, ended, opened, restarted}
 use Rattle.bk_media.specs.Names.{medium_file}
 use Rattle.bk_instance.specs.Media.{KeepsMedia}
 use Rattle.bk_loading.specs.Loading.{CoversExactly}
 use Rattle.bk_instance.specs.Stands.{Holds, Covers, IsOurs}
 use Rattle.bk_instance.specs.MediaLaws.{media-in}
-use Rattle.bk_instance.specs.StandsLaws.{not-own}
+
+-- what the machine's laws say of worlds in which a run begins
+pub record BeginLaws : Type 0 where
+  pub begins : (w : World) → IsSound w → IsSound (opened w)
+  pub restarts : (counter : ℕ) (w : World) → IsSound w → w.counter ≤ counter → IsSound (restarted counter w)
 
 -- Media are the same where a run begins, and where it ends.
 
@@ -23,11 +28,6 @@ media-opened w making files media = record { read = media.read; carried = media.
 pub media-ended : (w : World) (making : Option (List ℕ)) (files : Files) → KeepsMedia w making files → KeepsMedia (ended w) making files
 unfolding ended
 media-ended w making files media = record { read = media.read; carried = media.carried }
-
--- what is done to own files leaves media as they are
-pub media-kept : {P : Files → Type 0} (before after : Disk) (path : List ℕ) → Effect IsOwn P before after → IsDurable before (medium_file path) → IsDurable after (medium_file path)
-media-kept before after path effect durable content may =
-    durable content (effect.others_left (medium_file path) (not-own path) content may) ∙ sym (effect.others (medium_file path) (not-own path))
 
 -- Own files.
 

@@ -1,9 +1,9 @@
 -- Which worlds blobs make, and what the replay of them shows.
-use Rattle.std.proofs.Common.{◌≡◌, ◌≤◌, ◌⊎◌, inl, inr, ℕ, zero, suc, ◌+◌, List, [], ◌∷◌, ◌++◌, length, map, take, Some, refl, sym, ◌∙◌, ap, subst, arith, add-one}
+use Rattle.std.proofs.Common.{◌≡◌, ◌≤◌, ◌⊎◌, inl, inr, ℕ, ◌+◌, List, [], ◌∷◌, ◌++◌, drop, length, map, take, Some, refl, sym, ◌∙◌, ap, subst}
 use Rattle.std.specs.Prelude.{slice_get}
 use Rattle.std.specs.List.{AllByRecursion}
-use Rattle.std.proofs.lemmas.List.{append-nil}
-use Rattle.std.proofs.lemmas.Option.{same_Some}
+use Rattle.std.proofs.lemmas.List.{append-nil, same_from_push, take-append-drop, take_all, take_more}
+use Rattle.std.proofs.lemmas.Option.{get_or_from_slice_get, same_Some, slice_get_within}
 use Rattle.bk_acts.specs.declared.act.StoredAct.{StoredAct}
 use Rattle.bk_acts.specs.Reading.{act_of}
 use Rattle.bk_acts.specs.Spelling.{act_bytes, IsAct}
@@ -17,13 +17,12 @@ use Rattle.bk_kept.specs.Stored.{IsDone}
 use Rattle.bk_shown.specs.Ends.{SpellsEnd}
 use Rattle.bk_shown.specs.Shown.{Shows}
 use Rattle.bk_world.specs.Lines.{RecordLines, log_below}
-use Rattle.bk_machine.specs.SameLaws.{same-on}
 use Rattle.bk_loading.specs.Loading.{MakeNone, ShowMade}
 use Rattle.bk_instance.specs.Stands.{AreMade, nothing, one_more}
 
 -- Lists.
 
-none-snoc : {A : Type 0} (xs : List A) (x : A) → [] ≡ xs ++ x ∷ [] → ⊥
+pub none-snoc : {A : Type 0} (xs : List A) (x : A) → [] ≡ xs ++ x ∷ [] → ⊥
 none-snoc [] x is = absurd cc
 none-snoc (y ∷ xs) x is = absurd cc
 
@@ -32,16 +31,6 @@ head-same x y xs ys is = cc
 
 tail-same : {A : Type 0} (x y : A) (xs ys : List A) → x ∷ xs ≡ y ∷ ys → xs ≡ ys
 tail-same x y xs ys is = cc
-
--- the last of two lists that are the same, and what is before it
-snoc-same : {A : Type 0} (xs ys : List A) (x y : A) → xs ++ x ∷ [] ≡ ys ++ y ∷ [] → (xs ≡ ys) × (x ≡ y)
-snoc-same [] [] x y is = (refl, head-same x y [] [] is)
-snoc-same [] (b ∷ ys) x y is = absurd (none-snoc ys y (tail-same x b [] (ys ++ y ∷ []) is))
-snoc-same (a ∷ xs) [] x y is = absurd (none-snoc xs x (sym (tail-same a y (xs ++ x ∷ []) [] is)))
-snoc-same {A} (a ∷ xs) (b ∷ ys) x y is =
-    let first : a ≡ b = head-same a b (xs ++ x ∷ []) (ys ++ y ∷ []) is in
-    let rest = snoc-same xs ys x y (tail-same a b (xs ++ x ∷ []) (ys ++ y ∷ []) is) in
-    (ap (λ (c : A). c ∷ xs) first ∙ ap (λ (cs : List A). b ∷ cs) rest.0, rest.1)
 
 nothing-behind : {A : Type 0} (xs ys : List A) → [] ≡ xs ++ ys → ys ≡ []
 nothing-behind [] ys is = sym is
@@ -63,31 +52,9 @@ snoc-front {A} (c ∷ bs) b (x ∷ xs) ys is =
     ]
 
 pub take-more : {A : Type 0} (xs : List A) (i : ℕ) (x : A) → slice_get xs i ≡ Some x → take (i + 1) xs ≡ take i xs ++ x ∷ []
-take-more {A} xs i x is = rw add-one (by xs i is)
-  where
-    by : (xs : List A) (i : ℕ) → slice_get xs i ≡ Some x → take (suc i) xs ≡ take i xs ++ x ∷ []
-    by [] i is = absurd cc
-    by (y ∷ ys) zero is = ap (λ (z : A). z ∷ []) (same_Some y x is)
-    by (y ∷ ys) (suc i) is = ap (λ (zs : List A). y ∷ zs) (by ys i is)
-
-take-all : {A : Type 0} (xs : List A) (n : ℕ) → length xs ≤ n → take n xs ≡ xs
-take-all [] zero le = refl
-take-all [] (suc n) le = refl
-take-all (x ∷ xs) zero le = absurd (omega (arith, le))
-take-all {A} (x ∷ xs) (suc n) le = ap (λ (rest : List A). x ∷ rest) (take-all xs n (omega (arith, le)))
-
-front-of : {A : Type 0} (xs : List A) (n : ℕ) → (rest : List A) × (xs ≡ take n xs ++ rest)
-front-of [] zero = ([], refl)
-front-of [] (suc n) = ([], refl)
-front-of (x ∷ xs) zero = (x ∷ xs, refl)
-front-of {A} (x ∷ xs) (suc n) = let more = front-of xs n in (more.0, ap (λ (ys : List A). x ∷ ys) more.1)
+take-more {A} xs i x is = take_more xs i x (slice_get_within xs i x is) ∙ ap (λ (y : A). take i xs ++ y ∷ []) (get_or_from_slice_get xs i x x is)
 
 -- Worlds with the same databases and logs.
-
--- what made one of them made the other
-pub made-same : (blobs : List (List ℕ)) (w v : World) → SameLogs w v → AreMade blobs w → AreMade blobs v
-made-same _ w v same (nothing _ none) = nothing v (same.databases ∙ none)
-made-same _ w v same (one_more blobs old _ stored act made sound is may goes) = one_more blobs old v stored act made sound is may (same-on (done old act) w v goes same)
 
 same-lines : (history : RecordLines) (dbs : List Database) → AllByRecursion (λ (db : Database). log_of history db ≡ log_of history db) dbs
 same-lines history [] = tt
@@ -133,7 +100,7 @@ record Last (blobs : List (List ℕ)) (blob : List ℕ) (w : World) : Type 0 whe
 last-of : (blobs all : List (List ℕ)) (blob : List ℕ) (w : World) → AreMade all w → all ≡ blobs ++ blob ∷ [] → Last blobs blob w
 last-of blobs _ blob w (nothing _ none) is = absurd (none-snoc blobs blob is)
 last-of blobs _ blob w (one_more before old _ stored act made sound is_act may goes) is =
-    let parts = snoc-same before blobs (act_bytes stored) blob is in
+    let parts = same_from_push before blobs (act_bytes stored) blob is in
     let Made : List (List ℕ) → Type 0 = λ bs. AreMade bs old in record {
       old = old;
       stored = stored;
@@ -211,8 +178,7 @@ one-blob blobs i blob ds is shows =
 -- a blob that may not be there
 pub stuck : (blobs : List (List ℕ)) (i : ℕ) (blob : List ℕ) → slice_get blobs i ≡ Some blob → MakeNone (take i blobs ++ blob ∷ []) → MakeNone blobs
 stuck blobs i blob is none w made =
-    let rest = front-of blobs (i + 1) in
-    let front = front-made (take (i + 1) blobs) rest.0 blobs w made rest.1 in
+    let front = front-made (take (i + 1) blobs) (drop (i + 1) blobs) blobs w made (sym (take-append-drop (i + 1) blobs)) in
     let Made : List (List ℕ) → Type 0 = λ bs. AreMade bs front.0 in
     none front.0 (subst Made (take-more blobs i blob is) front.1)
 
@@ -220,7 +186,7 @@ stuck blobs i blob is none w made =
 pub whole : (blobs : List (List ℕ)) (ds : List KeptDatabase) (n : ℕ) → length blobs ≤ n → ShowMade (take n blobs) ds → ShowMade blobs ds
 whole blobs ds n all shows =
     let Shows : List (List ℕ) → Type 0 = λ bs. ShowMade bs ds in
-    subst Shows (take-all blobs n all) shows
+    subst Shows (take_all n blobs all) shows
 
 -- no blobs make some world
 pub made-none : (blobs : List (List ℕ)) → blobs ≡ [] → MakeNone blobs → ⊥

@@ -3,7 +3,7 @@ use Rattle.std.proofs.Common.{◌≡◌, ◌<◌, ◌≤◌, inl, inr, ℕ, zero
 use Rattle.std.specs.Prelude.{OnOk, Result, slice_get}
 use Rattle.std.specs.List.{AllByRecursion}
 use Rattle.std.proofs.lemmas.List.{append-nil}
-use Rattle.std.proofs.Math.Seq.{take-length}
+use Rattle.std.proofs.Math.Seq.{take-append-add, take-length}
 use Rattle.bk_acts.specs.declared.act.StoredAct.{StoredAct}
 use Rattle.bk_device.specs.Compose.{effect_weaken}
 use Rattle.bk_device.specs.Disk.{Files, Disk}
@@ -157,12 +157,6 @@ one-more {count = count} {i = i} {new = new} {after = after} below so one = reco
       omega (arith, same, less, below);
 }
 
-take-behind : {A : Type 0} (a b : List A) (n : ℕ) → take (length a + n) (a ++ b) ≡ a ++ take n b
-take-behind {A} [] b n = let none : List A = [] in let same : length none + n ≡ n = omega arith in ap (λ (m : ℕ). take m b) same
-take-behind {A} (x ∷ a) b n =
-    let same : length (x ∷ a) + n ≡ suc (length a + n) = omega arith in
-    ap (λ (m : ℕ). take m ((x ∷ a) ++ b)) same ∙ ap (λ (zs : List A). x ∷ zs) (take-behind a b n)
-
 -- what is cut behind a front of a closing is cut in the closing
 cut-behind : (number : ℕ) (w : World) (acts : List Act) (image : Files) → IsClosingFront w acts → ((closing : List Act) × AreClosing (done_all w acts) closing × CutIn number (done_all w acts) closing image)
     → (closing : List Act) × AreClosing w closing × CutIn number w closing image
@@ -171,7 +165,7 @@ cut-behind number w acts image front (rest, closing, cut) = (
   closing-joined w acts rest front closing,
   record {
     done = length acts + cut.done;
-    covers = subst (CoversBehind number image) (sym (ap (done_all w) (take-behind acts rest cut.done) ∙ done-joined w acts (take cut.done rest))) cut.covers;
+    covers = subst (CoversBehind number image) (sym (ap (done_all w) (take-append-add acts rest cut.done) ∙ done-joined w acts (take cut.done rest))) cut.covers;
   },
 )
 

@@ -1,10 +1,10 @@
 -- Databases that are settled one after the other.
-use Rattle.std.proofs.Common.{◌≡◌, ◌≤◌, inl, inr, ℕ, zero, suc, ◌+◌, true, false, List, [], ◌∷◌, ◌++◌, length, map, take, Option, None, Some, refl, sym, ◌∙◌, ap, subst, arith, add-one, append_assoc, length-append}
-use Rattle.std.specs.Prelude.{◌==◌, ◌&&◌, MatchOption, not, slice_get}
+use Rattle.std.proofs.Common.{◌≡◌, ◌≤◌, inl, inr, ℕ, zero, suc, ◌+◌, true, false, List, [], ◌∷◌, ◌++◌, length, map, take, Option, None, Some, refl, sym, ◌∙◌, ap, subst, arith, add-one, length-append}
+use Rattle.std.specs.Prelude.{◌==◌, ◌&&◌, MatchOption, not, option_map, slice_get}
 use Rattle.std.specs.List.{AllByRecursion}
-use Rattle.std.proofs.lemmas.Option.{same_Some}
-use Rattle.std.proofs.lemmas.List.{length-map}
-use Rattle.std.proofs.Math.Seq.{take-append_seam}
+use Rattle.std.proofs.lemmas.Option.{same_Some, slice_get-map}
+use Rattle.std.proofs.lemmas.List.{length-map, take_all, take_at}
+use Rattle.std.proofs.Math.Seq.{take-append-add}
 use Rattle.bk_acts.specs.declared.act.StoredAct.{StoredAct}
 use Rattle.bk_device.specs.Compose.{effect_weaken, effect_widen}
 use Rattle.bk_device.specs.Disk.{Disk, IsLawful}
@@ -16,6 +16,7 @@ use Rattle.bk_machine.specs.MayDo.{MayDo}
 use Rattle.bk_machine.specs.NamedLaws.{named-each}
 use Rattle.bk_machine.specs.ReadyLaws.{nothing-pends}
 use Rattle.bk_machine.specs.Settled.{IsSettledTo, needs_settling, settled_database, settles}
+use Rattle.bk_machine.specs.SettledLaws.{needs-closed, needs-up}
 use Rattle.bk_machine.specs.Sound.{AreIdle, AreOpen, IsIdle, IsSound, OpenBy}
 use Rattle.bk_machine.specs.World.{Database, World, database_named, log_of}
 use Rattle.bk_machine.specs.statements.Restore.{is_online}
@@ -32,7 +33,7 @@ use Rattle.bk_world.specs.declared.database.Status.{Status}
 use Rattle.bk_world.specs.declared.database.Status.TheVariants.{Online, Standby, Down}
 use Rattle.bk_world.specs.declared.transaction.Open.{Open}
 use Rattle.bk_world.specs.Lines.{RecordLines, log_below}
-use Rattle.bk_lemmas.specs.Lists.{all_both, all_front, all_joined, all_middle}
+use Rattle.bk_lemmas.specs.Lists.{all_both, all_front, all_joined}
 use Rattle.bk_world.specs.Pending.{Pending, pending}
 use Rattle.bk_world.specs.Records.{Logged, Said}
 use Rattle.bk_world.specs.Says.{settle_said}
@@ -62,13 +63,8 @@ split-at {A} (y ∷ ys) (suc i) x is =
     let more = split-at ys i x is in
     record { front = y ∷ more.front; rest = more.rest; is = ap (λ (zs : List A). y ∷ zs) more.is; count = omega (arith, more.count) }
 
-take-front : {A : Type 0} (i : ℕ) (front rest : List A) → length front ≡ i → take i (front ++ rest) ≡ front
-take-front i front rest count = ap (λ (n : ℕ). take n (front ++ rest)) (sym count) ∙ take-append_seam front rest
-
 take-next : {A : Type 0} (i : ℕ) (front rest : List A) (x : A) → length front ≡ i → take (i + 1) (front ++ x ∷ rest) ≡ front ++ x ∷ []
-take-next i front rest x count =
-    let more : length (front ++ x ∷ []) ≡ i + 1 = omega (arith, length-append front (x ∷ []), count) in
-    ap (take (i + 1)) (sym (append_assoc front (x ∷ []) rest)) ∙ take-front (i + 1) (front ++ x ∷ []) rest more
+take-next i front rest x count = ap (λ (n : ℕ). take (n + 1) (front ++ x ∷ rest)) (sym count) ∙ take-append-add front (x ∷ rest) 1
 
 take-beyond : {A : Type 0} (xs : List A) (i : ℕ) → slice_get xs i ≡ None → take (i + 1) xs ≡ take i xs
 take-beyond {A} xs i is = rw add-one (by xs i is)
@@ -78,6 +74,11 @@ take-beyond {A} xs i is = rw add-one (by xs i is)
     by [] (suc i) is = refl
     by (y ∷ ys) zero is = absurd cc
     by (y ∷ ys) (suc i) is = ap (λ (zs : List A). y ∷ zs) (by ys i is)
+
+all-get : {A : Type 0} (P : A → Type 0) (xs : List A) (i : ℕ) (x : A) → AllByRecursion P xs → slice_get xs i ≡ Some x → P x
+all-get P [] i x all is = absurd cc
+all-get P (y ∷ ys) zero x all is = subst P (same_Some y x is) all.0
+all-get P (y ∷ ys) (suc i) x all is = all-get P ys i x all.1 is
 
 length-placed : {A : Type 0} (front rest : List A) (x y : A) → length (front ++ x ∷ rest) ≡ length (front ++ y ∷ rest)
 length-placed front rest x y = omega (arith, length-append front (x ∷ rest), length-append front (y ∷ rest))
@@ -111,10 +112,9 @@ needs-same old new db same none = ap (λ (rs : List Logged). is_online db.status
 -- where nothing is open in a world, none needs it
 pub idle-needs : (w : World) (at : ℕ) (db : Database) → IsSound w → AreIdle w → slice_get w.databases at ≡ Some db → needs_settling w.history db ≡ false
 idle-needs w at db sound idle there =
-    let split = split-at w.databases at db there in
     let each : AllByRecursion (IsStill w.history) w.databases =
     all_both IsIdle (OpenBy w.history) (IsStill w.history) (λ d one two. record { idle = one; opens = two }) w.databases idle sound.opens in
-    still-needs w.history db (all_middle (IsStill w.history) split.front db split.rest (subst (AllByRecursion (IsStill w.history)) split.is each))
+    still-needs w.history db (all-get (IsStill w.history) w.databases at db each there)
 
 -- Settling one of them.
 
@@ -125,40 +125,28 @@ pub record SettleLaws : Type 0 where
       → (front rest : List Database) → w.databases ≡ front ++ db ∷ rest → (done w (settles w db)).databases ≡ front ++ settled_database w db ∷ rest
   pub logs : (w : World) (db : Database) → IsSound w → database_named w.databases db.name ≡ Some db → db.status ≡ Online
       → AllByRecursion (λ (other : Database). log_of (done w (settles w db)).history other ≡ log_of w.history other) w.databases
-  pub online : (history : RecordLines) (db : Database) → needs_settling history db ≡ true → db.status ≡ Online
   pub no_more : (w : World) (db : Database) → IsSound w → database_named w.databases db.name ≡ Some db → db.status ≡ Online → needs_settling (done w (settles w db)).history (settled_database w db) ≡ false
 
 -- it is found by its name
 pub found-at : (w : World) (at : ℕ) (db : Database) → IsSound w → slice_get w.databases at ≡ Some db → database_named w.databases db.name ≡ Some db
-found-at w at db sound there =
-    let split = split-at w.databases at db there in
-    let Named : Database → Type 0 = λ (d : Database). database_named w.databases d.name ≡ Some d in
-    all_middle Named split.front db split.rest (subst (AllByRecursion Named) split.is (named-each w.databases sound.whole.different))
+found-at w at db sound there = all-get (λ (d : Database). database_named w.databases d.name ≡ Some d) w.databases at db (named-each w.databases sound.whole.different) there
 
 -- what is said changes neither counter nor sessions
-found-counter : (w : World) (o : Option Database) (next : Database → World) → ((db : Database) → (next db).counter ≡ w.counter) → (where_found w o next).counter ≡ w.counter
-found-counter w None next same = refl
-found-counter w (Some db) next same = same db
-
-found-session : (w : World) (o : Option Database) (next : Database → World) → ((db : Database) → (next db).session ≡ w.session) → (where_found w o next).session ≡ w.session
-found-session w None next same = refl
-found-session w (Some db) next same = same db
-
-found-sessions : (w : World) (o : Option Database) (next : Database → World) → ((db : Database) → (next db).sessions ≡ w.sessions) → (where_found w o next).sessions ≡ w.sessions
-found-sessions w None next same = refl
-found-sessions w (Some db) next same = same db
+found-keeps : {A : Type 0} (of : World → A) (w : World) (o : Option Database) (next : Database → World) → ((db : Database) → of (next db) ≡ of w) → of (where_found w o next) ≡ of w
+found-keeps of w None next same = refl
+found-keeps of w (Some db) next same = same db
 
 said-counter : (w : World) (db : Database) → (done w (settles w db)).counter ≡ w.counter
 unfolding done says
-said-counter w db = found-counter w (database_named w.databases db.name) (λ d. says w d (settle_said (pending (log_of w.history db))) []) (λ d. refl)
+said-counter w db = found-keeps (λ (x : World). x.counter) w (database_named w.databases db.name) (λ d. says w d (settle_said (pending (log_of w.history db))) []) (λ d. refl)
 
 said-session : (w : World) (db : Database) → (done w (settles w db)).session ≡ w.session
 unfolding done says
-said-session w db = found-session w (database_named w.databases db.name) (λ d. says w d (settle_said (pending (log_of w.history db))) []) (λ d. refl)
+said-session w db = found-keeps (λ (x : World). x.session) w (database_named w.databases db.name) (λ d. says w d (settle_said (pending (log_of w.history db))) []) (λ d. refl)
 
 said-sessions : (w : World) (db : Database) → (done w (settles w db)).sessions ≡ w.sessions
 unfolding done says
-said-sessions w db = found-sessions w (database_named w.databases db.name) (λ d. says w d (settle_said (pending (log_of w.history db))) []) (λ d. refl)
+said-sessions w db = found-keeps (λ (x : World). x.sessions) w (database_named w.databases db.name) (λ d. says w d (settle_said (pending (log_of w.history db))) []) (λ d. refl)
 
 pub settling-none : (w : World) → IsSettling w w
 settling-none w = record { same = λ v is. is; counter = refl; session = refl; sessions = refl; count = refl }
@@ -177,7 +165,7 @@ module _ (laws : SettleLaws) (w : World) (at : ℕ) (db : Database) (sound : IsS
   next-settling =
       let split = split-at w.databases at db there in
       let named = found-at w at db sound there in
-      let up = laws.online w.history db needs in record {
+      let up = needs-up w.history db needs in record {
         same = laws.settled w db sound named up;
         counter = said-counter w db;
         session = said-session w db;
@@ -190,10 +178,10 @@ module _ (laws : SettleLaws) (w : World) (at : ℕ) (db : Database) (sound : IsS
       let x : World = done w (settles w db) in
       let split = split-at w.databases at db there in
       let named = found-at w at db sound there in
-      let up = laws.online w.history db needs in
+      let up = needs-up w.history db needs in
       let Same : Database → Type 0 = λ (other : Database). log_of x.history other ≡ log_of w.history other in
       let front : AllByRecursion (NeedsNone w.history) split.front =
-      subst (AllByRecursion (NeedsNone w.history)) (ap (take at) split.is ∙ take-front at split.front (db ∷ split.rest) split.count) before in
+      subst (AllByRecursion (NeedsNone w.history)) (ap (take at) split.is ∙ take_at split.front (db ∷ split.rest) at split.count) before in
       let logs : AllByRecursion Same split.front = all_front Same split.front (db ∷ split.rest) (subst (AllByRecursion Same) split.is (laws.logs w db sound named up)) in
       let stays : AllByRecursion (NeedsNone x.history) split.front =
       all_both Same (NeedsNone w.history) (NeedsNone x.history) (λ other same none. needs-same w.history x.history other same none) split.front logs front in
@@ -219,47 +207,35 @@ needs-kept w d ts ws same written shows =
     let count : length ws ≡ length (pending rs) = sym (length-map ws pending_of) ∙ ap (λ (ps : List Pending). length ps) (written d.files rs shows) in
     ap (λ (n : ℕ). is_online d.status && not (length ts == 0 && n == 0)) count ∙ ap (λ (xs : List Open). is_online d.status && not (length xs == 0 && length (pending rs) == 0)) same
 
-get-mapped : {A B : Type 0} (f : A → B) (xs : List A) (i : ℕ) (x : A) → slice_get xs i ≡ Some x → slice_get (map f xs) i ≡ Some (f x)
-get-mapped f [] i x is = absurd cc
-get-mapped f (y ∷ ys) zero x is = ap (λ z. Some (f z)) (same_Some y x is)
-get-mapped f (y ∷ ys) (suc i) x is = get-mapped f ys i x is
-
-all-get : {A : Type 0} (P : A → Type 0) (xs : List A) (i : ℕ) (x : A) → AllByRecursion P xs → slice_get xs i ≡ Some x → P x
-all-get P [] i x all is = absurd cc
-all-get P (y ∷ ys) zero x all is = subst P (same_Some y x is) all.0
-all-get P (y ∷ ys) (suc i) x all is = all-get P ys i x all.1 is
-
-get-none : {A B : Type 0} (f : A → B) (xs : List A) (i : ℕ) → slice_get xs i ≡ None → slice_get (map f xs) i ≡ None
-get-none f [] i is = refl
-get-none f (y ∷ ys) zero is = absurd cc
-get-none f (y ∷ ys) (suc i) is = get-none f ys i is
+-- the databases of a world are those that are kept
+get-kept : (w : World) (k : Kept) (at : ℕ) → Keeps w k → slice_get w.databases at ≡ option_map database_of (slice_get k.databases.items at)
+get-kept w k at keeps = ap (λ (dbs : List Database). slice_get dbs at) keeps.databases ∙ slice_get-map database_of k.databases.items at
 
 -- there is no database at a place
 pub absent-settled : (k : Kept) (at : ℕ) → slice_get k.databases.items at ≡ None → (w : World) → IsSound w → Keeps w k → IsSettledAt at w
 absent-settled k at absent w sound keeps db there =
-    let none : slice_get w.databases at ≡ None = ap (λ (dbs : List Database). slice_get dbs at) keeps.databases ∙ get-none database_of k.databases.items at absent in
+    let none : slice_get w.databases at ≡ None = get-kept w k at keeps ∙ ap (λ (o : Option KeptDatabase). option_map database_of o) absent in
     absurd cc
 
 -- or one that need not be settled
 pub rest-settled : (k : Kept) (at : ℕ) (d : KeptDatabase) → slice_get k.databases.items at ≡ Some d → ((w : World) → ShowsLog w.history d → needs_settling w.history (database_of d) ≡ false) → (w : World) → IsSound w → Keeps w k → IsSettledAt at w
 rest-settled k at d there needs w sound keeps db is =
-    let in_world : slice_get w.databases at ≡ Some (database_of d) = ap (λ (dbs : List Database). slice_get dbs at) keeps.databases ∙ get-mapped database_of k.databases.items at d there in
+    let in_world : slice_get w.databases at ≡ Some (database_of d) = get-kept w k at keeps ∙ ap (λ (o : Option KeptDatabase). option_map database_of o) there in
     let same : database_of d ≡ db = same_Some (database_of d) db (sym in_world ∙ is) in
     let own : IsKept w.history d = all-get (IsKept w.history) k.databases.items at d keeps.kept there in
     subst (λ (x : Database). needs_settling w.history x ≡ false) same (needs w own.shows)
 
 -- the act that settles the database at a place
-pub settles-found : ((history : RecordLines) (db : Database) → needs_settling history db ≡ true → db.status ≡ Online)
-    → ((w : World) (db : Database) → IsSound w → database_named w.databases db.name ≡ Some db → db.status ≡ Online → MayDo w (settles w db)) → (k : Kept) (at : ℕ) (d : KeptDatabase) (stored : StoredAct) → slice_get k.databases.items at ≡ Some d
+pub settles-found : ((w : World) (db : Database) → IsSound w → database_named w.databases db.name ≡ Some db → db.status ≡ Online → MayDo w (settles w db)) → (k : Kept) (at : ℕ) (d : KeptDatabase) (stored : StoredAct) → slice_get k.databases.items at ≡ Some d
     → ((w : World) → ShowsLog w.history d → needs_settling w.history (database_of d) ≡ true)
     → ((w : World) → database_named w.databases d.name ≡ Some (database_of d) → ShowsLog w.history d → MayDo w (settles w (database_of d)) → IsDone w stored (settles w (database_of d)))
     → (w : World) → IsSound w → Keeps w k → SettlesAt at w stored
-settles-found online may k at d stored there needs is w sound keeps =
-    let in_world : slice_get w.databases at ≡ Some (database_of d) = ap (λ (dbs : List Database). slice_get dbs at) keeps.databases ∙ get-mapped database_of k.databases.items at d there in
+settles-found may k at d stored there needs is w sound keeps =
+    let in_world : slice_get w.databases at ≡ Some (database_of d) = get-kept w k at keeps ∙ ap (λ (o : Option KeptDatabase). option_map database_of o) there in
     let own : IsKept w.history d = all-get (IsKept w.history) k.databases.items at d keeps.kept there in
     let some : needs_settling w.history (database_of d) ≡ true = needs w own.shows in
     let named = found-at w at (database_of d) sound in_world in
-    record { database = database_of d; there = in_world; needs = some; is = is w named own.shows (may w (database_of d) sound named (online w.history (database_of d) some)) }
+    record { database = database_of d; there = in_world; needs = some; is = is w named own.shows (may w (database_of d) sound named (needs-up w.history (database_of d) some)) }
 
 -- an act by which a database says something draws no GUID
 pub says-draws : {said : List Pending → List Said} {ts : List Open} (d : KeptDatabase) (act stored : StoredAct) → SaysOf d said ts act → act ≡ stored → drawn_by stored ≡ 0
@@ -364,23 +340,16 @@ idle-kept (d ∷ ds) (db ∷ dbs) is none =
 pub keeps-idle : (w : World) (k : Kept) → Keeps w k → AllByRecursion (λ (db : Database). db.transactions ≡ []) w.databases → AreIdle w
 keeps-idle w k keeps none = idle-kept k.databases.items w.databases keeps.databases none
 
-take-all : {A : Type 0} (xs : List A) (n : ℕ) → length xs ≤ n → take n xs ≡ xs
-take-all [] zero le = refl
-take-all [] (suc n) le = refl
-take-all (x ∷ xs) zero le = absurd (omega (arith, le))
-take-all {A} (x ∷ xs) (suc n) le = ap (λ (rest : List A). x ∷ rest) (take-all xs n (omega (arith, le)))
-
 length-kept : (w : World) (k : Kept) → Keeps w k → length w.databases ≡ length k.databases.items
 length-kept w k keeps = ap (λ (dbs : List Database). length dbs) keeps.databases ∙ length-map k.databases.items database_of
 
-pub settled-all : ((w : World) → IsSound w → AllByRecursion (λ (db : Database). needs_settling w.history db ≡ false → db.transactions ≡ []) w.databases)
-    → (old new : Instance) (before after : Disk) (n : ℕ) → n ≡ length old.kept.databases.items → SettlesUpTo n old before new after → SettlesAll old before new after
-settled-all closed old new before after n count so w stands =
+pub settled-all : (old new : Instance) (before after : Disk) (n : ℕ) → n ≡ length old.kept.databases.items → SettlesUpTo n old before new after → SettlesAll old before new after
+settled-all old new before after n count so w stands =
     let here = so w stands in
     let x : World = here.0 in
     let now : StandsFor new after x = here.3 in
     let enough : length x.databases ≤ n = omega (arith, here.1.count, length-kept w old.kept stands.keeps, count) in
-    let each : AllByRecursion (NeedsNone x.history) x.databases = subst (AllByRecursion (NeedsNone x.history)) (take-all x.databases n enough) here.2 in
+    let each : AllByRecursion (NeedsNone x.history) x.databases = subst (AllByRecursion (NeedsNone x.history)) (take_all n x.databases enough) here.2 in
     let none : AllByRecursion (λ (db : Database). db.transactions ≡ []) x.databases =
-    all_both (λ (db : Database). needs_settling x.history db ≡ false → db.transactions ≡ []) (NeedsNone x.history) (λ (db : Database). db.transactions ≡ []) (λ db leads none. leads none) x.databases (closed x now.sound) each in
+    all_both (λ (db : Database). needs_settling x.history db ≡ false → db.transactions ≡ []) (NeedsNone x.history) (λ (db : Database). db.transactions ≡ []) (λ db leads none. leads none) x.databases (needs-closed x now.sound) each in
     (x, here.1, keeps-idle x new.kept now.keeps none, now)

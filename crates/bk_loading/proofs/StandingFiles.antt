@@ -1,18 +1,12 @@
 -- Files that stand for a world.
-use Rattle.std.proofs.Common.{◌≡◌, ◌≤◌, ℕ, false, List, refl, arith}
+use Rattle.std.proofs.Common.{◌≡◌, ℕ, false, List, refl, arith}
 use Rattle.bk_device.specs.Disk.{Files}
 use Rattle.bk_machine.specs.Settled.{IsSettledTo}
+use Rattle.bk_machine.specs.SettledLaws.{settled-opened, settled-restarted}
 use Rattle.bk_machine.specs.Sound.{IsSound}
 use Rattle.bk_machine.specs.World.{World, opened, restarted}
 use Rattle.bk_instance.specs.Stands.{Covers, IsOurs, Stands, StandsNear}
-use Rattle.bk_loading.proofs.Opened.{covers-same}
-
--- What the machine's laws say of where a run begins, and of a crash.
-pub record FileLaws : Type 0 where
-  pub begins : (w : World) → IsSound w → IsSound (opened w)
-  pub restarts : (counter : ℕ) (w : World) → IsSound w → w.counter ≤ counter → IsSound (restarted counter w)
-  pub settled_opened : (w v : World) → IsSettledTo w v → IsSettledTo w (opened v)
-  pub settled_restarted : (counter : ℕ) (w v : World) → IsSettledTo w v → IsSettledTo w (restarted counter v)
+use Rattle.bk_loading.proofs.Opened.{BeginLaws, covers-same}
 
 pub held-stands : (number : ℕ) (files : Files) (w v : World) (covers : Covers number files w) → IsSettledTo w v → IsSound v → v.counter ≡ covers.«record».counter → v.closed ≡ false → Stands number files v
 held-stands number files w v covers settled sound exact closed = record {
@@ -25,25 +19,25 @@ held-stands number files w v covers settled sound exact closed = record {
   finished = λ is. absurd (cc);
 }
 
-pub near-stands : FileLaws → (number : ℕ) (files : Files) (w : World) (near : StandsNear number files w) → Stands number files (restarted near.covers.«record».counter w)
+pub near-stands : BeginLaws → (number : ℕ) (files : Files) (w : World) (near : StandsNear number files w) → Stands number files (restarted near.covers.«record».counter w)
 unfolding restarted
 near-stands laws number files w near = record {
   sound = laws.restarts near.covers.«record».counter w near.sound near.no_less;
   before = near.before;
   covers = near.covers;
-  settled = laws.settled_restarted near.covers.«record».counter near.before w near.settled;
+  settled = settled-restarted near.covers.«record».counter near.before w near.settled;
   counter = refl;
   idle = λ is. absurd (cc);
   finished = λ is. absurd (cc);
 }
 
-pub opened-near : FileLaws → (number : ℕ) (files : Files) (w : World) → Stands number files w → StandsNear number files (opened w)
+pub opened-near : BeginLaws → (number : ℕ) (files : Files) (w : World) → Stands number files w → StandsNear number files (opened w)
 unfolding opened
 opened-near laws number files w stands = record {
   sound = laws.begins w stands.sound;
   before = stands.before;
   covers = stands.covers;
-  settled = laws.settled_opened stands.before w stands.settled;
+  settled = settled-opened stands.before w stands.settled;
   no_less = omega (arith, stands.counter);
   no_more = omega (arith, stands.counter);
 }

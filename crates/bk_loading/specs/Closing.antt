@@ -4,7 +4,7 @@ use Rattle.std.specs.List.{AllByRecursion}
 use Rattle.bk_acts.specs.declared.act.StoredAct.{StoredAct}
 use Rattle.bk_device.specs.Calls.{ChangesNothing}
 use Rattle.bk_device.specs.Disk.{Files, Disk}
-use Rattle.bk_machine.specs.Acts.{Act, done_all, done}
+use Rattle.bk_machine.specs.Acts.{Act, done_all}
 use Rattle.bk_machine.specs.Closing.{AreClosing, IsClosingFront, IsFirst, count_open}
 use Rattle.bk_machine.specs.Sound.{AreIdle, IsSound}
 use Rattle.bk_machine.specs.World.{Database, Held, World, ended}

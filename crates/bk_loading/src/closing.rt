@@ -10,6 +10,7 @@ ghost use Rattle.bk_instance.specs.Stands.{IsReady, IsStored, IsOurs, ReservesNo
 ghost use Rattle.bk_instance.specs.Touched.{TouchesOwn};
 ghost use Rattle.bk_instance.specs.declared.error.ExecuteError.TheVariants.{Broken, Fault};
 ghost use Rattle.bk_kept.specs.Keeps.{database_of};
+ghost use Rattle.bk_kept.specs.Numbers.{LeaveNumbers};
 ghost use Rattle.bk_loading.specs.Closing.{RollsFirst, RollsAll, RollsOne, StandsEnded, RestsClosed, CutsEnd, Closed};
 ghost use Rattle.bk_machine.specs.Closing as closing;
 ghost use Rattle.bk_machine.specs.Sound.{AreIdle};
@@ -21,26 +22,25 @@ use bk_device::Device;
 use bk_home::Record;
 use bk_instance::{ExecuteError, Instance};
 use bk_kept::Kept;
-use bk_machine::{
-    runs_are_closed, runs_are_closed_one_by_one, runs_begin_and_end_in_sound_worlds, settled_worlds,
-};
+use bk_machine::{runs_are_closed, runs_are_closed_one_by_one, runs_begin_and_end_in_sound_worlds};
 use bk_planning::rollback_act;
 use bk_waiting::what_waits_is_joined;
 use std::alloc::{AllocError, Global};
 
-// How many transactions are open, if a number holds it.
-fn count_open(kept: &Kept) -> Option<usize>
-    ensures { IfSome result (λ n. n ≡ closing.count_open (map database_of kept.now.databases.items)) }
+// How many transactions are open.
+fn count_open(kept: &Kept) -> u128
+    ensures { result ≡ closing.count_open (map database_of kept.now.databases.items) }
 {
-    let mut count: usize = 0;
+    let mut count: u128 = 0;
     for database in &kept.databases {
-        count = count.checked_add(database.transactions.as_slice().len())?;
+        count += database.transactions.as_slice().len() as u128;
     }
-    Some(count)
+    count
 }
 
 // The act that rolls the first open transaction back, if one is open.
 fn rolling_back(alloc: Global, kept: &Kept) -> Result<Option<StoredAct>, AllocError>
+    requires { LeaveNumbers kept.now.databases.items }
     ensures act { IfOk result (RollsFirst kept.now) }
     ensures keeps { IfOk result (λ act. IfSome act KeepsAct) }
 {
@@ -94,9 +94,7 @@ fn roll_all_back<D: Device>(instance: &mut Instance, dev: &mut D) -> Result<(), 
 {
     runs_are_closed();
     runs_are_closed_one_by_one();
-    let Some(count) = count_open(&instance.kept) else {
-        return Err(ExecuteError::NoMemory);
-    };
+    let count = count_open(&instance.kept);
     for _round in 0..count {
         roll_back(instance, dev)?;
     }
@@ -119,7 +117,6 @@ fn release<D: Device>(instance: &mut Instance, dev: &mut D) -> Result<(), Execut
     ensures cause { HasCause D.disk_faults D.tell_faults dev.old dev.new (IsErrOf result Fault) }
 {
     runs_begin_and_end_in_sound_worlds();
-    settled_worlds();
     if instance.home.record().counter != instance.kept.counter {
         let exact = Record {
             number: instance.kept.number,

@@ -12,7 +12,7 @@ ghost use Rattle.bk_instance.specs.Stands.{Covers, IsOurs, Stands, StandsNear};
 
 use bk_machine::{
     empty_worlds_are_sound, events_keep_worlds_sound, logs_that_stay, restarts_keep_worlds_sound,
-    runs_begin_and_end_in_sound_worlds, sets_that_stay, settled_worlds,
+    runs_begin_and_end_in_sound_worlds, sets_that_stay,
 };
 
 /// Where no instance is made and there is no medium, the files stand for the empty world of each number.
@@ -20,7 +20,6 @@ pub fn empty_files_stand()
     ensures { (number : ℕ) (files : Files) → IsNotMade files → ((path : List ℕ) → AreBytes path → files (medium_file path) ≡ None) → StandsAtRest number files (empty_world number) }
 {
     empty_worlds_are_sound();
-    settled_worlds();
 }
 
 /// What may happen between two runs, done to the files and to the world together, keeps that they stand for it.
@@ -35,7 +34,6 @@ pub fn events_keep_what_stands()
     events_keep_worlds_sound();
     logs_that_stay();
     sets_that_stay();
-    settled_worlds();
 }
 
 /// Files that hold a world stand for each sound world to which it is settled, with the counter that was reserved, and so do
@@ -52,5 +50,4 @@ pub fn crashes_leave_files_that_stand()
 {
     restarts_keep_worlds_sound();
     runs_begin_and_end_in_sound_worlds();
-    settled_worlds();
 }

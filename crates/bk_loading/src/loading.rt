@@ -22,10 +22,7 @@ use bk_device::{Device, Failed};
 use bk_home::Home;
 use bk_instance::Instance;
 use bk_kept::Kept;
-use bk_machine::{
-    logs_that_stay, media_that_stay, restarts_keep_worlds_sound,
-    runs_begin_and_end_in_sound_worlds, settled_worlds,
-};
+use bk_machine::{restarts_keep_worlds_sound, runs_begin_and_end_in_sound_worlds};
 use bk_waiting::Waiting;
 use std::alloc::Global;
 
@@ -136,11 +133,8 @@ pub fn load<D: Device>(alloc: Global, dev: &mut D, number: u64) -> Result<Instan
     ensures unsettled { D.tells → IsErrOf result Unsettled → (w : World) → Stands number (D.disk dev.old).files w → ⊥ }
     ensures cause { HasCause D.disk_faults D.tell_faults dev.old dev.new (IsErrOf result Fault) }
 {
-    logs_that_stay();
-    media_that_stay();
     restarts_keep_worlds_sound();
     runs_begin_and_end_in_sound_worlds();
-    settled_worlds();
     let mut instance = open_instance(alloc, dev, number)?;
     match settle(&mut instance, dev) {
         Ok(()) => Ok(instance),

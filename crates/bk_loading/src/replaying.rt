@@ -5,6 +5,7 @@ ghost use Rattle.bk_device.specs.Calls.{ChangesNothing};
 ghost use Rattle.bk_device.specs.Counts.{HasCause};
 ghost use Rattle.bk_home.specs.Home.{IsHome, blobs_of, count_of};
 ghost use Rattle.bk_taking.specs.declared.error.ApplyError.TheVariants.{Unfit};
+ghost use Rattle.bk_kept.specs.Numbers.{LeaveNumbers};
 ghost use Rattle.bk_loading.specs.Loading.{MakeNone, ShowMade};
 ghost use Rattle.bk_loading.specs.declared.error.LoadError.TheVariants.{Broken, Fault, NotAnInstance, Unsettled};
 
@@ -20,6 +21,7 @@ use std::alloc::Global;
 fn taken(alloc: Global, databases: &mut Vec<Database>, act: StoredAct) -> Result<(), ApplyError>
     requires { IsAct act }
     ensures ok { (blobs : List (List ℕ)) → ShowMade blobs databases.old.items → OnOk result (ShowMade (blobs ++ act_bytes act ∷ []) databases.new.items) }
+    ensures numbers { OnOk result (LeaveNumbers databases.new.items) }
     ensures unfit { (blobs : List (List ℕ)) → ShowMade blobs databases.old.items → IsErrOf result Unfit → MakeNone (blobs ++ act_bytes act ∷ []) }
 {
     acts_law();
@@ -31,16 +33,16 @@ fn taken(alloc: Global, databases: &mut Vec<Database>, act: StoredAct) -> Result
 // Takes the act in that these bytes spell.
 fn turn(alloc: Global, databases: &mut Vec<Database>, bytes: &[u8]) -> Result<(), LoadError>
     ensures ok { (blobs : List (List ℕ)) → ShowMade blobs databases.old.items → OnOk result (ShowMade (blobs ++ bytes.now ∷ []) databases.new.items) }
+    ensures numbers { OnOk result (LeaveNumbers databases.new.items) }
     ensures broken { (blobs : List (List ℕ)) → ShowMade blobs databases.old.items → IsErrOf result Broken → MakeNone (blobs ++ bytes.now ∷ []) }
     ensures not_an_instance { IsErrOf result NotAnInstance → ⊥ }
     ensures unsettled { IsErrOf result Unsettled → ⊥ }
     ensures fault { IsErrOf result Fault → ⊥ }
 {
     acts_law();
-    match read_act(alloc, bytes) {
-        Ok(act) => Ok(taken(alloc, databases, act)?),
-        Err(error) => Err(error.into()),
-    }
+    let act = read_act(alloc, bytes)?;
+    taken(alloc, databases, act)?;
+    Ok(())
 }
 
 // Takes the act of one blob in.
@@ -56,6 +58,7 @@ fn step<D: Device>(
     requires stands { D.tells → IsHome (D.disk dev.old) home.now }
     ensures ok { D.tells → (blobs : List (List ℕ)) → ShowMade blobs databases.old.items
         → OnOk result ((blob : List ℕ) × (slice_get (blobs_of (D.disk dev.old).files) i ≡ Some blob) × ShowMade (blobs ++ blob ∷ []) databases.new.items) }
+    ensures numbers { OnOk result (LeaveNumbers databases.new.items) }
     ensures broken { D.tells → (blobs : List (List ℕ)) → ShowMade blobs databases.old.items → IsErrOf result Broken
         → (blob : List ℕ) × (slice_get (blobs_of (D.disk dev.old).files) i ≡ Some blob) × MakeNone (blobs ++ blob ∷ []) }
     ensures not_an_instance { IsErrOf result NotAnInstance → ⊥ }
@@ -78,6 +81,7 @@ pub(crate) fn replay<D: Device>(
     requires fit { home.now.failed ≡ false }
     requires stands { D.tells → IsHome (D.disk dev.old) home.now }
     ensures made { D.tells → IfOk result (λ databases. ShowMade (blobs_of (D.disk dev.old).files) databases.items) }
+    ensures numbers { IfOk result (λ databases. LeaveNumbers databases.items) }
     ensures broken { D.tells → IsErrOf result Broken → MakeNone (blobs_of (D.disk dev.old).files) }
     ensures not_an_instance { IsErrOf result NotAnInstance → ⊥ }
     ensures unsettled { IsErrOf result Unsettled → ⊥ }

@@ -1,6 +1,6 @@
 // How what was open when an instance was left is undone.
 ghost use Rattle.std.specs.Option.{option_map};
-ghost use Rattle.std.specs.Prelude.{◌≡◌, ◌==◌, ◌&&◌, not, Some, slice_get, IfOk, IfSome, MatchOption, None, OnOk, IsErrOf};
+ghost use Rattle.std.specs.Prelude.{◌≡◌, ◌==◌, ◌&&◌, not, true, Some, slice_get, IfOk, IfSome, MatchOption, None, OnOk, IsErrOf};
 ghost use Rattle.bk_acts.specs.Spelling.{KeepsAct};
 ghost use Rattle.bk_acts.specs.declared.act.StoredAct.{StoredAct as StoredActOf};
 ghost use Rattle.bk_device.specs.Counts.{HasCause};
@@ -10,6 +10,7 @@ ghost use Rattle.bk_instance.specs.Stands.{IsReady, IsStored, IsOurs, ReservesNo
 ghost use Rattle.bk_instance.specs.Touched.{TouchesOwn};
 ghost use Rattle.bk_instance.specs.declared.error.ExecuteError.TheVariants.{Broken, Fault};
 ghost use Rattle.bk_kept.specs.Keeps.{Keeps, ShowsLog, database_of};
+ghost use Rattle.bk_kept.specs.Numbers.{LeaveNumbers};
 ghost use Rattle.bk_kept.specs.Stored.{drawn_by};
 ghost use Rattle.bk_loading.specs.Loading.{IsSettledAt, SettlesAt, CutsSettling, RestsIdle, SettlesAll, SettlesNext};
 ghost use Rattle.bk_machine.specs.Settled as settled;
@@ -42,7 +43,8 @@ fn has_pending(online: bool, transactions: usize, writes: usize) -> bool
 
 // Whether a database is online and has an open transaction or a pending write.
 fn needs_settling(database: &Database) -> bool
-    ensures { (w : World) → ShowsLog w.history database.now → result ≡ settled.needs_settling w.history (database_of database.now) }
+    ensures needs { (w : World) → ShowsLog w.history database.now → result ≡ settled.needs_settling w.history (database_of database.now) }
+    ensures online { result ≡ true → restore.is_online database.now.status ≡ true }
 {
     let transactions = database.transactions.as_slice().len();
     let writes = database.shown.written().len();
@@ -58,12 +60,12 @@ fn database_at(databases: &[Database], at: usize) -> Option<&Database>
 
 // The act that settles the database at a place, if there is one and it needs it.
 fn settling_at(alloc: Global, kept: &Kept, at: usize) -> Result<Option<StoredAct>, AllocError>
+    requires { LeaveNumbers kept.now.databases.items }
     ensures act { IfOk result (λ act. (w : World) → IsSound w → Keeps w kept.now → MatchOption act (IsSettledAt at w) (SettlesAt at w)) }
     ensures keeps { IfOk result (λ act. IfSome act KeepsAct) }
     ensures draws { IfOk result (λ act. (stored : StoredActOf) → act ≡ Some stored → drawn_by stored ≡ 0) }
 {
     settling_goes_database_by_database();
-    settling_ends();
     let Some(database) = database_at(&kept.databases, at) else {
         return Ok(None);
     };
@@ -120,7 +122,6 @@ pub(crate) fn settle<D: Device>(instance: &mut Instance, dev: &mut D) -> Result<
     ensures broken { D.tells → IsErrOf result Broken → (w : World) → StandsFor instance.old (D.disk dev.old) w → ⊥ }
     ensures cause { HasCause D.disk_faults D.tell_faults dev.old dev.new (IsErrOf result Fault) }
 {
-    settling_ends();
     let count = instance.kept.databases.len();
     for at in 0..count {
         settle_at(instance, dev, at)?;

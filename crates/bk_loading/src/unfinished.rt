@@ -19,7 +19,7 @@ use crate::error::LoadError;
 use bk_device::Device;
 use bk_gate::{Gate, GateError};
 use bk_home::{Home, Record};
-use bk_media::{medium_file, name_law};
+use bk_media::medium_file;
 use std::alloc::Global;
 
 // Whether no blob of a file is sealed. Changes nothing.
@@ -83,7 +83,6 @@ pub(crate) fn let_go<D: Device>(
     ensures unsettled { IsErrOf result Unsettled → ⊥ }
     ensures cause { HasCause D.disk_faults D.tell_faults dev.old dev.new (IsErrOf result Fault) }
 {
-    name_law();
     let record = home.record();
     let Some(path) = &record.making else {
         return Ok(());

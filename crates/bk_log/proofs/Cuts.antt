@@ -20,7 +20,7 @@ use Rattle.bk_segments.specs.RunLaws.{records_append, run_split}
 use Rattle.bk_log.specs.Log.{value_of, Kept, IsLog}
 use Rattle.bk_segments.specs.Files.{control_file, segment_file, IsOwn, IsBeside, IsNamed, BeginsAt, IsFirstAt, blobs_at, blobs_from, blobs_of, shown, cut_at, AreBegun, Holds, IsTidy, Logged, LogIs, AreDurable}
 use Rattle.bk_segments.specs.FileLaws.{control_not_segment, one_segment, blobs_same, begun_same, log_is, shown_same, shown_cut}
-use Rattle.bk_segments.specs.SegmentLaws.{Below, get_dropped, blobs_split, segments_same, segments_dropped}
+use Rattle.bk_segments.specs.SegmentLaws.{get_dropped, blobs_split, segments_same, segments_dropped}
 use Rattle.bk_log.specs.Laws.{control_there, control_is, still, segment_left}
 use Rattle.bk_bytes.specs.Codec.{◌>>=◌}
 use Rattle.bk_log.proofs.Makes.{Same, load_nothing, opened_value}

@@ -17,7 +17,7 @@ use Rattle.bk_segments.specs.RunLaws.{run_none, run_begun, none_begun, one_blob}
 use Rattle.bk_segments.specs.SegmentLaws.{segments_same, segments_none, segments_added}
 use Rattle.bk_segments.specs.FileLaws.{one_head, foreign_control, log_is, log_same, blobs_same, begun_same, blobs_moved, shown_same}
 use Rattle.bk_log.specs.Log.{value_of, Kept, IsLog}
-use Rattle.bk_segments.specs.Files.{control_file, segment_file, IsOwn, blobs_of, blobs_at, shown, fresh, AreBegun, AreSegments, IsAdded, Logged, LogIs, IsForeign, AreDurable}
+use Rattle.bk_segments.specs.Files.{control_file, segment_file, IsOwn, blobs_of, blobs_at, shown, emptied, AreBegun, AreSegments, IsAdded, Logged, LogIs, IsForeign, AreDurable}
 use Rattle.bk_segments.specs.Making.{Made}
 
 -- ---- a log that was made
@@ -26,16 +26,16 @@ use Rattle.bk_segments.specs.Making.{Made}
 abbrev pub first_head : ℕ → Head
 first_head at = record { kept = at; gone = 1; front = 1; back = 1; first = at }
 
-pub made_sound : (at : ℕ) (note : List ℕ) → note ≡ [] → IsSound (first_head at) note
-made_sound at note empty =
+pub made_sound : (at : ℕ) (note bytes : List ℕ) → note ≡ bytes → length bytes ≤ 32768 → IsSound (first_head at) note
+made_sound at note bytes same short =
     let Sound : List ℕ → Type 0 = λ n. IsSound (first_head at) n in
-    subst Sound (sym empty) (record { gone = omega arith; front = omega arith; back = omega arith; few = omega arith; kept = omega arith; short = omega arith })
+    subst Sound (sym same) (record { gone = omega arith; front = omega arith; back = omega arith; few = omega arith; kept = omega arith; short = short })
 
 -- which shows no record
-pub made_value : (files : Files) (db at : ℕ) (note : List ℕ) → note ≡ [] → sealed (files (segment_file db 1)) ≡ [] ∷ [] → shown files db (first_head at) note ≡ fresh at
-made_value files db at note empty one =
-    ap (λ (n : List ℕ). shown files db (first_head at) n) empty
-    ∙ ap (λ (rs : List Rec). record { kept = at; records = rs; note = [] }) (none_begun (at - at) (sealed (files (segment_file db 1))) one)
+pub made_value : (files : Files) (db at : ℕ) (note bytes : List ℕ) → note ≡ bytes → sealed (files (segment_file db 1)) ≡ [] ∷ [] → shown files db (first_head at) note ≡ emptied at bytes
+made_value files db at note bytes same one =
+    ap (λ (n : List ℕ). shown files db (first_head at) n) same
+    ∙ ap (λ (rs : List Rec). record { kept = at; records = rs; note = bytes }) (none_begun (at - at) (sealed (files (segment_file db 1))) one)
 
 made_run : (files : Files) (db at : ℕ) → sealed (files (segment_file db 1)) ≡ [] ∷ [] → IsRun at (blobs_of files db (first_head at)) at
 made_run files db at one = subst (λ (bs : List (List ℕ)). IsRun at bs at) (sym one) (run_begun at at [] (run_none at))
@@ -45,49 +45,47 @@ made_begun files db at one n low high none =
     let same : n ≡ 1 = omega (arith, low, high) in
     one_blob (blobs_at files db 1) [] one (ap (blobs_at files db) (sym same) ∙ none)
 
-made_is : (image : Files) (db at : ℕ) (bytes : List ℕ) → at < 2 ^ 64 → read_control bytes ≡ Some (first_head at, []) → control_of (image (control_file db)) ≡ Some bytes → sealed (image (segment_file db 1)) ≡ [] ∷ [] → LogIs image db (fresh at)
-made_is image db at bytes small reads control one =
-    let sound : IsSound (first_head at) [] = record { gone = omega arith; front = omega arith; back = omega arith; few = omega arith; kept = omega arith; short = omega arith } in
-    subst (λ (l : Logged). LogIs image db l) (made_value image db at [] refl one)
-    (log_is image db (first_head at) [] bytes at control reads sound (made_begun image db at one) (made_run image db at one) (omega arith) small)
+made_is : (image : Files) (db at : ℕ) (note bytes : List ℕ) → at < 2 ^ 64 → length note ≤ 32768 → read_control bytes ≡ Some (first_head at, note) → control_of (image (control_file db)) ≡ Some bytes → sealed (image (segment_file db 1)) ≡ [] ∷ [] → LogIs image db (emptied at note)
+made_is image db at note bytes small short reads control one =
+    subst (λ (l : Logged). LogIs image db l) (made_value image db at note note refl one)
+    (log_is image db (first_head at) note bytes at control reads (made_sound at note note refl short) (made_begun image db at one) (made_run image db at one) (omega arith) small)
 
 -- without a blob in the segment there is no log
-made_foreign : (image : Files) (db at : ℕ) (bytes : List ℕ) → read_control bytes ≡ Some (first_head at, []) → control_of (image (control_file db)) ≡ Some bytes → sealed (image (segment_file db 1)) ≡ [] → IsForeign image db
-made_foreign image db at bytes reads control none log is =
-    let same = (one_head image db bytes (first_head at) [] log control reads is).0 in
+made_foreign : (image : Files) (db at : ℕ) (note bytes : List ℕ) → read_control bytes ≡ Some (first_head at, note) → control_of (image (control_file db)) ≡ Some bytes → sealed (image (segment_file db 1)) ≡ [] → IsForeign image db
+made_foreign image db at note bytes reads control none log is =
+    let same = (one_head image db bytes (first_head at) note log control reads is).0 in
     let Begun : Head → Type 0 = AreBegun (blobs_at image db) in
     let begun : AreBegun (blobs_at image db) (first_head at) = subst Begun same is.begun in
     begun 1 (omega arith) (omega arith) none
 
 -- nothing was done yet
-pub made_untouched : (db at : ℕ) (a : Disk) → IsDurable a (control_file db) → control_of (a.files (control_file db)) ≡ None → Effect (IsOwn db) (λ image. IsForeign image db ⊎ LogIs image db (fresh at)) a a
-made_untouched db at a durable none = effect_none a (λ image mine. inl (foreign_control image db (ap control_of (durable (image (control_file db)) (mine (control_file db) (inl refl))) ∙ none)))
+pub made_untouched : (db at : ℕ) (note : List ℕ) (a : Disk) → IsDurable a (control_file db) → control_of (a.files (control_file db)) ≡ None → Effect (IsOwn db) (λ image. IsForeign image db ⊎ LogIs image db (emptied at note)) a a
+made_untouched db at note a durable none = effect_none a (λ image mine. inl (foreign_control image db (ap control_of (durable (image (control_file db)) (mine (control_file db) (inl refl))) ∙ none)))
 
 -- each crash leaves no log, or this one
-pub made_crash : (db at : ℕ) (bytes : List ℕ) (a b : Disk) → at < 2 ^ 64 → read_control bytes ≡ Some (first_head at, []) → Effect (IsOwn db) (Made db bytes) a b
-    → Effect (IsOwn db) (λ image. IsForeign image db ⊎ LogIs image db (fresh at)) a b
-made_crash db at bytes a b small reads effect =
+pub made_crash : (db at : ℕ) (note bytes : List ℕ) (a b : Disk) → at < 2 ^ 64 → length note ≤ 32768 → read_control bytes ≡ Some (first_head at, note) → Effect (IsOwn db) (Made db bytes) a b
+    → Effect (IsOwn db) (λ image. IsForeign image db ⊎ LogIs image db (emptied at note)) a b
+made_crash db at note bytes a b small short reads effect =
     effect_weaken (λ image here. elim here [
       | inl none ↦ inl (foreign_control image db none)
       | inr made ↦ elim made.1 [
-        | inl none ↦ inl (made_foreign image db at bytes reads made.0 none)
-        | inr one ↦ inr (made_is image db at bytes small reads made.0 one)
+        | inl none ↦ inl (made_foreign image db at note bytes reads made.0 none)
+        | inr one ↦ inr (made_is image db at note bytes small short reads made.0 one)
       ]
     ]) effect
 
 -- and it stands
-pub made_log : (db at : ℕ) (bytes note : List ℕ) (a : Disk) (control : KeptControl) (gate : KeptGate) (segments : List Segment) (end : ℕ) (waiting : List Rec) (spare_bytes spare_flushes : ℕ) (failed : Bool) → at < 2 ^ 64 → IsAdded [] segments db 1 at → note ≡ [] → read_control bytes ≡ Some (first_head at, []) → control.name ≡ control_file db → control.content ≡ bytes → gate.name ≡ segment_file db 1
+pub made_log : (db at : ℕ) (bytes note given : List ℕ) (a : Disk) (control : KeptControl) (gate : KeptGate) (segments : List Segment) (end : ℕ) (waiting : List Rec) (spare_bytes spare_flushes : ℕ) (failed : Bool) → at < 2 ^ 64 → IsAdded [] segments db 1 at → note ≡ given → length given ≤ 32768 → read_control bytes ≡ Some (first_head at, given) → control.name ≡ control_file db → control.content ≡ bytes → gate.name ≡ segment_file db 1
     → IsControl a control → IsGate a gate → IsDurable a (segment_file db 1) → sealed (a.files (segment_file db 1)) ≡ [] ∷ []
     → IsLog a (record { db = db; control = control; gate = gate; head = first_head at; segments = segments; note = note; stored = at; end = end; waiting = waiting; spare_bytes = spare_bytes; spare_flushes = spare_flushes; failed = failed })
-made_log db at bytes note a control gate segments end waiting spare_bytes spare_flushes failed small added empty reads control_name content gate_name controls gates durable one =
-    let Sound : List ℕ → Type 0 = λ n. IsSound (first_head at) n in
+made_log db at bytes note given a control gate segments end waiting spare_bytes spare_flushes failed small added same short reads control_name content gate_name controls gates durable one =
     record {
       control_name = control_name;
       gate_name = gate_name;
       controls = controls;
       gates = gates;
-      reads = ap read_control content ∙ reads ∙ ap (λ (n : List ℕ). Some (first_head at, n)) (sym empty);
-      sound = subst Sound (sym empty) (record { gone = omega arith; front = omega arith; back = omega arith; few = omega arith; kept = omega arith; short = omega arith });
+      reads = ap read_control content ∙ reads ∙ ap (λ (n : List ℕ). Some (first_head at, n)) (sym same);
+      sound = made_sound at note given same short;
       segments = segments_added (blobs_at a.files db) db 1 at 1 at [] segments (segments_none (blobs_at a.files db) db 1 at) refl (run_none at) added;
       count = omega (arith, ap length added.1);
       durable = λ n low high. let same : n ≡ 1 = omega (arith, low, high) in subst (λ (m : ℕ). IsDurable a (segment_file db m)) (sym same) durable;

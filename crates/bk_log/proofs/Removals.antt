@@ -1,5 +1,5 @@
 -- What removing a log did to the device.
-use Rattle.std.proofs.Common.{◌≡◌, ◌⊎◌, ◌≤◌, ◌<◌, ℕ, zero, suc, ◌+◌, List, [], Option, Some, None, refl, inl, inr, sym, ap, subst, ◌∙◌, arith}
+use Rattle.std.proofs.Common.{◌≡◌, ◌⊎◌, ◌≤◌, ◌<◌, ℕ, ◌+◌, List, Option, Some, None, refl, inl, inr, sym, ap, subst, ◌∙◌, arith}
 use Rattle.bk_bytes.specs.Codec.{◌>>=◌}
 use Rattle.bk_control.specs.Slots.{control_of, counting, slot_in}
 use Rattle.bk_device.specs.Calls.{ChangesNothing}

@@ -1,5 +1,5 @@
 -- What the layers above may take of a log.
-use Rattle.std.proofs.Common.{◌≡◌, ◌≤◌, ℕ, Bool, List, Some, refl, inl, inr, sym, ap, subst, ◌∙◌, arith}
+use Rattle.std.proofs.Common.{◌≡◌, ◌≤◌, ℕ, Bool, List, Option, Some, refl, inl, inr, sym, ap, ap₂, subst, ◌∙◌, arith}
 use Rattle.bk_control.specs.Control.{control_value, control_durable, control_kept}
 use Rattle.bk_control.specs.Slots.{control_of}
 use Rattle.bk_device.specs.Compose.{durable_kept}
@@ -15,6 +15,19 @@ use Rattle.bk_log.specs.Log.{value_of, Kept, IsLog}
 use Rattle.bk_segments.specs.Files.{control_file, segment_file, IsOwn, blobs_at, blobs_of, shown, AreBegun, Logged, LogIs}
 use Rattle.bk_segments.specs.FileLaws.{blobs_same, begun_same, log_is, shown_same}
 use Rattle.bk_segments.specs.SegmentLaws.{segments_same}
+
+-- ---- what files are
+
+-- as their control record has them
+logged_as : (files : Files) (db : ℕ) (log : Logged) → (is : LogIs files db log) → log ≡ shown files db is.head log.note
+logged_as files db log is = ap₂ (λ (k : ℕ) (rs : List Rec). let l : Logged = record { kept = k; records = rs; note = log.note } in l) is.kept is.records
+
+-- they are one log
+pub one_logged : (files : Files) (db : ℕ) (log other : Logged) → LogIs files db log → LogIs files db other → log ≡ other
+one_logged files db log other is also =
+    let both : ◌≡◌ {A = Option (Head × List ℕ)} (Some (is.head, log.note)) (Some (also.head, other.note)) = sym is.reads ∙ also.reads in
+    let pair : ◌≡◌ {A = Head × List ℕ} (is.head, log.note) (also.head, other.note) = cc in
+    logged_as files db log is ∙ ap (λ (x : Head × List ℕ). shown files db x.0 x.1) pair ∙ sym (logged_as files db other also)
 
 -- ---- the files of a log that stands
 

@@ -10,9 +10,9 @@ ghost use Rattle.bk_segments.specs.declared.head.Head.{Head};
 ghost use Rattle.bk_segments.specs.Control.{IsSound};
 ghost use Rattle.bk_gate.specs.Gate.{IsGate};
 ghost use Rattle.bk_log.specs.Log.{Kept, IsLog, IsSame, KeepsSpare, value_of};
-ghost use Rattle.bk_segments.specs.Files.{control_file, segment_file, blobs_at, AreGone, BeginsAt, Holds, IsAdded, IsFirstAt, IsOwn, IsTidy, LogIs, IsForeign, AreDurable, Logged, cut_at, emptied, fresh, with_more};
+ghost use Rattle.bk_segments.specs.Files.{control_file, segment_file, blobs_at, AreGone, BeginsAt, Holds, IsAdded, IsFirstAt, IsOwn, IsTidy, LogIs, IsForeign, AreDurable, Logged, cut_at, emptied, with_more};
 ghost use Rattle.bk_segments.specs.Records.{IsPart, records_in};
-ghost use Rattle.bk_record.specs.Spelling.{KeepsLimits, spelling};
+ghost use Rattle.bk_record.specs.Spelling.{IsRecord, KeepsLimits, spelling};
 
 use crate::places::place_of;
 use bk_control::Control;
@@ -87,6 +87,7 @@ impl Log {
         ensures db { IfOk result (λ l. l.db ≡ db) }
         ensures failed { IfOk result (λ l. l.failed ≡ false) }
         ensures none { IfOk result (λ l. l.waiting ≡ []) }
+        ensures end { IfOk result (λ l. l.end ≡ l.stored) }
         ensures loaded { D.tells → IfOk result (λ l. LogIs (D.disk dev.old).files db (value_of (D.disk dev.old).files l)) }
         ensures value { D.tells → AreDurable db (D.disk dev.old) → IfOk result (λ l. value_of (D.disk dev.new).files l ≡ value_of (D.disk dev.old).files l) }
         ensures stands { D.tells → AreDurable db (D.disk dev.old) → IfOk result (λ l. IsLog (D.disk dev.new) l) }
@@ -106,6 +107,7 @@ impl Log {
         ensures db { IfOk result (λ l. l.db ≡ db) }
         ensures failed { IfOk result (λ l. l.failed ≡ false) }
         ensures none { IfOk result (λ l. l.waiting ≡ []) }
+        ensures end { IfOk result (λ l. l.end ≡ l.stored) }
         ensures loaded { D.tells → IfOk result (λ l. LogIs (D.disk dev.old).files db (value_of (D.disk dev.old).files l)) }
         ensures holds { D.tells → IfOk result (λ l. Holds (D.disk dev.old).files db l.head) }
         ensures order { IfOk result (λ l. l.head.front ≤ l.head.back) }
@@ -142,10 +144,32 @@ impl Log {
         ensures db { IfOk result (λ l. l.db ≡ db) }
         ensures failed { IfOk result (λ l. l.failed ≡ false) }
         ensures none { IfOk result (λ l. l.waiting ≡ []) }
-        ensures end { IfOk result (λ l. (l.stored ≡ at) × (l.end ≡ at)) }
-        ensures value { D.tells → IfOk result (λ l. value_of (D.disk dev.new).files l ≡ fresh at) }
+        ensures end { IfOk result (λ l. (l.stored ≡ at) × (l.end ≡ at) × (l.head.kept ≡ at)) }
+        ensures value { D.tells → IfOk result (λ l. value_of (D.disk dev.new).files l ≡ emptied at []) }
         ensures stands { D.tells → IfOk result (λ l. IsLog (D.disk dev.new) l) }
-        ensures crash { D.tells → IsDurable (D.disk dev.old) (control_file db) → control_of ((D.disk dev.old).files (control_file db)) ≡ None → Effect (IsOwn db) (λ image. IsForeign image db ⊎ LogIs image db (fresh at)) (D.disk dev.old) (D.disk dev.new) }
+        ensures crash { D.tells → IsDurable (D.disk dev.old) (control_file db) → control_of ((D.disk dev.old).files (control_file db)) ≡ None → Effect (IsOwn db) (λ image. IsForeign image db ⊎ LogIs image db (emptied at [])) (D.disk dev.old) (D.disk dev.new) }
+        ensures foreign { IsErrOf result LogError.Foreign → ⊥ }
+        ensures cause { HasCause D.disk_faults D.tell_faults dev.old dev.new (IsErrOf result LogError.Fault) }
+    {
+        Log::make_noted(alloc, dev, db, at, &[])
+    }
+
+    /// The same with these bytes, at most 32,768, as its note.
+    pub fn make_noted<D: Device>(
+        alloc: Global,
+        dev: &mut D,
+        db: u32,
+        at: Lsn,
+        bytes: &[u8],
+    ) -> Result<Log, LogError>
+        requires short { length bytes.now ≤ 32768 }
+        ensures db { IfOk result (λ l. l.db ≡ db) }
+        ensures failed { IfOk result (λ l. l.failed ≡ false) }
+        ensures none { IfOk result (λ l. l.waiting ≡ []) }
+        ensures end { IfOk result (λ l. (l.stored ≡ at) × (l.end ≡ at) × (l.head.kept ≡ at)) }
+        ensures value { D.tells → IfOk result (λ l. value_of (D.disk dev.new).files l ≡ emptied at bytes.now) }
+        ensures stands { D.tells → IfOk result (λ l. IsLog (D.disk dev.new) l) }
+        ensures crash { D.tells → IsDurable (D.disk dev.old) (control_file db) → control_of ((D.disk dev.old).files (control_file db)) ≡ None → Effect (IsOwn db) (λ image. IsForeign image db ⊎ LogIs image db (emptied at bytes.now)) (D.disk dev.old) (D.disk dev.new) }
         ensures foreign { IsErrOf result LogError.Foreign → ⊥ }
         ensures cause { HasCause D.disk_faults D.tell_faults dev.old dev.new (IsErrOf result LogError.Fault) }
     {
@@ -156,11 +180,12 @@ impl Log {
             back: 1,
             first: at,
         };
-        let note = Vec::with_capacity(alloc, 32_768)?;
+        let mut note = Vec::with_capacity(alloc, 32_768)?;
+        add(&mut note, bytes);
         let mut segments = Vec::new(alloc);
         add_segment(alloc, db, 1, at, &mut segments)?;
         let mut spelled = Vec::with_capacity(alloc, 32_808)?;
-        spell(&mut spelled, head, &[]);
+        spell(&mut spelled, head, bytes);
         let (control, gate) = make_files(alloc, dev, db, &spelled)?;
         Ok(Log {
             db,
@@ -266,6 +291,7 @@ impl Log {
         requires number { r.now.lsn ≡ self.old.end }
         requires small { self.old.end < 2 ^ 64 - 1 }
         ensures more { OnOk result (self.new ≡ record self.old { waiting = self.old.waiting ++ r.now ∷ []; end = self.old.end + 1 }) }
+        ensures fits { OnOk result (IsRecord r.now) }
         ensures err { OnErr result (self.new ≡ self.old) }
     {
         let len = spelled_len(r);
@@ -303,6 +329,7 @@ impl Log {
         ensures stands { D.tells → OnOk result (IsLog (D.disk dev.new) self.new) }
         ensures value { D.tells → OnOk result (value_of (D.disk dev.new).files self.new ≡ with_more (value_of (D.disk dev.old).files self.old) self.old.waiting) }
         ensures same { OnOk result ((self.new.db ≡ self.old.db) × (self.new.end ≡ self.old.end)) }
+        ensures kept { OnOk result (self.new.head.kept ≡ self.old.head.kept) }
         ensures none { OnOk result ((self.new.waiting ≡ []) × (self.new.stored ≡ self.old.end)) }
         ensures spare { OnOk result (KeepsSpare self.old self.new) }
         ensures fit { OnOk result (self.new.failed ≡ false) }
@@ -356,6 +383,7 @@ impl Log {
         ensures spare { OnOk result (KeepsSpare self.old self.new) }
         ensures room { OnOk result (self.new.spare_flushes + 1 ≤ self.new.gate.spare) }
         ensures same { OnOk result (IsSame self.old self.new) }
+        ensures kept { OnOk result (self.new.head.kept ≡ self.old.head.kept) }
         ensures fit { OnOk result (self.new.failed ≡ false) }
         ensures failed { IsErrOf result LogError.Fault → self.new.failed ≡ true }
         ensures no_memory { IsErrOf result LogError.NoMemory → self.new ≡ self.old }
@@ -402,6 +430,7 @@ impl Log {
         ensures spare { OnOk result (KeepsSpare self.old self.new) }
         ensures room { OnOk result (room ≤ self.new.gate.spare) }
         ensures same { OnOk result (IsSame self.old self.new) }
+        ensures kept { OnOk result (self.new.head.kept ≡ self.old.head.kept) }
         ensures fit { OnOk result (self.new.failed ≡ false) }
         ensures failed { IsErrOf result LogError.Fault → self.new.failed ≡ true }
         ensures no_memory { IsErrOf result LogError.NoMemory → self.new ≡ self.old }
@@ -487,6 +516,7 @@ impl Log {
         ensures stands { D.tells → OnOk result (IsLog (D.disk dev.new) self.new) }
         ensures value { D.tells → OnOk result (value_of (D.disk dev.new).files self.new ≡ record (value_of (D.disk dev.old).files self.old) { note = bytes.now }) }
         ensures same { OnOk result ((self.new.db ≡ self.old.db) × (self.new.stored ≡ self.old.stored) × (self.new.end ≡ self.old.end) × (self.new.waiting ≡ self.old.waiting)) }
+        ensures kept { OnOk result (self.new.head.kept ≡ self.old.head.kept) }
         ensures spare { OnOk result (KeepsSpare self.old self.new) }
         ensures fit { OnOk result (self.new.failed ≡ false) }
         ensures failed { OnErr result (self.new.failed ≡ true) }
@@ -511,6 +541,7 @@ impl Log {
         ensures stands { D.tells → OnOk result (IsLog (D.disk dev.new) self.new) }
         ensures value { D.tells → OnOk result (value_of (D.disk dev.new).files self.new ≡ cut_at to (value_of (D.disk dev.old).files self.old)) }
         ensures same { OnOk result ((self.new.db ≡ self.old.db) × (self.new.stored ≡ self.old.stored) × (self.new.end ≡ self.old.end) × (self.new.waiting ≡ self.old.waiting)) }
+        ensures kept { OnOk result (self.new.head.kept ≡ to) }
         ensures spare { OnOk result (KeepsSpare self.old self.new) }
         ensures fit { OnOk result (self.new.failed ≡ false) }
         ensures failed { OnErr result (self.new.failed ≡ true) }
@@ -537,6 +568,7 @@ impl Log {
         ensures stands { D.tells → OnOk result (IsLog (D.disk dev.new) self.new) }
         ensures value { D.tells → OnOk result (value_of (D.disk dev.new).files self.new ≡ cut_at to (value_of (D.disk dev.old).files self.old)) }
         ensures same { OnOk result (IsSame self.old self.new) }
+        ensures kept { OnOk result (self.new.head.kept ≡ to) }
         ensures spare { OnOk result (KeepsSpare self.old self.new) }
         ensures segments { OnOk result ((self.new.segments ≡ self.old.segments) × (self.new.head.front ≡ self.old.head.front)) }
         ensures fit { OnOk result (self.new.failed ≡ false) }
@@ -565,6 +597,7 @@ impl Log {
         ensures stands { D.tells → OnOk result (IsLog (D.disk dev.new) self.new) }
         ensures value { D.tells → OnOk result (value_of (D.disk dev.new).files self.new ≡ cut_at to (value_of (D.disk dev.old).files self.old)) }
         ensures same { OnOk result (IsSame self.old self.new) }
+        ensures kept { OnOk result (self.new.head.kept ≡ to) }
         ensures spare { OnOk result (KeepsSpare self.old self.new) }
         ensures segments { OnOk result (self.new.segments ≡ drop count self.old.segments) }
         ensures front { OnOk result (self.new.head.front ≡ self.old.head.front + count) }

@@ -46,7 +46,7 @@ use Rattle.bk_plans.specs.Planned.{IsRefusedBy}
 use Rattle.bk_plans.specs.Planning.{AreParts, KeepsPart, Plans}
 use Rattle.bk_plans.specs.UndoingLaws.{recovery-next}
 use Rattle.bk_media_plans.proofs.Recoveries.{recovery_of}
-use Rattle.bk_media_plans.specs.Restoring.{FindsFirst, RestoreAsked, RestoresWhole, is_built}
+use Rattle.bk_media_plans.specs.Restoring.{FindsFirst, LeavesRecovery, RestoreAsked, RestoresWhole, is_built}
 use Rattle.bk_kept.specs.Stored.{IsTaken}
 use Rattle.bk_plans.specs.PlanLaws.{DoWhatTheyMay, comes-found, comes-refused, plans-refused, plans-refusal}
 
@@ -259,6 +259,26 @@ module _ (k : Kept) (line now : ℕ) (name : List ℕ) (units : RestoredUnits) (
   pub whole-plan : (first : Result SetBody Rule) (body : SetBody) (u : Unit {0}) (plan : Plan) → first ≡ Ok body → is_built name units disk options ≡ true → ((w : World) → Keeps w k → outside w ≡ Ok tt) → Laws
       → ((w : World) → Keeps w k → check_set w name options.replace body.header ≡ Ok u) → RestoresWhole k name body plan → Plans k (FindsFirst disk first) asked now plan
   whole-plan first body u plan e built out laws passes is = subst (λ (f : Result SetBody Rule). Plans k (FindsFirst disk f) asked now plan) (sym e) (whole-for body u plan built out laws passes is)
+
+-- Its numbers.
+
+leaves-then : SetsSound → (disk : Option (List ℕ)) (body : SetBody) (w : World) → IsSound w → FindsFirst disk (Ok body) w → LeavesRecovery body.log body.header.last
+leaves-then sets disk body w sound known =
+    let set : IsSoundSet w body.header = sets w (disk_path disk) body.header sound (first-in w (disk_path disk) body.header known.is) in
+    record {
+      files = files_of_set body.header;
+      log = log_below w.history body.header.path body.header.last;
+      first = body.header.first;
+      counts = set.log.counts;
+      sound = set.log.sound;
+      placed = known.carries.placed;
+      holds = known.carries.holds;
+      numbers = set.numbers;
+    }
+
+-- a set that is found first in a sound world leaves numbers for its recovery
+pub leaves-recovery : SetsSound → (disk : Option (List ℕ)) (first : Result SetBody Rule) (body : SetBody) (w : World) → first ≡ Ok body → IsSound w → FindsFirst disk first w → LeavesRecovery body.log body.header.last
+leaves-recovery sets disk first body w e sound known = leaves-then sets disk body w sound (subst (λ (f : Result SetBody Rule). FindsFirst disk f w) e known)
 
 -- What its parts keep.
 

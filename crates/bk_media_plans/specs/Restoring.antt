@@ -5,7 +5,7 @@ use Rattle.bk_acts.specs.Meaning.{Spell}
 use Rattle.bk_ids.specs.declared.guid.Guid.{Guid}
 use Rattle.bk_items.specs.declared.item.RestoredUnits.{RestoredUnits}
 use Rattle.bk_items.specs.declared.options.RestoreOptions.{RestoreOptions}
-use Rattle.bk_machine.specs.Checks.{Checked, ◌>>=◌, different_paths, free_paths, is_name, is_path, limit, others, paths_of, refuse_if, used_up}
+use Rattle.bk_machine.specs.Checks.{Checked, ◌>>=◌, different_paths, free_paths, is_name, is_path, last_number, limit, others, paths_of, refuse_if, used_up}
 use Rattle.bk_machine.specs.World.{World, database_named}
 use Rattle.bk_machine.specs.statements.Restore.{base_of, disk_path, first_set, is_whole_restore, name_known, set_paths}
 use Rattle.bk_set.specs.declared.body.SetBody.{SetBody}
@@ -40,6 +40,18 @@ pub record SaysRecovery (held : List ℕ) (at : ℕ) (branch : Guid) (records : 
   pub are : ArePending held writes
   pub spell : Spell records at (settle_said writes ++ alone (recovered branch))
   pub low : at + length (settle_said writes ++ alone (recovered branch)) ≤ 2 ^ 62
+
+-- These bytes are the end of a log up to below a number, with all that is pending in it, and numbers are left from there on for its recovery: to undo each
+-- pending write, and to name the branch.
+pub record LeavesRecovery (held : List ℕ) (at : ℕ) : Type 0 where
+  pub files : List FileSpec
+  pub log : List Logged
+  pub first : ℕ
+  pub counts : Counts 1 log at
+  pub sound : IsSound log
+  pub placed : ArePlaced files [] log
+  pub holds : HoldsPending log first held
+  pub numbers : at + (length (pending log) + 1) ≤ last_number
 
 -- A set takes the place of the database of a name, its files are restored, and it is recovered at the set's end on a branch, where all that is pending in
 -- it is undone.

@@ -1,19 +1,21 @@
 //! Plans of `RESTORE DATABASE`.
 
-ghost use Rattle.std.specs.Prelude.{◌≡◌, ℕ, ◌∷◌, ◌++◌, [], true, map, Ok, IfOk, OnOk, IfSome, MatchOption};
+ghost use Rattle.std.specs.Prelude.{◌≡◌, ◌+◌, ℕ, ◌∷◌, ◌++◌, [], true, nat_le, Ok, IfOk, OnOk, IsErrOf, IfSome, MatchOption};
 ghost use Rattle.bk_acts.specs.declared.act.StoredAct.TheVariants.{Recovered, Replaced, Restored};
 ghost use Rattle.bk_items.specs.declared.item.ScriptItem.TheVariants as script;
 ghost use Rattle.bk_machine.specs.statements.Restore as restore;
 ghost use Rattle.bk_kept.specs.Keeps.{Keeps};
 ghost use Rattle.bk_kept.specs.declared.kept.Kept.{Kept as KeptOf};
+ghost use Rattle.bk_machine.specs.Sound.{IsSound};
 ghost use Rattle.bk_machine.specs.World.{World};
 ghost use Rattle.bk_plans.specs.declared.parts.Part.TheVariants.{Stored};
 ghost use Rattle.bk_media_plans.specs.Restoring as request;
+ghost use Rattle.bk_plans.specs.Planned.{IsRefusedBy};
 ghost use Rattle.bk_plans.specs.Planning.{KeepsPlan, Plans};
-ghost use Rattle.bk_media_plans.specs.Restoring.{AreOfRestore, ArePending, FindsFirst, IsKnown, RestoreAsked, RestoresWhole, SaysRecovery};
+ghost use Rattle.bk_media_plans.specs.Restoring.{AreOfRestore, FindsFirst, IsKnown, LeavesRecovery, RestoreAsked, RestoresWhole, SaysRecovery};
 ghost use Rattle.bk_machine.specs.Checks as checks;
 ghost use Rattle.bk_set.specs.Conditions.{IsBody};
-ghost use Rattle.bk_shown.specs.Shown.{pending_of};
+ghost use Rattle.bk_shown.specs.declared.error.TakeError.TheVariants.{Unfit};
 
 use crate::restoring::check_set;
 use bk_acts::StoredAct;
@@ -21,12 +23,15 @@ use bk_ids::{Body, Guid, Lsn, Name, Text};
 use bk_items::{Ending, RestoreOptions, RestoredUnits};
 use bk_kept::Kept;
 use bk_machine::{recoveries_undo_what_is_pending, sets_that_stay, statements_do_what_they_may};
-use bk_plans::{Part, Plan, is_name, is_path, name_in, numbers_from, outside, refused, say, undo};
+use bk_plans::{Part, Plan, Refusal, is_name, is_path, name_in, outside, refused, say, undo};
 use bk_record::Records;
 use bk_set::SetBody;
-use bk_shown::{Written, pending_in, placed_logs};
+use bk_shown::{TakeError, pending_in, placed_logs};
 use bk_world::{Base, Header, Reply, Rule};
 use std::alloc::{AllocError, Global};
+
+// Numbers from here on, 2^62, are never given.
+const LAST_NUMBER: u64 = 1 << 62;
 
 // Whether a restore ends with a recovery.
 fn is_recovery(ending: &Option<Ending>) -> bool
@@ -122,23 +127,23 @@ fn base_of(header: &Header) -> Option<Base>
     })
 }
 
-// The writes that are pending at the end of a set's log. It fails as if memory were wanting where that is no end of a log with all that is
-// pending, which comes only where a set isn't what its path shows.
-fn pending_writes(alloc: Global, log: &Records) -> Result<Vec<Written>, AllocError>
-    ensures { IfOk result (λ writes. ArePending log.now (map pending_of writes.items)) }
+// Whether numbers from here on are left for a recovery that undoes so many writes: one for each, and one to name the branch.
+fn are_left(at: Lsn, writes: usize) -> bool
+    ensures { result ≡ nat_le (at + (writes + 1)) checks.last_number }
 {
-    match pending_in(alloc, log) {
-        Ok(writes) => Ok(writes),
-        Err(_) => Err(AllocError),
-    }
+    at < LAST_NUMBER && (writes as u64) < LAST_NUMBER - at
 }
 
-// What a recovery says behind a set's log: what undoes all that is pending, the last write first, and the record that names its branch.
-fn recovery_said(alloc: Global, log: &Records, at: Lsn, branch: Guid) -> Result<Records, AllocError>
-    ensures { IfOk result (SaysRecovery log.now at branch) }
+// What a recovery says behind a set's log: what undoes all that is pending, the last write first, and the record that names its branch. `Unfit`
+// comes only where that is no end of a log with all that is pending, or leaves no numbers for it.
+fn recovery_said(alloc: Global, log: &Records, at: Lsn, branch: Guid) -> Result<Records, TakeError>
+    ensures says { IfOk result (SaysRecovery log.now at branch) }
+    ensures unfit { IsErrOf result Unfit → LeavesRecovery log.now at → ⊥ }
 {
-    let writes = pending_writes(alloc, log)?;
-    numbers_from(at, writes.len() + 1)?;
+    let writes = pending_in(alloc, log)?;
+    if !are_left(at, writes.len()) {
+        return Err(TakeError::Unfit);
+    }
     let mut said = undo(alloc, &writes, None, at)?;
     say(
         alloc,
@@ -232,16 +237,12 @@ fn three_parts(
 }
 
 // The parts of a whole restore of a set under a name.
-fn parts_of(
-    alloc: Global,
-    name: &Name,
-    branch: Guid,
-    body: SetBody,
-) -> Result<Vec<Part>, AllocError>
-    ensures { IfOk result (λ parts. AreOfRestore name.now branch body parts.items) }
+fn parts_of(alloc: Global, name: &Name, branch: Guid, body: SetBody) -> Result<Vec<Part>, TakeError>
+    ensures are { IfOk result (λ parts. AreOfRestore name.now branch body parts.items) }
+    ensures unfit { IsErrOf result Unfit → LeavesRecovery body.log body.header.last → ⊥ }
 {
     match recovery_said(alloc, &body.log, body.header.last, branch) {
-        Ok(records) => three_parts(alloc, name, branch, &records, body),
+        Ok(records) => Ok(three_parts(alloc, name, branch, &records, body)?),
         Err(error) => {
             drop(body);
             Err(error)
@@ -266,9 +267,10 @@ fn parts_asked(
     alloc: Global,
     asked: &Text,
     body: SetBody,
-) -> Result<Vec<Part>, AllocError>
+) -> Result<Vec<Part>, TakeError>
     requires { checks.is_name asked.now ≡ true }
-    ensures { IfOk result (λ parts. RestoreAsked kept.now asked.now body parts.items) }
+    ensures are { IfOk result (λ parts. RestoreAsked kept.now asked.now body parts.items) }
+    ensures unfit { IsErrOf result Unfit → LeavesRecovery body.log body.header.last → ⊥ }
 {
     let branch = Guid {
         high: kept.number,
@@ -278,16 +280,17 @@ fn parts_asked(
         Ok(name) => parts_of(alloc, &name, branch, body),
         Err(error) => {
             drop(body);
-            Err(error)
+            Err(error.into())
         }
     }
 }
 
 // The plan that restores a set.
-fn restoring(kept: &Kept, alloc: Global, asked: &Text, body: SetBody) -> Result<Plan, AllocError>
+fn restoring(kept: &Kept, alloc: Global, asked: &Text, body: SetBody) -> Result<Plan, TakeError>
     requires named { checks.is_name asked.now ≡ true }
     requires is_body { IsBody body }
     ensures whole { IfOk result (RestoresWhole kept.now asked.now body) }
+    ensures unfit { IsErrOf result Unfit → LeavesRecovery body.log body.header.last → ⊥ }
     ensures keeps { IfOk result KeepsPlan }
 {
     let at = body.header.last;
@@ -296,6 +299,15 @@ fn restoring(kept: &Kept, alloc: Global, asked: &Text, body: SetBody) -> Result<
         parts,
         reply: Reply::Recovered { at },
     })
+}
+
+// The plan of a restore that is refused.
+fn refusing(refusal: Refusal) -> Result<Plan, TakeError>
+    ensures rule { IfOk result (IsRefusedBy refusal) }
+    ensures fit { IsErrOf result Unfit → ⊥ }
+    ensures keeps { IfOk result KeepsPlan }
+{
+    Ok(refused(refusal)?)
 }
 
 // What a restore that is built comes to outside of a transaction, by the first set of its medium, or the rule by which that is refused.
@@ -309,12 +321,13 @@ fn restore_first(
     options: &RestoreOptions,
     first: Result<SetBody, Rule>,
     now: u64,
-) -> Result<Plan, AllocError>
+) -> Result<Plan, TakeError>
     requires built { request.is_built database.now units.now disk.now options.now ≡ true }
     requires is_body { IfOk first IsBody }
     requires out { (w : World) → Keeps w kept.now → checks.outside w ≡ Ok tt }
     ensures plans { IfOk result (Plans kept.now (FindsFirst disk.now first)
         (record { item = script.RestoreDatabase database.now units.now disk.now options.now; line = line }) now) }
+    ensures unfit { IsErrOf result Unfit → (w : World) → IsSound w → FindsFirst disk.now first w → ⊥ }
     ensures keeps { IfOk result KeepsPlan }
 {
     sets_that_stay();
@@ -327,15 +340,15 @@ fn restore_first(
             Ok(()) => restoring(kept, alloc, database, body),
             Err(refusal) => {
                 drop(body);
-                refused(refusal)
+                refusing(refusal)
             }
         },
     }
 }
 
 /// What `RESTORE DATABASE` on this line comes to, which is built, by the first set of its medium, or the rule by which that is
-/// refused. Where the set's log isn't what its path shows, or leaves no numbers for what its recovery says, it fails as if memory
-/// were wanting; that media hold no such set isn't proved here.
+/// refused. `Unfit` comes only where the set's log isn't what its path shows, or leaves no numbers for what its recovery says: in no
+/// sound world that finds the set first.
 pub fn plan_restore(
     kept: &Kept,
     alloc: Global,
@@ -346,11 +359,12 @@ pub fn plan_restore(
     options: &RestoreOptions,
     first: Result<SetBody, Rule>,
     now: u64,
-) -> Result<Plan, AllocError>
+) -> Result<Plan, TakeError>
     requires built { request.is_built database.now units.now disk.now options.now ≡ true }
     requires is_body { IfOk first IsBody }
     ensures plans { IfOk result (Plans kept.now (FindsFirst disk.now first)
         (record { item = script.RestoreDatabase database.now units.now disk.now options.now; line = line }) now) }
+    ensures unfit { IsErrOf result Unfit → (w : World) → IsSound w → FindsFirst disk.now first w → ⊥ }
     ensures keeps { IfOk result KeepsPlan }
 {
     match outside(kept) {
@@ -359,7 +373,7 @@ pub fn plan_restore(
         ),
         Err(refusal) => {
             drop(first);
-            refused(refusal)
+            refusing(refusal)
         }
     }
 }

@@ -125,3 +125,13 @@ kept_between records kept from to path some inside order =
     ap (λ (rs : List Rec). rs ++ records_between from to (kept_from kept records)) (sym (between_early from to front low))
     ∙ sym (filter-append (is_between from to) front (kept_from kept records))
     ∙ ap (records_between from to) whole
+
+-- a page as of some number from one on is one from a lower number on
+pub page_since : (records : List Rec) (since lower : ℕ) (at : PageAt) (page : PageState) → lower ≤ since → IsPage records since at page → IsPage records lower at page
+page_since records since lower at page order is = record {
+  number = is.number;
+  later = omega (arith, order, is.later);
+  not_past = is.not_past;
+  unfilled = is.unfilled;
+  held = is.held;
+}

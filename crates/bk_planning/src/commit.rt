@@ -6,6 +6,7 @@ ghost use Rattle.bk_acts.specs.Meaning.{Spell};
 ghost use Rattle.bk_acts.specs.Spelling.{KeepsAct};
 ghost use Rattle.bk_items.specs.declared.item.ScriptItem.TheVariants as script;
 ghost use Rattle.bk_kept.specs.Keeps.{ShowsLog, database_of};
+ghost use Rattle.bk_kept.specs.Numbers.{CanEnd, LeaveNumbers};
 ghost use Rattle.bk_machine.specs.World.{World, log_of};
 ghost use Rattle.bk_machine.specs.statements.Commit as committing;
 ghost use Rattle.bk_plans.specs.Planning.{KeepsPlan, Plans};
@@ -19,7 +20,7 @@ use bk_acts::StoredAct;
 use bk_ids::{Body, Lsn, Mark};
 use bk_kept::{Database, Kept};
 use bk_machine::statements_do_what_they_may;
-use bk_plans::{Plan, has_numbers, is_fit, logged, refused, said_time, say_one, stored};
+use bk_plans::{Plan, is_fit, logged, refused, said_time, say_one, stored};
 use bk_record::Records;
 use bk_shown::Written;
 use bk_world::{Open, Reply};
@@ -86,10 +87,10 @@ fn commit_act(
     transaction: &Open,
     now: u64,
 ) -> Result<StoredAct, AllocError>
+    requires { CanEnd database.now }
     ensures commits { IfOk result (Commits database.now now transaction.now) }
     ensures keeps { IfOk result KeepsAct }
 {
-    has_numbers(database, 1)?;
     let mark = mark_with(alloc, database, transaction)?;
     let time = said_time(database, now);
     let records = commit_record(alloc, database, transaction.begin, time, mark)?;
@@ -104,6 +105,7 @@ fn commit_act(
 
 // What `COMMIT` comes to at `now`, in milliseconds since 1970-01-01 00:00:00 UTC, on any line.
 pub(crate) fn plan_commit(kept: &Kept, alloc: Global, now: u64) -> Result<Plan, AllocError>
+    requires { LeaveNumbers kept.now.databases.items }
     ensures plans { IfOk result (λ plan. (line : ℕ) → Plans kept.now (λ w. Unit {0}) (record { item = script.Commit; line = line }) now plan) }
     ensures keeps { IfOk result KeepsPlan }
 {

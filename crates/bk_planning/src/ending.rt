@@ -5,6 +5,7 @@ ghost use Rattle.std.specs.List.{All, filter};
 ghost use Rattle.bk_acts.specs.Transactions.{KeepsTransaction};
 ghost use Rattle.bk_asked.specs.Asked.{held_of};
 ghost use Rattle.bk_kept.specs.Keeps.{Keeps, ShowsLog};
+ghost use Rattle.bk_kept.specs.Numbers.{CanEnd, LeaveNumbers};
 ghost use Rattle.bk_machine.specs.Checks as checks;
 ghost use Rattle.bk_machine.specs.World as world;
 ghost use Rattle.bk_machine.specs.World.{World};
@@ -22,6 +23,7 @@ use std::alloc::{AllocError, Global};
 pub(crate) fn held_or_refuse(kept: &Kept) -> Result<Held<'_>, Refusal>
     ensures check { (w : World) → Keeps w kept.now → IsCheck held_of result (checks.or_refuse (world.own_held w) NoTransaction) }
     ensures shows { (w : World) → Keeps w kept.now → IfOk result (λ h. ShowsLog w.history h.database.now) }
+    ensures numbers { LeaveNumbers kept.now.databases.items → IfOk result (λ h. CanEnd h.database.now) }
 {
     match own_held(kept) {
         Some(held) => Ok(held),

@@ -1,6 +1,7 @@
 //! What statements come to.
 
 ghost use Rattle.std.specs.Prelude.{◌≡◌, IfOk};
+ghost use Rattle.bk_kept.specs.Numbers.{LeaveNumbers};
 ghost use Rattle.bk_plans.specs.Planning.{KeepsPlan, Plans, ReadsNoMedium};
 
 use crate::begin::plan_begin;
@@ -25,6 +26,7 @@ pub fn plan(
     statement: &ScriptEntry,
     now: u64,
 ) -> Result<Plan, AllocError>
+    requires { LeaveNumbers kept.now.databases.items }
     ensures plans { IfOk result (λ plan. ReadsNoMedium statement.now.item → Plans kept.now (λ w. Unit {0}) statement.now now plan) }
     ensures keeps { IfOk result KeepsPlan }
 {

@@ -2,6 +2,7 @@
 
 ghost use Rattle.std.specs.Prelude.{◌≡◌, ℕ, IfOk};
 ghost use Rattle.bk_items.specs.declared.item.ScriptItem.TheVariants as script;
+ghost use Rattle.bk_kept.specs.Numbers.{LeaveNumbers};
 ghost use Rattle.bk_plans.specs.Planning.{KeepsPlan, Plans};
 
 use crate::ending::held_or_refuse;
@@ -14,6 +15,7 @@ use std::alloc::{AllocError, Global};
 
 // What `ROLLBACK` comes to, on any line and at any time.
 pub(crate) fn plan_rollback(kept: &Kept, alloc: Global) -> Result<Plan, AllocError>
+    requires { LeaveNumbers kept.now.databases.items }
     ensures plans { IfOk result (λ plan. (line now : ℕ) → Plans kept.now (λ w. Unit {0}) (record { item = script.Rollback; line = line }) now plan) }
     ensures keeps { IfOk result KeepsPlan }
 {

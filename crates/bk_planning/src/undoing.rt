@@ -4,6 +4,7 @@ ghost use Rattle.std.specs.Prelude.{◌≡◌, ◌+◌, ◌≤◌, ◌^◌, [], 
 ghost use Rattle.bk_acts.specs.Meaning.{Spell};
 ghost use Rattle.bk_acts.specs.Spelling.{KeepsAct};
 ghost use Rattle.bk_kept.specs.Keeps.{ShowsLog, database_of};
+ghost use Rattle.bk_kept.specs.Numbers.{CanEnd, CanSettle};
 ghost use Rattle.bk_kept.specs.Stored.{IsDone};
 ghost use Rattle.bk_machine.specs.Acts.{logged as logged_by};
 ghost use Rattle.bk_machine.specs.MayDo.{MayDo};
@@ -18,7 +19,7 @@ use crate::ending::open_without;
 use bk_acts::StoredAct;
 use bk_ids::{Body, Lsn, Sequence};
 use bk_kept::Database;
-use bk_plans::{has_numbers, logged, say, undo};
+use bk_plans::{logged, say, undo};
 use bk_record::Records;
 use bk_shown::Written;
 use bk_world::Open;
@@ -46,13 +47,13 @@ fn rollback_records(
 }
 
 /// The act by which an open transaction of a database is rolled back: its pending writes are undone, the last one first, and it ends. Where
-/// the database has no numbers for that, or keeps what no database keeps, it fails as if memory were wanting; that statements make no such
-/// database isn't proved here.
+/// the database keeps what no database keeps, it fails as if memory were wanting; that statements make no such database isn't proved here.
 pub fn rollback_act(
     alloc: Global,
     database: &Database,
     transaction: &Open,
 ) -> Result<StoredAct, AllocError>
+    requires { CanEnd database.now }
     ensures says { IfOk result (SaysOf database.now (rollback_said transaction.now.begin) (without_begin database.now.transactions transaction.now.begin)) }
     ensures is_done { IfOk result (λ act. (w : World) → database_named w.databases database.now.name ≡ Some (database_of database.now) → ShowsLog w.history database.now
         → MayDo w (rolls_back w (record { database = database_of database.now; transaction = transaction.now }))
@@ -60,7 +61,6 @@ pub fn rollback_act(
     ensures keeps { IfOk result KeepsAct }
 {
     let written = database.shown.written();
-    has_numbers(database, written.len() + 1)?;
     let records = rollback_records(alloc, written, transaction.begin, database.shown.end())?;
     match open_without(alloc, database, transaction.begin) {
         Ok(others) => logged(alloc, database, others, records),
@@ -74,6 +74,7 @@ pub fn rollback_act(
 /// The act by which all that is pending in a database is undone, the last write first, and no transaction of it is open any more. It fails
 /// as `rollback_act` does.
 pub fn settle_act(alloc: Global, database: &Database) -> Result<StoredAct, AllocError>
+    requires { CanSettle database.now }
     ensures says { IfOk result (SaysOf database.now settle_said []) }
     ensures is_done { IfOk result (λ act. (w : World) → database_named w.databases database.now.name ≡ Some (database_of database.now) → ShowsLog w.history database.now
         → MayDo w (logged_by database.now.name (settle_said (pending (log_of w.history (database_of database.now)))) [])
@@ -81,7 +82,6 @@ pub fn settle_act(alloc: Global, database: &Database) -> Result<StoredAct, Alloc
     ensures keeps { IfOk result KeepsAct }
 {
     let written = database.shown.written();
-    has_numbers(database, written.len())?;
     let said = undo(alloc, written, None, database.shown.end())?;
     logged(
         alloc,

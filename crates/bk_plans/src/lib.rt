@@ -17,9 +17,7 @@ pub use images::{MOST_VALUE_BYTES, free_image, image_of, row_image};
 pub use opened::{is_fit, open_in, storable};
 pub use parts::{Part, Plan};
 pub use paths::{in_use, is_in_use, is_in_use_by_others, taken};
-pub use planning_parts::{
-    LATEST, has_numbers, logged, name_in, numbers_from, refused, said_time, say, say_one, stored,
-};
+pub use planning_parts::{LATEST, logged, name_in, refused, said_time, say, say_one, stored};
 pub use refusal::Refusal;
 pub use rules::{
     MOST_DATABASES, MOST_GROUPS, is_name, is_path, is_system, limit, online, outside, refuse_if,

@@ -1,6 +1,6 @@
 //! Plans of one part, and what parts are made of.
 
-ghost use Rattle.std.specs.Prelude.{◌≡◌, ℕ, ◌+◌, ◌≤◌, ◌^◌, true, [], ◌∷◌, ◌++◌, List, length, IfOk, OnOk};
+ghost use Rattle.std.specs.Prelude.{◌≡◌, ℕ, ◌+◌, true, [], ◌∷◌, ◌++◌, List, length, IfOk, OnOk};
 ghost use Rattle.std.specs.List.{All};
 ghost use Rattle.bk_acts.specs.declared.act.StoredAct.TheVariants.{Logged};
 ghost use Rattle.bk_acts.specs.Meaning.{Spell, under};
@@ -27,9 +27,6 @@ use std::alloc::{AllocError, Global};
 
 /// 9999-12-31 23:59:59.999 in milliseconds since 1970-01-01 00:00:00 UTC.
 pub const LATEST: u64 = 253_402_300_799_999;
-
-// Numbers from here on, 2^62, are never given.
-const LAST_NUMBER: u64 = 1 << 62;
 
 /// The plan of a statement that is refused.
 pub fn refused(refusal: Refusal) -> Result<Plan, AllocError>
@@ -104,24 +101,6 @@ pub fn said_time(database: &Database, now: u64) -> u64
     ensures { (w : World) → ShowsLog w.history database.now → result ≡ acts.said_time w (database_of database.now) now }
 {
     now.min(LATEST).max(database.shown.time())
-}
-
-/// Fails as if memory were wanting where there are no numbers for so many records from `first` on: what is never refused takes some of
-/// those that are kept for it. That statements leave enough of them isn't proved here.
-pub fn numbers_from(first: Lsn, records: usize) -> Result<(), AllocError>
-    ensures { IfOk result (λ u. first + records ≤ 2 ^ 62) }
-{
-    if first <= LAST_NUMBER && records as u64 <= LAST_NUMBER - first {
-        return Ok(());
-    }
-    Err(AllocError)
-}
-
-/// The same for so many records at the end of a database.
-pub fn has_numbers(database: &Database, records: usize) -> Result<(), AllocError>
-    ensures { IfOk result (λ u. database.now.shown.«end» + records ≤ 2 ^ 62) }
-{
-    numbers_from(database.shown.end(), records)
 }
 
 /// One record more is said under a number, in the transaction of this first record, or in none.

@@ -1,11 +1,12 @@
 -- How what a pool keeps of its parts is kept.
-use Rattle.std.proofs.Common.{◌≡◌, ◌≢◌, ◌⊎◌, ◌<◌, ℕ, zero, suc, Bool, true, false, cond, ◌&&◌, List, [], ◌∷◌, length, replicate, Option, Some, None, slice_get, refl, inl, inr, sym, ap, subst, ◌∙◌, true≢false, arith}
+use Rattle.std.proofs.Common.{◌≡◌, ◌≢◌, ◌⊎◌, ◌<◌, ℕ, Bool, true, false, cond, ◌&&◌, List, length, replicate, Option, Some, None, slice_get, refl, inl, inr, sym, ap, subst, ◌∙◌, true≢false, arith}
 use Rattle.std.specs.Prelude.{slice_set, slice_index_or, MatchOption}
 use Rattle.std.proofs.lemmas.Bool.Decides.{eqb_tells}
-use Rattle.std.proofs.lemmas.List.{get_or-replicate, length-replicate, length-set}
-use Rattle.std.proofs.lemmas.Option.{slice_get_within, slice_get_read, get_or_from_slice_get}
+use Rattle.std.proofs.lemmas.List.{length-replicate, length-set}
+use Rattle.std.proofs.lemmas.Option.{slice_get_within, slice_get_read}
 use Rattle.std.proofs.lemmas.Bool.{and_parts}
 use Rattle.bk_lemmas.specs.Tests.{equal_or_not}
+use Rattle.bk_pool.specs.Laws.{replicated, slice_get-set_other, slice_get-set_same}
 use Rattle.bk_pool.specs.Pool.{IsIn, IsAbsent, IsFound}
 use Rattle.bk_pool.specs.Sound.{page_eq, without, HoldsPage, Leads, Notes, IsSound}
 
@@ -18,26 +19,6 @@ page_tells (f, p) (g, q) = elim (eqb_tells f g) [
   ]
   | inr file ↦ inr (cc, λ same. file.1 (ap (λ (x : ℕ × ℕ). x.0) same))
 ]
-
--- an element that was set, and any other
-
-pub slice_get-set_same : {A : Type 0} (xs : List A) (i : ℕ) (x : A) → i < length xs → slice_get (slice_set xs i x) i ≡ Some x
-slice_get-set_same [] i x below = absurd (omega arith)
-slice_get-set_same (y ∷ ys) zero x below = refl
-slice_get-set_same (y ∷ ys) (suc i) x below = slice_get-set_same ys i x (omega arith)
-
-pub slice_get-set_other : {A : Type 0} (xs : List A) (i j : ℕ) (x : A) → j ≢ i → slice_get (slice_set xs i x) j ≡ slice_get xs j
-slice_get-set_other [] i j x other = refl
-slice_get-set_other (y ∷ ys) zero zero x other = absurd (other refl)
-slice_get-set_other (y ∷ ys) zero (suc j) x other = refl
-slice_get-set_other (y ∷ ys) (suc i) zero x other = refl
-slice_get-set_other (y ∷ ys) (suc i) (suc j) x other = slice_get-set_other ys i j x (λ same. other (ap suc same))
-
--- each of many that are the same
-replicated : {A : Type 0} (n i : ℕ) (a x : A) → slice_get (replicate n a) i ≡ Some x → x ≡ a
-replicated n i a x there =
-    let below : i < n = omega (arith, slice_get_within (replicate n a) i x there, length-replicate n a) in
-    sym (get_or_from_slice_get (replicate n a) i x a there) ∙ get_or-replicate n i a a below
 
 -- a pool without pages
 pub new_sound : (n : ℕ) (index : ℕ × ℕ → Option ℕ) → IsSound (replicate n None) (replicate n false) (replicate n false) index true

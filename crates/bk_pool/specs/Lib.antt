@@ -1,3 +1,4 @@
 pub mod Pool
 pub mod Sound
 pub mod Lending
+pub mod Laws

@@ -9,7 +9,7 @@ ghost use Rattle.std.specs.HashMap.{get};
 
 use crate::claim::Claim;
 use crate::clock::{first_clean, sweep};
-use bk_frames::Frames;
+use bk_frames::{Frames, Page};
 use std::alloc::{AllocError, Global};
 use std::collections::HashMap;
 use std::marker::Model;
@@ -121,8 +121,8 @@ impl Pool {
         first_clean(&self.dirty)
     }
 
-    // Puts a page in a frame, in place of what lay there.
-    fn put(&mut self, i: usize, file: u16, page: u32)
+    /// Puts a page that lies in no frame in one below `len` that isn't dirty, in place of what lay there. The frame's bytes stay.
+    pub fn put(&mut self, i: usize, file: u16, page: u32)
         requires clean { slice_get self.old.dirty i ≡ Some false }
         requires absent { IsAbsent self.old.pages file page }
         ensures { Claims self.old self.new file page i }
@@ -152,6 +152,14 @@ impl Pool {
         ensures value { result.now ≡ self.old.frames }
     {
         &mut self.frames
+    }
+
+    /// The bytes of a frame, of which there are as many as pages may lie.
+    pub fn frame(&self, i: usize) -> &Page
+        requires { i < length self.now.frames }
+        ensures { slice_get self.now.frames i ≡ Some result.now }
+    {
+        self.frames.page(i)
     }
 
     /// The file and number of the page that lies in a frame below `len`, if one does.

@@ -6,6 +6,5 @@ pub mod Listed
 pub mod PageLaws
 pub mod Parts
 pub mod Whole
-pub mod Writing
 pub mod ChainLaws
 pub mod SliceLaws

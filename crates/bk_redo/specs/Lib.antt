@@ -8,3 +8,4 @@ pub mod Listing
 pub mod Chains
 pub mod Tasks
 pub mod Laws
+pub mod CellLaws

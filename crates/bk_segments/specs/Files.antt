@@ -87,10 +87,6 @@ cut_at to log = record log { kept = to; records = drop (to - log.kept) log.recor
 abbrev pub emptied : ℕ → List ℕ → Logged
 emptied at note = record { kept = at; records = []; note = note }
 
--- the same without a note
-abbrev pub fresh : ℕ → Logged
-fresh at = emptied at []
-
 -- the files are this log
 pub record LogIs (files : Files) (db : ℕ) (log : Logged) : Type 0 where
   pub head : Head

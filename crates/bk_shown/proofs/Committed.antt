@@ -21,8 +21,8 @@ use Rattle.bk_world.specs.RowLaws.{row-same}
 use Rattle.bk_shown.specs.Shown.{ArePlaced, IsPlaced, LogKeeps, PlacesAgree, lies_at}
 use Rattle.bk_shown.proofs.Agree.{fewer-lies, lies-commit, lies-write, some-none}
 use Rattle.bk_shown.proofs.Keeps.{keeps-more}
-use Rattle.bk_shown.proofs.Readings as reading
-use Rattle.bk_shown.proofs.Readings.{made_by, pending-with, place-with, rows-with, tables-with, with}
+use Rattle.bk_shown.specs.Readings as reading
+use Rattle.bk_shown.specs.Readings.{made_by, pending-with, place-with, rows-with, tables-with, with}
 use Rattle.bk_shown.proofs.Taken.{place-is, seen-is}
 
 -- a cell of the group of a made table

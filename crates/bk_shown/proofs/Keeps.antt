@@ -14,7 +14,7 @@ use Rattle.bk_world.specs.SoundLogs.{MayCome, MayFollow}
 use Rattle.bk_world.specs.Telling as telling
 use Rattle.bk_shown.specs.Shown.{AreNumbered, ArePlaced, IsPlaced, LogKeeps, PlacesAgree, lies_at}
 use Rattle.bk_shown.proofs.Agree.{agree-commit, agree-filter, agree-write}
-use Rattle.bk_shown.proofs.Readings.{counts-more, follow-more, homes-with, made_by, pending-with, tables-with, with}
+use Rattle.bk_shown.specs.Readings.{counts-more, follow-more, homes-with, made_by, pending-with, tables-with, with}
 use Rattle.bk_shown.proofs.Tables.{numbered-more}
 
 module _ (files : List FileSpec) (rs : List Logged) (n begin : ℕ) where
@@ -106,11 +106,6 @@ module _ (files : List FileSpec) (rs : List Logged) (n begin : ℕ) where
     places = subst (λ ws. PlacesAgree ws (homes (with rs n begin d))) (sym (pending-with rs n begin d))
         (subst (PlacesAgree (then d)) (sym (homes-with rs n begin d)) (agree-by d placed may log.places));
   }
-
-pub placed-more : (files : List FileSpec) (front rs : List Logged) (r : Logged) → ArePlaced files front rs → IsPlaced files (telling.tables (front ++ rs)) r.deed → ArePlaced files front (rs ++ r ∷ [])
-placed-more files front [] r all placed = (subst (λ (l : List Logged). IsPlaced files (telling.tables l) r.deed) (append-nil front) placed, tt)
-placed-more files front (s ∷ rs) r all placed =
-    (all.0, placed-more files (front ++ s ∷ []) rs r all.1 (subst (λ (l : List Logged). IsPlaced files (telling.tables l) r.deed) (sym (append_assoc front (s ∷ []) rs)) placed))
 
 -- a log whose records come one behind the other, in their places
 pub keeps-along : (files : List FileSpec) (front rest : List Logged) (n end : ℕ) → Counts n rest end → MayFollow front rest → ArePlaced files front rest → LogKeeps front n → LogKeeps (front ++ rest) end

@@ -2,7 +2,6 @@ mod MapKeys
 mod Cells
 mod Lists
 mod Agree
-mod Readings
 mod Tables
 mod Mirrors
 mod Keeps

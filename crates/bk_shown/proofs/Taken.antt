@@ -34,11 +34,11 @@ use Rattle.bk_shown.specs.Writes.{has_write, own_of, row_of}
 use Rattle.bk_shown.specs.declared.shown.Shown.{Shown}
 use Rattle.bk_shown.specs.declared.shown.Written.{Written}
 use Rattle.bk_shown.proofs.Agree.{lies-commit, lies-undone, lies-write}
-use Rattle.bk_shown.proofs.Keeps.{keeps-more, placed-more}
+use Rattle.bk_shown.proofs.Keeps.{keeps-more}
 use Rattle.bk_shown.proofs.Lists.{filter-mapped, filter-same, filter-there, one-numbered}
 use Rattle.bk_shown.proofs.Mirrors.{found-mirror, has-mirror, others-mirror, own-mirror, value-mirror}
-use Rattle.bk_shown.proofs.Readings as reading
-use Rattle.bk_shown.proofs.Readings.{made_by, model-with, pending-with, place-with, rows-with, tables-with, time-with, with}
+use Rattle.bk_shown.specs.Readings as reading
+use Rattle.bk_shown.specs.Readings.{made_by, model-with, pending-with, place-with, placed-more, rows-with, tables-with, time-with, with}
 use Rattle.bk_shown.proofs.Tables.{group-more, none-numbered}
 
 -- where nothing passes a test, all fail it

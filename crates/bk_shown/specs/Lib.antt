@@ -5,3 +5,4 @@ pub mod Ends
 pub mod ReadLaws
 pub mod Shown
 pub mod Steps
+pub mod Readings

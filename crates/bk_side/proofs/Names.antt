@@ -6,7 +6,7 @@ use Rattle.std.proofs.lemmas.Option.{slice_get-map}
 use Rattle.hex.specs.Hex.{encode_lower, decode_of}
 use Rattle.hex.proofs.HexLemmas.{decode_of-encode_lower}
 use Rattle.bk_bytes.specs.Field.{AreBytes}
-use Rattle.bk_side.specs.Names.{data_file, side_file, name_of, AreDifferent, AreApart}
+use Rattle.bk_side.specs.Names.{data_file, side_file, name_of, AreDifferent, AreApart, IsBefore}
 
 pub paths_differ : (path other : List ℕ) → AreBytes path → AreBytes other → data_file path ≡ data_file other → path ≡ other
 unfolding data_file
@@ -48,6 +48,12 @@ all_different names none (suc i) (suc j) name one two = elim (cases_lt j i) [
     | inr least ↦ ap suc (omega (arith, more, least))
   ]
 ]
+
+-- and where one does they don't
+pub not_different : (names : List (List ℕ)) (i : ℕ) → IsBefore names i → AreDifferent names → ⊥
+not_different names i before different =
+    let same : suc before.0 ≡ suc i = different (suc i) (suc before.0) before.1 before.4 before.3 in
+    absurd (omega (arith, before.2, same))
 
 -- one place more before which a name doesn't stand
 pub none_more : (names : List (List ℕ)) (i j : ℕ) (a b : List ℕ) → slice_get names j ≡ Some a → slice_get names i ≡ Some b → b ≢ a

@@ -1,5 +1,5 @@
 -- The device's names of a database's files.
-use Rattle.std.specs.Prelude.{◌≡◌, ◌≢◌, ◌⊎◌, ℕ, zero, suc, List, ◌∷◌, Option, None, Some, slice_get}
+use Rattle.std.specs.Prelude.{◌≡◌, ◌≢◌, ◌⊎◌, ◌<◌, ℕ, zero, suc, List, ◌∷◌, Option, None, Some, slice_get}
 use Rattle.std.specs.Fmt.{decimal}
 use Rattle.hex.specs.Hex.{encode_lower}
 
@@ -23,6 +23,10 @@ IsData names name = (file : ℕ) × (name_of names file ≡ Some name)
 -- a name is that of the side file or of a data file
 abbrev pub IsOwn : List ℕ → List (List ℕ) → List ℕ → Type 0
 IsOwn side names name = (name ≡ side) ⊎ IsData names name
+
+-- a name stands before its place too
+abbrev pub IsBefore : List (List ℕ) → ℕ → Type 0
+IsBefore names i = (j : ℕ) × (name : List ℕ) × (j < i) × (slice_get names j ≡ Some name) × (slice_get names i ≡ Some name)
 
 -- no two data files have one name
 abbrev pub AreDifferent : List (List ℕ) → Type 0

@@ -1,8 +1,8 @@
 // The device's names of a database's files.
-ghost use Rattle.std.specs.Prelude.{◌≡◌, ◌<◌, ℕ, List, Some, None, IfOk, MatchBool, MatchOption, IsTrue, length, map, slice_get};
+ghost use Rattle.std.specs.Prelude.{◌≡◌, ◌<◌, ℕ, List, Some, None, IfOk, MatchBool, MatchOption, IsTrue, ◌↔◌, length, map, slice_get};
 ghost use Rattle.std.specs.String.{string_bytes};
 ghost use Rattle.bk_bytes.specs.Field.{AreBytes};
-ghost use Rattle.bk_side.specs.Names.{data_file, side_file, name_of, AreDifferent};
+ghost use Rattle.bk_side.specs.Names.{data_file, side_file, name_of, AreDifferent, IsBefore};
 
 use bk_ids::Text;
 use std::alloc::{AllocError, Global};
@@ -53,7 +53,7 @@ pub fn name_of(names: &[Text], file: u16) -> Option<&str>
 
 /// Whether no two names are the same.
 pub fn are_different(names: &[Text]) -> bool
-    ensures { IsTrue result → AreDifferent names.now }
+    ensures { IsTrue result ↔ AreDifferent names.now }
 {
     for i in 0..names.len() {
         if has_before(names, i) {
@@ -66,7 +66,7 @@ pub fn are_different(names: &[Text]) -> bool
 // Whether a name stands before its place too.
 fn has_before(names: &[Text], i: usize) -> bool
     requires { i < length names.now }
-    ensures { MatchBool result (Unit {0}) ((j : ℕ) (name : List ℕ) → j < i → slice_get names.now j ≡ Some name → slice_get names.now i ≡ Some name → ⊥) }
+    ensures { MatchBool result (IsBefore names.now i) ((j : ℕ) (name : List ℕ) → j < i → slice_get names.now j ≡ Some name → slice_get names.now i ≡ Some name → ⊥) }
 {
     for j in 0..i {
         if names[j].as_str() == names[i].as_str() {

@@ -8,4 +8,5 @@ pub mod GoneOnline
 pub mod KeptWorlds
 pub mod StoredActs
 pub mod WholeKept
+pub mod LeftNumbers
 mod Replaced

@@ -225,9 +225,8 @@ fn recover_named(
     }
 }
 
-/// What a stored act makes of the databases that are kept; it is one that has a spelling. `Unfit` comes only where it is no act that is taken in there; after
-/// an error nothing is promised of them.
-pub fn apply_to(
+// What a stored act makes of databases. After an error nothing is promised of them.
+pub(crate) fn changed_by(
     alloc: Global,
     databases: &mut Vec<Database>,
     act: &StoredAct,

@@ -4,12 +4,12 @@
 mod applying;
 mod error;
 mod making;
+mod numbering;
 mod placing;
 mod recovering;
 mod replacing;
 mod saying;
 mod taking;
 
-pub use applying::apply_to;
 pub use error::ApplyError;
-pub use taking::{apply, draws};
+pub use taking::{apply, apply_to, draws};

@@ -1,11 +1,12 @@
 use Rattle.std.proofs.Common.{◌≡◌, Err, List, Option, ap, subst}
 use Rattle.std.proofs.lemmas.Result.{err_from_is_err_and}
-use Rattle.bk_device.specs.Compose.{keeps_then}
+use Rattle.bk_device.specs.Compose.{keeps_by_nothing, keeps_then}
+use Rattle.bk_device.specs.Laws.{nothing_yet}
 use Rattle.bk_machine.specs.Acts.{done_all}
 use Rattle.bk_items.specs.declared.item.ScriptEntry.{ScriptEntry}
 use Rattle.bk_syntax.specs.Reader.{HasItems, GivesItem}
 use Rattle.bk_console.specs.declared.answers.AnswerError.TheVariants.{Console, Broken}
-use Rattle.bk_console.proofs.Asking.{OnErr-from, keeps-same}
+use Rattle.bk_console.proofs.Asking.{OnErr-from}
 use Rattle.bk_console.proofs.Answering.{not-stopped}
 use Rattle.bk_console.proofs.Causes.{causes-none, causes-then}
 use Rattle.bk_console.proofs.OneByOne.{so_far-none, so_far-all, so_far-unread, so_far-cut, so_far-more, so_far-stopped}
@@ -18,7 +19,7 @@ loop-reader-init g c = record {
   stands = λ t w stands. (w, stands);
   ready = c.requires.ready;
   stored = c.requires.stored;
-  others = λ t. keeps-same _ _;
+  others = λ t. keeps_by_nothing (nothing_yet _);
   causes = causes-none _;
 }
 

@@ -24,15 +24,7 @@ returns-in_ok-turn-in-Turned-clause-crash g c tells = plan-none c.args.instance.
 pub returns-in_ok-turn-in-Turned-clause-does : goal.returns-in_ok-turn-in-Turned-clause-does
 returns-in_ok-turn-in-Turned-clause-does g c tells =
     subst (λ (p : Plan). DoesPlan c.args.instance.now (g.D.Device.disk c.args.dev.now) p (record c.args.instance.now { kept = c.turn.new.self }) (g.D.Device.disk c.args.dev.now)) (sym c.in-Turned.is)
-    (turned-does (record {
-      transitive = c.logs_that_stay.ensures.transitive;
-      turned_media = c.media_that_stay.ensures.turned;
-      seated_media = c.media_that_stay.ensures.seated;
-      turned = c.logs_that_stay.ensures.turned;
-      seated = c.logs_that_stay.ensures.seated;
-      stays = c.what_waits_is_joined.ensures.stays;
-    })
-    c.args.instance.now (record c.args.instance.now { kept = c.turn.new.self }) (g.D.Device.disk c.args.dev.now) c.in-Turned.name refl (λ w keeps. c.in_ok-turn-in-Turned.ensures.turned w keeps))
+    (turned-does c.what_waits_is_joined.ensures.stays c.args.instance.now (record c.args.instance.now { kept = c.turn.new.self }) (g.D.Device.disk c.args.dev.now) c.in-Turned.name refl (λ w keeps. c.in_ok-turn-in-Turned.ensures.turned w keeps))
 
 pub returns-in_ok-done-in-Parts-clause-crash : goal.returns-in_ok-done-in-Parts-clause-crash
 returns-in_ok-done-in-Parts-clause-crash g c tells =
@@ -86,15 +78,7 @@ returns-in-Seated-clause-crash g c tells = plan-none c.args.instance.now (g.D.De
 pub returns-in-Seated-clause-does : goal.returns-in-Seated-clause-does
 returns-in-Seated-clause-does g c tells =
     subst (λ (p : Plan). DoesPlan c.args.instance.now (g.D.Device.disk c.args.dev.now) p (record c.args.instance.now { kept = c.seat.new.self }) (g.D.Device.disk c.args.dev.now)) (sym c.in-Seated.is)
-    (seated-does (record {
-      transitive = c.logs_that_stay.ensures.transitive;
-      turned_media = c.media_that_stay.ensures.turned;
-      seated_media = c.media_that_stay.ensures.seated;
-      turned = c.logs_that_stay.ensures.turned;
-      seated = c.logs_that_stay.ensures.seated;
-      stays = c.what_waits_is_joined.ensures.stays;
-    })
-    c.args.instance.now (record c.args.instance.now { kept = c.seat.new.self }) (g.D.Device.disk c.args.dev.now) c.in-Seated.session refl (λ w keeps. c.seat.ensures.seated w keeps))
+    (seated-does c.what_waits_is_joined.ensures.stays c.args.instance.now (record c.args.instance.now { kept = c.seat.new.self }) (g.D.Device.disk c.args.dev.now) c.in-Seated.session refl (λ w keeps. c.seat.ensures.seated w keeps))
 
 pub returns-in-Seated-clause-still : goal.returns-in-Seated-clause-still
 returns-in-Seated-clause-still g c tells none = record { device = nothing_yet (g.D.Device.disk c.args.dev.now); reserves = λ exact. exact ∙ sym c.seat.ensures.counter }

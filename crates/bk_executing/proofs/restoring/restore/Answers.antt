@@ -1,4 +1,5 @@
-use Rattle.bk_executing.proofs.Known.{knows-first}
+use Rattle.std.proofs.lemmas.Result.{err_from_is_err_and}
+use Rattle.bk_executing.proofs.Known.{knows-first, unfit-broken}
 use Rattle.bk_executing.proofs.Planned.{failed-early, on-error, calm-through, knows-nothing, plan-executed, plan-failed, plan-broken}
 use Rattle.bk_instance.specs.RestLaws.{stored-nothing}
 use Rattle.bk_executing.proofs.restoring.restore.Goals as goal
@@ -28,6 +29,13 @@ returns-in_err-first-clause-failed g c =
 pub returns-in_err-plan-clause-failed : goal.returns-in_err-plan-clause-failed
 returns-in_err-plan-clause-failed g c =
     on-error c.from_residual-in_err-plan.result (failed-early c.args.instance.now (g.D.Device.disk c.args.dev.now) (g.D.Device.disk c.first_set.new.dev) _ c.args.now c.requires.ready c.requires.stored c.first_set.ensures.effect)
+
+pub returns-in_err-plan-clause-broken : goal.returns-in_err-plan-clause-broken
+returns-in_err-plan-clause-broken g c tells =
+    let p = err_from_is_err_and c.from_residual-in_err-plan.result c.from_residual-in_err-plan.ensures.1 in
+    rw (p.1, p.2) (λ is w stands.
+    let knows = knows-first c.args.instance.now (g.D.Device.disk c.args.dev.now) (g.D.Device.disk c.first_set.new.dev) c.args.disk.now c.path_of.result.now c.in_ok-first.first c.requires.ready c.requires.stored c.first_set.ensures.effect c.path_of.utf8 c.path_of.ensures c.in_ok-first.ensures.first in
+    c.in_err-plan.ensures.unfit (unfit-broken c.in_err-plan.field-0.0 is) w stands.sound (knows.known tells w stands))
 
 pub follow-requires-2-clause-stored : goal.follow-requires-2-clause-stored
 follow-requires-2-clause-stored g c = λ tells. stored-nothing c.args.instance.now (g.D.Device.disk c.args.dev.now) (g.D.Device.disk c.first_set.new.dev) (c.first_set.ensures.effect tells) (c.requires.stored tells)

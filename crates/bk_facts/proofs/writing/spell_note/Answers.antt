@@ -1,7 +1,7 @@
 use Rattle.std.proofs.Common.{rules, ◌≡◌, ◌<◌, ◌^◌, ◌++◌, ℕ, List, sym, subst}
 use Rattle.std.specs.List.{AllByRecursion}
 use Rattle.bk_facts.specs.Facts.{AreFacts, IsDataFile, Notes, facts_bytes}
-use Rattle.bk_facts.proofs.FactCodes.{facts_read}
+use Rattle.bk_facts.specs.FactLaws.{facts_read}
 use Rattle.bk_facts.proofs.writing.spell_note.Goals as goal
 
 pub returns-clause-notes : goal.returns-clause-notes

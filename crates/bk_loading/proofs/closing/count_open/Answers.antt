@@ -1,4 +1,4 @@
-use Rattle.std.proofs.Common.{rules, ◌≡◌, ◌∙◌, ◌+◌, List, Some, length, slice_get, refl, sym, ap, subst}
+use Rattle.std.proofs.Common.{◌≡◌, ◌∙◌, ◌+◌, List, Some, length, slice_get, refl, sym, ap, subst, arith}
 use Rattle.std.proofs.lemmas.Option.{slice_get_read}
 use Rattle.bk_kept.specs.declared.kept.Database.{Database as KeptDatabase}
 use Rattle.bk_loading.proofs.RolledBack.{count-more}
@@ -11,6 +11,8 @@ loop-database-preserved c =
     let read : slice_get c.deref-database-items.result.now c.loop-database.database-index ≡ Some c.database-item.result =
     slice_get_read c.deref-database-items.result.now (length c.deref-database-items.result.now) c.loop-database.database-index c.database-item.result refl c.loop-database-test.true c.database-item.is in
     let there : slice_get items c.loop-database.database-index ≡ Some c.database-item.result = subst (λ (ds : List KeptDatabase). slice_get ds c.loop-database.database-index ≡ Some c.database-item.result) c.deref-database-items.ensures.value read in
-    let sum : c.in_ok-count.count ≡ c.loop-database.count + length c.as_slice.result.now = search rules in
     let more : c.loop-database.count + length c.as_slice.result.now ≡ c.loop-database.count + length c.database-item.result.transactions = ap (λ (ts : List Open). c.loop-database.count + length ts) c.as_slice.ensures in
-    sum ∙ more ∙ ap (λ n. n + length c.database-item.result.transactions) c.loop-database.invariant ∙ sym (count-more items c.loop-database.database-index c.database-item.result there)
+    record {
+      counted = more ∙ ap (λ n. n + length c.database-item.result.transactions) c.loop-database.invariant.counted ∙ sym (count-more items c.loop-database.database-index c.database-item.result there);
+      low = omega arith;
+    }

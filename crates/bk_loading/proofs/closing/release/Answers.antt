@@ -1,8 +1,8 @@
 use Rattle.std.proofs.Common.{rules, ℕ, None, refl, ◌∙◌, ap, sym}
 use Rattle.bk_device.specs.Laws.{nothing_yet}
 use Rattle.bk_home.specs.declared.record.Record.{Record}
-use Rattle.bk_loading.proofs.Closes.{close-none, none-stands, close-put, put-stands}
-use Rattle.bk_instance.specs.StandsLaws.{media-durable, home-fine}
+use Rattle.bk_loading.proofs.Closes.{none-stands, close-put, put-stands}
+use Rattle.bk_instance.specs.StandsLaws.{media-durable, home-fine, stays-none}
 use Rattle.bk_instance.specs.TouchedLaws.{own-none, own-touched}
 use Rattle.bk_loading.proofs.closing.release.Goals as goal
 
@@ -13,27 +13,27 @@ pub returns-in_err-put-clause-crash : goal.returns-in_err-put-clause-crash
 unfolding exact
 returns-in_err-put-clause-crash g c tells =
     let kept = c.args.instance.now.kept in
-    close-put c.args.instance.now (g.D.Device.disk c.args.dev.now) (g.D.Device.disk c.put.new.dev) (exact kept.number kept.counter) c.requires.ready (c.requires.stored tells) refl refl refl (c.put.ensures.crash tells)
+    close-put c.args.instance.now (g.D.Device.disk c.args.dev.now) (g.D.Device.disk c.put.new.dev) (exact kept.number kept.counter) c.requires.ready refl refl refl (c.put.ensures.crash tells)
 
 pub returns-in_ok-put-clause-stands : goal.returns-in_ok-put-clause-stands
 unfolding exact
 returns-in_ok-put-clause-stands g c tells number w stands idle =
     let kept = c.args.instance.now.kept in
-    put-stands (record { ends = c.runs_begin_and_end_in_sound_worlds.ensures.ends; settled = c.settled_worlds.ensures.idle }) number c.args.instance.now (record { alloc = c.args.instance.now.alloc; home = c.put.new.self; kept = kept; waiting = c.args.instance.now.waiting }) (g.D.Device.disk c.args.dev.now) (g.D.Device.disk c.put.new.dev) w (exact kept.number kept.counter)
+    put-stands c.runs_begin_and_end_in_sound_worlds.ensures.ends number c.args.instance.now (record { alloc = c.args.instance.now.alloc; home = c.put.new.self; kept = kept; waiting = c.args.instance.now.waiting }) (g.D.Device.disk c.args.dev.now) (g.D.Device.disk c.put.new.dev) w (exact kept.number kept.counter)
     c.requires.ready c.requires.none refl refl refl (c.in_ok-put.ensures.stands tells) c.in_ok-put.ensures.put (c.in_ok-put.ensures.blobs tells) (c.put.ensures.crash tells) stands idle
 
 pub returns-in_ok-put-clause-crash : goal.returns-in_ok-put-clause-crash
 unfolding exact
 returns-in_ok-put-clause-crash g c tells =
     let kept = c.args.instance.now.kept in
-    close-put c.args.instance.now (g.D.Device.disk c.args.dev.now) (g.D.Device.disk c.put.new.dev) (exact kept.number kept.counter) c.requires.ready (c.requires.stored tells) refl refl refl (c.put.ensures.crash tells)
+    close-put c.args.instance.now (g.D.Device.disk c.args.dev.now) (g.D.Device.disk c.put.new.dev) (exact kept.number kept.counter) c.requires.ready refl refl refl (c.put.ensures.crash tells)
 
 pub returns-else-record-instance-clause-stands : goal.returns-else-record-instance-clause-stands
 returns-else-record-instance-clause-stands g c tells number w stands idle =
-    none-stands (record { ends = c.runs_begin_and_end_in_sound_worlds.ensures.ends; settled = c.settled_worlds.ensures.idle }) number c.args.instance.now (g.D.Device.disk c.args.dev.now) w c.requires.ready c.requires.none (c.requires.stored tells) (sym (ap (λ (r : Record). r.counter) c.record.ensures.same) ∙ c.if-record-instance.false) stands idle
+    none-stands c.runs_begin_and_end_in_sound_worlds.ensures.ends number c.args.instance.now (g.D.Device.disk c.args.dev.now) w c.requires.ready c.requires.none (c.requires.stored tells) (sym (ap (λ (r : Record). r.counter) c.record.ensures.same) ∙ c.if-record-instance.false) stands idle
 
 pub returns-else-record-instance-clause-crash : goal.returns-else-record-instance-clause-crash
-returns-else-record-instance-clause-crash g c tells = close-none c.args.instance.now (g.D.Device.disk c.args.dev.now) c.requires.ready (c.requires.stored tells)
+returns-else-record-instance-clause-crash g c tells = stays-none c.args.instance.now (g.D.Device.disk c.args.dev.now) c.requires.ready (c.requires.stored tells)
 
 pub returns-in_ok-put-clause-media : goal.returns-in_ok-put-clause-media
 returns-in_ok-put-clause-media g c tells = media-durable (g.D.Device.disk c.args.dev.now) (g.D.Device.disk c.put.new.dev) (c.put.ensures.crash tells)

@@ -7,21 +7,15 @@ use Rattle.bk_loading.proofs.RolledBack.{all-rolled, idle-count, none-cuts, none
 use Rattle.bk_instance.specs.TouchedLaws.{own-none}
 use Rattle.bk_loading.proofs.closing.roll_all_back.Goals as goal
 
-pub returns-in_default-clause-crash : goal.returns-in_default-clause-crash
-returns-in_default-clause-crash g c t = none-cuts (record { comes = c.runs_are_closed.ensures.comes; sound = c.runs_are_closed_one_by_one.ensures.sound; fewer = c.runs_are_closed_one_by_one.ensures.fewer; none = c.runs_are_closed_one_by_one.ensures.none }) c.args.instance.now (g.D.Device.disk c.args.dev.now) c.requires.ready (c.requires.stored t)
-
-pub returns-in_default-clause-still : goal.returns-in_default-clause-still
-returns-in_default-clause-still g c t w stands idle = (nothing_yet (g.D.Device.disk c.args.dev.now), λ none. none)
-
 pub loop-round-init : goal.loop-round-init
 loop-round-init g c =
-    let counted : c.in-Some.count ≡ count_open (map database_of c.args.instance.now.kept.databases.items) = search rules in
+    let counted : c.count_open-count.result ≡ count_open (map database_of c.args.instance.now.kept.databases.items) = c.count_open-count.ensures in
     record {
       ready = c.requires.ready;
       none = c.requires.none;
       stored = λ t. c.requires.stored t;
       media = λ t durable. durable;
-      rolls = none-yet g.D.Device.tells c.in-Some.count c.args.instance.now (g.D.Device.disk c.args.dev.now) counted;
+      rolls = none-yet g.D.Device.tells c.count_open-count.result c.args.instance.now (g.D.Device.disk c.args.dev.now) counted;
       crash = λ t. none-cuts (record { comes = c.runs_are_closed.ensures.comes; sound = c.runs_are_closed_one_by_one.ensures.sound; fewer = c.runs_are_closed_one_by_one.ensures.fewer; none = c.runs_are_closed_one_by_one.ensures.none }) c.args.instance.now (g.D.Device.disk c.args.dev.now) c.requires.ready (c.requires.stored t);
       still = λ t w stands idle. (nothing_yet (g.D.Device.disk c.args.dev.now), λ none. none);
       spares = λ t. own-none (g.D.Device.disk c.args.dev.now);
@@ -35,7 +29,7 @@ returns-in_err-roll_back-clause-crash g c t =
 
 pub returns-in_err-roll_back-clause-still : goal.returns-in_err-roll_back-clause-still
 returns-in_err-roll_back-clause-still g c t w stands idle =
-    let counted : c.in-Some.count ≡ count_open (map database_of c.args.instance.now.kept.databases.items) = search rules in
+    let counted : c.count_open-count.result ≡ count_open (map database_of c.args.instance.now.kept.databases.items) = c.count_open-count.ensures in
     absurd (omega (arith, counted, idle-count w c.args.instance.now.kept stands.keeps idle, c.loop-round-test.true))
 
 pub returns-in_err-roll_back-clause-spares : goal.returns-in_err-roll_back-clause-spares
@@ -47,7 +41,7 @@ returns-in_err-roll_back-clause-broken g c t broken =
 
 pub loop-round-preserved : goal.loop-round-preserved
 loop-round-preserved g c =
-    let counted : c.in-Some.count ≡ count_open (map database_of c.args.instance.now.kept.databases.items) = search rules in
+    let counted : c.count_open-count.result ≡ count_open (map database_of c.args.instance.now.kept.databases.items) = c.count_open-count.ensures in
     record {
       ready = c.in_ok-roll_back.ensures.ready;
       none = c.in_ok-roll_back.ensures.none;

@@ -5,9 +5,6 @@ pub returns : goal.returns
 returns c =
     let laws : EventLaws = record {
       sound = c.events_keep_worlds_sound.ensures.one;
-      idle = c.logs_that_stay.ensures.idle;
-      settled = c.settled_worlds.ensures.idle;
-      ended = c.settled_worlds.ensures.ended;
       removed = c.logs_that_stay.ensures.medium_removed;
       standby = c.logs_that_stay.ensures.standby_removed;
       changed = c.logs_that_stay.ensures.medium_changed;

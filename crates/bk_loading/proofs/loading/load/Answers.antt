@@ -13,115 +13,38 @@ use Rattle.bk_loading.proofs.loading.load.Goals as goal
 
 pub returns-in_err-instance-clause-crash : goal.returns-in_err-instance-clause-crash
 returns-in_err-instance-clause-crash g c t =
-    opened-cuts (record {
-      begins = c.runs_begin_and_end_in_sound_worlds.ensures.begins;
-      restarts = c.restarts_keep_worlds_sound.ensures.sound;
-      logs_restarted = c.logs_that_stay.ensures.restarted;
-      logs_opened = c.logs_that_stay.ensures.opened;
-      media_restarted = c.media_that_stay.ensures.restarted;
-      media_opened = c.media_that_stay.ensures.opened;
-      idle = c.logs_that_stay.ensures.idle;
-      before = c.settled_worlds.ensures.before;
-      settled_opened = c.settled_worlds.ensures.opened;
-      ended = c.settled_worlds.ensures.ended;
-    }) c.args.number (g.D.Device.disk c.args.dev.now) (g.D.Device.disk c.open_instance.new.dev) (c.open_instance.ensures.crash t)
+    opened-cuts (record { begins = c.runs_begin_and_end_in_sound_worlds.ensures.begins; restarts = c.restarts_keep_worlds_sound.ensures.sound }) c.args.number (g.D.Device.disk c.args.dev.now) (g.D.Device.disk c.open_instance.new.dev) (c.open_instance.ensures.crash t)
 
 pub returns-in_err-instance-clause-broken : goal.returns-in_err-instance-clause-broken
 returns-in_err-instance-clause-broken g c t =
     let p = err_from_is_err_and c.from_residual.result c.from_residual.ensures.1 in
     rw (p.1, p.2) (λ is w stands.
-    opened-stuck (record {
-      begins = c.runs_begin_and_end_in_sound_worlds.ensures.begins;
-      restarts = c.restarts_keep_worlds_sound.ensures.sound;
-      logs_restarted = c.logs_that_stay.ensures.restarted;
-      logs_opened = c.logs_that_stay.ensures.opened;
-      media_restarted = c.media_that_stay.ensures.restarted;
-      media_opened = c.media_that_stay.ensures.opened;
-      idle = c.logs_that_stay.ensures.idle;
-      before = c.settled_worlds.ensures.before;
-      settled_opened = c.settled_worlds.ensures.opened;
-      ended = c.settled_worlds.ensures.ended;
-    }) c.args.number (g.D.Device.disk c.args.dev.now) w (c.in_err-instance.ensures.broken t (same_error c.in_err-instance.field-0.0 Broken is)) stands)
+    opened-stuck (record { begins = c.runs_begin_and_end_in_sound_worlds.ensures.begins; restarts = c.restarts_keep_worlds_sound.ensures.sound }) c.args.number (g.D.Device.disk c.args.dev.now) w (c.in_err-instance.ensures.broken t (same_error c.in_err-instance.field-0.0 Broken is)) stands)
 
 pub returns-in-Ok-clause-media : goal.returns-in-Ok-clause-media
 returns-in-Ok-clause-media g c t settled = c.in-Ok.ensures.media t (c.in_ok-instance.ensures.media t settled)
 
 pub returns-in-Ok-clause-stands : goal.returns-in-Ok-clause-stands
 returns-in-Ok-clause-stands g c t settled w stands =
-    loaded-stands (record {
-      begins = c.runs_begin_and_end_in_sound_worlds.ensures.begins;
-      restarts = c.restarts_keep_worlds_sound.ensures.sound;
-      logs_restarted = c.logs_that_stay.ensures.restarted;
-      logs_opened = c.logs_that_stay.ensures.opened;
-      media_restarted = c.media_that_stay.ensures.restarted;
-      media_opened = c.media_that_stay.ensures.opened;
-      idle = c.logs_that_stay.ensures.idle;
-      before = c.settled_worlds.ensures.before;
-      settled_opened = c.settled_worlds.ensures.opened;
-      ended = c.settled_worlds.ensures.ended;
-    }) c.args.number c.in_ok-instance.instance c.settle.new.instance (g.D.Device.disk c.args.dev.now) (g.D.Device.disk c.open_instance.new.dev) (g.D.Device.disk c.settle.new.dev) w c.in-Ok.ensures.none (c.in_ok-instance.ensures.stands t) (c.in-Ok.ensures.settles t) stands
+    loaded-stands (record { begins = c.runs_begin_and_end_in_sound_worlds.ensures.begins; restarts = c.restarts_keep_worlds_sound.ensures.sound }) c.args.number c.in_ok-instance.instance c.settle.new.instance (g.D.Device.disk c.args.dev.now) (g.D.Device.disk c.open_instance.new.dev) (g.D.Device.disk c.settle.new.dev) w c.in-Ok.ensures.none (c.in_ok-instance.ensures.stands t) (c.in-Ok.ensures.settles t) stands
 
 pub returns-in-Ok-clause-number : goal.returns-in-Ok-clause-number
 returns-in-Ok-clause-number g c t w stands =
-    c.in-Ok.ensures.number ∙ loaded-number (record {
-      begins = c.runs_begin_and_end_in_sound_worlds.ensures.begins;
-      restarts = c.restarts_keep_worlds_sound.ensures.sound;
-      logs_restarted = c.logs_that_stay.ensures.restarted;
-      logs_opened = c.logs_that_stay.ensures.opened;
-      media_restarted = c.media_that_stay.ensures.restarted;
-      media_opened = c.media_that_stay.ensures.opened;
-      idle = c.logs_that_stay.ensures.idle;
-      before = c.settled_worlds.ensures.before;
-      settled_opened = c.settled_worlds.ensures.opened;
-      ended = c.settled_worlds.ensures.ended;
-    }) c.args.number c.in_ok-instance.instance.kept.number (g.D.Device.disk c.args.dev.now) w (c.in_ok-instance.ensures.number t) stands
+    c.in-Ok.ensures.number ∙ loaded-number (record { begins = c.runs_begin_and_end_in_sound_worlds.ensures.begins; restarts = c.restarts_keep_worlds_sound.ensures.sound }) c.args.number c.in_ok-instance.instance.kept.number (g.D.Device.disk c.args.dev.now) w (c.in_ok-instance.ensures.number t) stands
 
 pub returns-in-Ok-clause-crash : goal.returns-in-Ok-clause-crash
-returns-in-Ok-clause-crash g c t = settled-cuts (record {
-  begins = c.runs_begin_and_end_in_sound_worlds.ensures.begins;
-  restarts = c.restarts_keep_worlds_sound.ensures.sound;
-  logs_restarted = c.logs_that_stay.ensures.restarted;
-  logs_opened = c.logs_that_stay.ensures.opened;
-  media_restarted = c.media_that_stay.ensures.restarted;
-  media_opened = c.media_that_stay.ensures.opened;
-  idle = c.logs_that_stay.ensures.idle;
-  before = c.settled_worlds.ensures.before;
-  settled_opened = c.settled_worlds.ensures.opened;
-  ended = c.settled_worlds.ensures.ended;
-}) c.args.number c.in_ok-instance.instance (g.D.Device.disk c.args.dev.now) (g.D.Device.disk c.open_instance.new.dev) (g.D.Device.disk c.settle.new.dev) (c.in_ok-instance.ensures.stands t) (c.in_ok-instance.ensures.media t) (c.open_instance.ensures.crash t) (c.settle.ensures.crash t)
+returns-in-Ok-clause-crash g c t = settled-cuts (record { begins = c.runs_begin_and_end_in_sound_worlds.ensures.begins; restarts = c.restarts_keep_worlds_sound.ensures.sound }) c.args.number c.in_ok-instance.instance (g.D.Device.disk c.args.dev.now) (g.D.Device.disk c.open_instance.new.dev) (g.D.Device.disk c.settle.new.dev) (c.in_ok-instance.ensures.stands t) (c.in_ok-instance.ensures.media t) (c.open_instance.ensures.crash t) (c.settle.ensures.crash t)
 
 pub returns-in-Ok-clause-still : goal.returns-in-Ok-clause-still
 returns-in-Ok-clause-still g c t made none w covers idle =
     nothing_then (g.met.D.Device.lawful t c.args.dev.now) (c.in_ok-instance.ensures.still t made none)
-    (loaded-rests (record {
-      begins = c.runs_begin_and_end_in_sound_worlds.ensures.begins;
-      restarts = c.restarts_keep_worlds_sound.ensures.sound;
-      logs_restarted = c.logs_that_stay.ensures.restarted;
-      logs_opened = c.logs_that_stay.ensures.opened;
-      media_restarted = c.media_that_stay.ensures.restarted;
-      media_opened = c.media_that_stay.ensures.opened;
-      idle = c.logs_that_stay.ensures.idle;
-      before = c.settled_worlds.ensures.before;
-      settled_opened = c.settled_worlds.ensures.opened;
-      ended = c.settled_worlds.ensures.ended;
-    }) c.args.number c.in_ok-instance.instance c.settle.new.instance (g.D.Device.disk c.args.dev.now) (g.D.Device.disk c.open_instance.new.dev) (g.D.Device.disk c.settle.new.dev) w (c.in_ok-instance.ensures.stands t) (c.in-Ok.ensures.still t) covers idle)
+    (loaded-rests (record { begins = c.runs_begin_and_end_in_sound_worlds.ensures.begins; restarts = c.restarts_keep_worlds_sound.ensures.sound }) c.args.number c.in_ok-instance.instance c.settle.new.instance (g.D.Device.disk c.args.dev.now) (g.D.Device.disk c.open_instance.new.dev) (g.D.Device.disk c.settle.new.dev) w (c.in_ok-instance.ensures.stands t) (c.in-Ok.ensures.still t) covers idle)
 
 pub returns-in-Ok-clause-spares : goal.returns-in-Ok-clause-spares
 returns-in-Ok-clause-spares g c t = effect_then (c.open_instance.ensures.spares t) (touches-own (c.settle.ensures.spares t))
 
 pub returns-in-Err-clause-crash : goal.returns-in-Err-clause-crash
-returns-in-Err-clause-crash g c t = settled-cuts (record {
-  begins = c.runs_begin_and_end_in_sound_worlds.ensures.begins;
-  restarts = c.restarts_keep_worlds_sound.ensures.sound;
-  logs_restarted = c.logs_that_stay.ensures.restarted;
-  logs_opened = c.logs_that_stay.ensures.opened;
-  media_restarted = c.media_that_stay.ensures.restarted;
-  media_opened = c.media_that_stay.ensures.opened;
-  idle = c.logs_that_stay.ensures.idle;
-  before = c.settled_worlds.ensures.before;
-  settled_opened = c.settled_worlds.ensures.opened;
-  ended = c.settled_worlds.ensures.ended;
-}) c.args.number c.in_ok-instance.instance (g.D.Device.disk c.args.dev.now) (g.D.Device.disk c.open_instance.new.dev) (g.D.Device.disk c.settle.new.dev) (c.in_ok-instance.ensures.stands t) (c.in_ok-instance.ensures.media t) (c.open_instance.ensures.crash t) (c.settle.ensures.crash t)
+returns-in-Err-clause-crash g c t = settled-cuts (record { begins = c.runs_begin_and_end_in_sound_worlds.ensures.begins; restarts = c.restarts_keep_worlds_sound.ensures.sound }) c.args.number c.in_ok-instance.instance (g.D.Device.disk c.args.dev.now) (g.D.Device.disk c.open_instance.new.dev) (g.D.Device.disk c.settle.new.dev) (c.in_ok-instance.ensures.stands t) (c.in_ok-instance.ensures.media t) (c.open_instance.ensures.crash t) (c.settle.ensures.crash t)
 
 pub returns-in-Err-clause-spares : goal.returns-in-Err-clause-spares
 returns-in-Err-clause-spares g c t = effect_then (c.open_instance.ensures.spares t) (touches-own (c.settle.ensures.spares t))
@@ -150,15 +73,4 @@ pub returns-in-Err-clause-unsettled : goal.returns-in-Err-clause-unsettled
 returns-in-Err-clause-unsettled g c t is w stands =
     let same : c.from.result ≡ Unsettled = cc in
     let error : c.in-Err.error ≡ execute.Broken = settled-stuck-at c.in-Err.error (sym c.from.ensures ∙ same) in
-    settled-stuck (record {
-      begins = c.runs_begin_and_end_in_sound_worlds.ensures.begins;
-      restarts = c.restarts_keep_worlds_sound.ensures.sound;
-      logs_restarted = c.logs_that_stay.ensures.restarted;
-      logs_opened = c.logs_that_stay.ensures.opened;
-      media_restarted = c.media_that_stay.ensures.restarted;
-      media_opened = c.media_that_stay.ensures.opened;
-      idle = c.logs_that_stay.ensures.idle;
-      before = c.settled_worlds.ensures.before;
-      settled_opened = c.settled_worlds.ensures.opened;
-      ended = c.settled_worlds.ensures.ended;
-    }) c.args.number c.in_ok-instance.instance (g.D.Device.disk c.args.dev.now) (g.D.Device.disk c.open_instance.new.dev) w (c.in_ok-instance.ensures.stands t) (c.in-Err.ensures.broken t (ap (λ (e : ExecuteError). let r : Result (Unit {0}) ExecuteError = Err e in r) error)) stands
+    settled-stuck (record { begins = c.runs_begin_and_end_in_sound_worlds.ensures.begins; restarts = c.restarts_keep_worlds_sound.ensures.sound }) c.args.number c.in_ok-instance.instance (g.D.Device.disk c.args.dev.now) (g.D.Device.disk c.open_instance.new.dev) w (c.in_ok-instance.ensures.stands t) (c.in-Err.ensures.broken t (ap (λ (e : ExecuteError). let r : Result (Unit {0}) ExecuteError = Err e in r) error)) stands

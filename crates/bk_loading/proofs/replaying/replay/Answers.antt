@@ -1,10 +1,11 @@
-use Rattle.std.proofs.Common.{rules, ◌≡◌, ◌∙◌, List, ℕ, length, take, ap, sym, arith}
+use Rattle.std.proofs.Common.{rules, ◌≡◌, ◌∙◌, [], List, ℕ, length, take, refl, ap, sym, subst, arith}
 use Rattle.std.specs.Prelude.{slice_get}
 use Rattle.std.proofs.lemmas.Result.{err_from_is_err_and}
 use Rattle.bk_device.specs.Compose.{keeps_by_nothing}
 use Rattle.bk_device.specs.Laws.{nothing_then, cause_then}
 use Rattle.bk_home.specs.Home.{blobs_of, count_of}
 use Rattle.bk_home.specs.Laws.{home_kept, home_count}
+use Rattle.bk_kept.specs.Numbers.{LeaveNumbers}
 use Rattle.bk_lemmas.specs.Tests.{same_error}
 use Rattle.bk_loading.proofs.Opened.{blobs-on}
 use Rattle.bk_loading.proofs.Replays.{no-blobs, one-blob, stuck, whole}
@@ -15,6 +16,7 @@ pub loop-i-init : goal.loop-i-init
 loop-i-init g c = record {
   nothing = λ t. search rules;
   made = λ t. no-blobs c.new-databases.result.items c.new-databases.ensures.items;
+  numbers = let none : c.new-databases.result.items ≡ [] = c.new-databases.ensures.items in subst LeaveNumbers (sym none) refl;
   cause = search rules;
 }
 
@@ -39,6 +41,7 @@ loop-i-preserved g c = record {
       let blobs = blobs_of (g.D.Device.disk c.args.dev.now).files in
       let blob = c.in_ok-step.ensures.ok t (take c.loop-i.i blobs) (c.loop-i.invariant.made t) in
       one-blob blobs c.loop-i.i blob.0 c.step.new.databases.items (ap (λ (bs : List (List ℕ)). slice_get bs c.loop-i.i) (sym (blobs-on (c.loop-i.invariant.nothing t))) ∙ blob.1) blob.2;
+  numbers = c.in_ok-step.ensures.numbers;
   cause = cause_then c.loop-i.invariant.cause c.step.ensures.cause (λ none. absurd none);
 }
 

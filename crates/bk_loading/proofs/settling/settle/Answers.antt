@@ -50,4 +50,4 @@ loop-at-preserved g c = record {
 
 pub returns-clause-settles : goal.returns-clause-settles
 returns-clause-settles g c t =
-    settled-all c.settling_ends.ensures.closed c.args.instance.now c.loop-at.instance (g.D.Device.disk c.args.dev.now) (g.D.Device.disk c.loop-at.dev) c.loop-at.at (omega (arith, c.loop-at-test.false, c.loop-at.auto.at-end, c.len-count.ensures)) (c.loop-at.invariant.settles t)
+    settled-all c.args.instance.now c.loop-at.instance (g.D.Device.disk c.args.dev.now) (g.D.Device.disk c.loop-at.dev) c.loop-at.at (omega (arith, c.loop-at-test.false, c.loop-at.auto.at-end, c.len-count.ensures)) (c.loop-at.invariant.settles t)

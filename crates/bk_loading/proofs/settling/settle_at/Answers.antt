@@ -20,12 +20,12 @@ returns-clause-exact g c = c.store-done.ensures.exact (c.in_ok-act.ensures.draws
 
 pub returns-clause-settles : goal.returns-clause-settles
 returns-clause-settles g c t =
-    on_ok_weaker c.store-done.result (one-next (record { settled = c.settling_goes_database_by_database.ensures.settled; place = c.settling_goes_database_by_database.ensures.place; logs = c.settling_goes_database_by_database.ensures.logs; online = c.settling_ends.ensures.needs; no_more = c.settling_ends.ensures.settled })
+    on_ok_weaker c.store-done.result (one-next (record { settled = c.settling_goes_database_by_database.ensures.settled; place = c.settling_goes_database_by_database.ensures.place; logs = c.settling_goes_database_by_database.ensures.logs; no_more = c.settling_ends.ensures.settled })
     c.args.instance.now c.store-done.new.self (g.D.Device.disk c.args.dev.now) (g.D.Device.disk c.store-done.new.dev) c.args.at c.in-Some.act (finds-one c.args.instance.now.kept c.args.at c.in_ok-act.field-0 c.in-Some.act c.in-Some.is c.in_ok-act.ensures.act)) (c.store-done.ensures.does t)
 
 pub returns-clause-crash : goal.returns-clause-crash
 returns-clause-crash g c t =
-    one-cuts (record { settled = c.settling_goes_database_by_database.ensures.settled; place = c.settling_goes_database_by_database.ensures.place; logs = c.settling_goes_database_by_database.ensures.logs; online = c.settling_ends.ensures.needs; no_more = c.settling_ends.ensures.settled })
+    one-cuts (record { settled = c.settling_goes_database_by_database.ensures.settled; place = c.settling_goes_database_by_database.ensures.place; logs = c.settling_goes_database_by_database.ensures.logs; no_more = c.settling_ends.ensures.settled })
     c.args.instance.now (g.D.Device.disk c.args.dev.now) (g.D.Device.disk c.store-done.new.dev) c.args.at c.in-Some.act c.requires.none (finds-one c.args.instance.now.kept c.args.at c.in_ok-act.field-0 c.in-Some.act c.in-Some.is c.in_ok-act.ensures.act) (c.store-done.ensures.crash t)
 
 pub returns-clause-still : goal.returns-clause-still

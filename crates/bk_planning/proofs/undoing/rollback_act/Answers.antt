@@ -1,4 +1,4 @@
-use Rattle.std.proofs.Common.{ℕ, List, ◌∙◌, ap, map, subst}
+use Rattle.std.proofs.Common.{◌≤◌, ◌+◌, ◌^◌, ℕ, List, ◌∙◌, ap, map, length, subst, arith}
 use Rattle.bk_acts.specs.Meaning.{Spell}
 use Rattle.bk_acts.specs.declared.act.StoredAct.TheVariants.{Logged}
 use Rattle.bk_kept.specs.Keeps.{database_of}
@@ -10,17 +10,21 @@ use Rattle.bk_world.specs.declared.transaction.Open.{Open}
 use Rattle.bk_planning.proofs.PlannedEnds.{rollback-done, says-rollback}
 use Rattle.bk_planning.proofs.undoing.rollback_act.Goals as goal
 
+pub rollback_records-requires : goal.rollback_records-requires
+rollback_records-requires c = omega (arith, c.requires, ap length c.written-written.ensures.same, c.end.ensures.same)
+
 pub returns-in-Ok-clause-says : goal.returns-in-Ok-clause-says
 unfolding log_of
 returns-in-Ok-clause-says c =
     let d = c.args.database.now in
     let t = c.args.transaction.now in
     let written = c.written-written.result.now in
+    let low : d.shown.«end» + (length written + 1) ≤ 2 ^ 62 = omega (arith, c.requires, ap length c.written-written.ensures.same) in
     let records = c.in_ok-records.records in
     if-ok _ _ c.logged.result
     (λ act is.
     says-rollback d act records written (λ w shows. c.written-written.ensures.shown d.files (log_of w.history (database_of d)) shows) t (is ∙ ap (λ (ts : List Open). Logged d.name ts records) c.in-Ok.ensures.same)
-    (subst (λ (n : ℕ). Spell records n (rollback_said t.begin (map pending_of written))) c.end.ensures.same c.in_ok-records.ensures) c.in_ok-has_numbers.ensures)
+    (subst (λ (n : ℕ). Spell records n (rollback_said t.begin (map pending_of written))) c.end.ensures.same c.in_ok-records.ensures) low)
     c.logged.ensures.is
 
 pub returns-in-Ok-clause-is_done : goal.returns-in-Ok-clause-is_done
@@ -29,11 +33,12 @@ returns-in-Ok-clause-is_done c =
     let d = c.args.database.now in
     let t = c.args.transaction.now in
     let written = c.written-written.result.now in
+    let low : d.shown.«end» + (length written + 1) ≤ 2 ^ 62 = omega (arith, c.requires, ap length c.written-written.ensures.same) in
     let records = c.in_ok-records.records in
     if-ok _ _ c.logged.result
     (λ act is w named shows may.
     rollback-done w d act named shows t
     (says-rollback d act records written (λ v sh. c.written-written.ensures.shown d.files (log_of v.history (database_of d)) sh) t (is ∙ ap (λ (ts : List Open). Logged d.name ts records) c.in-Ok.ensures.same)
-    (subst (λ (n : ℕ). Spell records n (rollback_said t.begin (map pending_of written))) c.end.ensures.same c.in_ok-records.ensures) c.in_ok-has_numbers.ensures)
+    (subst (λ (n : ℕ). Spell records n (rollback_said t.begin (map pending_of written))) c.end.ensures.same c.in_ok-records.ensures) low)
     may)
     c.logged.ensures.is

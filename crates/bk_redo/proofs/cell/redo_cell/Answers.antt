@@ -2,7 +2,7 @@ use Rattle.std.proofs.Common.{List, ℕ, ap, ◌∙◌, sym, subst, arith}
 use Rattle.bk_page.specs.Page.{with_lsn}
 use Rattle.bk_redo.specs.PageStates.{page_of}
 use Rattle.bk_redo.specs.Frames.{Becomes, cell_redone}
-use Rattle.bk_redo.proofs.Writing.{becomes_redone}
+use Rattle.bk_redo.specs.CellLaws.{becomes_redone}
 use Rattle.bk_redo.proofs.cell.redo_cell.Goals as goal
 
 pub returns : goal.returns

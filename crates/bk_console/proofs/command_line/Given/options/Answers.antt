@@ -9,17 +9,17 @@ returns-in_default-clause-usage c = (λ _. end-without-dir c.args.self.next c.ar
 pub returns-then-eq-clause-usage : goal.returns-then-eq-clause-usage
 returns-then-eq-clause-usage c = let e : c.args.self.next ≡ InstanceNumber = search rules in (λ _. end-of-value c.args.self e, λ _. refl)
 
-pub returns-in-Err-clause-usage : goal.returns-in-Err-clause-usage
-returns-in-Err-clause-usage c =
+pub returns-in_err-from_str-clause-usage : goal.returns-in_err-from_str-clause-usage
+returns-in_err-from_str-clause-usage c =
     let number : (c.args.self.next ≡ InstanceNumber → ⊥) = search rules in
     (λ h. search rules, λ n. absurd (end-not-none c.args.self.next c.args.self.dir c.args.self.stop c.args.self.instance c.in-Some.dir c.in-Some.is number n))
 
-pub returns-in-Ok-clause-asked : goal.returns-in-Ok-clause-asked
-returns-in-Ok-clause-asked c =
+pub returns-clause-asked : goal.returns-clause-asked
+returns-clause-asked c =
     let number : (c.args.self.next ≡ InstanceNumber → ⊥) = search rules in
-    end-asked c.args.self.next c.args.self.dir c.args.self.stop c.args.self.instance c.in-Some.dir (record { dir = c.in-Ok.dir; stop = c.args.self.stop; instance = c.unwrap_or.result }) c.in-Some.is number (search rules) refl c.unwrap_or.ensures
+    end-asked c.args.self.next c.args.self.dir c.args.self.stop c.args.self.instance c.in-Some.dir (record { dir = c.in_ok-from_str.field-0; stop = c.args.self.stop; instance = c.unwrap_or.result }) c.in-Some.is number (search rules) refl c.unwrap_or.ensures
 
-pub returns-in-Ok-clause-usage : goal.returns-in-Ok-clause-usage
-returns-in-Ok-clause-usage c =
+pub returns-clause-usage : goal.returns-clause-usage
+returns-clause-usage c =
     let number : (c.args.self.next ≡ InstanceNumber → ⊥) = search rules in
     (λ h. search rules, λ n. absurd (end-not-none c.args.self.next c.args.self.dir c.args.self.stop c.args.self.instance c.in-Some.dir c.in-Some.is number n))

@@ -3,7 +3,7 @@ use Rattle.bk_bytes.specs.Field.{AreBytes}
 use Rattle.bk_device.specs.Compose.{effect_then}
 use Rattle.bk_device.specs.Laws.{nothing_yet, nothing_then, nothing_by_sync}
 use Rattle.bk_media.specs.Names.{medium_file}
-use Rattle.bk_instance.proofs.Seals.{SealLaws, seal-nothing, seal-synced, seals-on, seal-added, seal-done, seal-stored, seal-calm, seal-does, seal-unloaded}
+use Rattle.bk_instance.proofs.Seals.{seal-nothing, seal-synced, seals-on, seal-added, seal-done, seal-stored, seal-calm, seal-does, seal-unloaded}
 use Rattle.bk_instance.specs.TextLaws.{text-bytes}
 use Rattle.bk_instance.specs.TouchedLaws.{touches-medium, touches-none, touches-nothing, touches-sync}
 use Rattle.bk_instance.proofs.instance.Instance.seal_set.Goals as goal
@@ -29,21 +29,19 @@ returns-in_err-medium-clause-broken g c tells =
 
 pub returns-in_err-add_set-clause-crash : goal.returns-in_err-add_set-clause-crash
 returns-in_err-add_set-clause-crash g c tells =
-    let laws : SealLaws = record { sound = c.acts_keep_worlds_sound.ensures.act; then = c.logs_that_stay.ensures.transitive; same = c.logs_that_stay.ensures.set_sealed } in
     let call = nothing_then (g.met.D.Device.lawful tells c.args.dev.now) (nothing_by_sync (c.sync.ensures.effect tells) (c.in_ok-sync.ensures.same tells)) (c.load.ensures.effect tells) in
     let is_name = c.in_ok-medium.ensures.name ∙ ap medium_file c.as_str-2.ensures in
     let on = seals-on c.args.self.now (g.D.Device.disk c.args.dev.now) (g.D.Device.disk c.load.new.dev) c.args.path.now c.in_ok-medium.medium.name c.requires.ready c.requires.none (c.requires.stored tells) call
     (subst AreBytes c.as_str.ensures (text-bytes c.as_str.result.now c.as_str.utf8)) is_name (c.in_ok-medium.ensures.shows tells).sets in
-    seal-added laws c.args.self.now (g.D.Device.disk c.args.dev.now) (g.D.Device.disk c.load.new.dev) (g.D.Device.disk c.add_set.new.dev) c.args.path.now c.in_ok-medium.medium.name c.args.body.now on is_name (c.add_set.ensures.crash tells)
+    seal-added c.acts_keep_worlds_sound.ensures.act c.args.self.now (g.D.Device.disk c.args.dev.now) (g.D.Device.disk c.load.new.dev) (g.D.Device.disk c.add_set.new.dev) c.args.path.now c.in_ok-medium.medium.name c.args.body.now on is_name (c.add_set.ensures.crash tells)
 
 pub returns-clause-crash : goal.returns-clause-crash
 returns-clause-crash g c tells =
-    let laws : SealLaws = record { sound = c.acts_keep_worlds_sound.ensures.act; then = c.logs_that_stay.ensures.transitive; same = c.logs_that_stay.ensures.set_sealed } in
     let call = nothing_then (g.met.D.Device.lawful tells c.args.dev.now) (nothing_by_sync (c.sync.ensures.effect tells) (c.in_ok-sync.ensures.same tells)) (c.load.ensures.effect tells) in
     let is_name = c.in_ok-medium.ensures.name ∙ ap medium_file c.as_str-2.ensures in
     let on = seals-on c.args.self.now (g.D.Device.disk c.args.dev.now) (g.D.Device.disk c.load.new.dev) c.args.path.now c.in_ok-medium.medium.name c.requires.ready c.requires.none (c.requires.stored tells) call
     (subst AreBytes c.as_str.ensures (text-bytes c.as_str.result.now c.as_str.utf8)) is_name (c.in_ok-medium.ensures.shows tells).sets in
-    seal-added laws c.args.self.now (g.D.Device.disk c.args.dev.now) (g.D.Device.disk c.load.new.dev) (g.D.Device.disk c.add_set.new.dev) c.args.path.now c.in_ok-medium.medium.name c.args.body.now on is_name (c.add_set.ensures.crash tells)
+    seal-added c.acts_keep_worlds_sound.ensures.act c.args.self.now (g.D.Device.disk c.args.dev.now) (g.D.Device.disk c.load.new.dev) (g.D.Device.disk c.add_set.new.dev) c.args.path.now c.in_ok-medium.medium.name c.args.body.now on is_name (c.add_set.ensures.crash tells)
 
 pub returns-clause-stored : goal.returns-clause-stored
 returns-clause-stored g c tells =
@@ -52,7 +50,7 @@ returns-clause-stored g c tells =
     let on = seals-on c.args.self.now (g.D.Device.disk c.args.dev.now) (g.D.Device.disk c.load.new.dev) c.args.path.now c.in_ok-medium.medium.name c.requires.ready c.requires.none (c.requires.stored tells) call
     (subst AreBytes c.as_str.ensures (text-bytes c.as_str.result.now c.as_str.utf8)) is_name (c.in_ok-medium.ensures.shows tells).sets in
     seal-stored c.args.self.now (g.D.Device.disk c.args.dev.now) (g.D.Device.disk c.load.new.dev) (g.D.Device.disk c.add_set.new.dev) c.args.path.now c.args.body.now on
-    (seal-done (g.D.Device.disk c.load.new.dev) (g.D.Device.disk c.add_set.new.dev) c.args.path.now c.in_ok-medium.medium.name c.args.body.now is_name (c.add_set.ensures.crash tells) (c.in_ok-add_set.ensures.sets tells) (c.in_ok-add_set.ensures.durable tells))
+    (seal-done (g.D.Device.disk c.load.new.dev) (g.D.Device.disk c.add_set.new.dev) c.args.path.now c.in_ok-medium.medium.name c.args.body.now on.bytes is_name (c.add_set.ensures.crash tells) (c.in_ok-add_set.ensures.sets tells) (c.in_ok-add_set.ensures.durable tells))
 
 pub returns-clause-media : goal.returns-clause-media
 returns-clause-media g c tells =
@@ -61,17 +59,16 @@ returns-clause-media g c tells =
     let on = seals-on c.args.self.now (g.D.Device.disk c.args.dev.now) (g.D.Device.disk c.load.new.dev) c.args.path.now c.in_ok-medium.medium.name c.requires.ready c.requires.none (c.requires.stored tells) call
     (subst AreBytes c.as_str.ensures (text-bytes c.as_str.result.now c.as_str.utf8)) is_name (c.in_ok-medium.ensures.shows tells).sets in
     seal-calm c.args.self.now (g.D.Device.disk c.args.dev.now) (g.D.Device.disk c.load.new.dev) (g.D.Device.disk c.add_set.new.dev) c.args.path.now c.args.body.now on
-    (seal-done (g.D.Device.disk c.load.new.dev) (g.D.Device.disk c.add_set.new.dev) c.args.path.now c.in_ok-medium.medium.name c.args.body.now is_name (c.add_set.ensures.crash tells) (c.in_ok-add_set.ensures.sets tells) (c.in_ok-add_set.ensures.durable tells))
+    (seal-done (g.D.Device.disk c.load.new.dev) (g.D.Device.disk c.add_set.new.dev) c.args.path.now c.in_ok-medium.medium.name c.args.body.now on.bytes is_name (c.add_set.ensures.crash tells) (c.in_ok-add_set.ensures.sets tells) (c.in_ok-add_set.ensures.durable tells))
 
 pub returns-clause-does : goal.returns-clause-does
 returns-clause-does g c tells =
-    let laws : SealLaws = record { sound = c.acts_keep_worlds_sound.ensures.act; then = c.logs_that_stay.ensures.transitive; same = c.logs_that_stay.ensures.set_sealed } in
     let call = nothing_then (g.met.D.Device.lawful tells c.args.dev.now) (nothing_by_sync (c.sync.ensures.effect tells) (c.in_ok-sync.ensures.same tells)) (c.load.ensures.effect tells) in
     let is_name = c.in_ok-medium.ensures.name ∙ ap medium_file c.as_str-2.ensures in
     let on = seals-on c.args.self.now (g.D.Device.disk c.args.dev.now) (g.D.Device.disk c.load.new.dev) c.args.path.now c.in_ok-medium.medium.name c.requires.ready c.requires.none (c.requires.stored tells) call
     (subst AreBytes c.as_str.ensures (text-bytes c.as_str.result.now c.as_str.utf8)) is_name (c.in_ok-medium.ensures.shows tells).sets in
-    seal-does laws c.args.self.now (g.D.Device.disk c.args.dev.now) (g.D.Device.disk c.load.new.dev) (g.D.Device.disk c.add_set.new.dev) c.args.path.now c.args.body.now on
-    (seal-done (g.D.Device.disk c.load.new.dev) (g.D.Device.disk c.add_set.new.dev) c.args.path.now c.in_ok-medium.medium.name c.args.body.now is_name (c.add_set.ensures.crash tells) (c.in_ok-add_set.ensures.sets tells) (c.in_ok-add_set.ensures.durable tells))
+    seal-does c.acts_keep_worlds_sound.ensures.act c.args.self.now (g.D.Device.disk c.args.dev.now) (g.D.Device.disk c.load.new.dev) (g.D.Device.disk c.add_set.new.dev) c.args.path.now c.args.body.now on
+    (seal-done (g.D.Device.disk c.load.new.dev) (g.D.Device.disk c.add_set.new.dev) c.args.path.now c.in_ok-medium.medium.name c.args.body.now on.bytes is_name (c.add_set.ensures.crash tells) (c.in_ok-add_set.ensures.sets tells) (c.in_ok-add_set.ensures.durable tells))
 
 pub returns-in_err-file-clause-spares : goal.returns-in_err-file-clause-spares
 returns-in_err-file-clause-spares g c tells = touches-none (g.D.Device.disk c.args.dev.now)

@@ -9,6 +9,7 @@ returns-clause-ready c = record {
   no_less = omega (arith, c.requires.ready.no_less, c.in_ok-apply.ensures.counter, said-draws c.args.act.now c.requires.may.said);
   no_more = omega (arith, c.requires.ready.no_more, c.in_ok-apply.ensures.counter, said-draws c.args.act.now c.requires.may.said);
   none = c.requires.ready.none;
+  numbers = c.in_ok-apply.ensures.numbers;
 }
 
 pub returns-clause-does : goal.returns-clause-does

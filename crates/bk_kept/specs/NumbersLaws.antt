@@ -1,0 +1,37 @@
+-- What is known of databases that leave numbers.
+use Rattle.std.proofs.Common.{◌≡◌, ◌<◌, ◌≤◌, ℕ, zero, suc, ◌+◌, Bool, true, false, cond, List, [], ◌∷◌, length, Some, refl, sym, ◌∙◌, ap, arith}
+use Rattle.std.specs.Prelude.{◌==◌, nat_le, slice_get}
+use Rattle.std.specs.List.{list_all}
+use Rattle.std.proofs.lemmas.Bool.{and_parts, leb-true}
+use Rattle.std.proofs.lemmas.Bool.Decides.{nat_tests}
+use Rattle.bk_machine.specs.Checks.{last_number}
+use Rattle.bk_machine.specs.statements.Restore.{is_online}
+use Rattle.bk_kept.specs.declared.kept.Database.{Database as KeptDatabase}
+use Rattle.bk_kept.specs.Numbers.{CanEnd, CanSettle, LeaveNumbers, leaves_numbers}
+
+module _ (d : KeptDatabase) (leaves : leaves_numbers d ≡ true) where
+  chosen : (t : Bool) → is_online d.status ≡ t → cond t (nat_le (d.shown.«end» + (length d.shown.written.items + length d.transactions)) last_number) (length d.transactions == 0) ≡ true
+  chosen t is = sym (ap (λ b. cond b (nat_le (d.shown.«end» + (length d.shown.written.items + length d.transactions)) last_number) (length d.transactions == 0)) is) ∙ leaves
+
+  are-left : is_online d.status ≡ true → d.shown.«end» + (length d.shown.written.items + length d.transactions) ≤ last_number
+  are-left up = leb-true (d.shown.«end» + (length d.shown.written.items + length d.transactions)) last_number (chosen true up)
+
+  -- where it is online
+  pub can-settle : is_online d.status ≡ true → CanSettle d
+  can-settle up = omega (arith, are-left up)
+
+  -- where a transaction is open in it
+  pub can-end : 0 < length d.transactions → CanEnd d
+  can-end some = by (is_online d.status) refl
+    where
+      by : (t : Bool) → is_online d.status ≡ t → CanEnd d
+      by true is = omega (arith, are-left is, some)
+      by false is = let none : (length d.transactions == 0) ≡ true = chosen false is in absurd (grind (arith, nat_tests, none, some))
+
+-- each of some databases that leave numbers leaves them
+pub leaves-at : (ds : List KeptDatabase) (i : ℕ) (d : KeptDatabase) → LeaveNumbers ds → slice_get ds i ≡ Some d → leaves_numbers d ≡ true
+leaves-at [] i d all there = absurd (cc)
+leaves-at (x ∷ ds) zero d all there =
+    let same : x ≡ d = (cc) in
+    ap leaves_numbers (sym same) ∙ (and_parts (leaves_numbers x) (list_all leaves_numbers ds) all).0
+leaves-at (x ∷ ds) (suc i) d all there = leaves-at ds i d (and_parts (leaves_numbers x) (list_all leaves_numbers ds) all).1 there

@@ -1,0 +1,8 @@
+pub mod Names
+pub mod Holds
+pub mod Paged
+pub mod Appends
+pub mod Pooled
+pub mod Opening
+pub mod Errors
+pub mod Making

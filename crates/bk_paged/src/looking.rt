@@ -1,0 +1,54 @@
+// Looking at the data files and their pages.
+ghost use Rattle.std.specs.Prelude.{◌≡◌, IfOk, OnOk, IsErrOf, false};
+ghost use Rattle.bk_device.specs.Counts.{HasCause};
+ghost use Rattle.bk_device.specs.Effects.{Effect};
+ghost use Rattle.bk_paged.specs.Holds.{Leaves, Stood};
+ghost use Rattle.bk_paged.specs.Names.{IsOwn, IsThere, pages_in};
+ghost use Rattle.bk_paged.specs.Paged.{IsLast, IsPaged, sealed_count};
+
+use crate::error::PagedError;
+use crate::paged::Paged;
+use crate::parts::{copy_frame, pages_in};
+use bk_device::Device;
+use bk_facts::DataFile;
+use std::alloc::Global;
+
+impl Paged {
+    /// The data files, numbered 1, 2, .. in their order.
+    pub fn files(&self) -> &[DataFile]
+        ensures { result.now ≡ self.now.facts.files }
+    {
+        self.facts.files.as_slice()
+    }
+
+    /// How many pages the data file of a number has; 0 where there is none of this number.
+    pub fn pages(&self, file: u16) -> u32
+        ensures { result ≡ pages_in self.now.facts.files file }
+    {
+        pages_in(self.facts.files.as_slice(), file)
+    }
+
+    /// The 8,192 bytes of a page as of the end, which is one of a data file. Where it lies in no frame and every frame is dirty, what waited is made durable and all changed pages are written first. A crash leaves the records that were
+    /// durable, or some more of them.
+    pub fn page<D: Device>(
+        &mut self,
+        alloc: Global,
+        dev: &mut D,
+        file: u16,
+        page: u32,
+    ) -> Result<[u8; 8192], PagedError>
+        requires fit { self.old.failed ≡ false }
+        requires there { IsThere self.old.facts.files (record { file = file; page = page }) }
+        requires stands { D.tells → (stood : Stood) × IsPaged (D.disk dev.old) self.old stood }
+        ensures fit { OnOk result (self.new.failed ≡ false) }
+        ensures same { OnOk result ((self.new.log.db ≡ self.old.log.db) × (self.new.log.end ≡ self.old.log.end) × (self.new.log.head.kept ≡ self.old.log.head.kept) × (self.new.facts ≡ self.old.facts)) }
+        ensures stands { D.tells → (stood : Stood) → IsPaged (D.disk dev.old) self.old stood → OnOk result (IsPaged (D.disk dev.new) self.new stood) }
+        ensures foreign { D.tells → IsErrOf result PagedError.Foreign → ⊥ }
+        ensures page { D.tells → (stood : Stood) → IsPaged (D.disk dev.old) self.old stood → IfOk result (λ bytes. IsLast stood.records (record { file = file; page = page }) bytes) }
+        ensures crash { D.tells → (stood : Stood) → IsPaged (D.disk dev.old) self.old stood → Effect (IsOwn self.old.log.db stood.files) (Leaves self.old.log.db (sealed_count self.old) stood) (D.disk dev.old) (D.disk dev.new) }
+        ensures cause { HasCause D.disk_faults D.tell_faults dev.old dev.new (IsErrOf result PagedError.Fault) }
+    {
+        let i = self.bring(alloc, dev, file, page)?;
+        Ok(copy_frame(&self.pool, i))
+    }
+}

@@ -1,0 +1,44 @@
+//! Cases over the store of one database: its log and pages, over a device in memory.
+//!
+//! What the commands of a case mean stands at the head of each file of cases in `data/`.
+#![tactic(auto)]
+
+mod calls;
+mod desk;
+mod mix;
+mod plain;
+mod session;
+mod shown;
+mod trial;
+mod untold;
+mod words;
+
+use bk_device::MemDevice;
+use cases::run_cases;
+use desk::{Answered, Answering, Desk, answer_command};
+use std::io;
+use std::process::ExitCode;
+use std::rt::{Env, Files};
+
+fn main(rt: HostRuntime) -> ExitCode {
+    let alloc = rt.alloc();
+    let answering = move |device: &mut MemDevice, command: &str, out: &mut String| -> Answered {
+        answer_command(&rt, alloc, device, command, out)
+    };
+    let Ok(answering) = Box::new(rt.alloc(), answering) else {
+        return ExitCode::from(6);
+    };
+    match run(&rt, answering) {
+        Ok(true) => ExitCode::SUCCESS,
+        Ok(false) => ExitCode::FAILURE,
+        Err(_) => ExitCode::from(6),
+    }
+}
+
+// Whether every case of the files that the command line names went well.
+fn run<R: AllocGlobal + Env + Files + Print>(rt: &R, answering: Answering) -> io::Result<bool>
+    requires { IsAlwaysCallable answering }
+{
+    let mut desk = Desk::new(rt.alloc(), answering);
+    run_cases(rt, &mut desk)
+}
