@@ -29,13 +29,12 @@ use Rattle.bk_world.specs.declared.header.Header.{Header}
 use Rattle.bk_world.specs.declared.transaction.Open.{Open}
 use Rattle.bk_acts.specs.declared.act.StoredAct.{StoredAct}
 use Rattle.bk_acts.specs.declared.act.StoredAct.TheVariants.{Created, Dropped, Logged, Based, Replaced, Restored, Recovered}
-use Rattle.bk_acts.specs.declared.unread.Unread.{Unread}
-use Rattle.bk_acts.specs.Decoding.{Reads}
+use Rattle.bk_reading.specs.declared.unread.Unread.{Unread}
+use Rattle.bk_reading.specs.Reading.{Reads}
 use Rattle.bk_acts.specs.Reading.{base_behind, base_at, base_form, created_fields, logged_fields, based_fields, restored_fields, recovered_fields, whole_of, with_records, created_in, dropped_in, logged_in, based_in, body_held, replaced_in, restored_in, recovered_in, fields_in, act_of}
 use Rattle.bk_record.specs.Records.{AreRecords, are_records, records_in}
-use Rattle.bk_acts.specs.Storage.{spec_form, storage_form}
-use Rattle.bk_acts.proofs.StorageCodes.{storage-keeps, storage_form-IsCodec}
-use Rattle.bk_acts.specs.TransactionLaws.{transactions-keep}
+use Rattle.bk_storage.specs.Storage.{spec_form, storage_form}
+use Rattle.bk_storage.specs.Laws.{name-form, storage-keeps, storage_form-IsCodec}
 use Rattle.bk_acts.proofs.TransactionCodes.{transactions_form-fits, transactions_form-Fits, transactions_form-IsCodec, transactions_form-spelling}
 use Rattle.bk_acts.specs.Spelling.{kind_of, base_bytes, fields_bytes, act_bytes, IsAct, KeepsAct}
 use Rattle.bk_record.specs.RecordsLaws.{are_records-true, are_records-from}
@@ -80,9 +79,6 @@ base-gives (Some base) rest is =
 
 base-IsCodec : IsCodec (Option Base) base_form
 base-IsCodec = record { takes = base-takes; gives = base-gives }
-
-name-form : IsCodec (List ℕ) (string 1 64)
-name-form = string-IsCodec 1 64 (lit< tt)
 
 created-form : IsCodec _ created_fields
 created-form = followed-IsCodec _ _ name-form (λ _. followed-IsCodec _ _ guid_form-IsCodec (λ _. followed-IsCodec _ _ guid_form-IsCodec (λ _. followed-IsCodec _ _ (number-IsCodec 8) (λ _. storage_form-IsCodec))))
@@ -303,7 +299,7 @@ act-again act is = kind-again (kind_of act) (fields_bytes act) (small-kind act) 
 pub act-keeps : (act : StoredAct) → IsAct act → KeepsAct act
 act-keeps (Created c) is = storage-keeps c.storage is.1.1.1.1
 act-keeps (Dropped name) is = tt
-act-keeps (Logged name transactions records) is = transactions-keep transactions is.0.1.1
+act-keeps (Logged name transactions records) is = tt
 act-keeps (Based name header) is = header_keeps header is.1
 act-keeps (Replaced name body) is = body_keeps body is.1
 act-keeps (Restored name base redo) is = tt

@@ -1,4 +1,3 @@
-pub mod StorageCodes
 pub mod TransactionCodes
 pub mod Codes
 pub mod Meant

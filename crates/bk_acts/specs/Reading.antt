@@ -17,7 +17,7 @@ use Rattle.bk_acts.specs.declared.act.StoredAct.{StoredAct}
 use Rattle.bk_acts.specs.declared.act.StoredAct.TheVariants.{Created, Dropped, Logged, Based, Replaced, Restored, Recovered}
 use Rattle.bk_record.specs.Records.{records_in}
 use Rattle.bk_acts.specs.Spelling.{base_bytes}
-use Rattle.bk_acts.specs.Storage.{storage_form}
+use Rattle.bk_storage.specs.Storage.{storage_form}
 use Rattle.bk_acts.specs.Transactions.{transactions_form}
 
 -- a base by the byte before it

@@ -1,6 +1,5 @@
 -- How an act is spelled, and which acts have a spelling.
 use Rattle.std.specs.Prelude.{ℕ, ◌^◌, ◌<◌, List, ◌++◌, Option, Some, None}
-use Rattle.std.specs.List.{All}
 use Rattle.bk_bytes.specs.Field.{bytes_of}
 use Rattle.bk_bytes.specs.Codec.{IsString}
 use Rattle.bk_fields.specs.Guids.{guid_bytes, IsGuid}
@@ -12,8 +11,8 @@ use Rattle.bk_world.specs.declared.database.Base.{Base}
 use Rattle.bk_acts.specs.declared.act.StoredAct.{StoredAct}
 use Rattle.bk_acts.specs.declared.act.StoredAct.TheVariants.{Created, Dropped, Logged, Based, Replaced, Restored, Recovered}
 use Rattle.bk_record.specs.Records.{AreRecords}
-use Rattle.bk_acts.specs.Storage.{IsStorage, KeepsStorage, storage_bytes}
-use Rattle.bk_acts.specs.Transactions.{AreTransactions, KeepsTransaction, transactions_bytes}
+use Rattle.bk_storage.specs.Storage.{IsStorage, KeepsStorage, storage_bytes}
+use Rattle.bk_acts.specs.Transactions.{AreTransactions, transactions_bytes}
 
 -- the number of a kind of act
 abbrev pub kind_of : StoredAct → ℕ
@@ -54,11 +53,11 @@ IsAct (Replaced name body) = IsString 1 64 name × IsBody body
 IsAct (Restored name base redo) = IsString 1 64 name × (IsBase base × (redo < 2 ^ 64))
 IsAct (Recovered name at branch records) = (IsString 1 64 name × ((at < 2 ^ 64) × IsGuid branch)) × AreRecords records
 
--- what an act keeps beside its types: the conditions of files, of transactions, of a header, and of a set
+-- what an act keeps beside its types: the conditions of files, of a header, and of a set
 abbrev pub KeepsAct : StoredAct → Type 0
 KeepsAct (Created c) = KeepsStorage c.storage
 KeepsAct (Dropped name) = Unit {0}
-KeepsAct (Logged name transactions records) = All KeepsTransaction transactions
+KeepsAct (Logged name transactions records) = Unit {0}
 KeepsAct (Based name header) = KeepsConditions header
 KeepsAct (Replaced name body) = KeepsBody body
 KeepsAct (Restored name base redo) = Unit {0}

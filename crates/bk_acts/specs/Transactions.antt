@@ -4,7 +4,7 @@ use Rattle.std.specs.List.{flat_map, AllByRecursion}
 use Rattle.bk_bytes.specs.Codec.{Codec, number, followed, converted, counted}
 use Rattle.bk_bytes.specs.Field.{bytes_of}
 use Rattle.bk_record.specs.Reading.{mark_form}
-use Rattle.bk_record.specs.Spelling.{mark_bytes, IsMark, KeepsMarkLimits}
+use Rattle.bk_record.specs.Spelling.{mark_bytes, IsMark}
 use Rattle.bk_world.specs.declared.transaction.Open.{Open}
 
 -- its session, the number of its first record, and the mark of its commit
@@ -22,10 +22,6 @@ pub record IsTransaction (t : Open) : Type 0 where
 
 abbrev pub AreTransactions : List Open → Type 0
 AreTransactions ts = (length ts < 256 ^ 8) × AllByRecursion IsTransaction ts
-
--- what one keeps beside its types: descriptions have 1 to 65,535 bytes
-abbrev pub KeepsTransaction : Open → Type 0
-KeepsTransaction t = KeepsMarkLimits t.mark
 
 -- how they are read
 

@@ -6,15 +6,11 @@
 mod act;
 mod laws;
 mod reading;
-mod storage_reading;
-mod storage_writing;
 mod transactions_reading;
 mod transactions_writing;
-mod unread;
 mod writing;
 
 pub use act::StoredAct;
 pub use laws::{acts_law, meaning_law, said_law};
 pub use reading::read_act;
-pub use unread::Unread;
 pub use writing::encode_act;

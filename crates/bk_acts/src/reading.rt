@@ -4,20 +4,20 @@ ghost use Rattle.std.specs.Prelude.{◌≡◌, IfOk};
 ghost use Rattle.bk_bytes.specs.Codec.{Gives, string};
 ghost use Rattle.bk_header.specs.Reading.{header_form};
 ghost use Rattle.bk_set.specs.Found.{found};
-ghost use Rattle.bk_acts.specs.Decoding.{Reads};
+ghost use Rattle.bk_reading.specs.Reading.{Reads};
 ghost use Rattle.bk_acts.specs.Reading.{base_behind, base_at, created_in, dropped_in, logged_in, based_in, replaced_in, restored_in, recovered_in, fields_in, act_of, body_held};
 ghost use Rattle.bk_record.specs.Records.{records_in};
 ghost use Rattle.bk_acts.specs.Spelling.{act_bytes, IsAct};
 
 use crate::act::StoredAct;
-use crate::storage_reading::{read_name, read_storage};
 use crate::transactions_reading::read_transactions;
-use crate::unread::Unread;
 use bk_bytes::{split_u8, split_u64};
 use bk_fields::split_guid;
 use bk_header::decode;
+use bk_reading::Unread;
 use bk_record::Records;
 use bk_set::{Found, SetBody, read_set};
+use bk_storage::{read_name, read_storage};
 use bk_world::{Base, Creation, Header};
 use std::alloc::Global;
 
@@ -27,7 +27,7 @@ fn read_records(alloc: Global, bytes: &[u8]) -> Result<Records, Unread>
 {
     match Records::read(alloc, bytes)? {
         Some(records) => Ok(records),
-        None => Err(Unread::NoAct),
+        None => Err(Unread::Unspelled),
     }
 }
 
@@ -36,7 +36,7 @@ fn read_header(alloc: Global, bytes: &[u8]) -> Result<(Header, &[u8]), Unread>
 {
     match decode(alloc, bytes)? {
         Some((header, size)) => Ok((header, &bytes[size..])),
-        None => Err(Unread::NoAct),
+        None => Err(Unread::Unspelled),
     }
 }
 
@@ -46,7 +46,7 @@ fn read_body(alloc: Global, bytes: &[u8]) -> Result<SetBody, Unread>
 {
     match read_set(alloc, bytes)? {
         Found::Holds(body) => Ok(body),
-        Found::Damaged { .. } | Found::NoSet => Err(Unread::NoAct),
+        Found::Damaged { .. } | Found::NoSet => Err(Unread::Unspelled),
     }
 }
 
@@ -80,17 +80,17 @@ fn read_created(alloc: Global, bytes: &[u8]) -> Result<StoredAct, Unread>
 {
     let (name, rest) = read_name(alloc, bytes)?;
     let Some((family, rest)) = split_guid(rest) else {
-        return Err(Unread::NoAct);
+        return Err(Unread::Unspelled);
     };
     let Some((branch, rest)) = split_guid(rest) else {
-        return Err(Unread::NoAct);
+        return Err(Unread::Unspelled);
     };
     let Some((time, rest)) = split_u64(rest) else {
-        return Err(Unread::NoAct);
+        return Err(Unread::Unspelled);
     };
     let (storage, rest) = read_storage(alloc, rest)?;
     if !rest.is_empty() {
-        return Err(Unread::NoAct);
+        return Err(Unread::Unspelled);
     }
     let creation = Creation {
         name,
@@ -108,7 +108,7 @@ fn read_dropped(alloc: Global, bytes: &[u8]) -> Result<StoredAct, Unread>
 {
     let (name, rest) = read_name(alloc, bytes)?;
     if !rest.is_empty() {
-        return Err(Unread::NoAct);
+        return Err(Unread::Unspelled);
     }
     Ok(StoredAct::Dropped { name })
 }
@@ -134,7 +134,7 @@ fn read_based(alloc: Global, bytes: &[u8]) -> Result<StoredAct, Unread>
     let (name, rest) = read_name(alloc, bytes)?;
     let (header, rest) = read_header(alloc, rest)?;
     if !rest.is_empty() {
-        return Err(Unread::NoAct);
+        return Err(Unread::Unspelled);
     }
     Ok(StoredAct::Based { name, header })
 }
@@ -154,13 +154,13 @@ fn read_restored(alloc: Global, bytes: &[u8]) -> Result<StoredAct, Unread>
 {
     let (name, rest) = read_name(alloc, bytes)?;
     let Some((base, rest)) = split_base(rest) else {
-        return Err(Unread::NoAct);
+        return Err(Unread::Unspelled);
     };
     let Some((redo, rest)) = split_u64(rest) else {
-        return Err(Unread::NoAct);
+        return Err(Unread::Unspelled);
     };
     if !rest.is_empty() {
-        return Err(Unread::NoAct);
+        return Err(Unread::Unspelled);
     }
     Ok(StoredAct::Restored { name, base, redo })
 }
@@ -171,10 +171,10 @@ fn read_recovered(alloc: Global, bytes: &[u8]) -> Result<StoredAct, Unread>
 {
     let (name, rest) = read_name(alloc, bytes)?;
     let Some((at, rest)) = split_u64(rest) else {
-        return Err(Unread::NoAct);
+        return Err(Unread::Unspelled);
     };
     let Some((branch, rest)) = split_guid(rest) else {
-        return Err(Unread::NoAct);
+        return Err(Unread::Unspelled);
     };
     let records = read_records(alloc, rest)?;
     Ok(StoredAct::Recovered {
@@ -197,7 +197,7 @@ fn read_fields(alloc: Global, kind: u8, bytes: &[u8]) -> Result<StoredAct, Unrea
         5 => read_replaced(alloc, bytes),
         6 => read_restored(alloc, bytes),
         7 => read_recovered(alloc, bytes),
-        _ => Err(Unread::NoAct),
+        _ => Err(Unread::Unspelled),
     }
 }
 
@@ -209,7 +209,7 @@ pub fn read_act(alloc: Global, blob: &[u8]) -> Result<StoredAct, Unread>
     ensures spelled { IfOk result (λ act. blob.now ≡ act_bytes act) }
 {
     let Some((kind, rest)) = split_u8(blob) else {
-        return Err(Unread::NoAct);
+        return Err(Unread::Unspelled);
     };
     read_fields(alloc, kind, rest)
 }

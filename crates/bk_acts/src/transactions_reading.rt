@@ -3,12 +3,12 @@
 ghost use Rattle.std.specs.Prelude.{◌≡◌};
 ghost use Rattle.bk_bytes.specs.Codec.{times};
 ghost use Rattle.bk_record.specs.Reading.{mark_form};
-ghost use Rattle.bk_acts.specs.Decoding.{Reads};
+ghost use Rattle.bk_reading.specs.Reading.{Reads};
 ghost use Rattle.bk_acts.specs.Transactions.{transaction_form, transactions_form};
 
-use crate::unread::Unread;
 use bk_bytes::{split_u8, split_u64};
 use bk_ids::{Mark, Sequence};
+use bk_reading::Unread;
 use bk_world::Open;
 use std::alloc::Global;
 
@@ -17,7 +17,7 @@ fn read_mark(alloc: Global, bytes: &[u8]) -> Result<(Option<Mark>, &[u8]), Unrea
 {
     match bk_record::read_mark(alloc, bytes)? {
         Some(read) => Ok(read),
-        None => Err(Unread::NoAct),
+        None => Err(Unread::Unspelled),
     }
 }
 
@@ -26,10 +26,10 @@ fn read_transaction(alloc: Global, bytes: &[u8]) -> Result<(Open, &[u8]), Unread
     ensures { Reads (λ x. (x.0, x.1.now)) result (transaction_form.reading bytes.now) }
 {
     let Some((session, rest)) = split_u8(bytes) else {
-        return Err(Unread::NoAct);
+        return Err(Unread::Unspelled);
     };
     let Some((begin, rest)) = split_u64(rest) else {
-        return Err(Unread::NoAct);
+        return Err(Unread::Unspelled);
     };
     let (mark, rest) = read_mark(alloc, rest)?;
     let transaction = Open {
@@ -62,7 +62,7 @@ pub(crate) fn read_transactions(
     ensures { Reads (λ x. (x.0, x.1.now)) result (transactions_form.reading bytes.now) }
 {
     let Some((count, rest)) = split_u64(bytes) else {
-        return Err(Unread::NoAct);
+        return Err(Unread::Unspelled);
     };
     let (transactions, rest) = read_so_many(alloc, count, rest)?;
     Ok((Sequence::new(transactions), rest))

@@ -1,8 +1,7 @@
 //! Writing the transactions that are open in a database.
 
 ghost use Rattle.std.specs.Prelude.{◌≡◌, ◌++◌, OnOk};
-ghost use Rattle.std.specs.List.{All};
-ghost use Rattle.bk_acts.specs.Transactions.{AreTransactions, IsTransaction, KeepsTransaction, transaction_bytes, transactions_bytes};
+ghost use Rattle.bk_acts.specs.Transactions.{AreTransactions, IsTransaction, transaction_bytes, transactions_bytes};
 
 use bk_bytes::{append_u8, append_u64};
 use bk_record::append_mark;
@@ -10,7 +9,6 @@ use bk_world::Open;
 use std::alloc::AllocError;
 
 fn append_transaction(out: &mut Vec<u8>, transaction: &Open) -> Result<(), AllocError>
-    requires { KeepsTransaction transaction.now }
     ensures ok { OnOk result (out.new.items ≡ out.old.items ++ transaction_bytes transaction.now) }
     ensures fits { OnOk result (IsTransaction transaction.now) }
 {
@@ -25,7 +23,6 @@ pub(crate) fn append_transactions(
     out: &mut Vec<u8>,
     transactions: &[Open],
 ) -> Result<(), AllocError>
-    requires { All KeepsTransaction transactions.now }
     ensures ok { OnOk result (out.new.items ≡ out.old.items ++ transactions_bytes transactions.now) }
     ensures fits { OnOk result (AreTransactions transactions.now) }
 {

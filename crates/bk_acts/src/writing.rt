@@ -1,7 +1,6 @@
 //! Writing an act.
 
 ghost use Rattle.std.specs.Prelude.{◌≡◌, ◌^◌, ◌<◌, ◌++◌, OnOk, IfOk};
-ghost use Rattle.std.specs.List.{All};
 ghost use Rattle.bk_bytes.specs.Codec.{IsString};
 ghost use Rattle.bk_bytes.specs.Field.{bytes_of};
 ghost use Rattle.bk_fields.specs.Guids.{guid_bytes, IsGuid};
@@ -11,11 +10,10 @@ ghost use Rattle.bk_set.specs.Conditions.{IsBody, KeepsBody};
 ghost use Rattle.bk_set.specs.Spelling.{set_bytes};
 ghost use Rattle.bk_record.specs.Records.{AreRecords};
 ghost use Rattle.bk_acts.specs.Spelling.{kind_of, base_bytes, fields_bytes, act_bytes, IsAct, KeepsAct};
-ghost use Rattle.bk_acts.specs.Storage.{storage_bytes, IsStorage, KeepsStorage};
-ghost use Rattle.bk_acts.specs.Transactions.{transactions_bytes, AreTransactions, KeepsTransaction};
+ghost use Rattle.bk_storage.specs.Storage.{storage_bytes, IsStorage, KeepsStorage};
+ghost use Rattle.bk_acts.specs.Transactions.{transactions_bytes, AreTransactions};
 
 use crate::act::StoredAct;
-use crate::storage_writing::{append_name, append_storage};
 use crate::transactions_writing::append_transactions;
 use bk_bytes::{append_u8, append_u64};
 use bk_fields::append_guid;
@@ -23,6 +21,7 @@ use bk_header::encode;
 use bk_ids::{Guid, Lsn, Name};
 use bk_record::Records;
 use bk_set::{SetBody, encode_set};
+use bk_storage::{append_name, append_storage};
 use bk_world::{Base, Creation, Header, Open};
 use std::alloc::{AllocError, Global};
 
@@ -93,7 +92,6 @@ fn append_logged(
     transactions: &[Open],
     records: &Records,
 ) -> Result<(), AllocError>
-    requires { All KeepsTransaction transactions.now }
     ensures ok { OnOk result (out.new.items ≡ out.old.items ++ ((text_bytes name.now ++ transactions_bytes transactions.now) ++ records.now)) }
     ensures fits { OnOk result ((IsString 1 64 name.now × AreTransactions transactions.now) × AreRecords records.now) }
 {

@@ -15,7 +15,7 @@ ghost use Rattle.bk_world.specs.Telling.{row_at};
 ghost use Rattle.bk_kept.specs.Keeps.{Keeps, ShowsLog, database_of};
 
 use crate::opens::own_open;
-use bk_ids::{Lsn, Text};
+use bk_ids::{Lsn, Value};
 use bk_kept::{Database, Kept};
 use bk_shown::Written;
 use bk_world::TableSpec;
@@ -27,7 +27,7 @@ pub fn seen_row<'a>(
     database: &'a Database,
     table: &TableSpec,
     key: u64,
-) -> Option<&'a Text>
+) -> Option<&'a Value>
     ensures { (w : World) → Keeps w kept.now → ShowsLog w.history database.now
         → option_map (λ text. text.now) result ≡ row_at (visible w (database_of database.now) table.now) key }
 {
@@ -45,7 +45,7 @@ pub fn sees_key(kept: &Kept, database: &Database, table: &TableSpec, key: u64) -
 }
 
 // The place of the first row with this key or a greater one.
-fn place_for(rows: &[(u64, Text)], key: u64) -> Option<usize>
+fn place_for(rows: &[(u64, Value)], key: u64) -> Option<usize>
     ensures place { result ≡ position (λ row. nat_le key row.0) rows.now }
     ensures within { IfSome result (λ at. at < length rows.now) }
 {
@@ -53,7 +53,7 @@ fn place_for(rows: &[(u64, Text)], key: u64) -> Option<usize>
 }
 
 // The row of this key has this value from now on.
-fn put_row(rows: &mut Vec<(u64, Text)>, key: u64, value: Text) -> Result<(), AllocError>
+fn put_row(rows: &mut Vec<(u64, Value)>, key: u64, value: Value) -> Result<(), AllocError>
     ensures { OnOk result (rows.new.items ≡ insert_entry nat_cmp rows.old.items key value) }
 {
     let Some(at) = place_for(rows, key) else {
@@ -69,7 +69,7 @@ fn put_row(rows: &mut Vec<(u64, Text)>, key: u64, value: Text) -> Result<(), All
 }
 
 // The place of the row with this key.
-fn place_of(rows: &[(u64, Text)], key: u64) -> Option<usize>
+fn place_of(rows: &[(u64, Value)], key: u64) -> Option<usize>
     ensures place { result ≡ position (λ row. row.0 == key) rows.now }
     ensures within { IfSome result (λ at. at < length rows.now) }
 {
@@ -77,7 +77,7 @@ fn place_of(rows: &[(u64, Text)], key: u64) -> Option<usize>
 }
 
 // There is no row of this key any more.
-fn leave_out(rows: &mut Vec<(u64, Text)>, key: u64)
+fn leave_out(rows: &mut Vec<(u64, Value)>, key: u64)
     ensures { rows.new.items ≡ remove_entry (is_at (nat_cmp key)) rows.old.items }
 {
     match place_of(rows, key) {
@@ -91,9 +91,9 @@ fn leave_out(rows: &mut Vec<(u64, Text)>, key: u64)
 // A row gets a value, or is gone.
 fn set_row(
     alloc: Global,
-    rows: &mut Vec<(u64, Text)>,
+    rows: &mut Vec<(u64, Value)>,
     key: u64,
-    value: &Option<Text>,
+    value: &Option<Value>,
 ) -> Result<(), AllocError>
     ensures { OnOk result (rows.new.items ≡ with_row rows.old.items key value.now) }
 {
@@ -109,7 +109,7 @@ fn set_row(
 // Lays a write over the rows of a table, if it is one of this transaction there.
 fn lay_one(
     alloc: Global,
-    rows: &mut Vec<(u64, Text)>,
+    rows: &mut Vec<(u64, Value)>,
     write: &Written,
     begin: Lsn,
     table: u32,
@@ -125,7 +125,7 @@ fn lay_one(
 // Lays the pending writes that a transaction has in a table over its rows.
 fn lay_over(
     alloc: Global,
-    rows: &mut Vec<(u64, Text)>,
+    rows: &mut Vec<(u64, Value)>,
     written: &[Written],
     begin: Lsn,
     table: u32,
@@ -144,7 +144,7 @@ pub fn seen_rows(
     kept: &Kept,
     database: &Database,
     table: &TableSpec,
-) -> Result<Vec<(u64, Text)>, AllocError>
+) -> Result<Vec<(u64, Value)>, AllocError>
     ensures { IfOk result (λ rows. (w : World) → Keeps w kept.now → ShowsLog w.history database.now → rows.items ≡ visible w (database_of database.now) table.now) }
 {
     let mut rows = database.shown.rows(alloc, table.number)?;

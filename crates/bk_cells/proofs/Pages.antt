@@ -1,10 +1,13 @@
 -- The cells of a page as of the end.
-use Rattle.std.proofs.Common.{◌≡◌, ◌≢◌, ◌⊎◌, ◌<◌, ℕ, zero, suc, Bool, true, false, ◌&&◌, List, [], ◌∷◌, map, length, Option, Some, None, inl, inr, refl, sym, ◌∙◌, ap, subst, arith}
-use Rattle.std.specs.Prelude.{◌==◌, if◌then◌else◌, replicate, slice_get, slice_set}
+use Rattle.std.proofs.Common.{◌≡◌, ◌≢◌, ◌⊎◌, ◌<◌, ℕ, true, false, ◌&&◌, List, [], ◌∷◌, map, length, get_or, Option, Some, None, inl, inr, refl, sym, ◌∙◌, ap, subst, arith}
+use Rattle.std.specs.Prelude.{◌==◌, if◌then◌else◌, slice_get, slice_set}
 use Rattle.std.specs.List.{AllByRecursion, fold}
-use Rattle.std.proofs.lemmas.Bool.{eqb-true, eq-eqb, and_parts, and_from, cases_Bool}
+use Rattle.std.proofs.lemmas.Bool.{eqb-true, eq-eqb, and_parts, and_from, cases_Bool, cond-false, cond-true}
+use Rattle.std.proofs.lemmas.List.{get_or-replicate, get_or-set_other, get_or-set_same, length-replicate, length-set}
+use Rattle.std.proofs.lemmas.Option.{slice_get-get_or}
 use Rattle.bk_bytes.specs.Cell.{Row, cell_bytes}
 use Rattle.bk_ids.specs.declared.record.Place.{Place}
+use Rattle.bk_lemmas.specs.Tests.{equal_or_not}
 use Rattle.bk_paths.specs.Laws.{IsPlain}
 use Rattle.bk_paths.specs.PageLaws.{last_more}
 use Rattle.bk_redo.specs.declared.place.PageAt.{PageAt}
@@ -16,44 +19,10 @@ use Rattle.bk_world.specs.Records.{Deed, Logged, database_made, table_made, begu
 use Rattle.bk_cells.specs.Cells.{cell_after, cell_from, cell_of}
 use Rattle.bk_cells.specs.Laws.{CellsAreOnPages}
 
--- ---- lists
-
-same_slot : {X : Type 0} (xs : List X) (i : ℕ) (x : X) → i < length xs → slice_get (slice_set xs i x) i ≡ Some x
-same_slot [] i x below = absurd (omega (arith, below))
-same_slot (y ∷ xs) zero x below = refl
-same_slot (y ∷ xs) (suc i) x below = same_slot xs i x (omega (arith, below))
-
-other_slot : {X : Type 0} (xs : List X) (i j : ℕ) (x : X) → i ≢ j → slice_get (slice_set xs i x) j ≡ slice_get xs j
-other_slot [] i j x differ = refl
-other_slot (y ∷ xs) zero zero x differ = absurd (differ refl)
-other_slot (y ∷ xs) zero (suc j) x differ = refl
-other_slot (y ∷ xs) (suc i) zero x differ = refl
-other_slot (y ∷ xs) (suc i) (suc j) x differ = other_slot xs i j x (λ same. differ (ap suc same))
-
-set_length : {X : Type 0} (xs : List X) (i : ℕ) (x : X) → length (slice_set xs i x) ≡ length xs
-set_length [] i x = refl
-set_length (y ∷ xs) zero x = refl
-set_length (y ∷ xs) (suc i) x = ap (λ (n : ℕ). suc n) (set_length xs i x)
-
-every_slot : {X : Type 0} (n i : ℕ) (x : X) → i < n → slice_get (replicate n x) i ≡ Some x
-every_slot zero i x below = absurd (omega (arith, below))
-every_slot (suc n) zero x below = refl
-every_slot (suc n) (suc i) x below = every_slot n i x (omega (arith, below))
-
-replicate_length : {X : Type 0} (n : ℕ) (x : X) → length (replicate n x) ≡ n
-replicate_length zero x = refl
-replicate_length (suc n) x = ap (λ (k : ℕ). suc k) (replicate_length n x)
-
 -- ---- one cell
 
 abbrev page_of : Place → PageAt
 page_of at = record { file = at.file; page = at.page }
-
-if_true : {A : Type 0} (b : Bool) (x y : A) → b ≡ true → (if b then x else y) ≡ x
-if_true b x y is = rw is refl
-
-if_false : {A : Type 0} (b : Bool) (x y : A) → b ≡ false → (if b then x else y) ≡ y
-if_false b x y is = rw is refl
 
 -- a place on a page, in this slot or in another one
 here : (p at : Place) → is_on p (page_of at) ≡ true → p.slot ≡ at.slot → is_place at p ≡ true
@@ -79,7 +48,7 @@ elsewhere p at differ = elim (cases_Bool (is_place at p)) [
 -- a page holds a row in a slot, or a free cell
 record HoldsCell (page : PageState) (slot : ℕ) (row : Option Row) : Type 0 where
   size : length page.cells ≡ 63
-  held : slice_get page.cells slot ≡ Some (cell_bytes row)
+  held : get_or page.cells slot [] ≡ cell_bytes row
 
 cell_set : (p at : Place) (bytes : List ℕ) (row old : Option Row) (lsn : ℕ) (page : PageState) → bytes ≡ cell_bytes row → at.slot < 63 → HoldsCell page at.slot old
     → HoldsCell (if is_on p (page_of at) then record { lsn = lsn; cells = slice_set page.cells p.slot bytes } else page) at.slot (if is_place at p then row else old)
@@ -87,25 +56,19 @@ cell_set p at bytes row old lsn page is low holds =
     let set : PageState = record { lsn = lsn; cells = slice_set page.cells p.slot bytes } in
     let Page : PageState → Option Row → Type 0 = λ q r. HoldsCell q at.slot r in
     elim (cases_Bool (is_on p (page_of at))) [
-      | inr off ↦ subst (λ (q : PageState). Page q (if is_place at p then row else old)) (sym (if_false (is_on p (page_of at)) set page off))
-          (subst (Page page) (sym (if_false (is_place at p) row old (elsewhere p at (inl off)))) holds)
-      | inl on ↦ subst (λ (q : PageState). Page q (if is_place at p then row else old)) (sym (if_true (is_on p (page_of at)) set page on)) (elim (slots p.slot at.slot) [
-        | inl same ↦ subst (Page set) (sym (if_true (is_place at p) row old (here p at on same))) (record {
-          size = set_length page.cells p.slot bytes ∙ holds.size;
-          held = ap (λ (n : ℕ). slice_get (slice_set page.cells p.slot bytes) n) (sym same) ∙ same_slot page.cells p.slot bytes (omega (arith, holds.size, low, same)) ∙ ap (λ (b : List ℕ). Some b) is;
+      | inr off ↦ subst (λ (q : PageState). Page q (if is_place at p then row else old)) (sym (cond-false (is_on p (page_of at)) set page off))
+          (subst (Page page) (sym (cond-false (is_place at p) row old (elsewhere p at (inl off)))) holds)
+      | inl on ↦ subst (λ (q : PageState). Page q (if is_place at p then row else old)) (sym (cond-true (is_on p (page_of at)) set page on)) (elim (equal_or_not p.slot at.slot) [
+        | inl same ↦ subst (Page set) (sym (cond-true (is_place at p) row old (here p at on same))) (record {
+          size = length-set page.cells p.slot bytes ∙ holds.size;
+          held = ap (λ (n : ℕ). get_or (slice_set page.cells p.slot bytes) n []) (sym same) ∙ get_or-set_same page.cells p.slot bytes [] (omega (arith, holds.size, low, same)) ∙ is;
         })
-        | inr differ ↦ subst (Page set) (sym (if_false (is_place at p) row old (elsewhere p at (inr differ)))) (record {
-          size = set_length page.cells p.slot bytes ∙ holds.size;
-          held = other_slot page.cells p.slot at.slot bytes differ ∙ holds.held;
+        | inr differ ↦ subst (Page set) (sym (cond-false (is_place at p) row old (elsewhere p at (inr differ)))) (record {
+          size = length-set page.cells p.slot bytes ∙ holds.size;
+          held = get_or-set_other page.cells p.slot at.slot bytes [] (λ same. differ (sym same)) ∙ holds.held;
         })
       ])
     ]
-  where
-    slots : (m n : ℕ) → (m ≡ n) ⊎ (m ≢ n)
-    slots zero zero = inl refl
-    slots zero (suc n) = inr (λ same. absurd (omega (arith, same)))
-    slots (suc m) zero = inr (λ same. absurd (omega (arith, same)))
-    slots (suc m) (suc n) = elim (slots m n) [ inl same ↦ inl (ap suc same) | inr differ ↦ inr (λ same. differ (omega (arith, same))) ]
 
 -- ---- records
 
@@ -135,7 +98,7 @@ records_step (r ∷ rs) at page old plain low holds = records_step rs at (change
 
 fresh_holds : (slot : ℕ) → slot < 63 → HoldsCell fresh slot None
 unfolding fresh free_cell
-fresh_holds slot low = record { size = replicate_length 63 (cell_bytes None); held = every_slot 63 slot (cell_bytes None) low }
+fresh_holds slot low = record { size = length-replicate 63 (cell_bytes None); held = get_or-replicate 63 slot (cell_bytes None) [] low }
 
 -- a place is itself
 pub place_itself : (at : Place) → is_place at at ≡ true
@@ -146,4 +109,8 @@ place_itself at =
 pub cells_are_on_pages : CellsAreOnPages
 unfolding cell_of
 cells_are_on_pages rs at plain path low =
-    subst (λ (page : PageState). slice_get page.cells at.slot ≡ Some (cell_bytes (cell_from rs at None))) (sym (last_more [] (map spelled rs) (page_of at) path)) (records_step rs at fresh None plain low (fresh_holds at.slot low)).held
+    let row : Option Row = cell_from rs at None in
+    let page : PageState = fold (changed (page_of at)) fresh (map spelled rs) in
+    let holds : HoldsCell page at.slot row = records_step rs at fresh None plain low (fresh_holds at.slot low) in
+    subst (λ (q : PageState). slice_get q.cells at.slot ≡ Some (cell_bytes row)) (sym (last_more [] (map spelled rs) (page_of at) path))
+    (slice_get-get_or page.cells at.slot [] (omega (arith, holds.size, low)) ∙ ap (λ (b : List ℕ). Some b) holds.held)

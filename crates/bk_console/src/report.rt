@@ -4,7 +4,7 @@ ghost use Rattle.std.specs.String.{string_bytes};
 ghost use Rattle.bk_world.specs.declared.reply.Reply.TheVariants.{Selected, SetMade, Refused};
 ghost use Rattle.bk_world.specs.Text.{reply_text, row_text};
 
-use bk_ids::{Lsn, Text};
+use bk_ids::{Lsn, Value};
 use bk_world::{Reply, Rule};
 use std::alloc::{AllocError, Global};
 
@@ -50,7 +50,7 @@ fn refusal_text(alloc: Global, rule: &Rule) -> Result<String, AllocError>
 }
 
 // Each row, and how many they are.
-fn table_text(alloc: Global, rows: &[(u64, Text)]) -> Result<String, AllocError>
+fn table_text(alloc: Global, rows: &[(u64, Value)]) -> Result<String, AllocError>
     ensures { IfOk result (λ text. string_bytes text ≡ reply_text (Selected rows.now)) }
 {
     let mut text = rows_text(alloc, rows)?;
@@ -60,7 +60,7 @@ fn table_text(alloc: Global, rows: &[(u64, Text)]) -> Result<String, AllocError>
 }
 
 // The rows, one a line.
-fn rows_text(alloc: Global, rows: &[(u64, Text)]) -> Result<String, AllocError>
+fn rows_text(alloc: Global, rows: &[(u64, Value)]) -> Result<String, AllocError>
     ensures { IfOk result (λ text. string_bytes text ≡ flat_map row_text rows.now) }
 {
     let mut text = String::new(alloc);
@@ -71,7 +71,7 @@ fn rows_text(alloc: Global, rows: &[(u64, Text)]) -> Result<String, AllocError>
 }
 
 // One row more.
-fn add_row(alloc: Global, text: &mut String, key: u64, value: &Text) -> Result<(), AllocError>
+fn add_row(alloc: Global, text: &mut String, key: u64, value: &Value) -> Result<(), AllocError>
     ensures { OnOk result (string_bytes text.new ≡ string_bytes text.old ++ row_text (key, value.now)) }
 {
     text.push_str(&format!(in alloc; "{key}\t")?)?;

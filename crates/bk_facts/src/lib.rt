@@ -3,10 +3,8 @@
 
 mod facts;
 mod reading;
-mod unread;
 mod writing;
 
 pub use facts::{DataFile, Facts};
 pub use reading::read_facts;
-pub use unread::Unread;
 pub use writing::spell_note;

@@ -5,6 +5,7 @@ ghost use Rattle.bk_groups.specs.Bits.{bit_of};
 ghost use Rattle.bk_groups.specs.FileSpace.{HoldsCell, WritesBit, free_bit, with_touched};
 
 use crate::free_cells::FreeCells;
+use bk_ids::Slot;
 use std::alloc::{AllocError, Global};
 use std::marker::Model;
 
@@ -59,21 +60,22 @@ impl FileSpace {
     }
 
     /// The page and slot of the first free cell, or `None` where no cell is free.
-    pub fn first(&self) -> Option<(u32, u16)>
+    pub fn first(&self) -> Option<(u32, Slot)>
         ensures { MatchOption result
             ((page slot : ℕ) → free_bit self.now page slot ≡ 0)
             (λ found. HoldsCell self.now found.0 found.1 × (free_bit self.now found.0 found.1 ≡ 1)) }
     {
         let _room = &self.touched;
         let cell = self.free.first()?;
-        Some((8 + (cell / 63) as u32, (cell % 63) as u16))
+        Some((8 + (cell / 63) as u32, Slot::of_cell(cell)))
     }
 
     /// Whether there is a cell at a page and slot, and it is free.
-    pub fn is_free(&self, page: u32, slot: u16) -> bool
+    pub fn is_free(&self, page: u32, slot: Slot) -> bool
         ensures { IsTrue result ↔ (HoldsCell self.now page slot × (free_bit self.now page slot ≡ 1)) }
     {
-        if page < 8 || 8 + 8 * self.touched.len() <= page as usize || 63 <= slot {
+        let slot = slot.get();
+        if page < 8 || 8 + 8 * self.touched.len() <= page as usize {
             return false;
         }
         self.free
@@ -81,22 +83,22 @@ impl FileSpace {
     }
 
     /// Takes a free cell.
-    pub fn take(&mut self, page: u32, slot: u16)
+    pub fn take(&mut self, page: u32, slot: Slot)
         requires cell { HoldsCell self.old page slot }
         requires free { free_bit self.old page slot ≡ 1 }
         ensures { WritesBit self.old self.new page slot 0 }
     {
         self.free
-            .remove((page as usize - 8) * 63 + usize::from(slot));
+            .remove((page as usize - 8) * 63 + usize::from(slot.get()));
     }
 
     /// Makes a cell free.
-    pub fn give_back(&mut self, page: u32, slot: u16)
+    pub fn give_back(&mut self, page: u32, slot: Slot)
         requires { HoldsCell self.old page slot }
         ensures { WritesBit self.old self.new page slot 1 }
     {
         self.free
-            .insert((page as usize - 8) * 63 + usize::from(slot));
+            .insert((page as usize - 8) * 63 + usize::from(slot.get()));
     }
 
     /// Notes that an extent was touched. Extents count from 1.

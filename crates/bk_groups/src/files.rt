@@ -32,8 +32,8 @@ pub(crate) fn has_extent_in(files: &[FileSpace], file: u16, extent: u32) -> bool
 }
 
 // Whether the files have a cell, and it is free.
-pub(crate) fn is_free_cell(files: &[FileSpace], at: Place) -> bool
-    ensures { IsTrue result ↔ (IsCell (rooms_of files.now) at × (bit_at_place files.now at ≡ 1)) }
+pub(crate) fn is_free_cell(files: &[FileSpace], at: &Place) -> bool
+    ensures { IsTrue result ↔ (IsCell (rooms_of files.now) at.now × (bit_at_place files.now at.now ≡ 1)) }
 {
     if at.file == 0 || files.len() < usize::from(at.file) {
         return false;
@@ -42,18 +42,18 @@ pub(crate) fn is_free_cell(files: &[FileSpace], at: Place) -> bool
 }
 
 // Takes a free cell.
-pub(crate) fn take_cell(files: &mut Vec<FileSpace>, at: Place)
-    requires cell { IsCell (rooms_of files.old.items) at }
-    requires free { bit_at_place files.old.items at ≡ 1 }
-    ensures { WritesPlace files.old.items files.new.items at 0 }
+pub(crate) fn take_cell(files: &mut Vec<FileSpace>, at: &Place)
+    requires cell { IsCell (rooms_of files.old.items) at.now }
+    requires free { bit_at_place files.old.items at.now ≡ 1 }
+    ensures { WritesPlace files.old.items files.new.items at.now 0 }
 {
     files[usize::from(at.file) - 1].take(at.page, at.slot);
 }
 
 // Makes a cell free.
-pub(crate) fn give_cell_back(files: &mut Vec<FileSpace>, at: Place)
-    requires { IsCell (rooms_of files.old.items) at }
-    ensures { WritesPlace files.old.items files.new.items at 1 }
+pub(crate) fn give_cell_back(files: &mut Vec<FileSpace>, at: &Place)
+    requires { IsCell (rooms_of files.old.items) at.now }
+    ensures { WritesPlace files.old.items files.new.items at.now 1 }
 {
     files[usize::from(at.file) - 1].give_back(at.page, at.slot);
 }

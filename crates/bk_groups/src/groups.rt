@@ -84,7 +84,7 @@ impl Groups {
         let Some(at) = self.free_cell(table) else {
             return Err(PlaceError::Full);
         };
-        self.put(table, key, at)?;
+        self.put(table, key, &at)?;
         Ok(at)
     }
 
@@ -100,21 +100,21 @@ impl Groups {
     }
 
     /// Whether a place is a cell of the files that no row has.
-    pub fn is_free(&self, at: Place) -> bool
-        ensures { IsTrue result ↔ (IsCell self.now.rooms at × IsFreeCell self.now at) }
+    pub fn is_free(&self, at: &Place) -> bool
+        ensures { IsTrue result ↔ (IsCell self.now.rooms at.now × IsFreeCell self.now at.now) }
     {
         is_free_cell(&self.files, at)
     }
 
     /// Notes that a row, which has no place, lies in a free cell. Where there is no memory, nothing changes.
-    pub fn put(&mut self, table: u32, key: u64, at: Place) -> Result<(), AllocError>
+    pub fn put(&mut self, table: u32, key: u64, at: &Place) -> Result<(), AllocError>
         requires none { place_of self.old table key ≡ None }
-        requires cell { IsCell self.old.rooms at }
-        requires free { IsFreeCell self.old at }
-        ensures ok { OnOk result (SetsPlace self.old self.new table key (Some at)) }
+        requires cell { IsCell self.old.rooms at.now }
+        requires free { IsFreeCell self.old at.now }
+        ensures ok { OnOk result (SetsPlace self.old self.new table key (Some at.now)) }
         ensures err { OnErr result (self.new ≡ self.old) }
     {
-        self.places.insert((table, key), at)?;
+        self.places.insert((table, key), *at)?;
         take_cell(&mut self.files, at);
         Ok(())
     }
@@ -132,7 +132,7 @@ impl Groups {
         ensures { SetsPlace self.old self.new table key None }
     {
         match self.places.remove(&(table, key)) {
-            Some(at) => give_cell_back(&mut self.files, at),
+            Some(at) => give_cell_back(&mut self.files, &at),
             None => unreachable!(),
         }
     }

@@ -157,7 +157,7 @@ range_true Differential f c l e = data_range f c l e
 data_range_from : (f c l : ℕ) → (f ≤ c) × (c < l) → is_data_range f c l ≡ true
 data_range_from f c l h = and_from _ _ (le-leb _ _ h.0) (lt-ltb _ _ h.1)
 
-range_from : (kind : SetKind) (f c l : ℕ) → IsRange kind f c l → is_range kind f c l ≡ true
+pub range_from : (kind : SetKind) (f c l : ℕ) → IsRange kind f c l → is_range kind f c l ≡ true
 range_from Log f c l h = lt-ltb _ _ h
 range_from Full f c l h = data_range_from f c l h
 range_from File f c l h = data_range_from f c l h
@@ -169,7 +169,7 @@ has_base_true Full b e = tt
 has_base_true Log b e = tt
 has_base_true File b e = tt
 
-has_base_from : (kind : SetKind) (b : Option Base) → HasItsBase kind b → has_its_base kind b ≡ true
+pub has_base_from : (kind : SetKind) (b : Option Base) → HasItsBase kind b → has_its_base kind b ≡ true
 has_base_from Differential b h = h
 has_base_from Full b h = refl
 has_base_from Log b h = refl
@@ -179,7 +179,7 @@ pub rise_true : (least : ℕ) (path : List Branch) → starts_rise least path �
 rise_true least [] e = tt
 rise_true least (b ∷ path) e = let p = and_parts (leb least b.start) (starts_rise b.start path) e in (leb-true _ _ p.0, rise_true b.start path p.1)
 
-rise_from : (least : ℕ) (path : List Branch) → StartsRiseFrom least path → starts_rise least path ≡ true
+pub rise_from : (least : ℕ) (path : List Branch) → StartsRiseFrom least path → starts_rise least path ≡ true
 rise_from least [] h = refl
 rise_from least (b ∷ path) h = and_from _ _ (le-leb _ _ h.0) (rise_from b.start path h.1)
 
@@ -216,7 +216,7 @@ pub numbered_true : (n : ℕ) (files : List HeaderFile) → are_numbered n files
 numbered_true n [] e = tt
 numbered_true n (f ∷ files) e = let p = and_parts (eqb f.spec.number n) (are_numbered (n + 1) files) e in (eqb-true _ _ p.0, numbered_true (n + 1) files p.1)
 
-numbered_from : (n : ℕ) (files : List HeaderFile) → AreNumbered n files → are_numbered n files ≡ true
+pub numbered_from : (n : ℕ) (files : List HeaderFile) → AreNumbered n files → are_numbered n files ≡ true
 numbered_from n [] h = refl
 numbered_from n (f ∷ files) h = and_from _ _ (eq-eqb _ _ h.0) (numbered_from (n + 1) files h.1)
 

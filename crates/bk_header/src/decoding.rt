@@ -3,7 +3,7 @@
 ghost use Rattle.std.specs.Prelude.{◌≡◌, ◌++◌, ℕ, List, IfOk, MatchOption};
 ghost use Rattle.bk_world.specs.declared.header.Header.{Header};
 ghost use Rattle.bk_header.specs.Reading.{header_form};
-ghost use Rattle.bk_header.specs.Decoding.{Reads};
+ghost use Rattle.bk_reading.specs.Reading.{Reads};
 ghost use Rattle.bk_header.specs.Spelling.{spelling};
 ghost use Rattle.bk_header.specs.Conditions.{IsHeader};
 ghost use Rattle.bk_header.specs.Found.{BeginsWith, IsNoHeader};
@@ -11,7 +11,7 @@ ghost use Rattle.bk_header.specs.Found.{BeginsWith, IsNoHeader};
 use crate::fixed::split_fixed;
 use crate::lists::read_lists;
 use crate::making::make;
-use crate::unread::Unread;
+use bk_reading::Unread;
 use bk_world::Header;
 use std::alloc::{AllocError, Global};
 
@@ -20,12 +20,12 @@ fn read_header(alloc: Global, bytes: &[u8]) -> Result<(Header, &[u8]), Unread>
     ensures { Reads (λ x. (x.0, x.1.now)) result (header_form.reading bytes.now) }
 {
     let Some((fixed, rest)) = split_fixed(bytes) else {
-        return Err(Unread::NoHeader);
+        return Err(Unread::Unspelled);
     };
     let (lists, rest) = read_lists(alloc, rest)?;
     match make(fixed, lists) {
         Some(header) => Ok((header, rest)),
-        None => Err(Unread::NoHeader),
+        None => Err(Unread::Unspelled),
     }
 }
 
@@ -36,7 +36,7 @@ pub fn decode(alloc: Global, b: &[u8]) -> Result<Option<(Header, usize)>, AllocE
 {
     match read_header(alloc, b) {
         Ok((header, rest)) => Ok(Some((header, b.len() - rest.len()))),
-        Err(Unread::NoHeader) => Ok(None),
+        Err(Unread::Unspelled) => Ok(None),
         Err(Unread::NoMemory) => Err(AllocError),
     }
 }

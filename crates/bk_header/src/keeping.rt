@@ -76,7 +76,8 @@ fn is_kept(header: &Header) -> bool
 
 /// Whether a header keeps the conditions beside its types under which it has a spelling.
 pub fn keeps(header: &Header) -> bool
-    ensures { result ≡ true → KeepsConditions header.now }
+    ensures kept { result ≡ true → KeepsConditions header.now }
+    ensures found { KeepsConditions header.now → result ≡ true }
 {
     is_kept(header)
 }

@@ -9,7 +9,6 @@ mod fixed;
 mod keeping;
 mod lists;
 mod making;
-mod unread;
 
 pub use decoding::{decode, header_law};
 pub use encoding::encode;

@@ -3,12 +3,12 @@
 ghost use Rattle.std.specs.Prelude.{◌≡◌, ◌<◌, ◌≤◌, length};
 ghost use Rattle.bk_bytes.specs.Codec.{Gives, string, times, counted};
 ghost use Rattle.bk_header.specs.Reading.{in_set_form, branch_form, file_form, lists_form};
-ghost use Rattle.bk_header.specs.Decoding.{Reads};
+ghost use Rattle.bk_reading.specs.Reading.{Reads};
 
-use crate::unread::Unread;
 use bk_bytes::{split_str, split_u8, split_u16, split_u32, split_u64};
 use bk_fields::split_guid;
 use bk_ids::{Branch, Name, Path, Sequence, Text};
+use bk_reading::Unread;
 use bk_world::{FileSpec, HeaderFile};
 use std::alloc::Global;
 
@@ -29,7 +29,7 @@ fn read_name(alloc: Global, bytes: &[u8]) -> Result<(Name, &[u8]), Unread>
 {
     match bk_fields::read_name(alloc, bytes)? {
         Some(read) => Ok(read),
-        None => Err(Unread::NoHeader),
+        None => Err(Unread::Unspelled),
     }
 }
 
@@ -42,7 +42,7 @@ fn read_text(
     ensures { Reads (λ x. (x.0, x.1.now)) result ((string least most).reading bytes.now) }
 {
     let Some((text, rest)) = split_str(bytes, least, most) else {
-        return Err(Unread::NoHeader);
+        return Err(Unread::Unspelled);
     };
     let text = String::from_str(alloc, text)?;
     Ok((Text::new(text), rest))
@@ -74,16 +74,16 @@ fn read_file(alloc: Global, bytes: &[u8]) -> Result<(HeaderFile, &[u8]), Unread>
     ensures { Reads (λ x. (x.0, x.1.now)) result (file_form.reading bytes.now) }
 {
     let Some((number, rest)) = split_u16(bytes) else {
-        return Err(Unread::NoHeader);
+        return Err(Unread::Unspelled);
     };
     let Some((group, rest)) = split_u8(rest) else {
-        return Err(Unread::NoHeader);
+        return Err(Unread::Unspelled);
     };
     let Some((extents, rest)) = split_u32(rest) else {
-        return Err(Unread::NoHeader);
+        return Err(Unread::Unspelled);
     };
     let Some((in_set, rest)) = split_in_set(rest) else {
-        return Err(Unread::NoHeader);
+        return Err(Unread::Unspelled);
     };
     let (name, rest) = read_name(alloc, rest)?;
     let (path, rest) = read_text(alloc, rest, 1, 100)?;
@@ -104,7 +104,7 @@ fn read_branches(alloc: Global, count: u16, bytes: &[u8]) -> Result<(Vec<Branch>
     let mut rest = bytes;
     for _ in 0..count {
         let Some((branch, after)) = split_branch(rest) else {
-            return Err(Unread::NoHeader);
+            return Err(Unread::Unspelled);
         };
         branches.push(branch)?;
         rest = after;
@@ -143,7 +143,7 @@ fn read_path(alloc: Global, bytes: &[u8]) -> Result<(Path, &[u8]), Unread>
     ensures { Reads (λ x. (x.0, x.1.now)) result ((counted 2 branch_form).reading bytes.now) }
 {
     let Some((count, rest)) = split_u16(bytes) else {
-        return Err(Unread::NoHeader);
+        return Err(Unread::Unspelled);
     };
     let (branches, rest) = read_branches(alloc, count, rest)?;
     Ok((Path::new(branches), rest))
@@ -154,7 +154,7 @@ fn read_groups(alloc: Global, bytes: &[u8]) -> Result<(Sequence<Name>, &[u8]), U
     ensures { Reads (λ x. (x.0, x.1.now)) result ((counted 1 (string 1 64)).reading bytes.now) }
 {
     let Some((count, rest)) = split_u8(bytes) else {
-        return Err(Unread::NoHeader);
+        return Err(Unread::Unspelled);
     };
     let (names, rest) = read_names(alloc, count, rest)?;
     Ok((Sequence::new(names), rest))
@@ -165,7 +165,7 @@ fn read_all_files(alloc: Global, bytes: &[u8]) -> Result<(Sequence<HeaderFile>, 
     ensures { Reads (λ x. (x.0, x.1.now)) result ((counted 2 file_form).reading bytes.now) }
 {
     let Some((count, rest)) = split_u16(bytes) else {
-        return Err(Unread::NoHeader);
+        return Err(Unread::Unspelled);
     };
     let (files, rest) = read_files(alloc, count, rest)?;
     Ok((Sequence::new(files), rest))

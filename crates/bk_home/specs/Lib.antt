@@ -1,4 +1,3 @@
 pub mod Spelling
-pub mod Decoding
 pub mod Home
 pub mod Laws

@@ -2,12 +2,12 @@
 
 ghost use Rattle.std.specs.Prelude.{IfOk};
 ghost use Rattle.bk_home.specs.Spelling.{IsShort, path_form, record_form, read_record};
-ghost use Rattle.bk_home.specs.Decoding.{Reads};
+ghost use Rattle.bk_reading.specs.Reading.{Reads};
 
 use crate::record::Record;
-use crate::unread::Unread;
 use bk_bytes::{split_str, split_u64};
 use bk_ids::Text;
+use bk_reading::Unread;
 use std::alloc::Global;
 
 #[tactic(auto, unfolding(crate::specs::Spelling::path_form))]
@@ -15,7 +15,7 @@ fn read_path(alloc: Global, bytes: &[u8]) -> Result<(Option<Text>, &[u8]), Unrea
     ensures { Reads (λ x. (x.0, x.1.now)) result (path_form.reading bytes.now) }
 {
     let Some((path, rest)) = split_str(bytes, 0, 100) else {
-        return Err(Unread::NoRecord);
+        return Err(Unread::Unspelled);
     };
     if path.is_empty() {
         return Ok((None, rest));
@@ -29,10 +29,10 @@ fn read_front(alloc: Global, bytes: &[u8]) -> Result<(Record, &[u8]), Unread>
     ensures { Reads (λ x. (x.0, x.1.now)) result (record_form.reading bytes.now) }
 {
     let Some((number, rest)) = split_u64(bytes) else {
-        return Err(Unread::NoRecord);
+        return Err(Unread::Unspelled);
     };
     let Some((counter, rest)) = split_u64(rest) else {
-        return Err(Unread::NoRecord);
+        return Err(Unread::Unspelled);
     };
     let (making, rest) = read_path(alloc, rest)?;
     let record = Record {
@@ -51,7 +51,7 @@ pub fn read_record(alloc: Global, bytes: &[u8]) -> Result<Record, Unread>
 {
     let (record, rest) = read_front(alloc, bytes)?;
     if !rest.is_empty() {
-        return Err(Unread::NoRecord);
+        return Err(Unread::Unspelled);
     }
     Ok(record)
 }

@@ -1,10 +1,10 @@
 // Why a call on an instance's own files gave nothing.
 ghost use Rattle.std.specs.Prelude.{◌≡◌};
 ghost use Rattle.bk_home.specs.declared.error.HomeError.TheVariants.{Broken, Fault, NoMemory};
-ghost use Rattle.bk_home.specs.declared.unread.Unread.TheVariants as unread;
+ghost use Rattle.bk_reading.specs.declared.unread.Unread.TheVariants as unread;
 
-use crate::unread::Unread;
 use bk_device::Failed;
+use bk_reading::Unread;
 use std::alloc::{AllocError, AllocFailed};
 use thiserror::Error;
 

@@ -10,7 +10,6 @@ mod making;
 mod opening;
 mod part;
 mod record;
-mod unread;
 
 pub use error::HomeError;
 pub use home::Home;

@@ -13,10 +13,10 @@ ghost use Rattle.bk_home.specs.Spelling.{IsShort, read_record};
 use crate::decoding::read_record;
 use crate::error::HomeError;
 use crate::record::Record;
-use crate::unread::Unread;
 use bk_control::{Control, ControlError};
 use bk_device::Device;
 use bk_gate::{Gate, GateError};
+use bk_reading::Unread;
 use std::alloc::Global;
 
 // Opens the control file, and changes nothing.
@@ -103,7 +103,7 @@ pub fn recorded(alloc: Global, control: &Control) -> Result<Record, HomeError>
 {
     match read_record(alloc, control.get()) {
         Ok(record) => Ok(record),
-        Err(Unread::NoRecord) => Err(HomeError::Broken),
+        Err(Unread::Unspelled) => Err(HomeError::Broken),
         Err(Unread::NoMemory) => Err(HomeError::NoMemory),
     }
 }

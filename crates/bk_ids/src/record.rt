@@ -1,15 +1,17 @@
+use crate::description::Description;
 use crate::guid::Guid;
 use crate::name::Name;
 use crate::path::Lsn;
 use crate::sequence::Sequence;
-use crate::text::Text;
+use crate::slot::Slot;
+use crate::value::Value;
 
-/// The place of a cell: its file from 1, its page there, and its slot on the page, below 63.
+/// The place of a cell: its file from 1, its page there, and its slot on the page.
 #[derive(Clone, Copy, Debug, PartialEq, Eq, PartialOrd, Ord)]
 pub struct Place {
     pub file: u16,
     pub page: u32,
-    pub slot: u16,
+    pub slot: Slot,
 }
 
 /// An extent of a data file, counted from 1.
@@ -40,7 +42,7 @@ pub enum RecoveryModel {
 #[derive(Debug, Drop)]
 pub struct Mark {
     pub name: Name,
-    pub description: Option<Text>,
+    pub description: Option<Description>,
 }
 
 /// A log record: its number, the number of the first record of its transaction or 0, and what it tells.
@@ -107,7 +109,7 @@ pub enum Body {
         table: u32,
         first: u64,
         count: u32,
-        value: Text,
+        value: Value,
         extents: Sequence<ExtentId>,
     },
     /// The database was recovered, and this branch began.

@@ -4,7 +4,7 @@ ghost use Rattle.std.specs.String.{string_bytes};
 use std::alloc::{AllocError, Global};
 use std::marker::Model;
 
-/// A text in UTF-8 of any length, such as a path, a value or a description. Contracts see its bytes.
+/// A text in UTF-8 of any length, such as a path. Contracts see its bytes.
 #[derive(Debug, Drop)]
 pub struct Text {
     inner: String,

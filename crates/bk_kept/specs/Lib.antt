@@ -4,3 +4,4 @@ pub mod Numbers
 pub mod NumbersLaws
 pub mod Stored
 pub mod SetLaws
+pub mod BuiltLaws

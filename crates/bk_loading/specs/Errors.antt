@@ -1,8 +1,8 @@
 -- What the errors of the layers below come to where an instance is loaded.
 use Rattle.bk_taking.specs.declared.error.ApplyError.{ApplyError}
 use Rattle.bk_taking.specs.declared.error.ApplyError.TheVariants as apply
-use Rattle.bk_acts.specs.declared.unread.Unread.{Unread}
-use Rattle.bk_acts.specs.declared.unread.Unread.TheVariants as unread
+use Rattle.bk_reading.specs.declared.unread.Unread.{Unread}
+use Rattle.bk_reading.specs.declared.unread.Unread.TheVariants as unread
 use Rattle.bk_home.specs.declared.error.HomeError.{HomeError}
 use Rattle.bk_home.specs.declared.error.HomeError.TheVariants as home
 use Rattle.bk_instance.specs.declared.error.ExecuteError.{ExecuteError}
@@ -17,7 +17,7 @@ opened_error home.Fault = load.Fault
 opened_error home.NoMemory = load.NoMemory
 
 abbrev pub unread_error : Unread → LoadError
-unread_error unread.NoAct = load.Broken
+unread_error unread.Unspelled = load.Broken
 unread_error unread.NoMemory = load.NoMemory
 
 abbrev pub unfit_error : ApplyError → LoadError

@@ -3,10 +3,10 @@ ghost use Rattle.std.specs.Prelude.{◌≡◌};
 ghost use Rattle.bk_loading.specs.Errors as errors;
 ghost use Rattle.bk_loading.specs.declared.error.LoadError.TheVariants as load;
 
-use bk_acts::Unread;
 use bk_device::Failed;
 use bk_home::HomeError;
 use bk_instance::ExecuteError;
+use bk_reading::Unread;
 use bk_taking::ApplyError;
 use std::alloc::AllocError;
 use thiserror::Error;
@@ -66,7 +66,7 @@ impl From<Unread> for LoadError {
 
     fn from(error: Unread) -> Self {
         match error {
-            Unread::NoAct => LoadError::Broken,
+            Unread::Unspelled => LoadError::Broken,
             Unread::NoMemory => LoadError::NoMemory,
         }
     }

@@ -1,7 +1,8 @@
 -- Databases that are made or recovered: each goes on on a branch that is drawn for it.
-use Rattle.std.proofs.Common.{◌≡◌, ◌≢◌, ◌⊎◌, ◌<◌, ◌≤◌, inl, inr, ℕ, ◌+◌, ◌-◌, Bool, true, false, cond, List, [], ◌∷◌, ◌++◌, length, Some, refl, sym, ◌∙◌, ap, subst, filter, arith}
-use Rattle.std.specs.Prelude.{Contains, count_by}
+use Rattle.std.proofs.Common.{◌≡◌, ◌≢◌, ◌⊎◌, ◌<◌, ◌≤◌, inl, inr, ℕ, ◌+◌, ◌-◌, Bool, true, false, cond, List, [], ◌∷◌, ◌++◌, length, Some, refl, sym, ◌∙◌, ap, subst, filter, arith, length-append}
+use Rattle.std.specs.Prelude.{Contains, count_by, nat_le}
 use Rattle.std.specs.List.{AllByRecursion}
+use Rattle.std.proofs.lemmas.List.{append-nil}
 use Rattle.std.proofs.lemmas.List.Elements.{Contains-append_left, Contains-append_right, Contains-push}
 use Rattle.std.proofs.lemmas.List.Sums.{count_by-le-length, length-filter}
 use Rattle.bk_ids.specs.declared.guid.Guid.{Guid}
@@ -16,17 +17,20 @@ use Rattle.bk_world.specs.History.{is_guid}
 use Rattle.bk_world.specs.Lines.{MayGoOn, has_record_line, log_below}
 use Rattle.bk_lemmas.specs.Lists.{all_both, all_mapped}
 use Rattle.bk_world.specs.Pending.{Pending, pending, pending_after}
+use Rattle.bk_world.specs.ReadingLaws.{entries-more}
 use Rattle.bk_world.specs.Records.{Counts, Deed, Logged, Said, more, numbered, database_made, table_made, begun, written, committed, rolled_back, undone, checkpointed, stamped, model_set, loaded, recovered}
 use Rattle.bk_world.specs.Telling.{entries, entries_from, entry_of, model, tables}
 use Rattle.bk_world.specs.BranchLaws.{branch_at-last}
 use Rattle.bk_machine.specs.Acts.{Recovery, created, creation_said, done, drawn, forked, goes_online, gone_online, new_database, new_line}
-use Rattle.bk_machine.specs.Checks.{last_number}
+use Rattle.bk_machine.specs.Checks.{last_number, most_branches}
+use Rattle.bk_machine.specs.Fits.{FitsLog, FitsSet}
 use Rattle.bk_machine.specs.MayDo.{MayCreate, MayRecover}
-use Rattle.bk_machine.specs.Sound.{AreApart, HasFew, KeepsAll, AreNumbered, AreOpen, ArePlaced, Differ, IsIdle, IsLog, IsNotToCome, IsPassed, IsPlaced, IsSound, IsSoundLine, IsWholeDatabase, OpenBy, has_begin}
+use Rattle.bk_machine.specs.Sound.{AreApart, HasFew, KeepsAll, AreNumbered, AreOpen, ArePlaced, Differ, IsIdle, IsLog, IsNotToCome, IsPassed, IsPlaced, IsSound, IsSoundLine, IsWholeDatabase, OpenBy, has_begin, storage_of}
 use Rattle.bk_machine.specs.statements.Restore.{IsOfRecovery, Recovers, is_recovery_deed}
 use Rattle.bk_world.specs.declared.transaction.Open.{Open}
 use Rattle.bk_machine.specs.World.{World, Database, database_named, log_of, log_to, most_sessions}
 use Rattle.bk_machine.proofs.ActsLogs.{log-of-front, log-of-more, tables-quiet}
+use Rattle.bk_machine.proofs.Fitting.{fits-front, fits-told}
 use Rattle.bk_machine.proofs.ActsStay.{Follows, database-stays, lines-stay, media-stay, open-stays}
 use Rattle.bk_machine.proofs.Forking.{all-forked, branch_at-forked, goes_on-forked, last-forked, log-forked, path-forked, starts-forked}
 use Rattle.bk_machine.proofs.Histories.{before-or-not, counts-front, goes_on-beside, grew-new, log-front, none-drawn, not-last, not_to_come-later, passed-grew, path-later, path-new, rise-numbered}
@@ -56,8 +60,8 @@ module _ (w next : World) (follows : Follows w next) (path : List Branch) (at : 
 
   pub on_branch-whole : (d : Database) → IsLog d.files (more (log_below w.history path at) at said) (at + length said) → IsPath (forked path at branch) → AllByRecursion (λ (b : Branch). IsNotToCome w b.guid) path
       → IsNotToCome next branch → IsNotToCome next d.family → ((k : ℕ) → 0 < k → k < at → IsPassed w.history (branch_at path k) k) → Anchor at (numbered at said)
-      → IsWholeDatabase next (on_branch d path at branch said)
-  on_branch-whole d log is_path drawn own family passed anchor = record {
+      → FitsSet (storage_of d) (forked path at branch) (more (log_below w.history path at) at said) → IsWholeDatabase next (on_branch d path at branch said)
+  on_branch-whole d log is_path drawn own family passed anchor fits = record {
     log = subst (λ rs. IsLog d.files rs (at + length said)) (sym (on_branch-log d)) log;
     path = is_path;
     starts = all_mapped (λ (b : Branch). b.start ≤ at) (λ (b : Branch). b.start < at + length said) (λ b le. omega (arith, le, some)) (forked path at branch) (starts-forked path at branch);
@@ -73,6 +77,7 @@ module _ (w next : World) (follows : Follows w next) (path : List Branch) (at : 
         all_mapped (λ (b : Branch). b.start ≤ at) (λ (b : Branch). b.start ≤ anchor.0.lsn) (λ b le. omega (arith, le, anchor.3)) (forked path at branch) (starts-forked path at branch),
       );
     };
+    fits = subst (FitsSet (storage_of d) (forked path at branch)) (sym (on_branch-log d)) fits;
   }
 
   pub on_branch-open : (d : Database) → AreOpen (more (log_below w.history path at) at said) (at + length said) d.transactions → OpenBy next.history (on_branch d path at branch said)
@@ -114,6 +119,10 @@ module _ (w : World) (c : Creation) (is : IsSound w) (may : MayCreate w c) where
   unfolding new_database log_below tables entries
   created-log = record { counts = (refl, refl); sound = (tt, tt); tables = tt; places = (tt, tt) }
 
+  created-fits : FitsSet (storage_of (new_database c)) (forked [] 1 c.branch) (more (log_below w.history [] 1) 1 (creation_said c))
+  unfolding new_database log_below tables entries
+  created-fits = record { storage = may.fits; branches = omega arith; log = record { few = omega arith; names = tt; grouped = tt; times = (may.time, tt) } }
+
   pub made-log : log_of (done w (created c)).history (new_database c) ≡ more (log_below w.history [] 1) 1 (creation_said c)
   unfolding done new_database
   made-log = on_branch-log w (done w (created c)) created-follows [] 1 c.branch (creation_said c) refl tt (omega arith) (new_database c)
@@ -122,7 +131,7 @@ module _ (w : World) (c : Creation) (is : IsSound w) (may : MayCreate w c) where
   unfolding done new_database
   created-whole =
       on_branch-whole w (done w (created c)) created-follows [] 1 c.branch (creation_said c) refl tt (omega arith) (new_database c) created-log (refl, tt) tt branch-later family-later
-      (λ k pos lt. absurd (omega (arith, pos, lt))) (record { lsn = 1; begin = 0; deed = database_made c.time c.family c.branch }, (0, omega arith, refl), refl, omega arith)
+      (λ k pos lt. absurd (omega (arith, pos, lt))) (record { lsn = 1; begin = 0; deed = database_made c.time c.family c.branch }, (0, omega arith, refl), refl, omega arith) created-fits
 
   created-open : OpenBy (done w (created c)).history (new_database c)
   unfolding done new_database log_below pending
@@ -292,6 +301,28 @@ module _ (w : World) (db : Database) (r : Recovery) (is : IsSound w) (there : da
       let tells : tables (more rs r.at r.said) ≡ tables rs = tables-quiet rs (numbered r.at r.said) (recovery-quiet r.branch (pending rs) r.at r.said recovers-there.each) in
       log-of-more db.files rs r.at r.said log-there recovers-there.may (subst (AreNumbered 1) (sym tells) log-there.tables) (recovery-placed r.branch db.files rs r.at r.said recovers-there.each)
 
+  -- it still fits a set: what the recovery says makes no table and tells no time, and there is room for the branch
+  room-there : length (forked db.path r.at r.branch) ≤ most_branches
+  room-there =
+      let before : Branch → Bool = λ b. nat_le b.start r.at in
+      let new : List Branch = (record { guid = r.branch; start = r.at }) ∷ [] in
+      omega (arith, may.room, count_by-le-length before db.path, length-filter before db.path, length-append (filter before db.path) new)
+
+  fits-there : FitsSet (storage_of db) (forked db.path r.at r.branch) (more (log_below w.history db.path r.at) r.at r.said)
+  unfolding log_of
+  fits-there =
+      let rs : List Logged = log_below w.history db.path r.at in
+      let same : r.at + (db.end - r.at) ≡ db.end = omega (arith, may.within) in
+      let split = log-front w.history db.path r.at (db.end - r.at) in
+      let all : log_below w.history db.path db.end ≡ rs ++ split.0 = ap (log_below w.history db.path) (sym same) ∙ split.1 in
+      let quiet : entries (more rs r.at r.said) ≡ entries rs =
+      entries-more rs (numbered r.at r.said) ∙ (ap (λ es. entries rs ++ es) (recovery-quiet r.branch (pending rs) r.at r.said recovers-there.each) ∙ append-nil (entries rs)) in
+      record {
+        storage = own.fits.storage;
+        branches = room-there;
+        log = fits-told (length db.groups) rs (more rs r.at r.said) quiet (fits-front (length db.groups) rs split.0 (subst (FitsLog (length db.groups)) all own.fits.log));
+      }
+
   passed-there : (k : ℕ) → 0 < k → k < r.at → IsPassed w.history (branch_at db.path k) k
   passed-there k pos lt = elim (own.held k pos (omega (arith, lt, may.within))) [ inl last ↦ absurd (off last.0) | inr passed ↦ passed ]
 
@@ -303,7 +334,7 @@ module _ (w : World) (db : Database) (r : Recovery) (is : IsSound w) (there : da
   whole-there =
       on_branch-whole w (goes_online w db r) recovered-follows db.path r.at r.branch r.said refl (new-to db.path own.drawn) some-said (online-there db) log-behind (path-forked db.path r.at r.branch may.some own.path) own.drawn drawn-later
       (not_to_come-later w (goes_online w db r) db.family recovered-follows.instance recovered-follows.counter own.family) passed-there
-      (find-anchor r.branch r.at r.at r.said (omega arith) recovers-there.each (let one : length (filter is_recovery_deed r.said) ≡ 1 = length-filter is_recovery_deed r.said ∙ recovers-there.one in omega (arith, one)))
+      (find-anchor r.branch r.at r.at r.said (omega arith) recovers-there.each (let one : length (filter is_recovery_deed r.said) ≡ 1 = length-filter is_recovery_deed r.said ∙ recovers-there.one in omega (arith, one))) fits-there
 
   open-there : OpenBy (goes_online w db r).history (online-there db)
   unfolding goes_online online-there

@@ -215,6 +215,7 @@ module _ (w : World) (is : IsSound w) where
     family = set.family;
     held = λ k pos lt. inr (set.held k pos lt);
     online = λ up. none-online up;
+    fits = set.fits;
   }
 
   taken_over-open : (name : List ℕ) (header : Header) → OpenBy w.history (taken_over name header)

@@ -14,8 +14,9 @@ use Rattle.bk_world.specs.Telling.{model}
 use Rattle.bk_world.specs.BranchLaws.{branch_at-last}
 use Rattle.bk_world.specs.SaidLaws.{GoesOn-said, records-said}
 use Rattle.bk_machine.specs.Acts.{gone_on, kept_after, pointed, pointed_by, says}
+use Rattle.bk_machine.specs.Fits.{FitsSet}
 use Rattle.bk_machine.specs.MayDo.{MaySay}
-use Rattle.bk_machine.specs.Sound.{AreOpen, Differ, IsLog, IsOnce, IsOnline, IsSoundLine, IsWhole, IsWholeDatabase, OpenBy}
+use Rattle.bk_machine.specs.Sound.{AreOpen, Differ, IsLog, IsOnce, IsOnline, IsSoundLine, IsWhole, IsWholeDatabase, OpenBy, storage_of}
 use Rattle.bk_world.specs.declared.transaction.Open.{Open}
 use Rattle.bk_machine.specs.World.{World, Database, database_named, log_of, with_database}
 use Rattle.bk_machine.proofs.ActsLogs.{log-of-more}
@@ -103,6 +104,7 @@ module _ (w : World) (db : Database) (said : List Said) (transactions : List Ope
           goes_on = on_end;
           anchor = (was.anchor.0, subst (λ rs. Contains rs was.anchor.0) (sym (went-log kept checkpoint)) (Contains-append_left (log_of w.history db) (numbered db.end said) was.anchor.0 was.anchor.1), was.anchor.2, was.anchor.3);
         };
+        fits = subst (FitsSet (storage_of db) db.path) (sym (went-log kept checkpoint)) (record { storage = own.fits.storage; branches = own.fits.branches; log = may.fits });
       }
 
   went-open : (kept checkpoint : ℕ) → AreOpen (more (log_of w.history db) db.end said) (db.end + length said) transactions → OpenBy new.history (went db kept checkpoint (db.end + length said) transactions)

@@ -15,7 +15,8 @@ use Rattle.bk_world.specs.Records.{Counts}
 use Rattle.bk_world.specs.Telling.{model, time}
 use Rattle.bk_world.specs.GrowthLaws.{records-grown}
 use Rattle.bk_machine.specs.Checks.{last_number}
-use Rattle.bk_machine.specs.Sound.{AreOpen, IsHeld, IsLog, IsOnline, IsSoundLine, IsSoundReading, IsSoundSet, IsSoundSlot, IsWholeDatabase, OpenBy, files_of_set}
+use Rattle.bk_machine.specs.Fits.{FitsSet}
+use Rattle.bk_machine.specs.Sound.{AreOpen, IsHeld, IsLog, IsOnline, IsSoundLine, IsSoundReading, IsSoundSet, IsSoundSlot, IsWholeDatabase, OpenBy, files_of_set, storage_in, storage_of}
 use Rattle.bk_machine.specs.World.{World, Database, log_of}
 use Rattle.bk_machine.proofs.Histories.{held-grew, not_to_come-later, passed-grew, path-later}
 
@@ -49,6 +50,7 @@ set-there old new instance counter header same held is = record {
   model = subst (λ rs. header.model ≡ model rs) (sym same) is.model;
   finish = subst (λ rs. header.finish ≡ time rs) (sym same) is.finish;
   numbers = subst (λ rs. header.last + (length (pending rs) + 1) ≤ last_number) (sym same) is.numbers;
+  fits = subst (FitsSet (storage_in header) header.path) (sym same) is.fits;
 }
 
 pub set-stays : (old new : World) → Follows old new → (header : Header) → IsSoundSet old header → IsSoundSet new header
@@ -92,6 +94,7 @@ database-stays old new on db goes is =
         goes_on = goes up;
         anchor = (was.anchor.0, subst (λ rs. Contains rs was.anchor.0) (sym same) was.anchor.1, was.anchor.2, was.anchor.3);
       };
+      fits = subst (FitsSet (storage_of db) db.path) (sym same) is.fits;
     }
 
 pub open-stays : (old new : World) → Follows old new → (db : Database) → IsWholeDatabase old db → OpenBy old.history db → OpenBy new.history db
@@ -117,6 +120,7 @@ module _ (w : World) (db : Database) (archive kept checkpoint : ℕ) (chain bega
     family = is.family;
     held = is.held;
     online = λ up. record { goes_on = (is.online up).goes_on; anchor = (is.online up).anchor };
+    fits = is.fits;
   }
 
   pub open-retouched : OpenBy w.history db → OpenBy w.history (retouched db archive kept checkpoint chain began base units)

@@ -10,7 +10,8 @@ use Rattle.bk_world.specs.Records.{Logged}
 use Rattle.bk_world.specs.Telling.{model, time}
 use Rattle.bk_world.specs.declared.header.Header.{Header}
 use Rattle.bk_machine.specs.Checks.{last_number}
-use Rattle.bk_machine.specs.Sound.{AreDifferent, IsHeld, IsLog, IsNotToCome, IsOnce, IsSound, IsSoundLine, IsSoundReading, IsSoundSet, IsWhole, IsWholeDatabase, OpenBy, files_of_set}
+use Rattle.bk_machine.specs.Fits.{FitsSet}
+use Rattle.bk_machine.specs.Sound.{AreDifferent, IsHeld, IsLog, IsNotToCome, IsOnce, IsSound, IsSoundLine, IsSoundReading, IsSoundSet, IsWhole, IsWholeDatabase, OpenBy, files_of_set, storage_in}
 use Rattle.bk_machine.specs.World.{Database, World, most_sessions}
 use Rattle.bk_machine.proofs.ActsStay.{Follows, database-stays, lines-stay, media-stay, open-stays}
 
@@ -29,6 +30,7 @@ set-moved old new header is same held path set family =
       model = is.model ∙ ap model (sym same);
       finish = is.finish ∙ ap time (sym same);
       numbers = subst (λ rs. header.last + (length (pending rs) + 1) ≤ last_number) (sym same) is.numbers;
+      fits = subst (FitsSet (storage_in header) header.path) (sym same) is.fits;
     }
 
 -- where history, databases and media are the same, all stays whole and sound

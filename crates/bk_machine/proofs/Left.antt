@@ -21,10 +21,12 @@ use Rattle.bk_world.specs.CrashLaws.{left-counts, left-pends, left-sound, left-t
 use Rattle.bk_world.specs.BranchLaws.{branch_at-last}
 use Rattle.bk_machine.specs.JoinLaws.{placed-join}
 use Rattle.bk_machine.specs.Checks.{last_number}
-use Rattle.bk_machine.specs.Sound.{AreNumbered, ArePlaced, IsLog, IsNotToCome, IsOnline, IsPassed, IsWholeDatabase, OpenBy, has_begin}
+use Rattle.bk_machine.specs.Fits.{FitsLog, FitsSet}
+use Rattle.bk_machine.specs.Sound.{AreNumbered, ArePlaced, IsLog, IsNotToCome, IsOnline, IsPassed, IsWholeDatabase, OpenBy, has_begin, storage_of}
 use Rattle.bk_machine.specs.World.{Database, World, log_of}
 use Rattle.bk_machine.specs.SettledLaws.{counts-end}
 use Rattle.bk_machine.proofs.ActsLogs.{placed-front}
+use Rattle.bk_machine.proofs.Fitting.{fits-told}
 
 -- ---- numbers
 
@@ -121,6 +123,12 @@ module _ (cut left : World) (passed : (b : Option Guid) (k : ℕ) → IsPassed c
         let below : anchor.0.lsn < end = of-contained (λ (r : Logged). r.lsn < end) (log_below left.history old.path end) anchor.0 (counts-below 1 end (log_below left.history old.path end) log-online.counts) anchor.1 in
         all_mapped (λ (b : Branch). b.start ≤ anchor.0.lsn) (λ (b : Branch). b.start < end) (λ b le. omega (arith, le, below)) old.path anchor.3
 
+    fits-online : FitsLog (length old.groups) (log_below left.history old.path end)
+    unfolding log_of
+    fits-online =
+        fits-told (length old.groups) (log_below cut.history old.path old.end) (log_below left.history old.path end)
+        (left-tells begins (log_below cut.history old.path old.end) (log_below left.history old.path end) log) is.fits.log
+
     pub whole-online : IsWholeDatabase left (behind_crash old end)
     unfolding log_of
     whole-online = record {
@@ -131,6 +139,7 @@ module _ (cut left : World) (passed : (b : Option Guid) (k : ℕ) → IsPassed c
       family = drawn old.family is.family;
       held = λ k pos lt. held k pos (leb old.end k) refl;
       online = λ e. anchored;
+      fits = record { storage = is.fits.storage; branches = is.fits.branches; log = fits-online };
     }
       where
         held : (k : ℕ) → 0 < k → (t : Bool) → leb old.end k ≡ t → ((old.status ≡ Online) × (branch_at old.path k ≡ last_branch old.path)) ⊎ IsPassed left.history (branch_at old.path k) k
@@ -162,6 +171,7 @@ module _ (cut left : World) (passed : (b : Option Guid) (k : ℕ) → IsPassed c
           family = drawn old.family is.family;
           held = held-below;
           online = λ up. absurd (down up);
+          fits = subst (FitsSet (storage_of old) old.path) (sym same) is.fits;
         }
 
     pub open-offline : OpenBy left.history (behind_crash old old.end)

@@ -1,5 +1,6 @@
 pub mod Histories
 pub mod ActsLogs
+pub mod Fitting
 pub mod ActsStay
 pub mod ActsSays
 pub mod ActsPlain
@@ -35,6 +36,7 @@ mod Numbers
 mod Cells
 mod Lying
 mod Room
+mod CellCount
 mod Recovering
 mod Loads
 mod Reaching

@@ -12,6 +12,7 @@ use Rattle.bk_world.specs.declared.database.Creation.{Creation}
 use Rattle.bk_world.specs.declared.database.FileSpec.{FileSpec}
 use Rattle.bk_world.specs.declared.header.Header.{Header}
 use Rattle.bk_world.specs.GrowthLaws.{records-grown}
+use Rattle.bk_machine.specs.NewFileLaws.{apart-from}
 use Rattle.bk_machine.specs.Acts.{Act, Recovery, based, based_on, created, creation_said, done, done_all, dropped, gone_on, gone_online, goes_online, logged, medium_made, new_database, recovered, replaced, restored, says, seated, set_sealed, taken_over, turned, where_found, with_slot}
 use Rattle.bk_machine.specs.Built.{IsBuilt, IsBuiltLog, IsBuiltReading, IsBuiltSlot, IsNoLoad, SayNoLoad, SaysNoLoad}
 use Rattle.bk_machine.specs.MayDo.{HoldsOf, MayDo, MayDoAll, MayLog, MayRecover}
@@ -24,7 +25,6 @@ use Rattle.bk_machine.proofs.ActsBegin.{made-log, recovered-follows, recovered-l
 use Rattle.bk_machine.proofs.ActsSays.{gone_on-is, says-follows, says-log}
 use Rattle.bk_machine.proofs.Happened.{of-medium}
 use Rattle.bk_machine.proofs.Histories.{grew-same, log-front}
-use Rattle.bk_machine.proofs.NewFiles.{apart-from}
 use Rattle.bk_machine.specs.NamedLaws.{all-changed, all-one_more, all-placed, all-with, all-without, named-own, of-named}
 
 -- ---- records
@@ -115,7 +115,7 @@ module _ (w : World) (sound : IsSound w) (built : IsBuilt w) where
 
   own-created : (c : Creation) → MayDo w (created c) → IsBuiltLog (new_database c).files (more (log_below w.history [] 1) 1 (creation_said c))
   unfolding new_database log_below
-  own-created c may = record { apart = apart-from 1 c.storage.files may.files.numbered; loads = (tt, tt) }
+  own-created c may = record { apart = apart-from 1 c.storage.files may.fits.files.numbered; loads = (tt, tt) }
 
   made-built : (c : Creation) → MayDo w (created c) → BuiltIn (done w (created c)).history (new_database c)
   made-built c may = built-same (new_database c).files (more (log_below w.history [] 1) 1 (creation_said c)) (log_of (done w (created c)).history (new_database c)) (made-log w c sound may) (own-created c may)

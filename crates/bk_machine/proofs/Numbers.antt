@@ -6,7 +6,7 @@ use Rattle.std.proofs.lemmas.Bool.Decides.{nat_tests}
 use Rattle.bk_lemmas.specs.Lists.{all_filter}
 use Rattle.bk_world.specs.Records.{RowId, is_row}
 use Rattle.bk_world.specs.RowLaws.{row-same, row-itself}
-use Rattle.bk_machine.specs.Room.{each_once, has_row}
+use Rattle.bk_machine.specs.Room.{AreOnce, each_once, has_row}
 
 -- ---- rows
 
@@ -130,14 +130,10 @@ once-has id (x ∷ ids) = by (has_row x ids) refl (once-has id ids)
     by true there same = same ∙ or-same (is_row id x) (λ is. ap (λ y. has_row y ids) (row-same id x is) ∙ there)
     by false isnt same = ap (λ b. is_row id x || b) same
 
-abbrev pub RowsApart : List RowId → Type 0
-RowsApart [] = Unit {0}
-RowsApart (x ∷ xs) = (has_row x xs ≡ false) × RowsApart xs
-
-pub once-apart : (ids : List RowId) → RowsApart (each_once ids)
+pub once-apart : (ids : List RowId) → AreOnce (each_once ids)
 once-apart [] = tt
 once-apart (x ∷ ids) = by (has_row x ids) refl (once-apart ids)
   where
-    by : (t : Bool) → has_row x ids ≡ t → RowsApart (each_once ids) → RowsApart (cond t (each_once ids) (x ∷ each_once ids))
+    by : (t : Bool) → has_row x ids ≡ t → AreOnce (each_once ids) → AreOnce (cond t (each_once ids) (x ∷ each_once ids))
     by true there rest = rest
     by false isnt rest = (once-has x ids ∙ isnt, rest)

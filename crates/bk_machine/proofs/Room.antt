@@ -19,11 +19,11 @@ use Rattle.bk_world.specs.declared.database.FileSpec.{FileSpec}
 use Rattle.bk_world.specs.declared.database.TableSpec.{TableSpec}
 use Rattle.bk_lemmas.specs.Tests.{clash}
 use Rattle.bk_machine.specs.Built.{AreFilesApart, FreeCell, IsBuiltLog, LiesWell}
-use Rattle.bk_machine.specs.Room.{each_once, group_extents, group_rows, has_row, in_group, is_full}
+use Rattle.bk_machine.specs.Room.{AreOnce, each_once, group_extents, group_rows, has_row, in_group, is_full}
 use Rattle.bk_machine.specs.Sound.{AreNumbered, IsLog}
 use Rattle.bk_machine.proofs.Cells.{CellAt, cell-at, number-below, number-once, number_of}
 use Rattle.bk_machine.proofs.Lying.{lies-alone, lies-well}
-use Rattle.bk_machine.proofs.Numbers.{AllApart, Missing, RowsApart, at-most, once-apart, once-has, one-missing, row-true}
+use Rattle.bk_machine.proofs.Numbers.{AllApart, Missing, at-most, once-apart, once-has, one-missing, row-true}
 
 -- it can't be true and false
 -- ---- which rows there are
@@ -155,7 +155,7 @@ group-has rs group id =
 
 -- ---- the count
 
-number_at : List FileSpec → ℕ → Option Place → ℕ
+pub number_at : List FileSpec → ℕ → Option Place → ℕ
 number_at files group None = 0
 number_at files group (Some at) = number_of files group at
 
@@ -182,44 +182,37 @@ among f id (x ∷ xs) e = by (is_row id x) refl e (among f id xs)
         ap (λ b. b || list_any (λ y. y == f id) (map f xs)) eq
     by false isnt there rest = ap (λ b. (f x == f id) || b) (rest there) ∙ or-true (f x == f id)
 
--- the rows of a group lie in its cells, no others do, and no two rows lie in one cell
-record ArePlaces (rs : List Logged) (files : List FileSpec) (group : ℕ) : Type 0 where
-  within : (id : RowId) (at : Place) → place_of rs id ≡ Some at → in_group (tables rs) group id ≡ true → IsCellOf files group at
-  others : (id : RowId) (at : Place) → place_of rs id ≡ Some at → IsCellOf files group at → in_group (tables rs) group id ≡ true
-  alone : (id other : RowId) (at : Place) → place_of rs id ≡ Some at → place_of rs other ≡ Some at → id ≡ other
+-- no two rows lie in one cell
+abbrev AreAlone : List Logged → Type 0
+AreAlone rs = (id other : RowId) (at : Place) → place_of rs id ≡ Some at → place_of rs other ≡ Some at → id ≡ other
 
-module _ (rs : List Logged) (files : List FileSpec) (group : ℕ) (apart : AreFilesApart files) (are : ArePlaces rs files group) where
-  its : List RowId
-  its = each_once (group_rows rs group)
+-- a row lies in a cell of a group
+pub record InCell (rs : List Logged) (files : List FileSpec) (group : ℕ) (id : RowId) : Type 0 where
+  pub at : Place
+  pub there : place_of rs id ≡ Some at
+  pub is_cell : IsCellOf files group at
 
-  number : RowId → ℕ
-  number id = number_at files group (place_of rs id)
+-- the number of its cell
+abbrev pub number_in : List Logged → List FileSpec → ℕ → RowId → ℕ
+number_in rs files group id = number_at files group (place_of rs id)
 
-  -- each row of the group has a cell of it
-  record Placed (id : RowId) : Type 0 where
-    pub at : Place
-    pub there : place_of rs id ≡ Some at
-    pub is_cell : IsCellOf files group at
+module _ (rs : List Logged) (files : List FileSpec) (group : ℕ) (one_row : AreAlone rs) where
+  abbrev Placed : RowId → Type 0
+  Placed = InCell rs files group
 
-  placed : (id : RowId) → has_row id its ≡ true → Placed id
-  unfolding its
-  placed id e = by (in_group (tables rs) group id) refl (place_of rs id) refl (sym (sym (once-has id (group_rows rs group)) ∙ e) ∙ group-has rs group id)
-    where
-      by : (g : Bool) → in_group (tables rs) group id ≡ g → (p : Option Place) → place_of rs id ≡ p → true ≡ (in_group (tables rs) group id && is_some (place_of rs id)) → Placed id
-      by true own (Some at) is both = record { at = at; there = is; is_cell = are.within id at is own }
-      by true own None is both = let wrong : true ≡ false = both ∙ ap (λ g. g && is_some (place_of rs id)) own ∙ ap is_some is in absurd (cc)
-      by false own p is both = let wrong : true ≡ false = both ∙ ap (λ g. g && is_some (place_of rs id)) own in absurd (cc)
+  abbrev number : RowId → ℕ
+  number = number_in rs files group
 
-  number-is : (id : RowId) (p : Placed id) → number id ≡ number_of files group p.at
-  unfolding number number_at
+  pub number-is : (id : RowId) (p : Placed id) → number id ≡ number_of files group p.at
+  unfolding number_at
   number-is id p = ap (number_at files group) p.there
 
-  row-one : (a b : RowId) → Placed a → Placed b → number a ≡ number b → a ≡ b
+  pub row-one : (a b : RowId) → Placed a → Placed b → number a ≡ number b → a ≡ b
   row-one a b pa pb same =
       let one : pa.at ≡ pb.at = number-once files group pa.at pb.at pa.is_cell pb.is_cell (sym (number-is a pa) ∙ same ∙ number-is b pb) in
-      are.alone a b pb.at (pa.there ∙ ap (λ (p : Place). Some p) one) pb.there
+      one_row a b pb.at (pa.there ∙ ap (λ (p : Place). Some p) one) pb.there
 
-  numbers-apart : (xs : List RowId) → RowsApart xs → AllByRecursion Placed xs → AllApart (map number xs)
+  pub numbers-apart : (xs : List RowId) → AreOnce xs → AllByRecursion Placed xs → AllApart (map number xs)
   numbers-apart [] apart all = tt
   numbers-apart (x ∷ xs) apart all = (others xs apart.0 all.1, numbers-apart xs apart.1 all.1)
     where
@@ -238,12 +231,37 @@ module _ (rs : List Logged) (files : List FileSpec) (group : ℕ) (apart : AreFi
             rest none2 placed_all.1,
           )
 
-  numbers-below : (xs : List RowId) → AllByRecursion Placed xs → AllByRecursion (λ n. n < 504 * group_extents files group) (map number xs)
+  pub numbers-below : (xs : List RowId) → AllByRecursion Placed xs → AllByRecursion (λ n. n < 504 * group_extents files group) (map number xs)
   numbers-below [] all = tt
   numbers-below (x ∷ xs) all = (subst (λ n. n < 504 * group_extents files group) (sym (number-is x all.0)) (number-below files group all.0.at all.0.is_cell), numbers-below xs all.1)
 
-  all_placed : AllByRecursion Placed its
-  all_placed = all_mapped (λ x. has_row x its ≡ true) Placed (λ x e. placed x e) its (each-there its)
+-- the rows of a group lie in its cells, no others do, and no two rows lie in one cell
+record ArePlaces (rs : List Logged) (files : List FileSpec) (group : ℕ) : Type 0 where
+  within : (id : RowId) (at : Place) → place_of rs id ≡ Some at → in_group (tables rs) group id ≡ true → IsCellOf files group at
+  others : (id : RowId) (at : Place) → place_of rs id ≡ Some at → IsCellOf files group at → in_group (tables rs) group id ≡ true
+  alone : AreAlone rs
+
+module _ (rs : List Logged) (files : List FileSpec) (group : ℕ) (apart : AreFilesApart files) (are : ArePlaces rs files group) where
+  its : List RowId
+  its = each_once (group_rows rs group)
+
+  abbrev Its : RowId → Type 0
+  Its = InCell rs files group
+
+  abbrev number_its : RowId → ℕ
+  number_its = number_in rs files group
+
+  placed : (id : RowId) → has_row id its ≡ true → Its id
+  unfolding its
+  placed id e = by (in_group (tables rs) group id) refl (place_of rs id) refl (sym (sym (once-has id (group_rows rs group)) ∙ e) ∙ group-has rs group id)
+    where
+      by : (g : Bool) → in_group (tables rs) group id ≡ g → (p : Option Place) → place_of rs id ≡ p → true ≡ (in_group (tables rs) group id && is_some (place_of rs id)) → Its id
+      by true own (Some at) is both = record { at = at; there = is; is_cell = are.within id at is own }
+      by true own None is both = let wrong : true ≡ false = both ∙ ap (λ g. g && is_some (place_of rs id)) own ∙ ap is_some is in absurd (cc)
+      by false own p is both = let wrong : true ≡ false = both ∙ ap (λ g. g && is_some (place_of rs id)) own in absurd (cc)
+
+  all_placed : AllByRecursion Its its
+  all_placed = all_mapped (λ x. has_row x its ≡ true) Its (λ x e. placed x e) its (each-there its)
 
   -- a row that lies nowhere comes on top
   one_more : (id : RowId) → place_of rs id ≡ None → length (each_once (id ∷ group_rows rs group)) ≡ length its + 1
@@ -258,21 +276,21 @@ module _ (rs : List Logged) (files : List FileSpec) (group : ℕ) (apart : AreFi
   has-room : (id : RowId) (at : Place) → place_of rs id ≡ None → IsCellOf files group at → IsFreePlace rs at → nat_lt (504 * group_extents files group) (length (each_once (id ∷ group_rows rs group))) ≡ false
   unfolding its
   has-room id at none cell free =
-      let few : length (number_of files group at ∷ map number its) ≤ 504 * group_extents files group =
-      at-most (504 * group_extents files group) (number_of files group at ∷ map number its) (not_its its all_placed, numbers-apart its own_apart all_placed) (number-below files group at cell, numbers-below its all_placed) in
-      let same : length (map number its) ≡ length its = length-map its number in
+      let few : length (number_of files group at ∷ map number_its its) ≤ 504 * group_extents files group =
+      at-most (504 * group_extents files group) (number_of files group at ∷ map number_its its) (not_its its all_placed, numbers-apart rs files group are.alone its own_apart all_placed) (number-below files group at cell, numbers-below rs files group are.alone its all_placed) in
+      let same : length (map number_its its) ≡ length its = length-map its number_its in
       let count : length (each_once (id ∷ group_rows rs group)) ≡ length its + 1 = one_more id none in
       grind (arith, nat_tests, few, same, count)
     where
-      own_apart : RowsApart its
+      own_apart : AreOnce its
       own_apart = once-apart (group_rows rs group)
 
-      not_its : (xs : List RowId) → AllByRecursion Placed xs → AllByRecursion (λ n. (n == number_of files group at) ≡ false) (map number xs)
+      not_its : (xs : List RowId) → AllByRecursion Its xs → AllByRecursion (λ n. (n == number_of files group at) ≡ false) (map number_its xs)
       not_its [] all = tt
       not_its (x ∷ xs) all = (
-        elim (cases_Bool (number x == number_of files group at)) [
+        elim (cases_Bool (number_its x == number_of files group at)) [
           | inl same ↦
-              let one : all.0.at ≡ at = number-once files group all.0.at at all.0.is_cell cell (sym (number-is x all.0) ∙ grind (arith, nat_tests, same)) in
+              let one : all.0.at ≡ at = number-once files group all.0.at at all.0.is_cell cell (sym (number-is rs files group are.alone x all.0) ∙ grind (arith, nat_tests, same)) in
               absurd (free x (all.0.there ∙ ap (λ (p : Place). Some p) one))
           | inr other ↦ other
         ],
@@ -281,21 +299,21 @@ module _ (rs : List Logged) (files : List FileSpec) (group : ℕ) (apart : AreFi
 
   -- and where it isn't full there is one
   finds-room : (id : RowId) → place_of rs id ≡ None → nat_lt (504 * group_extents files group) (length (each_once (id ∷ group_rows rs group))) ≡ false → FreeCell rs files group
-  unfolding its number number_at
+  unfolding its number_at
   finds-room id none room =
       let count : length (each_once (id ∷ group_rows rs group)) ≡ length its + 1 = one_more id none in
-      let same : length (map number its) ≡ length its = length-map its number in
-      let less : length (map number its) < 504 * group_extents files group = grind (arith, nat_tests, room, count, same) in
-      let found : Missing (504 * group_extents files group) (map number its) = one-missing (504 * group_extents files group) (map number its) less in
+      let same : length (map number_its its) ≡ length its = length-map its number_its in
+      let less : length (map number_its its) < 504 * group_extents files group = grind (arith, nat_tests, room, count, same) in
+      let found : Missing (504 * group_extents files group) (map number_its its) = one-missing (504 * group_extents files group) (map number_its its) less in
       let cell : CellAt files group found.number = cell-at files group found.number apart found.below in
       record { at = cell.at; cell = cell.is_cell; free = λ other there. taken found cell other there }
     where
-      taken : (found : Missing (504 * group_extents files group) (map number its)) (cell : CellAt files group found.number) (other : RowId) → place_of rs other ≡ Some cell.at → ⊥
+      taken : (found : Missing (504 * group_extents files group) (map number_its its)) (cell : CellAt files group found.number) (other : RowId) → place_of rs other ≡ Some cell.at → ⊥
       taken found cell other there =
           let own : in_group (tables rs) group other ≡ true = are.others other cell.at there cell.is_cell in
           let has : has_row other its ≡ true = once-has other (group_rows rs group) ∙ group-has rs group other ∙ ap (λ b. b && is_some (place_of rs other)) own ∙ ap is_some there in
-          let is : number other ≡ found.number = ap (number_at files group) there ∙ cell.number in
-          clash (list_any (λ x. x == found.number) (map number its)) (ap (λ n. list_any (λ x. x == n) (map number its)) (sym is) ∙ among number other its has) found.none
+          let is : number_its other ≡ found.number = ap (number_at files group) there ∙ cell.number in
+          clash (list_any (λ x. x == found.number) (map number_its its)) (ap (λ n. list_any (λ x. x == n) (map number_its its)) (sym is) ∙ among number_its other its has) found.none
 
   -- a row of the group that lies somewhere fits, too
   own-room : (id : RowId) (at : Place) → place_of rs id ≡ Some at → in_group (tables rs) group id ≡ true → nat_lt (504 * group_extents files group) (length (each_once (id ∷ group_rows rs group))) ≡ false
@@ -303,9 +321,9 @@ module _ (rs : List Logged) (files : List FileSpec) (group : ℕ) (apart : AreFi
   own-room id at there own =
       let has : has_row id (group_rows rs group) ≡ true = group-has rs group id ∙ ap (λ g. g && is_some (place_of rs id)) own ∙ ap is_some there in
       let same : length (each_once (id ∷ group_rows rs group)) ≡ length its = ap (λ t. length (cond t (each_once (group_rows rs group)) (id ∷ each_once (group_rows rs group)))) has in
-      let few : length (map number its) ≤ 504 * group_extents files group =
-      at-most (504 * group_extents files group) (map number its) (numbers-apart its (once-apart (group_rows rs group)) all_placed) (numbers-below its all_placed) in
-      let count : length (map number its) ≡ length its = length-map its number in
+      let few : length (map number_its its) ≤ 504 * group_extents files group =
+      at-most (504 * group_extents files group) (map number_its its) (numbers-apart rs files group are.alone its (once-apart (group_rows rs group)) all_placed) (numbers-below rs files group are.alone its all_placed) in
+      let count : length (map number_its its) ≡ length its = length-map its number_its in
       grind (arith, nat_tests, few, same, count)
 
 -- ---- tables and their groups

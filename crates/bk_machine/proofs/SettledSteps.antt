@@ -31,6 +31,7 @@ use Rattle.bk_machine.specs.Sound.{AreDifferent, AreNumbered, Differ, IsSound, I
 use Rattle.bk_machine.specs.UpLaws.{IsUp, is-up, may-open}
 use Rattle.bk_machine.specs.World.{Database, World, database_named, log_of, with_database}
 use Rattle.bk_machine.specs.statements.Restore.{is_online}
+use Rattle.bk_machine.proofs.Fitting.{fits-told}
 use Rattle.bk_machine.proofs.Acting.{act-reads, act-sound}
 use Rattle.bk_machine.proofs.ActsSays.{says-found, says-log}
 use Rattle.bk_machine.proofs.Left.{placed-undoing}
@@ -117,6 +118,7 @@ module _ (w : World) (db : Database) (sound : IsSound w) (named : database_named
     may = settle-follows (log_of w.history db) db.end is.whole.log.counts is.whole.log.sound is.opens.loads;
     tables = subst (AreNumbered 1) (sym (settle-tables (log_of w.history db) db.end)) is.whole.log.tables;
     places = placed-undoing db.files (log_of w.history db) db.end (reverse (pending (log_of w.history db)));
+    fits = fits-told (length db.groups) (log_of w.history db) (more (log_of w.history db) db.end (settle_said (pending (log_of w.history db)))) (entries-settled (log_of w.history db) db.end) is.whole.fits.log;
   }
 
   -- it says a record for each pending write, and none is open then

@@ -92,6 +92,10 @@ is_name name = nat_lt 0 (length name) && nat_le (length name) 64
 abbrev pub is_path : List ℕ → Bool
 is_path path = nat_lt 0 (length path) && nat_le (length path) 100
 
+-- how many branches a recovery path has at most
+abbrev pub most_branches : ℕ
+most_branches = 64
+
 -- how many databases an instance has at most
 abbrev pub most_databases : ℕ
 most_databases = 16

@@ -10,6 +10,7 @@ pub mod Machine
 pub mod Writes
 pub mod Run
 pub mod Closing
+pub mod Fits
 pub mod Sound
 pub mod Same
 pub mod Settled
@@ -34,3 +35,4 @@ pub mod JoinLaws
 pub mod SameLaws
 pub mod SaysLaws
 pub mod NewFileLaws
+pub mod FitLaws

@@ -6,29 +6,29 @@ use Rattle.bk_world.specs.declared.database.Status.TheVariants.{Online, Down}
 use Rattle.bk_world.specs.Records.{Said, more, numbered}
 use Rattle.bk_world.specs.SoundLogs.{MayFollow}
 use Rattle.bk_world.specs.Telling.{tables}
-use Rattle.bk_machine.specs.Acts.{Act, Recovery, turned, seated, created, dropped, logged, medium_made, set_sealed, based, replaced, restored, recovered, done, drawn}
-use Rattle.bk_machine.specs.Checks.{last_number}
-use Rattle.bk_machine.specs.Files.{AreDataFiles}
+use Rattle.bk_machine.specs.Acts.{latest, Act, Recovery, turned, seated, created, dropped, logged, medium_made, set_sealed, based, replaced, restored, recovered, done, drawn}
+use Rattle.bk_machine.specs.Checks.{last_number, most_branches}
+use Rattle.bk_machine.specs.Fits.{FitsLog, FitsStorage}
 use Rattle.bk_machine.specs.Sound.{AreNumbered, AreOpen, ArePlaced, IsSoundSet, has_begin}
 use Rattle.bk_world.specs.declared.transaction.Open.{Open}
 use Rattle.bk_machine.specs.World.{World, Database, database_named, log_of, log_to, most_sessions}
-use Rattle.bk_machine.specs.statements.CreateTable.{most_groups}
 use Rattle.bk_machine.specs.statements.Restore.{Recovers}
 
--- the two next GUIDs, a name that no database has, and files and filegroups as a database may have them
+-- the two next GUIDs, a name that no database has, files and filegroups as a database may have them, and a time up to the last one
 pub record MayCreate (w : World) (c : Creation) : Type 0 where
   pub family : c.family ≡ drawn w w.counter
   pub branch : c.branch ≡ drawn w (w.counter + 1)
   pub new : database_named w.databases c.name ≡ None
-  pub groups : length c.storage.groups ≤ most_groups
-  pub files : AreDataFiles (length c.storage.groups) c.storage.files
+  pub fits : FitsStorage c.storage
+  pub time : c.time ≤ latest
 
--- a database that is online may say this: each record may come, and rows get cells of their groups
+-- a database that is online may say this: each record may come, rows get cells of their groups, and its log still fits a set
 pub record MaySay (w : World) (db : Database) (said : List Said) : Type 0 where
   pub online : db.status ≡ Online
   pub may : MayFollow (log_of w.history db) (numbered db.end said)
   pub tables : AreNumbered 1 (tables (more (log_of w.history db) db.end said))
   pub places : ArePlaced db.files (log_of w.history db) (numbered db.end said)
+  pub fits : FitsLog (length db.groups) (more (log_of w.history db) db.end said)
 
 -- a transaction was open in a database before, or begins at its end or behind it
 abbrev pub IsOpenOrNew : Database → Open → Type 0
@@ -40,7 +40,8 @@ pub record MayLog (w : World) (db : Database) (said : List Said) (transactions :
   pub each : AllByRecursion (IsOpenOrNew db) transactions
   pub opens : AreOpen (more (log_of w.history db) db.end said) (db.end + length said) transactions
 
--- A database that is down may be recovered at a number of its log, on the next GUID as its branch, where there are numbers for what the recovery says.
+-- A database that is down may be recovered at a number of its log, on the next GUID as its branch, where there are numbers for what the recovery says,
+-- and its path has room for the branch.
 pub record MayRecover (w : World) (db : Database) (r : Recovery) : Type 0 where
   pub down : db.status ≡ Down
   pub some : 0 < r.at
@@ -48,6 +49,7 @@ pub record MayRecover (w : World) (db : Database) (r : Recovery) : Type 0 where
   pub branch : r.branch ≡ drawn w w.counter
   pub recovers : Recovers (log_to w.history db r.at) r
   pub numbers : r.at + length r.said ≤ last_number
+  pub room : length db.path < most_branches
 
 -- this holds of the database of a name
 abbrev pub HoldsOf : Option Database → (Database → Type 0) → Type 0

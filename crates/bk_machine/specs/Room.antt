@@ -1,6 +1,6 @@
 -- Room: how many rows the files of a filegroup take.
 -- SQL Server: "Database Files and Filegroups". That a row takes one of 504 cells of an extent is this project's own.
-use Rattle.std.specs.Prelude.{ℕ, ◌+◌, ◌*◌, ◌==◌, ◌&&◌, Bool, List, [], ◌∷◌, ◌++◌, length, map, flat_map, filter, nat_lt, if◌then◌else◌}
+use Rattle.std.specs.Prelude.{◌≡◌, false, ℕ, ◌+◌, ◌*◌, ◌==◌, ◌&&◌, Bool, List, [], ◌∷◌, ◌++◌, length, map, flat_map, filter, nat_lt, if◌then◌else◌}
 use Rattle.std.specs.List.{list_any}
 use Rattle.bk_world.specs.declared.database.FileSpec.{FileSpec}
 use Rattle.bk_world.specs.declared.database.TableSpec.{TableSpec}
@@ -10,6 +10,11 @@ use Rattle.bk_world.specs.Telling.{rows, tables}
 
 abbrev pub has_row : RowId → List RowId → Bool
 has_row id ids = list_any (is_row id) ids
+
+-- each of some rows is there once
+abbrev pub AreOnce : List RowId → Type 0
+AreOnce [] = Unit {0}
+AreOnce (id ∷ ids) = (has_row id ids ≡ false) × AreOnce ids
 
 -- some rows, each once
 abbrev pub each_once : List RowId → List RowId

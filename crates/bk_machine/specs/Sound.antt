@@ -6,6 +6,7 @@ use Rattle.bk_ids.specs.declared.path.Branch.{Branch}
 use Rattle.bk_ids.specs.Name.{lowered}
 use Rattle.bk_ids.specs.Path.{branch_at, last_branch, IsPath}
 use Rattle.bk_world.specs.declared.database.FileSpec.{FileSpec}
+use Rattle.bk_world.specs.declared.database.Storage.{Storage}
 use Rattle.bk_world.specs.declared.database.Status.TheVariants.{Online}
 use Rattle.bk_world.specs.declared.database.TableSpec.{TableSpec}
 use Rattle.bk_world.specs.declared.header.Header.{Header}
@@ -19,6 +20,7 @@ use Rattle.bk_world.specs.SoundLogs.{IsSound as IsSoundLog, NoLoadPends, undoes}
 use Rattle.bk_world.specs.Telling.{telling, tables, model, time}
 use Rattle.bk_world.specs.declared.transaction.Open.{Open}
 use Rattle.bk_machine.specs.Checks.{last_number}
+use Rattle.bk_machine.specs.Fits.{FitsSet}
 use Rattle.bk_machine.specs.World.{World, Database, log_of, most_sessions, most_writes}
 
 -- The history.
@@ -134,6 +136,10 @@ pub record IsOnline (lines : RecordLines) (db : Database) : Type 0 where
 abbrev pub IsHeldOf : RecordLines → Database → Type 0
 IsHeldOf lines db = (k : ℕ) → 0 < k → k < db.end → ((db.status ≡ Online) × (branch_at db.path k ≡ last_branch db.path)) ⊎ IsPassed lines (branch_at db.path k) k
 
+-- the filegroups and files of a database
+abbrev pub storage_of : Database → Storage
+storage_of db = record { groups = db.groups; files = db.files; log_name = db.log_name; log_path = db.log_path }
+
 -- a database, but for what is open in it
 pub record IsWholeDatabase (w : World) (db : Database) : Type 0 where
   pub log : IsLog db.files (log_of w.history db) db.end
@@ -143,6 +149,7 @@ pub record IsWholeDatabase (w : World) (db : Database) : Type 0 where
   pub family : IsNotToCome w db.family
   pub held : IsHeldOf w.history db
   pub online : db.status ≡ Online → IsOnline w.history db
+  pub fits : FitsSet (storage_of db) db.path (log_of w.history db)
 
 -- two databases have different names, and where both are online they write on different branches
 pub record Differ (a b : Database) : Type 0 where
@@ -164,6 +171,10 @@ files_of_set header = specs_of header.files
     specs_of [] = []
     specs_of (file ∷ files) = file.spec ∷ specs_of files
 
+-- the filegroups and files of a set's database
+abbrev pub storage_in : Header → Storage
+storage_in header = record { groups = header.groups; files = files_of_set header; log_name = header.log_name; log_path = header.log_path }
+
 -- A set: the log of its path is whole below its end, and held. Numbers are left for its recovery: to undo each pending write, and to name the branch.
 pub record IsSoundSet (w : World) (header : Header) : Type 0 where
   pub log : IsLog (files_of_set header) (log_below w.history header.path header.last) header.last
@@ -176,6 +187,7 @@ pub record IsSoundSet (w : World) (header : Header) : Type 0 where
   pub model : header.model ≡ model (log_below w.history header.path header.last)
   pub finish : header.finish ≡ time (log_below w.history header.path header.last)
   pub numbers : header.last + (length (pending (log_below w.history header.path header.last)) + 1) ≤ last_number
+  pub fits : FitsSet (storage_in header) header.path (log_below w.history header.path header.last)
 
 abbrev pub IsSoundSlot : World → Slot → Type 0
 IsSoundSlot w (readable header) = IsSoundSet w header

@@ -41,7 +41,7 @@ pub use number_laws::numbers_are_left;
 pub use progress_laws::statements_come_to_outcomes;
 pub use reaching_laws::reached_worlds_are_sound;
 pub use recovery_laws::recoveries_undo_what_is_pending;
-pub use room_laws::groups_are_full_where_no_cell_is_free;
+pub use room_laws::{groups_are_full_where_no_cell_is_free, rows_lie_in_cells};
 pub use same_laws::{logs_that_stay, media_that_stay};
 pub use set_laws::sets_that_stay;
 pub use settling_laws::{

@@ -1,14 +1,21 @@
-ghost use Rattle.std.specs.Prelude.{◌≡◌, ℕ, ◌==◌, true, false, List, [], ◌∷◌, Option, None, Some};
-ghost use Rattle.std.specs.List.{find};
+ghost use Rattle.std.specs.Prelude.{◌≡◌, ◌≤◌, ℕ, ◌*◌, ◌==◌, true, false, List, [], ◌∷◌, length, Option, None, Some, is_some};
+ghost use Rattle.std.specs.List.{find, AllByRecursion};
 ghost use Rattle.bk_ids.specs.declared.record.Place.{Place};
 ghost use Rattle.bk_machine.specs.Built.{FreeCell, IsBuiltLog, LiesWell};
-ghost use Rattle.bk_machine.specs.Room.{is_full};
+ghost use Rattle.bk_machine.specs.Files.{extents_in};
+ghost use Rattle.bk_machine.specs.Room.{AreOnce, is_full};
 ghost use Rattle.bk_machine.specs.Sound.{IsLog};
 ghost use Rattle.bk_world.specs.Places.{place_of};
 ghost use Rattle.bk_world.specs.Records.{Logged, RowId};
 ghost use Rattle.bk_world.specs.Telling.{tables};
 ghost use Rattle.bk_world.specs.declared.database.FileSpec.{FileSpec};
 ghost use Rattle.bk_world.specs.declared.database.TableSpec.{TableSpec};
+
+/// In a sound log in which no load was said no more rows lie anywhere than its files have cells, 504 in each extent.
+pub fn rows_lie_in_cells()
+    ensures { (files : List FileSpec) (rs : List Logged) (end : ℕ) → IsLog files rs end → IsBuiltLog files rs
+        → (ids : List RowId) → AreOnce ids → AllByRecursion (λ id. is_some (place_of rs id) ≡ true) ids → length ids ≤ 504 * extents_in files }
+{}
 
 /// In a sound log in which no load was said, each row that lies somewhere lies in a cell of its table's group, and no two lie in
 /// one. A group is full for a row that lies nowhere exactly where it has no free cell; it isn't full for one that lies there.

@@ -11,14 +11,16 @@ use Rattle.bk_ids.specs.declared.guid.Guid.{Guid}
 use Rattle.bk_items.specs.declared.item.ScriptItem.TheVariants as script
 use Rattle.bk_items.specs.declared.item.UnitName.{UnitName}
 use Rattle.bk_items.specs.declared.options.BackupOptions.{BackupOptions}
-use Rattle.bk_machine.specs.Acts.{Act, based, done, drawn, gone_on, logged, medium_made, said_time, says, set_sealed}
+use Rattle.bk_machine.specs.FitLaws.{said-time}
+use Rattle.bk_media_plans.specs.Sets.{MayMakeSet}
+use Rattle.bk_machine.specs.Acts.{latest, Act, based, done, drawn, gone_on, logged, medium_made, said_time, says, set_sealed}
 use Rattle.bk_machine.specs.CheckLaws.{is-none, not-refused, passed, second-false, was-found, was-online}
 use Rattle.bk_machine.specs.Checks.{limit, online, or_refuse, outside, refuse_if, used_up, is_path}
 use Rattle.bk_machine.specs.Machine.{May}
 use Rattle.bk_machine.specs.MayDo.{HoldsOf, MayDo, MayDoAll, MayLog, MaySay}
-use Rattle.bk_machine.specs.NamedLaws.{named-own}
+use Rattle.bk_machine.specs.NamedLaws.{named-own, of-named}
 use Rattle.bk_machine.specs.Outcome.{Outcome}
-use Rattle.bk_machine.specs.Sound.{IsSound, IsWhole}
+use Rattle.bk_machine.specs.Sound.{IsSound, IsWhole, IsWholeDatabase}
 use Rattle.bk_machine.specs.World.{World, Database, database_named, least_begin, log_of}
 use Rattle.bk_machine.specs.statements.Backup.{DoesBackup, backed_up, check_backup, full_header, is_whole_backup}
 use Rattle.bk_shown.specs.Shown.{AreNext}
@@ -80,6 +82,14 @@ checked w line name units path options db e =
       left = subst (λ (d : Database). used_up d.end ≡ false) same (first_false (used_up three.found.end) (used_up w.counter) free);
       draws = second-false (used_up three.found.end) (used_up w.counter) free;
     }
+
+-- a database that is found so in a sound world may make a set now
+pub may-make : (w : World) (line : ℕ) (name : List ℕ) (units : List UnitName) (path : List ℕ) (options : BackupOptions) (now : ℕ) (d : KeptDatabase) (time : ℕ) → IsSound w
+    → check_backup w line name units path options ≡ Ok (database_of d) → ShowsLog w.history d → time ≡ said_time w (database_of d) now → MayMakeSet w d time
+may-make w line name units path options now d time sound passes shows time-is =
+    let its : IsChecked w path (database_of d) = checked w line name units path options (database_of d) passes in
+    let whole : IsWholeDatabase w (database_of d) = of-named (IsWholeDatabase w) w.databases d.name (database_of d) sound.whole.databases its.named in
+    record { whole = whole; shows = shows; left = its.left; timely = subst (λ (t : ℕ). t ≤ latest) (sym time-is) (said-time w (database_of d) now (length d.groups) whole.fits.log) }
 
 -- The laws of worlds.
 

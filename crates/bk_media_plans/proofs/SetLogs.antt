@@ -157,6 +157,10 @@ carries-made w lines d set time body shows header made listed spells join live b
     (join d.files (log_below w.history d.path d.shown.«end» ++ c ∷ []) (s ∷ []) (join d.files (log_below w.history d.path d.shown.«end») (c ∷ []) shows.placed (tt, tt)) (tt, tt))
     is
 
-pub made-some : (o : Option SetBody) (body : SetBody) (none kept : Type 0) (P : SetBody → Type 0) → P body → MatchOption o none (λ b. (b ≡ body) × kept) → IfSome o P
+pub made-some : (o : Option SetBody) (body : SetBody) (none : Type 0) (kept P : SetBody → Type 0) → P body → MatchOption o none (λ b. (b ≡ body) × kept b) → IfSome o P
 made-some None body none kept P holds made = tt
 made-some (Some b) body none kept P holds made = subst P (sym made.0) holds
+
+pub made-keeps : (o : Option SetBody) (body : SetBody) (none : Type 0) (kept : SetBody → Type 0) → MatchOption o none (λ b. (b ≡ body) × kept b) → IfSome o kept
+made-keeps None body none kept made = tt
+made-keeps (Some b) body none kept made = made.1

@@ -1,10 +1,9 @@
 -- The parts of a full backup.
 use Rattle.std.specs.Prelude.{◌≡◌, ◌≤◌, ℕ, ◌+◌, List, [], ◌∷◌, ◌++◌}
-use Rattle.std.specs.List.{All, AllByRecursion}
+use Rattle.std.specs.List.{AllByRecursion}
 use Rattle.bk_acts.specs.declared.act.StoredAct.{StoredAct}
 use Rattle.bk_acts.specs.declared.act.StoredAct.TheVariants.{Logged as LoggedAct, Based}
 use Rattle.bk_acts.specs.Meaning.{Spell}
-use Rattle.bk_acts.specs.Transactions.{KeepsTransaction}
 use Rattle.bk_ids.specs.declared.guid.Guid.{Guid}
 use Rattle.bk_machine.specs.World.{World, least_begin, log_of}
 use Rattle.bk_machine.specs.statements.Backup.{full_header}
@@ -46,14 +45,12 @@ pub record IsMark (d : KeptDatabase) (lsn : ℕ) (said : Said) (stored : StoredA
   pub records : List ℕ
   pub is : stored ≡ LoggedAct d.name d.transactions records
   pub spell : Spell records lsn (said ∷ [])
-  pub keep : All KeepsTransaction d.transactions
 
 -- one part more, by which a database says one thing under a number, and its transactions stay open
 pub record Marks (d : KeptDatabase) (lsn : ℕ) (said : Said) (old new : List Part) : Type 0 where
   pub records : List ℕ
   pub are : new ≡ old ++ Stored (LoggedAct d.name d.transactions records) ∷ []
   pub spell : Spell records lsn (said ∷ [])
-  pub keep : All KeepsTransaction d.transactions
 
 -- one part more, by which the set of a database is sealed at a path
 pub record SealsOne (d : KeptDatabase) (path : List ℕ) (set : Guid) (time : ℕ) (old new : List Part) : Type 0 where
@@ -80,7 +77,6 @@ pub record IsBackup (d : KeptDatabase) (path : List ℕ) (set : Guid) (time : �
   pub spell_finish : Spell finish (d.shown.«end» + 1) (alone (stamped time set))
   pub is_set : IsSet d set time body
   pub is_header : IsFullHeader d set time header
-  pub keep : All KeepsTransaction d.transactions
   pub keeps_body : KeepsBody body
   pub keeps_header : KeepsConditions header
 

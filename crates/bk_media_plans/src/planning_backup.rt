@@ -1,10 +1,15 @@
 //! The plan of a full backup.
 
-ghost use Rattle.std.specs.Prelude.{◌≡◌, ◌<◌, ◌+◌, ◌∷◌, ◌++◌, [], ◌^◌, true, false, is_some, IfOk, OnOk};
+ghost use Rattle.std.specs.Prelude.{◌≡◌, ◌<◌, ◌+◌, ◌∷◌, ◌++◌, [], ◌^◌, true, false, is_some, IfOk, IsErrOf, OnOk};
 ghost use Rattle.bk_acts.specs.Meaning.{under};
 ghost use Rattle.bk_header.specs.Conditions.{KeepsConditions};
 ghost use Rattle.bk_items.specs.declared.item.ScriptItem.TheVariants as script;
 ghost use Rattle.bk_machine.specs.Checks as checks;
+ghost use Rattle.bk_kept.specs.Keeps.{Keeps};
+ghost use Rattle.bk_machine.specs.Sound.{IsSound};
+ghost use Rattle.bk_machine.specs.World.{World};
+ghost use Rattle.bk_media_plans.specs.Sets.{MayMakeSet};
+ghost use Rattle.bk_shown.specs.declared.error.TakeError.TheVariants.{Unfit};
 ghost use Rattle.bk_media_plans.specs.Backups.{BasesOne, IsBackup, IsBackupPlan, IsFullHeader, IsMark, IsSet, Marks, SealsOne};
 ghost use Rattle.bk_plans.specs.declared.parts.Part.TheVariants.{MediumMade};
 ghost use Rattle.bk_plans.specs.Planning.{KeepsPlan, Plans};
@@ -14,18 +19,20 @@ ghost use Rattle.bk_world.specs.Medium.{medium_at};
 ghost use Rattle.bk_world.specs.Records.{Said};
 
 use crate::backing_up::check_backup;
+use crate::planning_restore::refusing;
 use crate::set::{header_of, set_of};
 use bk_acts::StoredAct;
 use bk_header::keeps;
 use bk_ids::{Body, Guid, Lsn, Sequence, Text};
 use bk_items::{BackupOptions, UnitName};
-use bk_kept::{Database, Kept};
+use bk_kept::{Database, Kept, copy_transactions};
 use bk_machine::{
     acts_keep_worlds_sound, sets_hold_what_is_pending, statements_do_what_they_may,
     what_is_said_comes_last,
 };
-use bk_plans::{Part, Plan, logged, open_in, refused, said_time, say_one};
+use bk_plans::{Part, Plan, logged, said_time, say_one};
 use bk_set::SetBody;
+use bk_shown::TakeError;
 use bk_world::{Header, Reply};
 use std::alloc::{AllocError, Global};
 
@@ -40,7 +47,7 @@ fn mark_act(
     ensures { IfOk result (λ act. (s : Said) → under lsn s ≡ record { lsn = lsn; begin = 0; body = body } → IsMark database.now lsn s act) }
 {
     let records = say_one(alloc, lsn, 0, body)?;
-    match open_in(alloc, database) {
+    match copy_transactions(alloc, database.transactions.as_slice()) {
         Ok(transactions) => logged(alloc, database, transactions, records),
         Err(error) => {
             drop(records);
@@ -74,37 +81,48 @@ fn push_medium(alloc: Global, parts: &mut Vec<Part>, disk: &Text) -> Result<(), 
     Ok(())
 }
 
-// The set that a backup makes. Where there is none, or its header keeps no header's conditions, it fails as if memory were wanting.
-fn body_of(alloc: Global, database: &Database, set: Guid, time: u64) -> Result<SetBody, AllocError>
+// The set that a backup makes. `Unfit` comes only where the database fits no set.
+fn body_of(alloc: Global, database: &Database, set: Guid, time: u64) -> Result<SetBody, TakeError>
     ensures set { IfOk result (IsSet database.now set time) }
     ensures keeps { IfOk result KeepsBody }
+    ensures unfit { IsErrOf result Unfit → (w : World) → MayMakeSet w database.now time → ⊥ }
 {
     match set_of(alloc, database, set, time)? {
-        Some(body) if keeps(&body.header) => Ok(body),
-        _ => Err(AllocError),
+        Some(body) => Ok(body),
+        None => Err(TakeError::Unfit),
     }
 }
 
-// The header of that set, of its own.
+// The header of that set, of its own. `Unfit` comes only where the database fits no set.
 fn kept_header(
     alloc: Global,
     database: &Database,
     set: Guid,
     time: u64,
-) -> Result<Header, AllocError>
+) -> Result<Header, TakeError>
     requires { database.now.shown.«end» + 2 < 2 ^ 64 }
     ensures header { IfOk result (IsFullHeader database.now set time) }
     ensures keeps { IfOk result KeepsConditions }
+    ensures unfit { IsErrOf result Unfit → (w : World) → MayMakeSet w database.now time → ⊥ }
 {
     let header = header_of(alloc, database, set, time)?;
     if keeps(&header) {
         Ok(header)
     } else {
-        Err(AllocError)
+        drop(header);
+        Err(TakeError::Unfit)
     }
 }
 
-// One part more: the set is sealed on the medium.
+// One part more.
+fn push(parts: &mut Vec<Part>, part: Part) -> Result<(), AllocError>
+    ensures { OnOk result (parts.new.items ≡ parts.old.items ++ part ∷ []) }
+{
+    parts.push(part)?;
+    Ok(())
+}
+
+// One part more: the set is sealed on the medium. `Unfit` comes only where the database fits no set.
 fn push_set(
     alloc: Global,
     parts: &mut Vec<Part>,
@@ -112,42 +130,45 @@ fn push_set(
     disk: &Text,
     set: Guid,
     time: u64,
-) -> Result<(), AllocError>
-    ensures { OnOk result (SealsOne database.now disk.now set time parts.old.items parts.new.items) }
+) -> Result<(), TakeError>
+    ensures seals { OnOk result (SealsOne database.now disk.now set time parts.old.items parts.new.items) }
+    ensures unfit { IsErrOf result Unfit → (w : World) → MayMakeSet w database.now time → ⊥ }
 {
     let path = disk.copy(alloc)?;
     let body = body_of(alloc, database, set, time)?;
-    parts.push(Part::SetSealed { path, body })?;
+    push(parts, Part::SetSealed { path, body })?;
     Ok(())
 }
 
-// One part more: the database is based on the set.
+// One part more: the database is based on the set. `Unfit` comes only where the database fits no set.
 fn push_base(
     alloc: Global,
     parts: &mut Vec<Part>,
     database: &Database,
     set: Guid,
     time: u64,
-) -> Result<(), AllocError>
+) -> Result<(), TakeError>
     requires { database.now.shown.«end» + 2 < 2 ^ 64 }
-    ensures { OnOk result (BasesOne database.now set time parts.old.items parts.new.items) }
+    ensures bases { OnOk result (BasesOne database.now set time parts.old.items parts.new.items) }
+    ensures unfit { IsErrOf result Unfit → (w : World) → MayMakeSet w database.now time → ⊥ }
 {
     let name = database.name.copy(alloc)?;
     let header = kept_header(alloc, database, set, time)?;
-    parts.push(Part::Stored(StoredAct::Based { name, header }))?;
+    push(parts, Part::Stored(StoredAct::Based { name, header }))?;
     Ok(())
 }
 
-// The parts of a backup of a database by which a set of this GUID is made at a time.
+// The parts of a backup of a database by which a set of this GUID is made at a time. `Unfit` comes only where the database fits no set.
 fn backup_parts(
     alloc: Global,
     database: &Database,
     disk: &Text,
     set: Guid,
     time: u64,
-) -> Result<Vec<Part>, AllocError>
+) -> Result<Vec<Part>, TakeError>
     requires left { checks.used_up database.now.shown.«end» ≡ false }
-    ensures { IfOk result (λ parts. IsBackup database.now disk.now set time parts.items) }
+    ensures parts { IfOk result (λ parts. IsBackup database.now disk.now set time parts.items) }
+    ensures unfit { IsErrOf result Unfit → (w : World) → MayMakeSet w database.now time → ⊥ }
 {
     let end = database.shown.end();
     let mut parts = Vec::new(alloc);
@@ -165,18 +186,19 @@ fn backup_parts(
     Ok(parts)
 }
 
-// The plan of a backup of a database at a time.
+// The plan of a backup of a database at a time. `Unfit` comes only where the database fits no set.
 fn backup(
     kept: &Kept,
     alloc: Global,
     database: &Database,
     disk: &Text,
     time: u64,
-) -> Result<Plan, AllocError>
+) -> Result<Plan, TakeError>
     requires path { checks.is_path disk.now ≡ true }
     requires left { checks.used_up database.now.shown.«end» ≡ false }
     ensures parts { IfOk result (IsBackupPlan database.now disk.now (record { high = kept.now.number; low = kept.now.counter }) time) }
     ensures keeps { IfOk result KeepsPlan }
+    ensures unfit { IsErrOf result Unfit → (w : World) → MayMakeSet w database.now time → ⊥ }
 {
     let set = Guid {
         high: kept.number,
@@ -194,8 +216,7 @@ fn backup(
 }
 
 /// What `BACKUP DATABASE` on this line comes to at `now`, in milliseconds since 1970-01-01 00:00:00 UTC, where a file is there at
-/// the path of its medium or not. Where the database fits no set it fails as if memory were wanting; that statements make
-/// no such database isn't proved here.
+/// the path of its medium or not. `Unfit` comes only where the database fits no set: it is that of no sound world.
 pub fn plan_backup(
     kept: &Kept,
     alloc: Global,
@@ -206,10 +227,11 @@ pub fn plan_backup(
     options: &BackupOptions,
     is_there: bool,
     now: u64,
-) -> Result<Plan, AllocError>
+) -> Result<Plan, TakeError>
     ensures plans { IfOk result (Plans kept.now (λ w. is_some (medium_at w.media disk.now) ≡ is_there)
         (record { item = script.BackupDatabase database.now units.now disk.now options.now; line = line }) now) }
     ensures keeps { IfOk result KeepsPlan }
+    ensures unfit { IsErrOf result Unfit → (w : World) → IsSound w → Keeps w kept.now → is_some (medium_at w.media disk.now) ≡ is_there → ⊥ }
 {
     statements_do_what_they_may();
     acts_keep_worlds_sound();
@@ -217,6 +239,6 @@ pub fn plan_backup(
     sets_hold_what_is_pending();
     match check_backup(kept, line, database, units, disk, is_there, options) {
         Ok(database) => backup(kept, alloc, database, disk, said_time(database, now)),
-        Err(refusal) => refused(refusal),
+        Err(refusal) => refusing(refusal),
     }
 }

@@ -301,8 +301,8 @@ fn restoring(kept: &Kept, alloc: Global, asked: &Text, body: SetBody) -> Result<
     })
 }
 
-// The plan of a restore that is refused.
-fn refusing(refusal: Refusal) -> Result<Plan, TakeError>
+// The plan of a statement that is refused.
+pub(crate) fn refusing(refusal: Refusal) -> Result<Plan, TakeError>
     ensures rule { IfOk result (IsRefusedBy refusal) }
     ensures fit { IsErrOf result Unfit → ⊥ }
     ensures keeps { IfOk result KeepsPlan }

@@ -1,28 +1,30 @@
 //! The set that a full backup of a database makes, whatever transactions are open in it.
 
-ghost use Rattle.std.specs.Prelude.{◌≡◌, ◌<◌, ◌+◌, ◌^◌, ◌++◌, true, false, List, length, map, IfOk, OnOk, IfSome, IsSome, None};
+ghost use Rattle.std.specs.Prelude.{◌≡◌, ◌<◌, ◌+◌, ◌^◌, ◌++◌, true, List, map, IfOk, OnOk, IfSome, IsSome, MatchOption, None};
 ghost use Rattle.bk_ids.specs.declared.record.Rec.{Rec as RecSpec};
-ghost use Rattle.bk_machine.specs.Checks as checks;
 ghost use Rattle.bk_machine.specs.World.{World, log_of};
 ghost use Rattle.bk_machine.specs.statements.Backup as backup;
 ghost use Rattle.bk_record.specs.Log.{IsLog};
 ghost use Rattle.bk_record.specs.Spelling.{IsRecord, KeepsLimits, spelling};
-ghost use Rattle.bk_set.specs.Conditions.{KeepParts};
+ghost use Rattle.bk_header.specs.Conditions.{KeepsConditions};
+ghost use Rattle.bk_set.specs.Conditions.{KeepParts, KeepsBody};
 ghost use Rattle.bk_undo.specs.Spelled.{spelled};
 ghost use Rattle.bk_world.specs.Lines.{RecordLines, log_below};
 ghost use Rattle.bk_world.specs.Records.{checkpointed, numbered, stamped};
 ghost use Rattle.bk_world.specs.Says.{alone};
 ghost use Rattle.bk_kept.specs.Keeps.{HoldsLive, ShowsLog, database_of};
 ghost use Rattle.bk_media_plans.specs.Backups.{AreBegun};
-ghost use Rattle.bk_media_plans.specs.Sets.{FitsSet, with_set};
+ghost use Rattle.bk_media_plans.specs.Sets.{MayMakeSet, with_set};
 ghost use Rattle.bk_kept.specs.Stored.{Carries};
 
+use bk_header::keeps;
 use bk_ids::{Body, Guid, Lsn, Rec, Sequence, Text};
 use bk_kept::{Database, copy_file, copy_groups, used_up};
+use bk_machine::rows_lie_in_cells;
 use bk_record::Records;
 use bk_set::{SetBody, make};
 use bk_shown::placed_logs;
-use bk_world::{Base, FileSpec, Header, HeaderFile, SetKind, TableSpec};
+use bk_world::{Base, FileSpec, Header, HeaderFile, PlacedRow, SetKind, TableSpec};
 use std::alloc::{AllocError, Global};
 
 // The data files of a database as a full set's header names them.
@@ -142,9 +144,30 @@ fn set_log(
     Ok(log)
 }
 
+// The body of these parts, exactly where they and the header keep the conditions of a set.
+fn kept_body(
+    header: Header,
+    tables: Sequence<TableSpec>,
+    rows: Sequence<PlacedRow>,
+    log: Records,
+) -> Option<SetBody>
+    ensures { MatchOption result ((KeepsConditions header × KeepParts header tables rows) → ⊥)
+        (λ body. (body ≡ record { header = header; tables = tables; rows = rows; log = log }) × KeepsBody body) }
+{
+    if keeps(&header) {
+        make(header, tables, rows, log)
+    } else {
+        drop(header);
+        drop(tables);
+        drop(rows);
+        drop(log);
+        None
+    }
+}
+
 // The body of the set that a full backup of a database makes at a time, in milliseconds since 1970-01-01 00:00:00 UTC: its log is
-// the database's from the first record of what is open on, the checkpoint at the database's end, and the stamp behind it. None
-// where numbers are used up, or where tables and rows don't keep the conditions of a set.
+// the database's from the first record of what is open on, the checkpoint at the database's end, and the stamp behind it. There is one
+// where a database of a sound world has numbers left.
 pub(crate) fn set_of(
     alloc: Global,
     database: &Database,
@@ -152,15 +175,15 @@ pub(crate) fn set_of(
     time: u64,
 ) -> Result<Option<SetBody>, AllocError>
     ensures header { IfOk result (λ made. IfSome made (λ body. (w : World) → ShowsLog w.history database.now → body.header ≡ backup.full_header w (database_of database.now) set time)) }
-    ensures parts { IfOk result (λ made. IfSome made (λ body. KeepParts body.header body.tables body.rows)) }
+    ensures keeps { IfOk result (λ made. IfSome made KeepsBody) }
     ensures carries { IfOk result (λ made. IfSome made (λ body. (w : World) (lines : RecordLines)
         → ShowsLog w.history database.now → HoldsLive w.history database.now → AreBegun w database.now
         → log_below lines database.now.path (database.now.shown.«end» + 2) ≡ with_set (log_of w.history (database_of database.now)) database.now.shown.«end» set time
         → Carries lines body)) }
-    ensures some { IfOk result (λ made. (w : World) → ShowsLog w.history database.now → checks.used_up database.now.shown.«end» ≡ false
-        → FitsSet (length database.now.groups) (log_of w.history (database_of database.now)) → IsSome made) }
+    ensures some { IfOk result (λ made. (w : World) → MayMakeSet w database.now time → IsSome made) }
 {
     placed_logs();
+    rows_lie_in_cells();
     let end = database.shown.end();
     if used_up(end) {
         return Ok(None);
@@ -169,5 +192,5 @@ pub(crate) fn set_of(
     let rows = database.shown.placed_rows(alloc)?;
     let log = set_log(alloc, &database.live, end, set, time)?;
     let header = header_of(alloc, database, set, time)?;
-    Ok(make(header, tables, Sequence::new(rows), log))
+    Ok(kept_body(header, tables, Sequence::new(rows), log))
 }

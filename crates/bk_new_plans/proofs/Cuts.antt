@@ -1,13 +1,11 @@
 -- Where a text is cut between characters.
-use Rattle.std.proofs.Common.{◌≡◌, ◌<◌, ◌≤◌, ℕ, zero, suc, Bool, true, false, cond, List, length, take, leb, length-append, length-take, codes, refl, sym, ◌∙◌, ap, subst, arith}
-use Rattle.std.specs.Prelude.{nat_le, nat_lt, slice_index}
+use Rattle.std.proofs.Common.{◌≡◌, ◌<◌, ◌≤◌, ℕ, zero, suc, Bool, true, false, cond, List, length, take, leb, refl, sym, ◌∙◌, ap, subst, arith}
+use Rattle.std.specs.Prelude.{slice_index}
 use Rattle.std.specs.Str.{IsCharBoundary}
 use Rattle.std.specs.Fmt.{is_char_start}
 use Rattle.std.specs.Fmt.Cut.{floor_char_boundary}
-use Rattle.std.proofs.lemmas.Bool.{and_from, le-leb, lt-ltb}
 use Rattle.std.proofs.lemmas.Bool.Decides.{nat_tests}
-use Rattle.bk_machine.specs.Checks.{is_name}
-use Rattle.bk_machine.specs.statements.CreateDatabase.{text_front, default_log}
+use Rattle.bk_machine.specs.statements.CreateDatabase.{text_front}
 
 -- a byte begins a character or not
 starts : (b : ℕ) → (128 ≤ b → 192 ≤ b) → is_char_start b ≡ true
@@ -54,30 +52,3 @@ pub front-cut : (text : List ℕ) (kept : ℕ) → 60 < length text → kept ≤
 front-cut text kept long le at none =
     let no : leb (length text) 60 ≡ false = grind (arith, nat_tests, long) in
     ap (λ t. cond t text (take (floor_char_boundary text 60) text)) no ∙ ap (λ n. take n text) (floor-is text 60 kept long le at none)
-
-floor-within : (bs : List ℕ) (i : ℕ) → floor_char_boundary bs i ≤ i
-unfolding floor_char_boundary
-floor-within bs zero = omega arith
-floor-within bs (suc i) = by (floor-within bs i) (is_char_start (slice_index bs (suc i)))
-  where
-    by : floor_char_boundary bs i ≤ i → (t : Bool) → cond t (suc i) (floor_char_boundary bs i) ≤ suc i
-    by lower true = omega arith
-    by lower false = omega (arith, lower)
-
-front-short : (text : List ℕ) → length (text_front 60 text) ≤ 60
-front-short text = by (leb (length text) 60) refl
-  where
-    by : (t : Bool) → leb (length text) 60 ≡ t → length (cond t text (take (floor_char_boundary text 60) text)) ≤ 60
-    by true e = grind (arith, nat_tests, e)
-    by false e = omega (arith, length-take (floor_char_boundary text 60) text, floor-within text 60)
-
--- a log's name has 4 to 64 bytes
-default_log-short : (name : List ℕ) → length (default_log name) ≤ 64
-default_log-short name = omega (arith, length-append (text_front 60 name) (codes "_log"), front-short name)
-
-default_log-some : (name : List ℕ) → 0 < length (default_log name)
-default_log-some name = omega (arith, length-append (text_front 60 name) (codes "_log"))
-
-pub default_log-named : (name : List ℕ) → is_name (default_log name) ≡ true
-default_log-named name =
-    and_from (nat_lt 0 (length (default_log name))) (nat_le (length (default_log name)) 64) (lt-ltb 0 (length (default_log name)) (default_log-some name)) (le-leb (length (default_log name)) 64 (default_log-short name))

@@ -8,7 +8,7 @@ use Rattle.std.proofs.lemmas.Bool.Decides.{nat_tests}
 use Rattle.std.proofs.lemmas.List.{length-map, map-append}
 use Rattle.std.proofs.lemmas.List.Elements.{All-from_recursion}
 use Rattle.std.proofs.lemmas.List.Sums.{sum_by-cons, sum_by-drop_more}
-use Rattle.bk_acts.specs.Storage.{HasPath, KeepsStorage}
+use Rattle.bk_storage.specs.Storage.{HasPath, KeepsStorage}
 use Rattle.bk_items.specs.declared.item.NewFile.{NewFile}
 use Rattle.bk_items.specs.declared.item.NewGroup.{NewGroup}
 use Rattle.bk_machine.specs.Checks.{is_name, is_path}
@@ -17,7 +17,7 @@ use Rattle.bk_machine.specs.statements.CreateDatabase.{are_named, default_log, f
 use Rattle.bk_world.specs.declared.database.FileSpec.{FileSpec}
 use Rattle.bk_lemmas.specs.Lists.{all_joined}
 use Rattle.bk_machine.specs.NewFileLaws.{files-length}
-use Rattle.bk_new_plans.proofs.Cuts.{default_log-named}
+use Rattle.bk_machine.specs.NewFileLaws.{default_log-named}
 use Rattle.bk_new_plans.specs.NewFiles.{capped}
 
 -- the element at a place, and what follows it

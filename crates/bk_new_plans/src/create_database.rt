@@ -1,7 +1,7 @@
 //! `CREATE DATABASE`: its check and its plan.
 
 ghost use Rattle.std.specs.Prelude.{◌≡◌, ◌+◌, ◌||◌, min, true, false, is_some, length, nat_le, IfOk};
-ghost use Rattle.bk_acts.specs.Storage.{KeepsStorage};
+ghost use Rattle.bk_storage.specs.Storage.{KeepsStorage};
 ghost use Rattle.bk_acts.specs.declared.act.StoredAct.TheVariants.{Created};
 ghost use Rattle.bk_items.specs.declared.item.ScriptItem.TheVariants as script;
 ghost use Rattle.bk_machine.specs.Acts.{latest};

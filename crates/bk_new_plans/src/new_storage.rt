@@ -4,7 +4,7 @@ ghost use Rattle.std.specs.Prelude.{◌≡◌, true, codes, map, IfOk};
 ghost use Rattle.std.specs.List.{list_all, list_any};
 ghost use Rattle.std.specs.Option.{option_map};
 ghost use Rattle.std.specs.Str.{bytes_eq};
-ghost use Rattle.bk_acts.specs.Storage.{KeepsStorage};
+ghost use Rattle.bk_storage.specs.Storage.{KeepsStorage};
 ghost use Rattle.bk_ids.specs.Name.{same_name};
 ghost use Rattle.bk_kept.specs.Keeps.{database_of};
 ghost use Rattle.bk_machine.specs.statements.CreateDatabase as create;
@@ -75,6 +75,7 @@ pub(crate) fn are_named(
 fn primary_name(alloc: Global) -> Result<Name, AllocError>
     ensures { IfOk result (λ name. name ≡ codes "PRIMARY") }
 {
+    // 1 to 64 bytes: memory alone may be wanting
     Name::new(alloc, "PRIMARY").map_err(|_| AllocError)
 }
 

@@ -66,8 +66,8 @@ may_next p stood a r is may fits = record {
 
 -- and the cell has 128 bytes
 pub may_fit : (body : Body) (place : Place) (image : List ℕ) → KeepsLimits body → Some (place, image) ≡ cell_set (effect_of body) → length image ≡ 128
-may_fit (Write other before after) place image limits sets = ap length (some_pair_parts place other image after.bytes sets).1 ∙ length-image after.bytes limits.1.1
-may_fit (Compensation other cell undone) place image limits sets = ap length (some_pair_parts place other image cell.bytes sets).1 ∙ length-image cell.bytes limits.1
+may_fit (Write other before after) place image limits sets = ap length (some_pair_parts place other image after.bytes sets).1 ∙ length-image after.bytes limits.1
+may_fit (Compensation other cell undone) place image limits sets = ap length (some_pair_parts place other image cell.bytes sets).1 ∙ length-image cell.bytes limits
 may_fit (Bulk table first count value extents) place image limits sets = absurd cc
 may_fit _ place image limits sets = absurd cc
 

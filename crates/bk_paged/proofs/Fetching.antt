@@ -20,12 +20,12 @@ use Rattle.bk_side.specs.Laws.{added_kept, shown_kept, side_kept}
 use Rattle.bk_side.specs.Names.{side_file, IsOwn as IsOfSide}
 use Rattle.bk_side.specs.Pages.{IsSound, shown}
 use Rattle.bk_side.specs.Side.{IsOwnOf, pages_of}
+use Rattle.bk_paged.specs.Laws.{crash_as, recovers_as}
 use Rattle.bk_paged.specs.Holds.{Leaves, Stood}
 use Rattle.bk_paged.specs.Names.{IsOwn, IsThere, names_of, shown_at}
 use Rattle.bk_paged.specs.Paged.{IsDirty, IsLast, IsPaged, Kept, Standing, sealed_count}
 use Rattle.bk_paged.specs.Pooled.{AreClean, Fetches, IsPool, ReadsPage}
-use Rattle.bk_paged.proofs.Leaving.{recovers_as, still_holds}
-use Rattle.bk_paged.proofs.Saying.{crash_as}
+use Rattle.bk_paged.proofs.Leaving.{still_holds}
 
 -- ---- calls that change nothing
 
@@ -51,6 +51,7 @@ paged_kept p stood a b is call =
       same_note = is.same_note;
       ends = is.ends;
       held = ap (λ (l : Logged). l.records ++ p.log.waiting) (value_kept log is.standing.logs) ∙ is.held;
+      needs = is.needs;
       kept = is.kept;
       order = is.order;
       sealed = is.sealed;
@@ -136,6 +137,7 @@ read_stands p stood pool file page i a b is call there sized read =
       same_note = now.same_note;
       ends = now.ends;
       held = now.held;
+      needs = now.needs;
       kept = now.kept;
       order = now.order;
       sealed = now.sealed;

@@ -1,6 +1,6 @@
 -- What a crash leaves of a database, by what it leaves of the log.
 use Rattle.std.proofs.Common.{◌≡◌, ◌≤◌, ◌⊎◌, ℕ, ◌+◌, ◌-◌, List, ◌++◌, length, take, drop, refl, inl, inr, sym, ap, subst, ◌∙◌, arith}
-use Rattle.std.proofs.lemmas.List.{length-append, length-drop, take_all, drop-take}
+use Rattle.std.proofs.lemmas.List.{length-append, take_all, drop-take}
 use Rattle.std.proofs.Math.Seq.{take-append_seam}
 use Rattle.std.specs.List.{flat_map}
 use Rattle.bk_device.specs.Compose.{effect_none, effect_weaken, effect_widen}
@@ -13,42 +13,18 @@ use Rattle.bk_bytes.specs.FieldLaws.{length-bytes_of}
 use Rattle.bk_facts.specs.Facts.{Notes, facts_bytes, file_bytes}
 use Rattle.bk_ids.specs.declared.record.Rec.{Rec}
 use Rattle.bk_log.specs.Laws.{log_left}
-use Rattle.bk_log.specs.Log.{IsLog, value_of, Kept as KeptLog}
-use Rattle.bk_segments.specs.Files.{IsOwn as IsOfLog, LogIs, Logged, blobs_of, with_more}
-use Rattle.bk_segments.specs.Records.{records_of}
-use Rattle.bk_paths.specs.PageLaws.{page_since}
+use Rattle.bk_log.specs.Log.{value_of, Kept as KeptLog}
+use Rattle.bk_segments.specs.Files.{IsOwn as IsOfLog, LogIs, Logged, with_more}
 use Rattle.bk_paths.specs.Paths.{KeepsOpen, kept_from}
 use Rattle.bk_redo.specs.declared.place.PageAt.{PageAt}
-use Rattle.bk_redo.specs.PageStates.{page_of}
 use Rattle.bk_side.specs.Names.{AreDifferent}
-use Rattle.bk_paged.specs.Holds.{HaveRoom, Holds, IsStored, Leaves, Recovers, Stood, front_of}
+use Rattle.bk_paged.specs.Laws.{apart, recovers_as, stored_length}
+use Rattle.bk_paged.specs.Holds.{HaveRoom, Holds, Leaves, Stood, front_of}
 use Rattle.bk_paged.specs.Names.{IsOwn, names_of, shown_at}
 use Rattle.bk_paged.specs.Paged.{IsPaged, Kept, sealed_count}
-use Rattle.bk_paged.proofs.Named.{apart, shown_left}
-
--- the same pages, from a lower number on and with a log that is kept from another number on
-pub recovers_as : (kept lower since point : ℕ) (files : List DataFile) (shown other : PageAt → List ℕ) (records : List Rec) → Recovers kept since files shown records → 1 ≤ lower → lower ≤ point → point ≤ since → KeepsOpen lower records
-    → ((at : PageAt) → other at ≡ shown at) → Recovers lower point files other records
-recovers_as kept lower since point files shown other records is some order early opened same = record {
-  path = is.path;
-  some = some;
-  order = order;
-  early = omega (arith, early, is.early);
-  opened = opened;
-  room = is.room;
-  pages = λ at there.
-      let page = is.pages at there in
-      let Of : List ℕ → Type 0 = IsStored records point at in
-      subst Of (sym (same at)) (record { sound = page.sound; place = page.place; is_page = page_since records since point at (page_of (shown at)) early page.is_page });
-}
+use Rattle.bk_paged.proofs.Named.{shown_left}
 
 -- ---- the records of the log
-
--- how many of them are durable
-pub stored_length : (disk : Disk) (log : KeptLog) → IsLog disk log → log.head.kept + length (value_of disk.files log).records ≡ log.stored
-stored_length disk log is =
-    let all : List Rec = records_of (blobs_of disk.files log.db log.head) in
-    omega (arith, is.run.ends, is.sound.kept, is.inside, length-drop (log.head.kept - log.head.first) all)
 
 -- a front of a list that was cut is cut from a front
 cut_front : (n m : ℕ) (xs ys records : List Rec) → xs ++ ys ≡ drop n records → m ≡ n + length xs → n ≤ length records → xs ≡ drop n (take m records)
@@ -65,7 +41,7 @@ stored_front p stood a is =
 -- ---- room in the note
 
 -- another note has room, too
-pub with_note : {files : List DataFile} {note other : List ℕ} → HaveRoom files note → length other ≤ 12288 → HaveRoom files other
+pub with_note : {files : List DataFile} {note other : List ℕ} → HaveRoom files note → length other ≤ 30720 → HaveRoom files other
 with_note room short = record { few = room.few; first = room.first; rest = short }
 
 -- the note of a log takes both
@@ -88,10 +64,10 @@ room_short facts note bytes room is =
 
 -- what a log holds, with the pages as they were, is the database with a front of its records
 pub front_holds : (p : Kept) (stood : Stood) (a : Disk) (image : Files) (k checkpoint : ℕ) (log : Logged) (note : List ℕ) → IsPaged a p stood → sealed_count p ≤ k → LogIs image p.log.db log
-    → Notes log.note (record { checkpoint = checkpoint; files = stood.files }) note → length note ≤ 12288 → log.records ≡ kept_from log.kept (take k stood.records) → 1 ≤ log.kept → log.kept ≤ checkpoint → checkpoint ≤ p.since
+    → Notes log.note (record { checkpoint = checkpoint; files = stood.files }) note → length note ≤ 30720 → log.records ≡ kept_from log.kept (take k stood.records) → 1 ≤ log.kept → log.kept ≤ checkpoint → checkpoint ≤ p.since
     → KeepsOpen log.kept (take k stood.records) → ((at : PageAt) → shown_at p.log.db stood.files image at ≡ shown_at p.log.db stood.files a.files at)
-    → Holds p.log.db (record (front_of k stood) { note = note }) image
-front_holds p stood a image k checkpoint log note is enough log_is noted short held some kept early opened same = record {
+    → log.kept ≤ stood.needed → Holds p.log.db (record (front_of k stood) { note = note }) image
+front_holds p stood a image k checkpoint log note is enough log_is noted short held some kept early opened same need = record {
   log = log;
   checkpoint = checkpoint;
   log_is = log_is;
@@ -99,6 +75,7 @@ front_holds p stood a image k checkpoint log note is enough log_is noted short h
   room = with_note (subst (λ (fs : List DataFile). HaveRoom fs p.note) is.files is.standing.room) short;
   different = subst (λ (fs : List DataFile). AreDifferent (names_of fs)) is.files is.standing.different;
   held = held;
+  needs = need;
   recovers = recovers_as p.log.head.kept log.kept p.since checkpoint stood.files (shown_at p.log.db stood.files a.files) (shown_at p.log.db stood.files image) (take k stood.records) (is.recovers k enough) some kept early opened same;
 }
 
@@ -120,8 +97,8 @@ same_facts p stood a is =
     let Of : List DataFile → List ℕ → Type 0 = λ fs n. Notes p.log.note (record { checkpoint = p.facts.checkpoint; files = fs }) n in
     subst (λ (n : List ℕ). Of stood.files n) is.same_note (subst (λ (fs : List DataFile). Of fs p.note) is.files is.standing.noted)
 
-pub note_short : (p : Kept) (stood : Stood) (a : Disk) → IsPaged a p stood → length stood.note ≤ 12288
-note_short p stood a is = subst (λ (n : List ℕ). length n ≤ 12288) is.same_note is.standing.room.rest
+pub note_short : (p : Kept) (stood : Stood) (a : Disk) → IsPaged a p stood → length stood.note ≤ 30720
+note_short p stood a is = subst (λ (n : List ℕ). length n ≤ 30720) is.same_note is.standing.room.rest
 
 -- a log with the same kept point and note, and those records of a front that it keeps
 pub log_front : (p : Kept) (stood : Stood) (a : Disk) (image : Files) (k : ℕ) (log : Logged) → IsPaged a p stood → sealed_count p ≤ k → log.kept ≡ p.log.head.kept → log.note ≡ p.log.note
@@ -134,7 +111,7 @@ log_front p stood a image k log is enough kept note held log_is same =
     (note_short p stood a is)
     (held ∙ ap (λ (n : ℕ). kept_from n (take k stood.records)) (sym kept))
     (omega (arith, kept, front.some)) (omega (arith, kept, is.kept)) is.order
-    (subst (λ (n : ℕ). KeepsOpen n (take k stood.records)) (sym kept) front.opened) same
+    (subst (λ (n : ℕ). KeepsOpen n (take k stood.records)) (sym kept) front.opened) same (omega (arith, kept, is.needs))
 
 -- each crash leaves the durable records
 pub still_holds : (p : Kept) (stood : Stood) (a : Disk) (image : Files) → IsPaged a p stood → MayLeaveOwn (IsOwn p.log.db stood.files) a image → Holds p.log.db (front_of (sealed_count p) stood) image

@@ -29,12 +29,13 @@ use Rattle.bk_side.specs.Laws.{added_kept, side_kept}
 use Rattle.bk_side.specs.Names.{AreDifferent, side_file, IsOwn as IsOfSide}
 use Rattle.bk_side.specs.Pages.{shown}
 use Rattle.bk_side.specs.Side.{IsSide, IsOwnOf, added_of, pages_of, Kept as KeptSide}
+use Rattle.bk_paged.specs.Laws.{apart}
 use Rattle.bk_paged.specs.Holds.{HaveRoom, Holds, Recovers, unwritten}
 use Rattle.bk_paged.specs.Making.{AreFirst, HoldsNone, IsFirstPage}
 use Rattle.bk_paged.specs.Names.{IsOwn, IsThere, names_of, pages_in, shown_at}
 use Rattle.bk_paged.specs.Paged.{IsPaged}
 use Rattle.bk_paged.proofs.Adding.{named}
-use Rattle.bk_paged.proofs.Named.{apart, own_keeps, shown_left, shown_stays, side_keeps}
+use Rattle.bk_paged.proofs.Named.{own_keeps, shown_left, shown_stays, side_keeps}
 
 -- ---- one data file
 
@@ -157,6 +158,7 @@ made_holds db files note bytes image room different noted log first = record {
   room = room;
   different = different;
   held = refl;
+  needs = omega arith;
   recovers = first_recovers files (shown_at db files image) first;
 }
 
@@ -226,6 +228,7 @@ made_stands db files note own bytes log side pool failed b c room different note
       same_note = same;
       ends = omega (arith, end);
       held = ap (λ (l : Logged). l.records ++ log.waiting) value ∙ waiting ∙ subst (λ (n : ℕ). ◌≡◌ {A = List Rec} [] (kept_from n [])) (sym kept) refl;
+      needs = omega (arith, kept);
       kept = omega (arith, kept);
       order = omega arith;
       sealed = omega (arith, stored, end);

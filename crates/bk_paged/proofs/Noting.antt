@@ -11,10 +11,11 @@ use Rattle.bk_ids.specs.declared.record.Rec.{Rec}
 use Rattle.bk_log.specs.Log.{IsLog, value_of, Kept as KeptLog}
 use Rattle.bk_segments.specs.Files.{IsOwn as IsOfLog, LogIs, Logged, cut_at}
 use Rattle.bk_paths.specs.Paths.{KeepsOpen, kept_from}
+use Rattle.bk_paged.specs.Laws.{stored_length}
 use Rattle.bk_paged.specs.Holds.{Leaves, Stood}
 use Rattle.bk_paged.specs.Names.{IsOwn}
 use Rattle.bk_paged.specs.Paged.{IsPaged, Kept, sealed_count}
-use Rattle.bk_paged.proofs.Leaving.{front_holds, log_front, log_wide, note_short, same_facts, stored_front, stored_length}
+use Rattle.bk_paged.proofs.Leaving.{front_holds, log_front, log_wide, note_short, same_facts, stored_front}
 use Rattle.bk_paged.proofs.Standing.{log_stands}
 
 -- ---- the note
@@ -25,7 +26,7 @@ Noted log bytes a image = LogIs image log.db (value_of a.files log) ⊎ LogIs im
 -- the bytes are a note for the database, with this latest checkpoint
 pub record Spells (p : Kept) (bytes : List ℕ) (checkpoint : ℕ) (note : List ℕ) : Type 0 where
   pub noted : Notes bytes (record { checkpoint = checkpoint; files = p.facts.files }) note
-  pub short : length note ≤ 12288
+  pub short : length note ≤ 30720
   pub kept : p.log.head.kept ≤ checkpoint
   pub early : checkpoint ≤ p.since
 
@@ -38,7 +39,7 @@ pub spelled_now : (p : Kept) (stood : Stood) (a : Disk) (bytes : List ℕ) → I
 spelled_now p stood a bytes is notes = record { noted = notes; short = is.standing.room.rest; kept = omega (arith, is.kept, is.order); early = omega arith }
 
 -- with another note of the layer above
-pub spelled_new : (p : Kept) (stood : Stood) (a : Disk) (bytes note : List ℕ) → IsPaged a p stood → length note ≤ 12288 → Notes bytes p.facts note → Spells p bytes p.facts.checkpoint note
+pub spelled_new : (p : Kept) (stood : Stood) (a : Disk) (bytes note : List ℕ) → IsPaged a p stood → length note ≤ 30720 → Notes bytes p.facts note → Spells p bytes p.facts.checkpoint note
 spelled_new p stood a bytes note is short notes = record { noted = notes; short = short; kept = is.kept; early = is.order }
 
 abbrev pub Either : Kept → Stood → List ℕ → Files → Type 0
@@ -62,7 +63,7 @@ note_crash p stood bytes checkpoint note a b is spells effect =
         k,
         omega arith,
         front_holds p stood a image k checkpoint put note is (omega arith) (subst (λ (l : Logged). LogIs image p.log.db l) after here.2)
-            (subst (λ (fs : List DataFile). Notes bytes (record { checkpoint = checkpoint; files = fs }) note) is.files spells.noted) spells.short (stored_front p stood a is) front.some spells.kept spells.early front.opened here.3,
+            (subst (λ (fs : List DataFile). Notes bytes (record { checkpoint = checkpoint; files = fs }) note) is.files spells.noted) spells.short (stored_front p stood a is) front.some spells.kept spells.early front.opened here.3 is.needs,
       )
     ])
     (log_wide p stood Q a b is (effect_weaken (λ image here. elim here [
@@ -89,7 +90,7 @@ note_stands p stood bytes checkpoint note log failed a b is spells effect logs v
     log_stands p stood log facts note failed a b is effect logs db ends (omega (arith, stored)) (omega (arith, stored, ends, is.sealed))
     (ap (λ (rs : List Rec). rs ++ log.waiting) records ∙ ap (λ (w : List Rec). (value_of a.files p.log).records ++ w) waiting ∙ is.held ∙ ap (λ (n : ℕ). kept_from n stood.records) (sym kept))
     (subst (λ (n : List ℕ). Notes n facts note) (sym in_note) spells.noted) refl spells.short (omega (arith, kept, front.some)) (omega (arith, kept, spells.kept)) spells.early
-    (λ k enough. subst (λ (n : ℕ). KeepsOpen n (take k stood.records)) (sym kept) (is.recovers k (omega (arith, enough, stored))).opened)
+    (λ k enough. subst (λ (n : ℕ). KeepsOpen n (take k stood.records)) (sym kept) (is.recovers k (omega (arith, enough, stored))).opened) (omega (arith, kept, is.needs))
 
 -- the note is kept as a copy
 pub note_stands_as : (p : Kept) (stood : Stood) (bytes : List ℕ) (checkpoint : ℕ) (note copy : List ℕ) (log : KeptLog) (failed : Bool) (a b : Disk) → IsPaged a p stood → Spells p bytes checkpoint note → copy ≡ note → Effect (IsOfLog p.log.db) (Noted p.log bytes a) a b
@@ -113,7 +114,7 @@ abbrev pub Cut : KeptLog → ℕ → Disk → Files → Type 0
 Cut log to a image = LogIs image log.db (value_of a.files log) ⊎ LogIs image log.db (cut_at to (value_of a.files log))
 
 -- a list that was cut, cut again
-cut_again : (kept to : ℕ) (records : List Rec) → 1 ≤ kept → kept ≤ to → drop (to - kept) (kept_from kept records) ≡ kept_from to records
+pub cut_again : (kept to : ℕ) (records : List Rec) → 1 ≤ kept → kept ≤ to → drop (to - kept) (kept_from kept records) ≡ kept_from to records
 cut_again kept to records some order =
     drop-drop (to - kept) (kept - 1) records ∙ ap (λ (n : ℕ). drop n records) (omega (arith, some, order))
 
@@ -121,9 +122,9 @@ cut_again kept to records some order =
 front_whole : (p : Kept) (stood : Stood) (a : Disk) (k : ℕ) → IsPaged a p stood → p.log.stored ≡ p.log.end → sealed_count p ≤ k → take k stood.records ≡ stood.records
 front_whole p stood a k is whole enough = take_all k stood.records (omega (arith, whole, enough, is.ends))
 
-pub cut_crash : (p : Kept) (stood : Stood) (to : ℕ) (a b : Disk) → IsPaged a p stood → p.log.stored ≡ p.log.end → p.log.head.kept ≤ to → to ≤ p.facts.checkpoint → KeepsOpen to stood.records → Effect (IsOfLog p.log.db) (Cut p.log to a) a b
+pub cut_crash : (p : Kept) (stood : Stood) (to : ℕ) (a b : Disk) → IsPaged a p stood → p.log.stored ≡ p.log.end → p.log.head.kept ≤ to → to ≤ p.facts.checkpoint → KeepsOpen to stood.records → to ≤ stood.needed → Effect (IsOfLog p.log.db) (Cut p.log to a) a b
     → Effect (IsOwn p.log.db stood.files) (Leaves p.log.db (sealed_count p) stood) a b
-cut_crash p stood to a b is whole from early opened effect =
+cut_crash p stood to a b is whole from early opened need effect =
     let old : Logged = value_of a.files p.log in
     let Q : Logged → Type 0 = λ log. (log ≡ old) ⊎ (log ≡ cut_at to old) in
     let k : ℕ = sealed_count p in
@@ -142,7 +143,7 @@ cut_crash p stood to a b is whole from early opened effect =
             (note_short p stood a is)
             (ap (drop (to - p.log.head.kept)) (stored_front p stood a is) ∙ cut_again p.log.head.kept to (take k stood.records) front.some from)
             (omega (arith, front.some, from)) early is.order
-            (subst (KeepsOpen to) (sym (front_whole p stood a k is whole (omega arith))) opened) here.3,
+            (subst (KeepsOpen to) (sym (front_whole p stood a k is whole (omega arith))) opened) here.3 need,
       )
     ])
     (log_wide p stood Q a b is (effect_weaken (λ image here. elim here [
@@ -150,10 +151,10 @@ cut_crash p stood to a b is whole from early opened effect =
       | inr after ↦ (cut_at to old, inr refl, after)
     ]) effect))
 
-pub cut_stands : (p : Kept) (stood : Stood) (to : ℕ) (log : KeptLog) (failed : Bool) (a b : Disk) → IsPaged a p stood → p.log.stored ≡ p.log.end → p.log.head.kept ≤ to → to ≤ p.facts.checkpoint → KeepsOpen to stood.records
+pub cut_stands : (p : Kept) (stood : Stood) (to : ℕ) (log : KeptLog) (failed : Bool) (a b : Disk) → IsPaged a p stood → p.log.stored ≡ p.log.end → p.log.head.kept ≤ to → to ≤ p.facts.checkpoint → KeepsOpen to stood.records → to ≤ stood.needed
     → Effect (IsOfLog p.log.db) (Cut p.log to a) a b → IsLog b log → value_of b.files log ≡ cut_at to (value_of a.files p.log) → log.db ≡ p.log.db → log.stored ≡ p.log.stored → log.end ≡ p.log.end → log.waiting ≡ p.log.waiting
     → IsPaged b (record p { log = log; failed = failed }) stood
-cut_stands p stood to log failed a b is whole from early opened effect logs value db stored ends waiting =
+cut_stands p stood to log failed a b is whole from early opened need effect logs value db stored ends waiting =
     let old : Logged = value_of a.files p.log in
     let kept : log.head.kept ≡ to = ap (λ (l : Logged). l.kept) value in
     let in_note : log.note ≡ p.log.note = ap (λ (l : Logged). l.note) value in
@@ -167,5 +168,5 @@ cut_stands p stood to log failed a b is whole from early opened effect logs valu
     log_stands p stood log p.facts p.note failed a b is effect logs db ends (omega (arith, stored)) (omega (arith, stored, ends, is.sealed))
     (ap (λ (rs : List Rec). rs ++ log.waiting) records ∙ ap (λ (w : List Rec). drop (to - p.log.head.kept) old.records ++ w) waiting ∙ held ∙ ap (λ (n : ℕ). kept_from n stood.records) (sym kept))
     (subst (λ (n : List ℕ). Notes n p.facts p.note) (sym in_note) is.standing.noted) refl is.standing.room.rest (omega (arith, kept, from, front.some)) (omega (arith, kept, early)) is.order
-    (λ k enough. subst (λ (n : ℕ). KeepsOpen n (take k stood.records)) (sym kept) (subst (KeepsOpen to) (sym (front_whole p stood a k is whole (omega (arith, enough, stored)))) opened)) in
+    (λ k enough. subst (λ (n : ℕ). KeepsOpen n (take k stood.records)) (sym kept) (subst (KeepsOpen to) (sym (front_whole p stood a k is whole (omega (arith, enough, stored)))) opened)) (omega (arith, kept, need)) in
     subst (λ (n : List ℕ). IsPaged b (record p { log = log; failed = failed }) (record stood { note = n })) is.same_note stands

@@ -13,9 +13,9 @@ use Rattle.bk_log.specs.Laws.{one_logged}
 use Rattle.bk_log.specs.Log.{value_of, Kept as KeptLog}
 use Rattle.bk_segments.specs.Files.{IsOwn as IsOfLog, LogIs, Logged}
 use Rattle.bk_side.specs.Names.{IsData, name_of, side_file, IsOwn as IsOfSide}
+use Rattle.bk_paged.specs.Laws.{apart}
 use Rattle.bk_paged.specs.Making.{AreAbsent, AreGone, AreNoted, IsAmong, NamesFiles, Removes, StillNames}
 use Rattle.bk_paged.specs.Names.{IsOwn, names_of}
-use Rattle.bk_paged.proofs.Named.{apart}
 
 -- ---- files that go
 

@@ -5,8 +5,8 @@ use Rattle.std.specs.Prelude.{slice_index_or}
 use Rattle.std.proofs.lemmas.Bool.{and_parts, cases_lt, cond-false, or_from}
 use Rattle.std.proofs.lemmas.List.{drop-append-le, length-append, take-append-le, take_all}
 use Rattle.std.proofs.lemmas.List.Folds.{list_all-append}
-use Rattle.bk_device.specs.Compose.{effect_none, effect_weaken}
-use Rattle.bk_device.specs.Disk.{Files, Disk}
+use Rattle.bk_device.specs.Compose.{effect_none}
+use Rattle.bk_device.specs.Disk.{Disk}
 use Rattle.bk_device.specs.Effects.{Effect}
 use Rattle.bk_facts.specs.declared.facts.DataFile.{DataFile}
 use Rattle.bk_ids.specs.declared.record.Rec.{Rec}
@@ -149,6 +149,7 @@ said_with few p stood a r pool is next frames clean =
       ends = omega (arith, is.ends, longer);
       held = sym (append_assoc (value_of a.files p.log).records p.log.waiting (r ∷ [])) ∙ ap (λ (rs : List Rec). rs ++ r ∷ []) is.held
           ∙ sym (drop-append-le (p.log.head.kept - 1) records (r ∷ []) (omega (arith, full.some, full.order, full.early)));
+      needs = is.needs;
       kept = is.kept;
       order = is.order;
       sealed = omega (arith, is.sealed);
@@ -174,12 +175,6 @@ said_stands few p stood a r is next off =
 -- ---- what a crash leaves meanwhile
 
 -- fewer records are asked for
-pub leaves_fewer : (db few many : ℕ) (stood : Stood) (image : Files) → few ≤ many → Leaves db many stood image → Leaves db few stood image
-leaves_fewer db few many stood image order leaves = (leaves.0, omega (arith, order, leaves.1), leaves.2)
-
-pub effect_fewer : (db few many : ℕ) (stood : Stood) (a b : Disk) → few ≤ many → Effect (IsOwn db stood.files) (Leaves db many stood) a b → Effect (IsOwn db stood.files) (Leaves db few stood) a b
-effect_fewer db few many stood a b order effect = effect_weaken (λ image leaves. leaves_fewer db few many stood image order leaves) effect
-
 -- nothing was done yet
 pub none_one : (p : Kept) (stood : Stood) (a : Disk) (r : Rec) → IsPaged a p stood → Effect (IsOwn p.log.db stood.files) (Leaves p.log.db (sealed_count p) (with_one stood r)) a a
 none_one p stood a r is =
@@ -188,7 +183,7 @@ none_one p stood a r is =
     effect_none a (λ image mine. (
       k,
       omega arith,
-      subst (λ (rs : List Rec). Holds p.log.db (record { files = stood.files; note = stood.note; records = rs }) image) (sym same) (still_holds p stood a image is mine),
+      subst (λ (rs : List Rec). Holds p.log.db (record stood { records = rs }) image) (sym same) (still_holds p stood a image is mine),
     ))
 
 -- the record of a checkpoint is one that may be said next
@@ -208,11 +203,6 @@ pub checkpoint_said : UndoingIsNoLonger → (p q : Kept) (stood : Stood) (a : Di
     → q ≡ with_waiting p (checkpoint_record p now) → IsPaged a q (with_one stood (checkpoint_record p now))
 checkpoint_said few p q stood a now is room small same =
     subst (λ (k : Kept). IsPaged a k (with_one stood (checkpoint_record p now))) (sym same) (said_stands few p stood a (checkpoint_record p now) is (checkpoint_next p stood a now is room small) (λ at. refl))
-
--- the same of a value for the same database with no fewer durable records
-pub crash_as : (db other few many : ℕ) (stood : Stood) (a b : Disk) → other ≡ db → few ≤ many → Effect (IsOwn other stood.files) (Leaves other many stood) a b → Effect (IsOwn db stood.files) (Leaves db few stood) a b
-crash_as db other few many stood a b same order effect =
-    effect_fewer db few many stood a b order (subst (λ (n : ℕ). Effect (IsOwn n stood.files) (Leaves n many stood) a b) same effect)
 
 -- all that was done to log, side and pool
 pub all_same : (p between q : Kept) → between ≡ record p { log = between.log } → q ≡ record between { side = q.side; pool = q.pool; since = between.log.end } → between.log.end ≡ p.log.end

@@ -12,19 +12,20 @@ use Rattle.bk_redo.specs.declared.place.PageAt.{PageAt}
 use Rattle.bk_redo.specs.PageStates.{page_of}
 use Rattle.bk_side.specs.Laws.{added_kept, side_kept}
 use Rattle.bk_side.specs.Names.{AreDifferent, side_file}
+use Rattle.bk_paged.specs.Laws.{recovers_as}
 use Rattle.bk_paged.specs.Holds.{HaveRoom, Stood}
 use Rattle.bk_paged.specs.Names.{names_of, shown_at}
 use Rattle.bk_paged.specs.Paged.{IsPaged, Kept, sealed_count}
-use Rattle.bk_paged.proofs.Leaving.{Flushed, recovers_as, with_note}
+use Rattle.bk_paged.proofs.Leaving.{Flushed, with_note}
 use Rattle.bk_paged.proofs.Named.{own_keeps, shown_stays, side_keeps}
 
 -- The log is another one, with no fewer durable records; facts and note are those in its note.
 pub log_stands : {P : Files → Type 0} (p : Kept) (stood : Stood) (log : KeptLog) (facts : Facts) (note : List ℕ) (failed : Bool) (a b : Disk) → IsPaged a p stood → Effect (IsOfLog p.log.db) P a b → IsLog b log
     → log.db ≡ p.log.db → log.end ≡ p.log.end → p.log.stored ≤ log.stored → log.stored ≤ log.end → (value_of b.files log).records ++ log.waiting ≡ kept_from log.head.kept stood.records
-    → Notes log.note facts note → facts.files ≡ p.facts.files → length note ≤ 12288 → 1 ≤ log.head.kept → log.head.kept ≤ facts.checkpoint → facts.checkpoint ≤ p.since
-    → ((k : ℕ) → log.stored - 1 ≤ k → KeepsOpen log.head.kept (take k stood.records))
+    → Notes log.note facts note → facts.files ≡ p.facts.files → length note ≤ 30720 → 1 ≤ log.head.kept → log.head.kept ≤ facts.checkpoint → facts.checkpoint ≤ p.since
+    → ((k : ℕ) → log.stored - 1 ≤ k → KeepsOpen log.head.kept (take k stood.records)) → log.head.kept ≤ stood.needed
     → IsPaged b (record p { log = log; facts = facts; note = note; failed = failed }) (record stood { note = note })
-log_stands p stood log facts note failed a b is effect logs db ends later sealed held noted files short some kept order opened =
+log_stands p stood log facts note failed a b is effect logs db ends later sealed held noted files short some kept order opened need =
     let keeps = side_keeps p.log.db p.facts.files effect in
     let own = own_keeps p.log.db p.facts.files p.side is.standing.side_name is.standing.side_names keeps in
     let same : (at : PageAt) → shown_at log.db stood.files b.files at ≡ shown_at p.log.db stood.files a.files at = λ at. ap (λ (n : ℕ). shown_at n stood.files b.files at) db ∙ shown_stays p.log.db stood.files effect at in
@@ -43,6 +44,7 @@ log_stands p stood log facts note failed a b is effect logs db ends later sealed
       same_note = refl;
       ends = ends ∙ is.ends;
       held = held;
+      needs = need;
       kept = kept;
       order = order;
       sealed = sealed;
@@ -65,5 +67,5 @@ flush_stands p stood log failed a b is effect logs value db ends none stored =
     log_stands p stood log p.facts p.note failed a b is effect logs db ends (omega (arith, stored, is.sealed)) (omega (arith, stored, ends))
     (ap (λ (w : List _). (value_of b.files log).records ++ w) none ∙ append-nil (value_of b.files log).records ∙ records ∙ is.held ∙ ap (λ (n : ℕ). kept_from n stood.records) (sym kept))
     (subst (λ (n : List ℕ). Notes n p.facts p.note) (sym note) is.standing.noted) refl is.standing.room.rest (omega (arith, kept, front.some)) (omega (arith, kept, is.kept)) is.order
-    (λ k enough. subst (λ (n : ℕ). KeepsOpen n (take k stood.records)) (sym kept) (is.recovers k (omega (arith, enough, stored, is.sealed))).opened) in
+    (λ k enough. subst (λ (n : ℕ). KeepsOpen n (take k stood.records)) (sym kept) (is.recovers k (omega (arith, enough, stored, is.sealed))).opened) (omega (arith, kept, is.needs)) in
     subst (λ (n : List ℕ). IsPaged b (record p { log = log; failed = failed }) (record stood { note = n })) is.same_note stands

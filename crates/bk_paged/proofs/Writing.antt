@@ -27,13 +27,13 @@ use Rattle.bk_redo.specs.PageStates.{PageState, cells_of, page_of}
 use Rattle.bk_side.specs.Names.{AreDifferent, side_file, IsOwn as IsOfSide}
 use Rattle.bk_side.specs.Pages.{Entry, Shows, batched, shown}
 use Rattle.bk_side.specs.Side.{IsSide, IsOwnOf, ShowsPages, added_of, pages_of, Kept as KeptSide}
+use Rattle.bk_paged.specs.Laws.{apart, recovers_as}
 use Rattle.bk_paged.specs.Holds.{HaveRoom, IsStored, Leaves, Recovers, Stood}
 use Rattle.bk_paged.specs.Names.{IsOwn, IsThere, names_of, shown_at}
 use Rattle.bk_paged.specs.Paged.{IsLast, IsPaged, Kept, sealed_count}
 use Rattle.bk_paged.specs.Pooled.{AreClean, Batches, IsDirtyBelow}
 use Rattle.bk_paged.proofs.Adding.{ShowsEither, batched_pages, named}
-use Rattle.bk_paged.proofs.Leaving.{log_front, recovers_as, same_facts, stored_front}
-use Rattle.bk_paged.proofs.Named.{apart}
+use Rattle.bk_paged.proofs.Leaving.{log_front, same_facts, stored_front}
 
 -- ---- one page
 
@@ -189,6 +189,7 @@ write_crash p stood entries a b is sealed' batches effect =
         room = subst (λ (fs : List DataFile). HaveRoom fs stood.note) is.files (subst (λ (n : List ℕ). HaveRoom p.facts.files n) is.same_note is.standing.room);
         different = subst (λ (fs : List DataFile). AreDifferent (names_of fs)) is.files is.standing.different;
         held = stored_front p stood a is;
+        needs = is.needs;
         recovers = elim shows [
           | inl before ↦ recovers_as p.log.head.kept p.log.head.kept p.since p.facts.checkpoint stood.files (shown_at p.log.db stood.files a.files) (shown_at p.log.db stood.files image) (take k stood.records)
               front front.some is.kept is.order front.opened (λ at. before.pages (at.file, at.page))
@@ -225,6 +226,7 @@ write_stands p stood side pool failed entries a c is sealed' batches effect side
       same_note = is.same_note;
       ends = is.ends;
       held = ap (λ (l : Logged). l.records ++ p.log.waiting) (value_kept keeps is.standing.logs) ∙ is.held;
+      needs = is.needs;
       kept = is.kept;
       order = omega (arith, is.order, since_end p stood a is);
       sealed = is.sealed;

@@ -1,7 +1,7 @@
 -- The causes of errors.
 use Rattle.std.specs.Prelude.{◌≡◌}
-use Rattle.bk_facts.specs.declared.unread.Unread.{Unread}
-use Rattle.bk_facts.specs.declared.unread.Unread.TheVariants as unread
+use Rattle.bk_reading.specs.declared.unread.Unread.{Unread}
+use Rattle.bk_reading.specs.declared.unread.Unread.TheVariants as unread
 use Rattle.bk_segments.specs.declared.error.LogError.{LogError}
 use Rattle.bk_segments.specs.declared.error.LogError.TheVariants as log
 use Rattle.bk_side.specs.declared.error.SideError.{SideError}
@@ -20,5 +20,5 @@ FromSide side.Fault e = e ≡ Fault
 FromSide side.NoMemory e = e ≡ NoMemory
 
 abbrev pub FromNote : Unread → PagedError → Type 0
-FromNote unread.NoFacts e = e ≡ Foreign
+FromNote unread.Unspelled e = e ≡ Foreign
 FromNote unread.NoMemory e = e ≡ NoMemory

@@ -14,11 +14,12 @@ use Rattle.bk_side.specs.Names.{AreDifferent}
 use Rattle.bk_side.specs.Pages.{IsSound}
 use Rattle.bk_paged.specs.Names.{IsPlaced, IsThere, names_of, shown_at}
 
--- What a database is to the layer above: its data files, that layer's note, and the records of its path.
+-- What a database is to the layer above: its data files, that layer's note, the records of its path, and from which number on that layer needs them in the log.
 pub record Stood : Type 0 where
   pub files : List DataFile
   pub note : List ℕ
   pub records : List Rec
+  pub needed : ℕ
 
 -- from which number on a page of a database with this latest checkpoint is as of
 abbrev pub point_of : ℕ → PageAt → ℕ
@@ -44,10 +45,10 @@ pub record Recovers (kept since : ℕ) (files : List DataFile) (shown : PageAt �
 -- data files and the note of the layer above have room in the note of a log
 pub record HaveRoom (files : List DataFile) (note : List ℕ) : Type 0 where
   pub few : length files < 2 ^ 16
-  pub first : length (facts_bytes (record { checkpoint = 0; files = files })) ≤ 20480
-  pub rest : length note ≤ 12288
+  pub first : length (facts_bytes (record { checkpoint = 0; files = files })) ≤ 2048
+  pub rest : length note ≤ 30720
 
--- The files hold a database: the log has the path's records from its kept point on, its note names the latest checkpoint, and with the pages that the files show that is enough to
+-- The files hold a database: the log has the path's records from its kept point on, and so those that are needed; its note names the latest checkpoint, and with the pages that the files show that is enough to
 -- recover the path.
 pub record Holds (db : ℕ) (stood : Stood) (image : Files) : Type 0 where
   pub log : Logged
@@ -57,6 +58,7 @@ pub record Holds (db : ℕ) (stood : Stood) (image : Files) : Type 0 where
   pub room : HaveRoom stood.files stood.note
   pub different : AreDifferent (names_of stood.files)
   pub held : log.records ≡ kept_from log.kept stood.records
+  pub needs : log.kept ≤ stood.needed
   pub recovers : Recovers log.kept checkpoint stood.files (shown_at db stood.files image) stood.records
 
 -- a database with a front of its records
@@ -75,6 +77,10 @@ recovered stood = record stood { records = settled stood.records }
 abbrev pub with_one : Stood → Rec → Stood
 with_one stood r = record stood { records = stood.records ++ r ∷ [] }
 
+-- the same database, whose log is needed from this number on
+abbrev pub needed_from : ℕ → Stood → Stood
+needed_from n stood = record stood { needed = n }
+
 -- a database without a record
 abbrev pub unwritten : List DataFile → List ℕ → Stood
-unwritten files note = record { files = files; note = note; records = [] }
+unwritten files note = record { files = files; note = note; records = []; needed = 1 }

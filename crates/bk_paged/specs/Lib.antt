@@ -3,6 +3,6 @@ pub mod Holds
 pub mod Paged
 pub mod Appends
 pub mod Pooled
-pub mod Opening
 pub mod Errors
 pub mod Making
+pub mod Laws

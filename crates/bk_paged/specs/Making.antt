@@ -1,15 +1,23 @@
 -- Databases that are made and removed.
-use Rattle.std.specs.Prelude.{◌≡◌, ◌≤◌, ◌<◌, ◌⊎◌, ℕ, List, None, Some, slice_get}
+use Rattle.std.specs.Prelude.{◌≡◌, ◌≤◌, ◌<◌, ◌⊎◌, ℕ, List, None, Some, length, slice_get}
+use Rattle.std.specs.List.{AllByRecursion}
 use Rattle.bk_device.specs.Disk.{Files, Disk, IsDurable}
 use Rattle.bk_facts.specs.declared.facts.DataFile.{DataFile}
-use Rattle.bk_facts.specs.Facts.{Notes}
+use Rattle.bk_facts.specs.Facts.{HasPath, Notes}
 use Rattle.bk_redo.specs.declared.place.PageAt.{PageAt}
 use Rattle.bk_redo.specs.PageStates.{fresh, page_of}
 use Rattle.bk_segments.specs.Files.{LogIs, Logged}
-use Rattle.bk_side.specs.Names.{side_file, IsOwn as IsOfSide}
+use Rattle.bk_side.specs.Names.{AreDifferent, side_file, IsOwn as IsOfSide}
 use Rattle.bk_side.specs.Pages.{IsSound}
 use Rattle.bk_paged.specs.Holds.{Holds, Stood}
 use Rattle.bk_paged.specs.Names.{IsPlaced, IsThere, names_of}
+
+-- A database may be made of these data files, with this note of the layer above: there are few of them, no two have one path, each path has 1 to 100 bytes, and the note has room.
+pub record MayBeMade (files : List DataFile) (note : List ℕ) : Type 0 where
+  pub few : length files ≤ 16
+  pub paths : AllByRecursion HasPath files
+  pub different : AreDifferent (names_of files)
+  pub short : length note ≤ 30720
 
 -- a page of a data file before any record
 pub record IsFirstPage (at : PageAt) (page : List ℕ) : Type 0 where

@@ -62,12 +62,17 @@ pub record IsPaged (disk : Disk) (p : Kept) (stood : Stood) : Type 0 where
   pub same_note : p.note ≡ stood.note
   pub ends : p.log.end ≡ end_of stood.records
   pub held : (value_of disk.files p.log).records ++ p.log.waiting ≡ kept_from p.log.head.kept stood.records
+  pub needs : p.log.head.kept ≤ stood.needed
   pub kept : p.log.head.kept ≤ p.facts.checkpoint
   pub order : p.facts.checkpoint ≤ p.since
   pub sealed : p.log.stored ≤ p.log.end
   pub recovers : (k : ℕ) → sealed_count p ≤ k → Recovers p.log.head.kept p.since stood.files (shown_at p.log.db stood.files disk.files) (take k stood.records)
   pub frames : (i : ℕ) (at : PageAt) → IsIn p.pool.pages i at.file at.page → IsThere stood.files at × IsLast stood.records at (slice_index_or p.pool.frames i [])
   pub clean : (at : PageAt) → IsThere stood.files at → (IsDirty p.pool at → ⊥) → page_of (shown_at p.log.db stood.files disk.files at) ≡ last_page at stood.records
+
+-- the records of a path from a number on and below another
+abbrev pub from_to : ℕ → ℕ → List Rec → List Rec
+from_to from to records = take (to - from) (kept_from from records)
 
 -- the record of a checkpoint at the end
 abbrev pub checkpoint_record : Kept → ℕ → Rec

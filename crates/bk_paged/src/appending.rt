@@ -11,7 +11,7 @@ ghost use Rattle.bk_paged.specs.Paged.{IsPaged, sealed_count};
 ghost use Rattle.bk_paged.specs.Pooled.{AreClean, with_set};
 ghost use Rattle.bk_pool.specs.Pool.{IsFound};
 ghost use Rattle.bk_pool.specs.Sound.{HoldsPage};
-ghost use Rattle.bk_record.specs.Spelling.{IsRecord, KeepsLimits};
+ghost use Rattle.bk_record.specs.Spelling.{IsRecord};
 ghost use Rattle.bk_redo.specs.Effects.{effect_of};
 ghost use Rattle.bk_redo.specs.Frames.{cell_set};
 
@@ -19,34 +19,32 @@ use crate::error::PagedError;
 use crate::paged::Paged;
 use crate::placing::{add_frames, fetch};
 use bk_device::Device;
-use bk_ids::{Body, CellImage, Lsn, Place, Rec};
+use bk_ids::{Body, CellImage, Lsn, Place, Rec, Slot};
 use bk_page::{set_page_lsn, write_cell};
 use bk_pool::Pool;
 use bk_undo::undoing_law;
 use std::alloc::Global;
 
 // Sets a cell of the page in a frame, and the page's number. The frame is dirty then.
-fn set_cell(pool: &mut Pool, i: usize, slot: u16, cell: &CellImage, lsn: Lsn)
-    requires slot { slot < 63 }
+fn set_cell(pool: &mut Pool, i: usize, slot: Slot, cell: &CellImage, lsn: Lsn)
     requires there { i < length pool.old.frames }
     requires holds { HoldsPage pool.old.pages i }
-    ensures { pool.new ≡ with_set pool.old i slot cell.now.bytes lsn }
+    ensures is { pool.new ≡ with_set pool.old i slot cell.now.bytes lsn }
+    ensures low { slot < 63 }
 {
     let page = pool.frames().page_mut(i);
-    write_cell(page, slot, &cell.bytes);
+    write_cell(page, slot.get(), &cell.bytes);
     set_page_lsn(page, lsn);
     pool.dirty(i);
 }
 
 // The cell that a record sets, if it does.
-fn cell_of(body: &Body) -> Option<(Place, &CellImage)>
-    requires limits { KeepsLimits body.now }
-    ensures set { option_map (λ x. (x.0, x.1.now.bytes)) result ≡ cell_set (effect_of body.now) }
-    ensures slot { IfSome result (λ x. x.0.slot < 63) }
+fn cell_of(body: &Body) -> Option<(&Place, &CellImage)>
+    ensures { option_map (λ x. (x.0.now, x.1.now.bytes)) result ≡ cell_set (effect_of body.now) }
 {
     match body {
-        Body::Write { place, after, .. } => Some((*place, after)),
-        Body::Compensation { place, cell, .. } => Some((*place, cell)),
+        Body::Write { place, after, .. } => Some((place, after)),
+        Body::Compensation { place, cell, .. } => Some((place, cell)),
         _ => None,
     }
 }
@@ -132,6 +130,7 @@ impl Paged {
         ensures found { IfOk result (λ i. IsFound self.new.pool.pages file page i) }
         ensures same { OnOk result ((self.new.log.db ≡ self.old.log.db) × (self.new.log.end ≡ self.old.log.end) × (self.new.log.head.kept ≡ self.old.log.head.kept) × (self.new.facts ≡ self.old.facts)) }
         ensures stands { D.tells → (stood : Stood) → IsPaged (D.disk dev.old) self.old stood → OnOk result (IsPaged (D.disk dev.new) self.new stood) }
+        ensures later { D.tells → (stood : Stood) → IsPaged (D.disk dev.old) self.old stood → OnOk result (self.old.log.stored ≤ self.new.log.stored) }
         ensures foreign { D.tells → IsErrOf result PagedError.Foreign → ⊥ }
         ensures crash { D.tells → (stood : Stood) → IsPaged (D.disk dev.old) self.old stood → Effect (IsOwn self.old.log.db stood.files) (Leaves self.old.log.db (sealed_count self.old) stood) (D.disk dev.old) (D.disk dev.new) }
         ensures cause { HasCause D.disk_faults D.tell_faults dev.old dev.new (IsErrOf result PagedError.Fault) }
@@ -154,6 +153,7 @@ impl Paged {
         ensures fit { OnOk result (self.new.failed ≡ false) }
         ensures same { OnOk result ((self.new.log.db ≡ self.old.log.db) × (self.new.log.end ≡ self.old.log.end) × (self.new.log.head.kept ≡ self.old.log.head.kept) × (self.new.facts ≡ self.old.facts)) }
         ensures stands { D.tells → IsRecord r.now → (stood : Stood) → IsPaged (D.disk dev.old) self.old stood → OnOk result (IsPaged (D.disk dev.new) (with_waiting self.new r.now) (with_one stood r.now)) }
+        ensures later { D.tells → (stood : Stood) → IsPaged (D.disk dev.old) self.old stood → OnOk result (self.old.log.stored ≤ self.new.log.stored) }
         ensures foreign { D.tells → IsErrOf result PagedError.Foreign → ⊥ }
         ensures crash { D.tells → (stood : Stood) → IsPaged (D.disk dev.old) self.old stood → Effect (IsOwn self.old.log.db stood.files) (Leaves self.old.log.db (sealed_count self.old) stood) (D.disk dev.old) (D.disk dev.new) }
         ensures cause { HasCause D.disk_faults D.tell_faults dev.old dev.new (IsErrOf result PagedError.Fault) }
@@ -181,6 +181,7 @@ impl Paged {
         ensures fit { OnOk result (self.new.failed ≡ false) }
         ensures ends { OnOk result ((self.new.log.db ≡ self.old.log.db) × (self.new.log.end ≡ self.old.log.end + 1) × (self.new.log.head.kept ≡ self.old.log.head.kept) × (self.new.facts ≡ self.old.facts)) }
         ensures stands { D.tells → (stood : Stood) → IsPaged (D.disk dev.old) self.old stood → OnOk result (IsPaged (D.disk dev.new) self.new (with_one stood r.now)) }
+        ensures later { D.tells → (stood : Stood) → IsPaged (D.disk dev.old) self.old stood → OnOk result (self.old.log.stored ≤ self.new.log.stored) }
         ensures foreign { D.tells → IsErrOf result PagedError.Foreign → ⊥ }
         ensures crash { D.tells → (stood : Stood) → IsPaged (D.disk dev.old) self.old stood → Effect (IsOwn self.old.log.db stood.files) (Leaves self.old.log.db (sealed_count self.old) stood) (D.disk dev.old) (D.disk dev.new) }
         ensures cause { HasCause D.disk_faults D.tell_faults dev.old dev.new (IsErrOf result PagedError.Fault) }

@@ -4,8 +4,8 @@ ghost use Rattle.bk_paged.specs.declared.error.PagedError.TheVariants.{Fault, No
 ghost use Rattle.bk_paged.specs.Errors.{FromLog, FromNote, FromSide};
 
 use bk_device::Failed;
-use bk_facts::Unread;
 use bk_log::LogError;
+use bk_reading::Unread;
 use bk_side::SideError;
 use std::alloc::{AllocError, AllocFailed};
 use thiserror::Error;
@@ -76,7 +76,7 @@ impl From<Unread> for PagedError {
 
     fn from(error: Unread) -> Self {
         match error {
-            Unread::NoFacts => PagedError::Foreign,
+            Unread::Unspelled => PagedError::Foreign,
             Unread::NoMemory => PagedError::NoMemory,
         }
     }

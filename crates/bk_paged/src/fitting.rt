@@ -1,10 +1,8 @@
 // Of which data files a database may be made.
-ghost use Rattle.std.specs.Prelude.{◌≡◌, ◌↔◌, true, IfOk, IsTrue};
+ghost use Rattle.std.specs.Prelude.{◌↔◌, IfOk, IsTrue};
 ghost use Rattle.std.specs.List.{AllByRecursion};
 ghost use Rattle.bk_facts.specs.Facts.{HasPath};
-ghost use Rattle.bk_paged.specs.Holds.{HaveRoom};
-ghost use Rattle.bk_paged.specs.Names.{names_of};
-ghost use Rattle.bk_side.specs.Names.{AreDifferent};
+ghost use Rattle.bk_paged.specs.Making.{MayBeMade};
 
 use crate::parts::copy_paths;
 use bk_facts::DataFile;
@@ -21,24 +19,17 @@ fn has_path(file: &DataFile) -> bool
 
 // Whether those of all data files have.
 fn have_paths(files: &[DataFile]) -> bool
-    ensures { IsTrue result → AllByRecursion HasPath files.now }
+    ensures { IsTrue result ↔ AllByRecursion HasPath files.now }
 {
-    for file in files {
-        if !has_path(file) {
-            return false;
-        }
-    }
-    true
+    files.iter().all(has_path)
 }
 
-/// Whether a database may be made of these data files, with this note for the layer above: there are at most 193 of them, each has a path of 1 to 100 bytes, no two have one path, and the note has at
-/// most 12,288 bytes.
+/// Whether a database may be made of these data files, with this note for the layer above: there are at most 16 of them, each has a path of 1 to 100 bytes, no two have one path, and the note has at
+/// most 30,720 bytes.
 pub fn may_make(alloc: Global, files: &[DataFile], note: &[u8]) -> Result<bool, AllocError>
-    ensures room { IfOk result (λ yes. yes ≡ true → HaveRoom files.now note.now) }
-    ensures paths { IfOk result (λ yes. yes ≡ true → AllByRecursion HasPath files.now) }
-    ensures different { IfOk result (λ yes. yes ≡ true → AreDifferent (names_of files.now)) }
+    ensures { IfOk result (λ yes. IsTrue yes ↔ MayBeMade files.now note.now) }
 {
-    if files.len() > 193 || note.len() > 12_288 || !have_paths(files) {
+    if files.len() > 16 || note.len() > 30_720 || !have_paths(files) {
         return Ok(false);
     }
     let paths = copy_paths(alloc, files)?;

@@ -6,13 +6,12 @@ mod error;
 mod fitting;
 mod looking;
 mod making;
-mod opening;
 mod paged;
 mod parts;
 mod placing;
-mod reading;
 mod removing;
 
 pub use error::PagedError;
 pub use fitting::may_make;
 pub use paged::Paged;
+pub use parts::{copy_paths, pages_in};

@@ -1,13 +1,11 @@
 // Making a database without a record.
 ghost use Rattle.std.specs.Prelude.{◌≡◌, ◌≤◌, ◌<◌, ◌⊎◌, ◌^◌, ◌+◌, [], ℕ, None, false, length, IfOk, IsErr, IsErrOf, OnOk};
-ghost use Rattle.std.specs.List.{AllByRecursion};
 ghost use Rattle.bk_control.specs.Slots.{control_of};
 ghost use Rattle.bk_device.specs.Counts.{HasCause};
 ghost use Rattle.bk_device.specs.Disk.{IsDurable};
 ghost use Rattle.bk_device.specs.Effects.{Effect};
-ghost use Rattle.bk_facts.specs.Facts.{HasPath};
-ghost use Rattle.bk_paged.specs.Holds.{HaveRoom, Holds, unwritten};
-ghost use Rattle.bk_paged.specs.Making.{AreFirst, HoldsNone};
+ghost use Rattle.bk_paged.specs.Holds.{Holds, unwritten};
+ghost use Rattle.bk_paged.specs.Making.{AreFirst, HoldsNone, MayBeMade};
 ghost use Rattle.bk_paged.specs.Names.{IsOwn, names_of};
 ghost use Rattle.bk_paged.specs.Paged.{IsPaged};
 ghost use Rattle.bk_paged.specs.Pooled.{IsPool};
@@ -126,9 +124,7 @@ impl Paged {
         frames: usize,
     ) -> Result<Paged, PagedError>
         requires some { 1 ≤ frames }
-        requires room { HaveRoom files.items note.now }
-        requires paths { AllByRecursion HasPath files.items }
-        requires different { AreDifferent (names_of files.items) }
+        requires may { MayBeMade files.items note.now }
         requires durable { D.tells → IsDurable (D.disk dev.old) (control_file db) }
         requires none { D.tells → control_of ((D.disk dev.old).files (control_file db)) ≡ None }
         ensures db { IfOk result (λ p. p.log.db ≡ db) }

@@ -3,13 +3,13 @@ ghost use Rattle.std.specs.Prelude.{◌≡◌, ◌≤◌, ◌<◌, ◌⊎◌, �
 ghost use Rattle.bk_device.specs.Counts.{HasCause};
 ghost use Rattle.bk_device.specs.Effects.{Effect};
 ghost use Rattle.bk_facts.specs.Facts.{HasPath};
+ghost use Rattle.bk_log.specs.Log.{IsLog};
 ghost use Rattle.std.specs.List.{AllByRecursion};
 ghost use Rattle.bk_paged.specs.Appends.{with_waiting};
 ghost use Rattle.bk_paged.specs.Pooled.{IsPool};
-ghost use Rattle.bk_paged.specs.Holds.{HaveRoom, Holds, Leaves, Stood, recovered, with_one};
-ghost use Rattle.bk_paged.specs.Names.{AreDurable, IsOwn};
+ghost use Rattle.bk_paged.specs.Holds.{HaveRoom, Leaves, Stood, with_one};
+ghost use Rattle.bk_paged.specs.Names.{IsOwn};
 ghost use Rattle.bk_paged.specs.Paged.{IsPaged, Kept, checkpoint_record, sealed_count};
-ghost use Rattle.bk_segments.specs.Files.{AreDurable as LogsAreDurable};
 ghost use Rattle.bk_paths.specs.Paths.{KeepsOpen};
 
 use crate::error::PagedError;
@@ -22,7 +22,6 @@ use bk_side::Side;
 use bk_undo::undoing_law;
 use std::alloc::Global;
 use std::marker::Model;
-use std::thread::Threads;
 
 /// One database's log and pages over its files: the records of its path, of which the log holds those from the kept point on; the pages that they make,
 /// in data files and in a pool; and a note for the layer above.
@@ -57,6 +56,25 @@ impl Model for Paged {
 }
 
 impl Paged {
+    /// The value of its parts, as they are opened: a log, the side file and the pages of the data files that its note names, and the note of the layer above. The pages in the data files are as of the
+    /// latest checkpoint or of later numbers.
+    pub fn from_parts(log: Log, side: Side, pool: Pool, facts: Facts, note: Vec<u8>) -> Paged
+        requires pool { IsPool pool }
+        requires paths { AllByRecursion HasPath facts.files }
+        requires room { HaveRoom facts.files note.items }
+        ensures { result ≡ record { log = log; side = side; pool = pool; facts = facts; note = note.items; since = facts.checkpoint; failed = log.failed || side.failed } }
+    {
+        let since = facts.checkpoint;
+        Paged {
+            log,
+            side,
+            pool,
+            facts,
+            note,
+            since,
+        }
+    }
+
     /// The number of the first record that the log holds.
     pub fn kept(&self) -> Lsn
         ensures { result ≡ self.now.log.head.kept }
@@ -92,10 +110,10 @@ impl Paged {
         &self.note
     }
 
-    /// Makes the records that wait durable. A crash leaves those that were durable, or some more of them.
+    /// Makes the records that wait durable. The log stands on the device, whatever else does. A crash leaves the records that were durable, or some more of them.
     pub fn flush<D: Device>(&mut self, alloc: Global, dev: &mut D) -> Result<(), PagedError>
         requires fit { self.old.failed ≡ false }
-        requires stands { D.tells → (stood : Stood) × IsPaged (D.disk dev.old) self.old stood }
+        requires stands { D.tells → IsLog (D.disk dev.old) self.old.log }
         ensures fit { OnOk result (self.new.failed ≡ false) }
         ensures stands { D.tells → (stood : Stood) → IsPaged (D.disk dev.old) self.old stood → OnOk result (IsPaged (D.disk dev.new) self.new stood) }
         ensures same { OnOk result (self.new ≡ record self.old { log = self.new.log }) }
@@ -170,7 +188,7 @@ impl Paged {
         Ok(())
     }
 
-    /// Makes these bytes, at most 12,288, the note of the layer above. A crash leaves the database with the old note or the new one.
+    /// Makes these bytes, at most 30,720, the note of the layer above. A crash leaves the database with the old note or the new one.
     pub fn set_note<D: Device>(
         &mut self,
         alloc: Global,
@@ -178,7 +196,7 @@ impl Paged {
         bytes: &[u8],
     ) -> Result<(), PagedError>
         requires fit { self.old.failed ≡ false }
-        requires short { length bytes.now ≤ 12288 }
+        requires short { length bytes.now ≤ 30720 }
         requires stands { D.tells → (stood : Stood) × IsPaged (D.disk dev.old) self.old stood }
         ensures fit { OnOk result (self.new.failed ≡ false) }
         ensures same { OnOk result ((self.new.log.db ≡ self.old.log.db) × (self.new.log.stored ≡ self.old.log.stored) × (self.new.log.end ≡ self.old.log.end) × (self.new.log.head.kept ≡ self.old.log.head.kept)) }
@@ -194,48 +212,24 @@ impl Paged {
         Ok(())
     }
 
-    /// Cuts the log, so that it holds the records from `to` on. It is at least the kept point and at most the latest checkpoint, all records are durable, and each transaction with a pending
-    /// write began there. A crash leaves all records of the path.
+    /// Cuts the log, so that it holds the records from `to` on. It is at least the kept point, at most the latest checkpoint and at most the number from which on the layer above needs them; all
+    /// records are durable, and each transaction with a pending write began there. A crash leaves all records of the path.
     pub fn truncate<D: Device>(&mut self, dev: &mut D, to: Lsn) -> Result<(), PagedError>
         requires fit { self.old.failed ≡ false }
         requires from { self.old.log.head.kept ≤ to }
         requires early { to ≤ self.old.facts.checkpoint }
         requires inside { to ≤ self.old.log.stored }
         requires sealed { self.old.log.stored ≡ self.old.log.end }
-        requires stands { D.tells → (stood : Stood) × (IsPaged (D.disk dev.old) self.old stood × KeepsOpen to stood.records) }
+        requires stands { D.tells → (stood : Stood) × (IsPaged (D.disk dev.old) self.old stood × (KeepsOpen to stood.records × (to ≤ stood.needed))) }
         ensures fit { OnOk result (self.new.failed ≡ false) }
-        ensures stands { D.tells → (stood : Stood) → IsPaged (D.disk dev.old) self.old stood → KeepsOpen to stood.records → OnOk result (IsPaged (D.disk dev.new) self.new stood) }
+        ensures stands { D.tells → (stood : Stood) → IsPaged (D.disk dev.old) self.old stood → KeepsOpen to stood.records → to ≤ stood.needed → OnOk result (IsPaged (D.disk dev.new) self.new stood) }
         ensures same { OnOk result (self.new ≡ record self.old { log = self.new.log }) }
         ensures ends { OnOk result ((self.new.log.db ≡ self.old.log.db) × (self.new.log.stored ≡ self.old.log.stored) × (self.new.log.end ≡ self.old.log.end) × (self.new.log.head.kept ≡ to)) }
         ensures foreign { IsErrOf result PagedError.Foreign → ⊥ }
-        ensures crash { D.tells → (stood : Stood) → IsPaged (D.disk dev.old) self.old stood → KeepsOpen to stood.records → Effect (IsOwn self.old.log.db stood.files) (Leaves self.old.log.db (sealed_count self.old) stood) (D.disk dev.old) (D.disk dev.new) }
+        ensures crash { D.tells → (stood : Stood) → IsPaged (D.disk dev.old) self.old stood → KeepsOpen to stood.records → to ≤ stood.needed → Effect (IsOwn self.old.log.db stood.files) (Leaves self.old.log.db (sealed_count self.old) stood) (D.disk dev.old) (D.disk dev.new) }
         ensures cause { HasCause D.disk_faults D.tell_faults dev.old dev.new (IsErrOf result PagedError.Fault) }
     {
         self.log.truncate(dev, to)?;
         Ok(())
-    }
-
-    /// Opens a database: finishes a batch of pages that is sealed, brings the pages in memory to the end by the log from the latest checkpoint on, and undoes by durable records
-    /// what is pending. A crash leaves the records that there were, and perhaps some of those.
-    ///
-    /// `Foreign` is answered only where the files hold no database.
-    pub fn load<R: Threads + Sync, D: Device>(
-        rt: &R,
-        alloc: Global,
-        dev: &mut D,
-        db: u32,
-    ) -> Result<Paged, PagedError>
-        requires durable { D.tells → LogsAreDurable db (D.disk dev.old) }
-        ensures db { IfOk result (λ p. p.log.db ≡ db) }
-        ensures fit { IfOk result (λ p. p.failed ≡ false) }
-        ensures sealed { IfOk result (λ p. p.log.stored ≡ p.log.end) }
-        ensures stands { D.tells → (stood : Stood) → AreDurable db stood.files (D.disk dev.old) → Holds db stood (D.disk dev.old).files → IfOk result (λ p. IsPaged (D.disk dev.new) p (recovered stood)) }
-        ensures foreign { D.tells → IsErrOf result PagedError.Foreign → (stood : Stood) → AreDurable db stood.files (D.disk dev.old) → Holds db stood (D.disk dev.old).files → ⊥ }
-        ensures crash { D.tells → (stood : Stood) → AreDurable db stood.files (D.disk dev.old) → Holds db stood (D.disk dev.old).files → Effect (IsOwn db stood.files) (Leaves db (length stood.records) (recovered stood)) (D.disk dev.old) (D.disk dev.new) }
-        ensures cause { HasCause D.disk_faults D.tell_faults dev.old dev.new (IsErrOf result PagedError.Fault) }
-    {
-        let mut paged = Paged::open(rt, alloc, dev, db)?;
-        paged.log.flush(alloc, dev)?;
-        Ok(paged)
     }
 }

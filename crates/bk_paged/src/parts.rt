@@ -7,7 +7,7 @@ use bk_ids::Text;
 use bk_pool::Pool;
 use std::alloc::{AllocError, Global};
 
-// The paths of data files.
+/// The paths of data files.
 pub fn copy_paths(alloc: Global, files: &[DataFile]) -> Result<Vec<Text>, AllocError>
     ensures { IfOk result (λ paths. paths.items ≡ paths_of files.now) }
 {
@@ -18,7 +18,7 @@ pub fn copy_paths(alloc: Global, files: &[DataFile]) -> Result<Vec<Text>, AllocE
     Ok(paths)
 }
 
-// How many pages the data file of a number has; 0 where there is none.
+/// How many pages the data file of a number has; 0 where there is none.
 pub fn pages_in(files: &[DataFile], file: u16) -> u32
     ensures { result ≡ pages_in files.now file }
 {

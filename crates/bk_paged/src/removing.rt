@@ -13,9 +13,10 @@ use crate::error::PagedError;
 use crate::paged::Paged;
 use crate::parts::copy_paths;
 use bk_device::{Device, Failed, remove_durably};
-use bk_facts::{DataFile, Facts, Unread, read_facts};
+use bk_facts::{DataFile, Facts, read_facts};
 use bk_ids::Text;
 use bk_log::{Log, LogError};
+use bk_reading::Unread;
 use bk_side::{data_files, side_file};
 use std::alloc::Global;
 
@@ -76,7 +77,7 @@ fn facts_in(alloc: Global, note: &[u8]) -> Result<Option<Facts>, PagedError>
 {
     match read_facts(alloc, note) {
         Ok((facts, _)) => Ok(Some(facts)),
-        Err(Unread::NoFacts) => Ok(None),
+        Err(Unread::Unspelled) => Ok(None),
         Err(Unread::NoMemory) => Err(PagedError::NoMemory),
     }
 }

@@ -1,5 +1,5 @@
 -- What settles a path is what settles a log of the machine.
-use Rattle.std.proofs.Common.{◌≡◌, ◌≤◌, ℕ, ◌+◌, Bool, true, false, not, ◌&&◌, List, [], ◌∷◌, ◌++◌, map, reverse, refl, sym, ◌∙◌, ap, arith, append_assoc, append-nil}
+use Rattle.std.proofs.Common.{◌≡◌, ◌≤◌, ℕ, ◌+◌, Bool, true, false, not, ◌&&◌, List, [], ◌∷◌, ◌++◌, map, reverse, refl, sym, subst, ◌∙◌, ap, arith, append_assoc, append-nil}
 use Rattle.std.specs.Prelude.{◌==◌, nat_lt}
 use Rattle.std.specs.List.{AllByRecursion, filter}
 use Rattle.std.proofs.lemmas.Bool.{lt-ltb}
@@ -128,3 +128,10 @@ settled_spelled rs counts plain =
     ∙ ap (λ (n : ℕ). path ++ numbered n (map compensation_of (map told (reverse (open_in rs))))) same_end
     ∙ ap (λ (more : List Rec). path ++ more) (undo_spelled (end_behind rs) (reverse (open_in rs)))
     ∙ sym (map-append spelled rs (numbered_said (end_behind rs) (settle_said (open_in rs))))
+
+opened : (kept : ℕ) (ws : List Open) → AllByRecursion (λ (w : Open). kept ≤ w.begin) ws → AllByRecursion (λ (w : Pending). kept ≤ w.begin) (map told ws)
+opened kept [] all = tt
+opened kept (w ∷ ws) all = (all.0, opened kept ws all.1)
+
+pub keeps_opened : (rs : List Logged) (kept : ℕ) → AllByRecursion IsPlain rs → AllByRecursion (λ (w : Open). kept ≤ w.begin) (open_in rs) → AllByRecursion (λ (w : Pending). kept ≤ w.begin) (pending (map spelled rs))
+keeps_opened rs kept plain all = subst (λ (ws : List Pending). AllByRecursion (λ (w : Pending). kept ≤ w.begin) ws) (told_all rs plain) (opened kept (open_in rs) all)

@@ -11,6 +11,7 @@ use Rattle.bk_redo.specs.Redo.{records_between, redone_by}
 use Rattle.bk_undo.specs.Losers.{pending, compensation}
 use Rattle.bk_undo.specs.Spelled.{spelled}
 use Rattle.bk_world.specs.Cut.{end_behind, settled as settled_log}
+use Rattle.bk_world.specs.Pending.{pending as open_in}
 use Rattle.bk_world.specs.Records.{Counts, Deed, Logged, loaded}
 use Rattle.bk_paths.specs.Pages.{IsPage, last_page}
 use Rattle.bk_paths.specs.Paths.{IsPath, KeepsOpen, end_of, kept_from, settled, undoing}
@@ -86,3 +87,7 @@ IsPlain r = is_plain r.deed
 -- what settles a path is what settles the machine's log whose records it spells, where no minimal load is in it
 abbrev pub SettlesAsTheMachine : Type 0
 SettlesAsTheMachine = (rs : List Logged) → Counts 1 rs (end_behind rs) → AllByRecursion IsPlain rs → settled (map spelled rs) ≡ map spelled (settled_log rs)
+
+-- a log that keeps what is open of the machine's log keeps what is open of the path whose records it spells
+abbrev pub KeepsOpenAsTheMachine : Type 0
+KeepsOpenAsTheMachine = (rs : List Logged) (kept : ℕ) → AllByRecursion IsPlain rs → AllByRecursion (λ w. kept ≤ w.begin) (open_in rs) → KeepsOpen kept (map spelled rs)

@@ -1,6 +1,6 @@
 //! Laws of the records of a path.
 
-ghost use Rattle.bk_paths.specs.Laws.{FrontIsPath, KeptAreNumbered, KeptIsEnough, LastIsPage, MoreChangesLast, MoreIsPath, MoreKeepsPage, NothingPends, RedoBringsToEnd, SettledAgain, SettledIsPath, SettlesAsTheMachine, SettlingKeepsOpen, UndoingFillsNothing};
+ghost use Rattle.bk_paths.specs.Laws.{FrontIsPath, KeptAreNumbered, KeptIsEnough, LastIsPage, MoreChangesLast, MoreIsPath, MoreKeepsPage, NothingPends, RedoBringsToEnd, SettledAgain, SettledIsPath, KeepsOpenAsTheMachine, SettlesAsTheMachine, SettlingKeepsOpen, UndoingFillsNothing};
 
 use bk_redo::{chain_law, page_law};
 use bk_undo::{undo_law, undoing_law};
@@ -27,7 +27,7 @@ pub fn pages_law()
 
 /// A settled path has nothing pending. A crash while it is being settled leaves a path that settles to the same. What a log holds is
 /// enough to settle it, where it keeps what is open; and then it still does, however much of that is written. It settles as the log of the
-/// machine does whose records it spells.
+/// machine does whose records it spells, and has open what is open there.
 pub fn settling_law()
     ensures nothing_pends { NothingPends }
     ensures path { SettledIsPath }
@@ -36,6 +36,7 @@ pub fn settling_law()
     ensures enough { KeptIsEnough }
     ensures keeps { SettlingKeepsOpen }
     ensures machine { SettlesAsTheMachine }
+    ensures opened { KeepsOpenAsTheMachine }
 {
     undo_law();
     undoing_law();

@@ -1,9 +1,7 @@
 //! `BEGIN TRANSACTION`: its check and its plan.
 
-ghost use Rattle.std.specs.Prelude.{◌≡◌, ◌∷◌, ◌++◌, [], ℕ, true, false, IfOk};
-ghost use Rattle.std.specs.List.{All};
+ghost use Rattle.std.specs.Prelude.{◌≡◌, ◌≤◌, ◌∷◌, ◌++◌, [], ℕ, true, false, length, IfOk};
 ghost use Rattle.bk_acts.specs.Spelling.{KeepsAct};
-ghost use Rattle.bk_acts.specs.Transactions.{KeepsTransaction};
 ghost use Rattle.bk_items.specs.declared.item.ScriptItem.TheVariants as script;
 ghost use Rattle.bk_kept.specs.Keeps.{Keeps, ShowsLog, database_of};
 ghost use Rattle.bk_machine.specs.Checks as checks;
@@ -16,19 +14,16 @@ ghost use Rattle.bk_planning.specs.Opening.{begun_in};
 ghost use Rattle.bk_world.specs.Says.{begin_said};
 
 use bk_acts::StoredAct;
-use bk_ids::{Body, Mark, Sequence, Text};
+use bk_ids::{Body, DESCRIPTION_BYTES, Description, Mark, Sequence, Text};
 use bk_items::{Marking, NamedTransaction};
 use bk_kept::{Database, Kept, copy_transactions, used_up};
 use bk_machine::statements_do_what_they_may;
 use bk_plans::{
     Plan, Refusal, current_or_refuse, is_name, limit, logged, name_in, online, outside, refuse_if,
-    refused, say_one, storable, stored,
+    refused, say_one, stored,
 };
 use bk_world::{Open, Reply, Rule};
 use std::alloc::{AllocError, Global};
-
-// How many bytes the description of a mark has at most.
-const MOST_DESCRIPTION_BYTES: usize = 65_535;
 
 // Whether a description, if there is one, isn't too long.
 fn is_short(marking: &Marking) -> bool
@@ -36,7 +31,7 @@ fn is_short(marking: &Marking) -> bool
 {
     match marking {
         Marking::Unmarked | Marking::Marked => true,
-        Marking::Described(text) => text.as_str().len() <= MOST_DESCRIPTION_BYTES,
+        Marking::Described(text) => text.as_str().len() <= DESCRIPTION_BYTES,
     }
 }
 
@@ -70,18 +65,20 @@ fn check_begin<'a>(
 }
 
 // A description: an empty text is none.
-fn described(alloc: Global, text: &Text) -> Result<Option<Text>, AllocError>
+fn described(alloc: Global, text: &Text) -> Result<Option<Description>, AllocError>
+    requires { length text.now ≤ 65535 }
     ensures { IfOk result (λ description. description ≡ beginning.described text.now) }
 {
     if text.as_str().is_empty() {
         return Ok(None);
     }
-    Ok(Some(text.copy(alloc)?))
+    Ok(Some(Description::new(alloc, text.as_str())?))
 }
 
 // The mark of a transaction of this name.
 fn mark_by(alloc: Global, name: &Text, marking: &Marking) -> Result<Option<Mark>, AllocError>
-    requires { checks.is_name name.now ≡ true }
+    requires name { checks.is_name name.now ≡ true }
+    requires short { beginning.is_short marking.now ≡ true }
     ensures { IfOk result (λ mark. mark ≡ beginning.mark_by name.now marking.now) }
 {
     let description = match marking {
@@ -109,14 +106,13 @@ fn mark_of(
 
 // What is open in a database with one transaction more.
 fn with_one(alloc: Global, database: &Database, new: Open) -> Result<Sequence<Open>, AllocError>
-    ensures same { IfOk result (λ ts. ts ≡ database.now.transactions ++ new ∷ []) }
-    ensures keep { IfOk result (All KeepsTransaction) }
+    ensures { IfOk result (λ ts. ts ≡ database.now.transactions ++ new ∷ []) }
 {
     match copy_transactions(alloc, database.transactions.as_slice()) {
         Ok(transactions) => {
             let mut transactions = transactions.into_vec();
             transactions.push(new)?;
-            storable(Sequence::new(transactions))
+            Ok(Sequence::new(transactions))
         }
         Err(error) => {
             drop(new);

@@ -11,7 +11,6 @@ ghost use Rattle.bk_machine.specs.World.{World, log_of};
 ghost use Rattle.bk_machine.specs.statements.Commit as committing;
 ghost use Rattle.bk_plans.specs.Planning.{KeepsPlan, Plans};
 ghost use Rattle.bk_planning.specs.Undoing.{Commits};
-ghost use Rattle.bk_record.specs.Spelling.{KeepsMarkLimits};
 ghost use Rattle.bk_world.specs.Pending.{of_transaction, pending};
 ghost use Rattle.bk_world.specs.Says.{commit_said};
 
@@ -20,7 +19,7 @@ use bk_acts::StoredAct;
 use bk_ids::{Body, Lsn, Mark};
 use bk_kept::{Database, Kept};
 use bk_machine::statements_do_what_they_may;
-use bk_plans::{Plan, is_fit, logged, refused, said_time, say_one, stored};
+use bk_plans::{Plan, logged, refused, said_time, say_one, stored};
 use bk_record::Records;
 use bk_shown::Written;
 use bk_world::{Open, Reply};
@@ -33,14 +32,10 @@ fn has_written(written: &[Written], begin: Lsn) -> bool
     written.iter().any(|w| w.begin == begin)
 }
 
-// The mark of a transaction. It fails as if memory were wanting where that has a description that no mark has.
+// The mark of a transaction.
 fn own_mark(alloc: Global, transaction: &Open) -> Result<Option<Mark>, AllocError>
-    ensures same { IfOk result (λ mark. mark ≡ transaction.now.mark) }
-    ensures keeps { IfOk result KeepsMarkLimits }
+    ensures { IfOk result (λ mark. mark ≡ transaction.now.mark) }
 {
-    if !is_fit(transaction) {
-        return Err(AllocError);
-    }
     let copy = transaction.copy(alloc)?;
     Ok(copy.mark)
 }
@@ -51,9 +46,8 @@ fn mark_with(
     database: &Database,
     transaction: &Open,
 ) -> Result<Option<Mark>, AllocError>
-    ensures is { (w : World) → ShowsLog w.history database.now
+    ensures { (w : World) → ShowsLog w.history database.now
         → IfOk result (λ mark. mark ≡ committing.mark_with (of_transaction transaction.now.begin (pending (log_of w.history (database_of database.now)))) transaction.now.mark) }
-    ensures keeps { IfOk result KeepsMarkLimits }
 {
     if has_written(database.shown.written(), transaction.begin) {
         return own_mark(alloc, transaction);
@@ -69,7 +63,6 @@ fn commit_record(
     time: u64,
     mark: Option<Mark>,
 ) -> Result<Records, AllocError>
-    requires { KeepsMarkLimits mark }
     ensures { IfOk result (λ records. Spell records database.now.shown.«end» (commit_said begin time mark)) }
 {
     say_one(

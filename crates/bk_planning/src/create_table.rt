@@ -22,11 +22,11 @@ ghost use Rattle.bk_world.specs.declared.rule.Rule.TheVariants.{LimitReached};
 
 use bk_acts::StoredAct;
 use bk_ids::{Body, Name, Text};
-use bk_kept::{Database, Kept, used_up};
+use bk_kept::{Database, Kept, copy_transactions, used_up};
 use bk_machine::statements_do_what_they_may;
 use bk_plans::{
     MOST_GROUPS, Plan, Refusal, current_or_refuse, is_name, limit, logged, name_in, online,
-    open_in, outside, refuse_if, refused, said_time, say_one, stored,
+    outside, refuse_if, refused, said_time, say_one, stored,
 };
 use bk_world::{Limit, Reply, Rule};
 use std::alloc::{AllocError, Global};
@@ -158,7 +158,7 @@ fn table_act(
         group,
     };
     let records = say_one(alloc, database.shown.end(), 0, body)?;
-    match open_in(alloc, database) {
+    match copy_transactions(alloc, database.transactions.as_slice()) {
         Ok(transactions) => logged(alloc, database, transactions, records),
         Err(error) => {
             drop(records);

@@ -1,8 +1,7 @@
 //! Transactions that end: the one of the current session, refused where it has none, and what is open without one.
 
 ghost use Rattle.std.specs.Prelude.{◌≡◌, ◌==◌, not, IfOk};
-ghost use Rattle.std.specs.List.{All, filter};
-ghost use Rattle.bk_acts.specs.Transactions.{KeepsTransaction};
+ghost use Rattle.std.specs.List.{filter};
 ghost use Rattle.bk_asked.specs.Asked.{held_of};
 ghost use Rattle.bk_kept.specs.Keeps.{Keeps, ShowsLog};
 ghost use Rattle.bk_kept.specs.Numbers.{CanEnd, LeaveNumbers};
@@ -15,7 +14,7 @@ ghost use Rattle.bk_world.specs.declared.rule.Rule.TheVariants.{NoTransaction};
 use bk_asked::{Held, own_held};
 use bk_ids::{Lsn, Sequence};
 use bk_kept::{Database, Kept, copy_transactions};
-use bk_plans::{Refusal, storable};
+use bk_plans::Refusal;
 use bk_world::{Open, Rule};
 use std::alloc::{AllocError, Global};
 
@@ -44,11 +43,10 @@ pub(crate) fn open_without(
     database: &Database,
     begin: Lsn,
 ) -> Result<Sequence<Open>, AllocError>
-    ensures same { IfOk result (λ ts. ts ≡ world.without_begin database.now.transactions begin) }
-    ensures keep { IfOk result (All KeepsTransaction) }
+    ensures { IfOk result (λ ts. ts ≡ world.without_begin database.now.transactions begin) }
 {
     let copy = copy_transactions(alloc, database.transactions.as_slice())?;
     let mut transactions = copy.into_vec();
     leave_out(&mut transactions, begin);
-    storable(Sequence::new(transactions))
+    Ok(Sequence::new(transactions))
 }

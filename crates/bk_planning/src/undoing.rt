@@ -46,8 +46,7 @@ fn rollback_records(
     Ok(said.records)
 }
 
-/// The act by which an open transaction of a database is rolled back: its pending writes are undone, the last one first, and it ends. Where
-/// the database keeps what no database keeps, it fails as if memory were wanting; that statements make no such database isn't proved here.
+/// The act by which an open transaction of a database is rolled back: its pending writes are undone, the last one first, and it ends.
 pub fn rollback_act(
     alloc: Global,
     database: &Database,
@@ -71,8 +70,7 @@ pub fn rollback_act(
     }
 }
 
-/// The act by which all that is pending in a database is undone, the last write first, and no transaction of it is open any more. It fails
-/// as `rollback_act` does.
+/// The act by which all that is pending in a database is undone, the last write first, and no transaction of it is open any more.
 pub fn settle_act(alloc: Global, database: &Database) -> Result<StoredAct, AllocError>
     requires { CanSettle database.now }
     ensures says { IfOk result (SaysOf database.now settle_said []) }

@@ -1,3 +1,2 @@
 pub mod InUse
-pub mod Fit
 pub mod Undone

@@ -1,6 +1,5 @@
 pub mod Checking
 pub mod CheckingLaws
-pub mod Opened
 pub mod Paths
 pub mod Planning
 pub mod Planned

@@ -3,8 +3,6 @@
 #![tactic(auto)]
 
 mod finding;
-mod images;
-mod opened;
 mod parts;
 mod paths;
 mod planning_parts;
@@ -13,8 +11,6 @@ mod rules;
 mod undoing;
 
 pub use finding::{current_or_refuse, named_or_refuse};
-pub use images::{MOST_VALUE_BYTES, free_image, image_of, row_image};
-pub use opened::{is_fit, open_in, storable};
 pub use parts::{Part, Plan};
 pub use paths::{in_use, is_in_use, is_in_use_by_others, taken};
 pub use planning_parts::{LATEST, logged, name_in, refused, said_time, say, say_one, stored};

@@ -1,11 +1,9 @@
 //! Plans of one part, and what parts are made of.
 
 ghost use Rattle.std.specs.Prelude.{◌≡◌, ℕ, ◌+◌, true, [], ◌∷◌, ◌++◌, List, length, IfOk, OnOk};
-ghost use Rattle.std.specs.List.{All};
 ghost use Rattle.bk_acts.specs.declared.act.StoredAct.TheVariants.{Logged};
 ghost use Rattle.bk_acts.specs.Meaning.{Spell, under};
 ghost use Rattle.bk_acts.specs.Spelling.{KeepsAct};
-ghost use Rattle.bk_acts.specs.Transactions.{KeepsTransaction};
 ghost use Rattle.bk_machine.specs.Acts as acts;
 ghost use Rattle.bk_machine.specs.Checks as checks;
 ghost use Rattle.bk_machine.specs.World.{World};
@@ -69,7 +67,6 @@ pub fn logged(
     transactions: Sequence<Open>,
     records: Records,
 ) -> Result<StoredAct, AllocError>
-    requires { All KeepsTransaction transactions }
     ensures is { IfOk result (λ act. act ≡ Logged database.now.name transactions records) }
     ensures keeps { IfOk result KeepsAct }
 {
@@ -92,6 +89,7 @@ pub fn name_in(alloc: Global, text: &Text) -> Result<Name, AllocError>
     requires { checks.is_name text.now ≡ true }
     ensures { IfOk result (λ name. name ≡ text.now) }
 {
+    // 1 to 64 bytes: memory alone may be wanting
     Name::new(alloc, text.as_str()).map_err(|_| AllocError)
 }
 

@@ -9,16 +9,13 @@ ghost use Rattle.bk_world.specs.Pending.{Pending};
 ghost use Rattle.bk_world.specs.Records.{undone};
 ghost use Rattle.bk_world.specs.Says.{change_back};
 
-use crate::images::image_of;
 use crate::planning_parts::say;
 use bk_acts::said_law;
 use bk_ids::{Body, Lsn};
+use bk_images::image_of;
 use bk_record::Records;
 use bk_shown::Written;
 use std::alloc::{AllocError, Global};
-
-// How many cells a page has.
-const CELLS: u16 = 63;
 
 /// Records that are said from a number on, and the number behind them.
 #[derive(Drop)]
@@ -27,20 +24,16 @@ pub struct Numbered {
     pub next: Lsn,
 }
 
-// What undoes a write. It fails as if memory were wanting where that is of no cell; that statements write no such cell isn't proved here.
-fn undoing(write: &Written) -> Result<Body, AllocError>
-    ensures is { IfOk result (λ body. body ≡ spelled.body_of (undone write.now.place (change_back (pending_of write.now)) write.now.lsn)) }
-    ensures keeps { IfOk result KeepsLimits }
+// What undoes a write.
+fn undoing(write: &Written) -> Body
+    ensures is { result ≡ spelled.body_of (undone write.now.place (change_back (pending_of write.now)) write.now.lsn) }
+    ensures keeps { KeepsLimits result }
 {
-    if write.place.slot >= CELLS {
-        return Err(AllocError);
-    }
-    let cell = image_of(write.table, write.key, &write.before)?;
-    Ok(Body::Compensation {
+    Body::Compensation {
         place: write.place,
-        cell,
+        cell: image_of(write.table, write.key, &write.before),
         undone: write.lsn,
-    })
+    }
 }
 
 // Whether a transaction is the one that is asked for, or all are.
@@ -65,15 +58,20 @@ fn undo_one(
     ensures next { OnOk result (said.new.next ≤ said.old.next + 1) }
 {
     if is_of(only, write.begin) {
-        let body = undoing(write)?;
-        say(alloc, &mut said.records, said.next, write.begin, body)?;
+        say(
+            alloc,
+            &mut said.records,
+            said.next,
+            write.begin,
+            undoing(write),
+        )?;
         said.next += 1;
     }
     Ok(())
 }
 
 /// Records by which of some pending writes those of the transaction with this first record, or all, are undone under numbers from `first`
-/// on, the last one first. It fails as if memory were wanting where a write is of no cell.
+/// on, the last one first.
 pub fn undo(
     alloc: Global,
     written: &[Written],

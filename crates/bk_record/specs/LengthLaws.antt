@@ -65,7 +65,7 @@ body_short (Bulk table first count value extents) h k =
       length-text value,
       length-extents extents,
       length-bytes_of,
-      k.1,
+      k,
     )
 body_short (Recovery branch) h k = omega (arith, length-bytes_of)
 
@@ -97,11 +97,11 @@ length-body (Table time number name group) k =
     omega (arith, length-append (bytes_of 8 time) (bytes_of 4 number ++ (text_bytes name ++ bytes_of 1 group)), length-append (bytes_of 4 number) (text_bytes name ++ bytes_of 1 group), length-append (text_bytes name) (bytes_of 1 group), length-text name, length-bytes_of)
 length-body Begin k = refl
 length-body (Write place before after) k =
-    omega (arith, length-append (place_bytes place) (before.bytes ++ after.bytes), length-append before.bytes after.bytes, length-place place, length-image before.bytes k.1.0, length-image after.bytes k.1.1)
+    omega (arith, length-append (place_bytes place) (before.bytes ++ after.bytes), length-append before.bytes after.bytes, length-place place, length-image before.bytes k.0, length-image after.bytes k.1)
 length-body (Commit time mark) k = omega (arith, length-append (bytes_of 8 time) (mark_bytes mark), length-bytes_of, length-mark mark)
 length-body RollbackEnd k = refl
 length-body (Compensation place cell undone) k =
-    omega (arith, length-append (place_bytes place) (cell.bytes ++ bytes_of 8 undone), length-append cell.bytes (bytes_of 8 undone), length-place place, length-image cell.bytes k.1, length-bytes_of)
+    omega (arith, length-append (place_bytes place) (cell.bytes ++ bytes_of 8 undone), length-append cell.bytes (bytes_of 8 undone), length-place place, length-image cell.bytes k, length-bytes_of)
 length-body (Checkpoint time) k = length-bytes_of 8 time
 length-body (Stamp time set) k = omega (arith, length-append (bytes_of 8 time) (guid_bytes set), length-bytes_of)
 length-body (Model time model) k = omega (arith, length-append (bytes_of 8 time) (model_bytes model), length-bytes_of)

@@ -1,5 +1,5 @@
 -- How a log record is spelled, and which records have a spelling.
-use Rattle.std.specs.Prelude.{◌≡◌, ℕ, ◌+◌, ◌*◌, ◌^◌, ◌<◌, ◌≤◌, List, [], ◌++◌, length, replicate, Option, Some, None, IfSome}
+use Rattle.std.specs.Prelude.{◌≡◌, ℕ, ◌+◌, ◌*◌, ◌^◌, ◌<◌, ◌≤◌, List, [], ◌++◌, length, replicate, Option, Some, None}
 use Rattle.std.specs.List.{flat_map, AllByRecursion}
 use Rattle.bk_ids.specs.declared.record.Place.{Place}
 use Rattle.bk_ids.specs.declared.record.ExtentId.{ExtentId}
@@ -122,23 +122,18 @@ pub record BeginsWith (bytes : List ℕ) (r : Rec) (rest : List ℕ) : Type 0 wh
 abbrev pub IsUnspelled : List ℕ → Type 0
 IsUnspelled bytes = (r : Rec) (rest : List ℕ) → ¬ BeginsWith bytes r rest
 
--- a description that isn't empty, and has less than 2 ^ 16 bytes
-abbrev pub KeepsMarkLimits : Option Mark → Type 0
-KeepsMarkLimits None = Unit {0}
-KeepsMarkLimits (Some mark) = IfSome mark.description (λ text. (0 < length text) × (length text < 2 ^ 16))
-
--- what the fields of a kind keep beside their types: slots below 63, cells that are cells, descriptions that aren't empty,
--- values of at most 112 bytes, and extents so few that the whole record has less than 2 ^ 32 bytes
+-- what the fields of a kind keep beside their types: cells that are cells, and extents so few that the whole record has less
+-- than 2 ^ 32 bytes
 abbrev pub KeepsLimits : Body → Type 0
 KeepsLimits (Database time family branch) = Unit {0}
 KeepsLimits (Table time number name group) = Unit {0}
 KeepsLimits Begin = Unit {0}
-KeepsLimits (Write place before after) = (place.slot < 63) × (IsCell before.bytes × IsCell after.bytes)
-KeepsLimits (Commit time mark) = KeepsMarkLimits mark
+KeepsLimits (Write place before after) = IsCell before.bytes × IsCell after.bytes
+KeepsLimits (Commit time mark) = Unit {0}
 KeepsLimits RollbackEnd = Unit {0}
-KeepsLimits (Compensation place cell undone) = (place.slot < 63) × IsCell cell.bytes
+KeepsLimits (Compensation place cell undone) = IsCell cell.bytes
 KeepsLimits (Checkpoint time) = Unit {0}
 KeepsLimits (Stamp time set) = Unit {0}
 KeepsLimits (Model time model) = Unit {0}
-KeepsLimits (Bulk table first count value extents) = (length value ≤ 112) × (46 + length value + 6 * length extents < 2 ^ 32)
+KeepsLimits (Bulk table first count value extents) = 46 + length value + 6 * length extents < 2 ^ 32
 KeepsLimits (Recovery branch) = Unit {0}

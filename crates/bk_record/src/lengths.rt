@@ -1,13 +1,12 @@
 //! How many bytes a record's spelling has.
 
-ghost use Rattle.std.specs.Prelude.{◌≡◌, ◌+◌, ◌*◌, ◌^◌, ◌<◌, ◌≤◌, length, IfSome};
+ghost use Rattle.std.specs.Prelude.{◌≡◌, ◌+◌, ◌*◌, ◌^◌, ◌<◌, ◌≤◌, length};
 ghost use Rattle.bk_record.specs.Lengths.{mark_length, body_length};
-ghost use Rattle.bk_record.specs.Spelling.{spelling, description_of, KeepsLimits, KeepsMarkLimits};
+ghost use Rattle.bk_record.specs.Spelling.{spelling, description_of, KeepsLimits};
 
-use bk_ids::{Body, ExtentId, Mark, Rec, Text};
+use bk_ids::{Body, Description, ExtentId, Mark, Rec, Value};
 
-fn description_len(description: &Option<Text>) -> usize
-    requires { IfSome description.now (λ text. (0 < length text) × (length text < 2 ^ 16)) }
+fn description_len(description: &Option<Description>) -> usize
     ensures len { result ≡ length (description_of description.now) }
     ensures short { result < 2 ^ 16 }
 {
@@ -18,7 +17,6 @@ fn description_len(description: &Option<Text>) -> usize
 }
 
 fn mark_len(mark: &Option<Mark>) -> usize
-    requires { KeepsMarkLimits mark.now }
     ensures len { result ≡ mark_length mark.now }
     ensures short { result < 2 ^ 17 }
 {
@@ -28,7 +26,7 @@ fn mark_len(mark: &Option<Mark>) -> usize
     }
 }
 
-fn bulk_len(value: &Text, extents: &[ExtentId]) -> usize
+fn bulk_len(value: &Value, extents: &[ExtentId]) -> usize
     requires { 46 + length value.now + 6 * length extents.now < 2 ^ 32 }
     ensures { result ≡ 22 + length value.now + 6 * length extents.now }
 {

@@ -20,6 +20,6 @@ pub use extents::Extents;
 pub use lengths::spelled_len;
 pub use marks::{append_mark, read_mark};
 pub use records::Records;
-pub use view::{BodyRef, MarkRef, RecRef};
+pub use view::{BodyRef, MarkRef, PlaceRef, RecRef};
 pub use walk::{BadRecord, LogCursor, cursor};
 pub use writing::{encode, encode_reserved};

@@ -1,34 +1,36 @@
 //! Marks of their own.
 
-ghost use Rattle.std.specs.Prelude.{◌≡◌, ◌^◌, ◌<◌, ◌≤◌, ◌++◌, length, IfOk, OnOk, option_map};
-ghost use Rattle.std.specs.Str.{IsUtf8};
+ghost use Rattle.std.specs.Prelude.{◌≡◌, ◌<◌, ◌≤◌, ◌++◌, length, IfOk, IfSome, OnOk, option_map};
 ghost use Rattle.bk_bytes.specs.Codec.{Gives, IsString};
 ghost use Rattle.bk_record.specs.Reading.{mark_form};
-ghost use Rattle.bk_record.specs.Spelling.{IsMark, KeepsMarkLimits, mark_bytes, text_bytes};
+ghost use Rattle.bk_record.specs.Spelling.{IsMark, mark_bytes, text_bytes};
 ghost use Rattle.bk_record.specs.View.{mark_of};
 
 use crate::reading::split_mark;
 use crate::view::MarkRef;
 use bk_bytes::append_text;
-use bk_ids::{Mark, Name, Text};
+use bk_ids::{Description, Mark, Name};
 use std::alloc::{AllocError, Global};
 
 // The name that a text of 1 to 64 bytes spells.
 fn own_name(alloc: Global, text: &str) -> Result<Name, AllocError>
-    requires { 0 < length text.now }
+    requires some { 0 < length text.now }
+    requires short { length text.now ≤ 64 }
     ensures { IfOk result (λ name. name ≡ text.now) }
 {
     match Name::new(alloc, text) {
         Ok(name) => Ok(name),
+        // 1 to 64 bytes: memory alone was wanting
         Err(_) => Err(AllocError),
     }
 }
 
-fn own_text(alloc: Global, text: Option<&str>) -> Result<Option<Text>, AllocError>
+fn own_description(alloc: Global, text: Option<&str>) -> Result<Option<Description>, AllocError>
+    requires { IfSome text (λ t. (0 < length t.now) × (length t.now ≤ 65535)) }
     ensures { IfOk result (λ own. own ≡ option_map (λ t. t.now) text.entry) }
 {
     match text {
-        Some(text) => Ok(Some(Text::new(String::from_str(alloc, text)?))),
+        Some(text) => Ok(Some(Description::new(alloc, text)?)),
         None => Ok(None),
     }
 }
@@ -41,7 +43,7 @@ fn own_mark(alloc: Global, mark: Option<MarkRef<'_>>) -> Result<Option<Mark>, Al
         return Ok(None);
     };
     let name = own_name(alloc, mark.name)?;
-    let description = own_text(alloc, mark.description)?;
+    let description = own_description(alloc, mark.description)?;
     Ok(Some(Mark { name, description }))
 }
 
@@ -66,10 +68,9 @@ fn append_name(out: &mut Vec<u8>, name: &Name) -> Result<(), AllocError>
     Ok(())
 }
 
-fn append_string(out: &mut Vec<u8>, text: &Text) -> Result<(), AllocError>
-    requires { length text.now < 2 ^ 16 }
+fn append_description(out: &mut Vec<u8>, text: &Description) -> Result<(), AllocError>
     ensures ok { OnOk result (out.new.items ≡ out.old.items ++ text_bytes text.now) }
-    ensures fits { OnOk result (IsUtf8 text.now) }
+    ensures fits { OnOk result (IsString 1 65535 text.now) }
 {
     let text = text.as_str();
     append_text(out, text.as_bytes())?;
@@ -78,7 +79,6 @@ fn append_string(out: &mut Vec<u8>, text: &Text) -> Result<(), AllocError>
 
 /// Appends the spelling of a mark: its name and its description, empty texts where there is none.
 pub fn append_mark(out: &mut Vec<u8>, mark: &Option<Mark>) -> Result<(), AllocError>
-    requires { KeepsMarkLimits mark.now }
     ensures ok { OnOk result (out.new.items ≡ out.old.items ++ mark_bytes mark.now) }
     ensures fits { OnOk result (IsMark mark.now) }
 {
@@ -91,7 +91,7 @@ pub fn append_mark(out: &mut Vec<u8>, mark: &Option<Mark>) -> Result<(), AllocEr
             append_name(out, &mark.name)?;
             match &mark.description {
                 None => append_text(out, &[])?,
-                Some(text) => append_string(out, text)?,
+                Some(text) => append_description(out, text)?,
             }
         }
     }

@@ -4,16 +4,15 @@ ghost use Rattle.std.specs.Prelude.{◌≡◌, ◌<◌, ◌≤◌, length, Match
 ghost use Rattle.bk_record.specs.Spelling.{IsUnspelled, BeginsWith};
 ghost use Rattle.bk_bytes.specs.Codec.{Gives, number_at, counted};
 ghost use Rattle.bk_record.specs.Reading.{place_form, image_form, extent_form, mark_form, database_at, table_at, write_at, commit_at, compensation_at, checkpoint_at, stamp_at, model_at, bulk_at, recovery_at, body_at, inside_form, record_form};
-ghost use Rattle.bk_record.specs.View.{body_of, mark_of, record_of};
+ghost use Rattle.bk_record.specs.View.{body_of, mark_of, place_of, record_of};
 ghost use Rattle.bk_record.specs.Extents.{extents_shown};
 
 use crate::extents::Extents;
-use crate::view::{BodyRef, MarkRef, RecRef};
+use crate::view::{BodyRef, MarkRef, PlaceRef, RecRef};
 use bk_bytes::{
     Cell, split_run, split_str, split_u8, split_u16, split_u32, split_u64, split_zeros,
 };
 use bk_fields::{split_guid, split_model};
-use bk_ids::Place;
 
 // The record at the front of `bytes` and the bytes after it, or `None` where no record is spelled there.
 pub(crate) fn split_record(bytes: &[u8]) -> Option<(RecRef<'_>, &[u8])>
@@ -198,8 +197,8 @@ fn split_recovery(bytes: &[u8]) -> Option<(BodyRef<'_>, &[u8])>
 }
 
 #[tactic(auto, unfolding(crate::specs::Reading::place_form))]
-fn split_place(bytes: &[u8]) -> Option<(Place, &[u8])>
-    ensures { Gives (λ x. (x.0, x.1.now)) result (place_form.reading bytes.now) }
+fn split_place(bytes: &[u8]) -> Option<(PlaceRef, &[u8])>
+    ensures { Gives (λ x. (place_of x.0, x.1.now)) result (place_form.reading bytes.now) }
 {
     let (file, rest) = split_u16(bytes)?;
     let (page, rest) = split_u32(rest)?;
@@ -207,7 +206,7 @@ fn split_place(bytes: &[u8]) -> Option<(Place, &[u8])>
     if slot >= 63 {
         return None;
     }
-    Some((Place { file, page, slot }, rest))
+    Some((PlaceRef { file, page, slot }, rest))
 }
 
 // The 128 bytes of a cell.

@@ -1,7 +1,7 @@
 //! Log records whose cells and texts are slices of the bytes that they were read from.
 
 use crate::extents::Extents;
-use bk_ids::{Guid, Lsn, Place, RecoveryModel};
+use bk_ids::{Guid, Lsn, Place, RecoveryModel, Slot};
 
 /// A log record over borrowed bytes. Its fields are those of `bk_ids::Rec`.
 #[derive(Clone, Copy, Debug, PartialEq, Eq)]
@@ -9,6 +9,32 @@ pub struct RecRef<'a> {
     pub lsn: Lsn,
     pub begin: Lsn,
     pub body: BodyRef<'a>,
+}
+
+/// The place of a cell as a record spells it. Its fields are those of `bk_ids::Place`; the slot is below 63 in each record
+/// that is read.
+#[derive(Clone, Copy, Debug, PartialEq, Eq)]
+pub struct PlaceRef {
+    pub file: u16,
+    pub page: u32,
+    pub slot: u16,
+}
+
+impl PlaceRef {
+    ghost use Rattle.std.specs.Prelude.{◌≡◌, ◌≤◌, MatchOption};
+    ghost use Rattle.bk_record.specs.View.{place_of};
+
+    /// The place, or `None` exactly where the slot isn't below 63.
+    pub fn place(self) -> Option<Place>
+        ensures { MatchOption result (63 ≤ self.slot) (λ place. place ≡ place_of self) }
+    {
+        let slot = Slot::new(self.slot)?;
+        Some(Place {
+            file: self.file,
+            page: self.page,
+            slot,
+        })
+    }
 }
 
 /// The mark of a transaction, over borrowed bytes.
@@ -34,7 +60,7 @@ pub enum BodyRef<'a> {
     },
     Begin,
     Write {
-        place: Place,
+        place: PlaceRef,
         before: &'a [u8; 128],
         after: &'a [u8; 128],
     },
@@ -44,7 +70,7 @@ pub enum BodyRef<'a> {
     },
     RollbackEnd,
     Compensation {
-        place: Place,
+        place: PlaceRef,
         cell: &'a [u8; 128],
         undone: Lsn,
     },

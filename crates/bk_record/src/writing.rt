@@ -1,7 +1,6 @@
 //! Writing a record, into a vector with room for it.
 
-ghost use Rattle.std.specs.Prelude.{◌≡◌, ◌+◌, ◌*◌, ◌^◌, ◌<◌, ◌≤◌, ◌++◌, length, OnOk, OnErr, IfSome, vec_len, vec_capacity};
-ghost use Rattle.std.specs.Str.{IsUtf8};
+ghost use Rattle.std.specs.Prelude.{◌≡◌, ◌+◌, ◌*◌, ◌^◌, ◌<◌, ◌≤◌, ◌++◌, length, OnOk, OnErr, vec_len, vec_capacity};
 ghost use Rattle.std.specs.List.{flat_map, AllByRecursion};
 ghost use Rattle.bk_bytes.specs.Codec.{IsString};
 ghost use Rattle.bk_bytes.specs.Cell.{IsCell};
@@ -9,10 +8,12 @@ ghost use Rattle.bk_bytes.specs.Field.{bytes_of};
 ghost use Rattle.bk_fields.specs.Guids.{guid_bytes, IsGuid};
 ghost use Rattle.bk_fields.specs.Models.{model_bytes};
 ghost use Rattle.bk_record.specs.Lengths.{mark_length, body_length};
-ghost use Rattle.bk_record.specs.Spelling.{text_bytes, place_bytes, extent_bytes, description_of, mark_bytes, body_bytes, kind_of, inside, spelling, IsPlace, IsExtent, IsDescription, IsMark, IsBody, IsRecord, KeepsLimits, KeepsMarkLimits};
+ghost use Rattle.bk_record.specs.Spelling.{text_bytes, place_bytes, extent_bytes, description_of, mark_bytes, body_bytes, kind_of, inside, spelling, IsPlace, IsExtent, IsDescription, IsMark, IsBody, IsRecord, KeepsLimits};
 
 use crate::lengths::spelled_len;
-use bk_ids::{Body, CellImage, ExtentId, Guid, Lsn, Mark, Name, Place, Rec, RecoveryModel, Text};
+use bk_ids::{
+    Body, CellImage, Description, ExtentId, Guid, Lsn, Mark, Name, Place, Rec, RecoveryModel, Value,
+};
 use std::alloc::{AllocError, Global};
 
 // Adds bytes for which there is room.
@@ -133,29 +134,27 @@ fn add_name(out: &mut Vec<u8>, name: &Name)
     add_text(out, text.as_bytes());
 }
 
-fn add_string(out: &mut Vec<u8>, text: &Text)
-    requires short { length text.now < 2 ^ 16 }
-    requires room { vec_len out.old + 2 + length text.now ≤ vec_capacity out.old }
-    ensures items { out.new.items ≡ out.old.items ++ text_bytes text.now }
-    ensures len { vec_len out.new ≡ vec_len out.old + 2 + length text.now }
+fn add_value(out: &mut Vec<u8>, value: &Value)
+    requires { vec_len out.old + 2 + length value.now ≤ vec_capacity out.old }
+    ensures items { out.new.items ≡ out.old.items ++ text_bytes value.now }
+    ensures len { vec_len out.new ≡ vec_len out.old + 2 + length value.now }
     ensures room { vec_capacity out.old ≤ vec_capacity out.new }
-    ensures fits { IsUtf8 text.now }
+    ensures fits { IsString 0 112 value.now }
 {
-    let text = text.as_str();
+    let text = value.as_str();
     add_text(out, text.as_bytes());
 }
 
-fn add_place(out: &mut Vec<u8>, place: Place)
-    requires slot { place.slot < 63 }
-    requires room { vec_len out.old + 8 ≤ vec_capacity out.old }
-    ensures items { out.new.items ≡ out.old.items ++ place_bytes place }
+fn add_place(out: &mut Vec<u8>, place: &Place)
+    requires { vec_len out.old + 8 ≤ vec_capacity out.old }
+    ensures items { out.new.items ≡ out.old.items ++ place_bytes place.now }
     ensures len { vec_len out.new ≡ vec_len out.old + 8 }
     ensures room { vec_capacity out.old ≤ vec_capacity out.new }
-    ensures fits { IsPlace place }
+    ensures fits { IsPlace place.now }
 {
     add_u16(out, place.file);
     add_u32(out, place.page);
-    add_u16(out, place.slot);
+    add_u16(out, place.slot.get());
 }
 
 fn add_image(out: &mut Vec<u8>, image: &CellImage)
@@ -182,9 +181,19 @@ fn add_extents(out: &mut Vec<u8>, extents: &[ExtentId])
     }
 }
 
-fn add_description(out: &mut Vec<u8>, description: &Option<Text>)
-    requires limits { IfSome description.now (λ text. (0 < length text) × (length text < 2 ^ 16)) }
-    requires room { vec_len out.old + 2 + length (description_of description.now) ≤ vec_capacity out.old }
+fn add_text_of(out: &mut Vec<u8>, description: &Description)
+    requires { vec_len out.old + 2 + length description.now ≤ vec_capacity out.old }
+    ensures items { out.new.items ≡ out.old.items ++ text_bytes description.now }
+    ensures len { vec_len out.new ≡ vec_len out.old + 2 + length description.now }
+    ensures room { vec_capacity out.old ≤ vec_capacity out.new }
+    ensures fits { IsString 1 65535 description.now }
+{
+    let text = description.as_str();
+    add_text(out, text.as_bytes());
+}
+
+fn add_description(out: &mut Vec<u8>, description: &Option<Description>)
+    requires { vec_len out.old + 2 + length (description_of description.now) ≤ vec_capacity out.old }
     ensures items { out.new.items ≡ out.old.items ++ text_bytes (description_of description.now) }
     ensures len { vec_len out.new ≡ vec_len out.old + 2 + length (description_of description.now) }
     ensures room { vec_capacity out.old ≤ vec_capacity out.new }
@@ -192,13 +201,12 @@ fn add_description(out: &mut Vec<u8>, description: &Option<Text>)
 {
     match description {
         None => add_text(out, &[]),
-        Some(text) => add_string(out, text),
+        Some(text) => add_text_of(out, text),
     }
 }
 
 fn add_mark(out: &mut Vec<u8>, mark: &Option<Mark>)
-    requires limits { KeepsMarkLimits mark.now }
-    requires room { vec_len out.old + mark_length mark.now ≤ vec_capacity out.old }
+    requires { vec_len out.old + mark_length mark.now ≤ vec_capacity out.old }
     ensures items { out.new.items ≡ out.old.items ++ mark_bytes mark.now }
     ensures len { vec_len out.new ≡ vec_len out.old + mark_length mark.now }
     ensures room { vec_capacity out.old ≤ vec_capacity out.new }
@@ -241,15 +249,14 @@ fn add_table(out: &mut Vec<u8>, time: u64, number: u32, name: &Name, group: u8)
     add_u8(out, group);
 }
 
-fn add_write(out: &mut Vec<u8>, place: Place, before: &CellImage, after: &CellImage)
-    requires slot { place.slot < 63 }
+fn add_write(out: &mut Vec<u8>, place: &Place, before: &CellImage, after: &CellImage)
     requires before { IsCell before.now.bytes }
     requires after { IsCell after.now.bytes }
     requires room { vec_len out.old + 264 ≤ vec_capacity out.old }
-    ensures items { out.new.items ≡ out.old.items ++ body_bytes (Body.Write place before.now after.now) }
+    ensures items { out.new.items ≡ out.old.items ++ body_bytes (Body.Write place.now before.now after.now) }
     ensures len { vec_len out.new ≡ vec_len out.old + 264 }
     ensures room { vec_capacity out.old ≤ vec_capacity out.new }
-    ensures fits { IsBody (Body.Write place before.now after.now) }
+    ensures fits { IsBody (Body.Write place.now before.now after.now) }
 {
     add_place(out, place);
     add_image(out, before);
@@ -257,8 +264,7 @@ fn add_write(out: &mut Vec<u8>, place: Place, before: &CellImage, after: &CellIm
 }
 
 fn add_commit(out: &mut Vec<u8>, time: u64, mark: &Option<Mark>)
-    requires limits { KeepsMarkLimits mark.now }
-    requires room { vec_len out.old + 8 + mark_length mark.now ≤ vec_capacity out.old }
+    requires { vec_len out.old + 8 + mark_length mark.now ≤ vec_capacity out.old }
     ensures items { out.new.items ≡ out.old.items ++ body_bytes (Body.Commit time mark.now) }
     ensures len { vec_len out.new ≡ vec_len out.old + 8 + mark_length mark.now }
     ensures room { vec_capacity out.old ≤ vec_capacity out.new }
@@ -268,14 +274,13 @@ fn add_commit(out: &mut Vec<u8>, time: u64, mark: &Option<Mark>)
     add_mark(out, mark);
 }
 
-fn add_compensation(out: &mut Vec<u8>, place: Place, cell: &CellImage, undone: Lsn)
-    requires slot { place.slot < 63 }
+fn add_compensation(out: &mut Vec<u8>, place: &Place, cell: &CellImage, undone: Lsn)
     requires cell { IsCell cell.now.bytes }
     requires room { vec_len out.old + 144 ≤ vec_capacity out.old }
-    ensures items { out.new.items ≡ out.old.items ++ body_bytes (Body.Compensation place cell.now undone) }
+    ensures items { out.new.items ≡ out.old.items ++ body_bytes (Body.Compensation place.now cell.now undone) }
     ensures len { vec_len out.new ≡ vec_len out.old + 144 }
     ensures room { vec_capacity out.old ≤ vec_capacity out.new }
-    ensures fits { IsBody (Body.Compensation place cell.now undone) }
+    ensures fits { IsBody (Body.Compensation place.now cell.now undone) }
 {
     add_place(out, place);
     add_image(out, cell);
@@ -309,10 +314,9 @@ fn add_bulk(
     table: u32,
     first: u64,
     count: u32,
-    value: &Text,
+    value: &Value,
     extents: &[ExtentId],
 )
-    requires value { length value.now ≤ 112 }
     requires extents { length extents.now < 2 ^ 32 }
     requires room { vec_len out.old + 22 + length value.now + 6 * length extents.now ≤ vec_capacity out.old }
     ensures items { out.new.items ≡ out.old.items ++ body_bytes (Body.Bulk table first count value.now extents.now) }
@@ -323,7 +327,7 @@ fn add_bulk(
     add_u32(out, table);
     add_u64(out, first);
     add_u32(out, count);
-    add_string(out, value);
+    add_value(out, value);
     add_extents(out, extents);
 }
 
@@ -352,14 +356,14 @@ fn add_body(out: &mut Vec<u8>, body: &Body)
             place,
             before,
             after,
-        } => add_write(out, *place, before, after),
+        } => add_write(out, place, before, after),
         Body::Commit { time, mark } => add_commit(out, *time, mark),
         Body::RollbackEnd => {}
         Body::Compensation {
             place,
             cell,
             undone,
-        } => add_compensation(out, *place, cell, *undone),
+        } => add_compensation(out, place, cell, *undone),
         Body::Checkpoint { time } => add_u64(out, *time),
         Body::Stamp { time, set } => add_stamp(out, *time, *set),
         Body::Model { time, model } => add_model_change(out, *time, *model),

@@ -2,12 +2,13 @@
 
 ghost use Rattle.std.specs.Prelude.{◌≡◌, ◌≢◌, ℕ, ◌<◌, length, IfOk, slice_index_or};
 ghost use Rattle.std.specs.List.{AllPairs};
+ghost use Rattle.bk_record.specs.View.{place_of};
 ghost use Rattle.bk_redo.specs.declared.place.PageAt.{PageAt};
 ghost use Rattle.bk_redo.specs.Effects.{is_on};
 ghost use Rattle.bk_redo.specs.Frames.{IsIndex, is_frame};
 
 use crate::place::PageAt;
-use bk_ids::Place;
+use bk_record::PlaceRef;
 use std::alloc::{AllocError, Global};
 use std::collections::BTreeMap;
 
@@ -29,11 +30,11 @@ pub(crate) fn index_of(
 pub(crate) fn frame_of(
     index: &BTreeMap<PageAt, usize>,
     places: &[PageAt],
-    place: Place,
+    place: PlaceRef,
 ) -> Option<usize>
     requires indexed { IsIndex places.now (length places.now) index.now.entries }
     requires different { AllPairs (λ a b. a ≢ b) places.now }
-    ensures { (k : ℕ) (nowhere : PageAt) → k < length places.now → is_on place (slice_index_or places.now k nowhere) ≡ is_frame result k }
+    ensures { (k : ℕ) (nowhere : PageAt) → k < length places.now → is_on (place_of place) (slice_index_or places.now k nowhere) ≡ is_frame result k }
 {
     let at = PageAt {
         file: place.file,

@@ -1,5 +1,5 @@
 -- Where a row of a table lies, or may lie, by what is found in memory.
-use Rattle.std.proofs.Common.{◌≡◌, ◌⊎◌, inl, inr, ◌<◌, ◌≤◌, ℕ, Bool, true, false, List, [], ◌∷◌, ◌++◌, length, Option, Some, None, Ok, refl, sym, ◌∙◌, ap, subst}
+use Rattle.std.proofs.Common.{◌≡◌, ◌⊎◌, inl, inr, ℕ, Bool, true, false, List, [], ◌∷◌, Option, Some, None, Ok, refl, sym, ◌∙◌, ap, subst}
 use Rattle.std.specs.Prelude.{◌==◌, is_some, Err, MatchOption}
 use Rattle.std.specs.List.{find}
 use Rattle.bk_ids.specs.declared.record.Place.{Place}
@@ -9,28 +9,26 @@ use Rattle.bk_machine.specs.Built.{FreeCell}
 use Rattle.bk_machine.specs.Checks.{refuse_if}
 use Rattle.bk_machine.specs.Room.{is_full}
 use Rattle.bk_machine.specs.Seen.{tables_in, visible, visible_by}
-use Rattle.bk_machine.specs.Sound.{AreOpen, IsLog, IsSound, IsWholeDatabase, KeepsAll, OpenBy}
+use Rattle.bk_machine.specs.Sound.{IsLog, IsSound, IsWholeDatabase}
 use Rattle.bk_machine.specs.TargetLaws.{IsTarget, numbered-named}
 use Rattle.bk_machine.specs.World.{World, log_of, transaction_of}
 use Rattle.bk_machine.specs.statements.Target.{MayPlace, is_full_for}
-use Rattle.bk_shown.specs.Shown.{ArePlaced, IsFreeFor, LieInCells, Shows}
+use Rattle.bk_shown.specs.Shown.{IsFreeFor, LieInCells, Shows}
 use Rattle.bk_world.specs.HomeLaws.{homed}
 use Rattle.bk_world.specs.Pending.{Pending, pending}
 use Rattle.bk_world.specs.Places.{IsCellOf, IsFreePlace, homes, last_of, place_behind, place_of}
-use Rattle.bk_world.specs.Records.{Counts, Logged}
-use Rattle.bk_world.specs.SoundLogs.{IsSound as IsSoundLog}
-use Rattle.bk_world.specs.Telling.{row_at, rows, tables}
+use Rattle.bk_world.specs.Records.{Logged}
+use Rattle.bk_world.specs.Telling.{row_at, tables}
 use Rattle.bk_world.specs.declared.database.FileSpec.{FileSpec}
 use Rattle.bk_world.specs.declared.database.TableSpec.{TableSpec}
 use Rattle.bk_world.specs.declared.rule.Rule.{Rule}
 use Rattle.bk_world.specs.declared.transaction.Open.{Open}
 use Rattle.bk_plans.specs.Checking.{IsBrokenBy, IsRefused}
-use Rattle.bk_machine.specs.ClosingLaws.{open-all}
 use Rattle.bk_row_plans.specs.Targets.{target_of}
 use Rattle.bk_plans.specs.declared.refusal.Refusal.{Refusal}
 use Rattle.bk_plans.specs.declared.refusal.Refusal.TheVariants.{Broken, NoMemory}
 use Rattle.bk_row_plans.proofs.FullGroups.{FullWhere}
-use Rattle.bk_row_plans.proofs.Seeing.{seen-lies, seen-short}
+use Rattle.bk_row_plans.proofs.Seeing.{seen-lies}
 use Rattle.bk_row_plans.proofs.Sounds.{of-current}
 
 -- what a log shows, by the machine's word for the log
@@ -46,10 +44,6 @@ module _ (w : World) (d : KeptDatabase) (t : TableSpec) (key : ℕ) where
 
   abbrev pub may : Place → Type 0
   may at = MayPlace w (target_of d t) (t.number, key) at
-
-  -- a row lies in a cell of a page
-  pub low-slot : (at : Place) → Some at ≡ place_of (log_of w.history (database_of d)) (t.number, key) → LieInCells d.files (log_of w.history (database_of d)) → at.slot < 63
-  low-slot at is lie = (lie (t.number, key) at (sym is)).2.slot
 
   module _ (there : find (λ (m : TableSpec). m.number == t.number) (tables_in w (database_of d)) ≡ Some t) where
     -- it may lie where it lies
@@ -92,17 +86,14 @@ module _ (w : World) (d : KeptDatabase) (t : TableSpec) (key : ℕ) where
 pub record Known (w : World) (d : KeptDatabase) (t : TableSpec) : Type 0 where
   pub log : IsLog d.files (log_of w.history (database_of d)) d.shown.«end»
   pub there : find (λ (m : TableSpec). m.number == t.number) (tables_in w (database_of d)) ≡ Some t
-  pub opens : AreOpen (log_of w.history (database_of d)) d.shown.«end» d.transactions
 
 pub known : (w : World) (name : List ℕ) (d : KeptDatabase) (t : TableSpec) → IsSound w → IsTarget w name (target_of d t) → Known w d t
 unfolding tables_in
 known w name d t sound its =
     let whole = of-current (IsWholeDatabase w) w (database_of d) sound.whole.databases its.is in
-    let opens = of-current (OpenBy w.history) w (database_of d) sound.opens its.is in
     record {
       log = whole.log;
       there = numbered-named (tables (log_of w.history (database_of d))) name t whole.log.tables its.table;
-      opens = opens.online its.up;
     }
 
 module _ (w : World) (d : KeptDatabase) (t : TableSpec) (key : ℕ) (its : Known w d t) (full : FullWhere d.files (log_of w.history (database_of d))) where
@@ -158,19 +149,6 @@ module _ (w : World) (d : KeptDatabase) (t : TableSpec) (key : ℕ) (before : Li
       by : (o : Option Open) → row_at (visible_by (log_of w.history (database_of d)) o t.number) key ≡ Some before → ⊥
       by None is = home (last_of (t.number, key) (pending (log_of w.history (database_of d)))) (homes (log_of w.history (database_of d)) (t.number, key)) none (sym (homed (log_of w.history (database_of d)) (t.number, key)) ∙ ap is_some is)
       by (Some own) is = seen-lies (log_of w.history (database_of d)) d.shown.«end» own.begin (t.number, key) before is none
-
-  -- and its value is short
-  pub visible-short : ShowsLog w.history d → AreOpen (log_of w.history (database_of d)) d.shown.«end» d.transactions
-      → ((rs next : List Logged) → ArePlaced d.files [] rs → ArePlaced d.files rs next → ArePlaced d.files [] (rs ++ next))
-      → ((log : List Logged) (n : ℕ) → Counts 1 log n → IsSoundLog log → ArePlaced d.files [] log → (table number : ℕ) (value : List ℕ) → row_at (rows log table) number ≡ Some value → length value ≤ 112) → length before ≤ 112
-  unfolding visible log_of
-  visible-short shows opens joins law = by (transaction_of d.transactions w.session) refl there
-    where
-      by : (o : Option Open) → transaction_of d.transactions w.session ≡ o → row_at (visible_by (log_of w.history (database_of d)) o t.number) key ≡ Some before → length before ≤ 112
-      by None is seen = law (log_of w.history (database_of d)) d.shown.«end» shows.log.counts shows.log.sound shows.placed t.number key before seen
-      by (Some own) is seen =
-          let kept : KeepsAll (log_of w.history (database_of d)) own = open-all (KeepsAll (log_of w.history (database_of d))) d.transactions w.session own opens.kept is in
-          seen-short (log_of w.history (database_of d)) d.shown.«end» own.begin d.files shows.log.counts shows.log.sound shows.placed kept (joins (log_of w.history (database_of d))) law t.number key before seen
 
 pub where-none : {X : Type 0} (o : Option X) (A : Type 0) (B : X → Type 0) → o ≡ None → A → MatchOption o A B
 where-none o A B is a = subst (λ p. MatchOption p A B) (sym is) a

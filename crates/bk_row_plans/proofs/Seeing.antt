@@ -1,18 +1,14 @@
--- What a transaction sees it could commit: a row that it sees lies somewhere, and its value fits into a cell.
-use Rattle.std.proofs.Common.{◌≡◌, ◌≤◌, ℕ, ◌+◌, Bool, true, false, cond, List, [], ◌∷◌, ◌++◌, length, Option, Some, None, refl, sym, ◌∙◌, ap}
+-- What a transaction sees it could commit: a row that it sees lies somewhere.
+use Rattle.std.proofs.Common.{◌≡◌, ℕ, Bool, true, false, cond, List, [], ◌∷◌, Option, Some, None, refl, sym, ◌∙◌, ap}
 use Rattle.std.specs.Prelude.{◌==◌, is_some}
-use Rattle.std.specs.List.{AllByRecursion, filter}
+use Rattle.std.specs.List.{filter}
 use Rattle.bk_ids.specs.declared.record.Place.{Place}
-use Rattle.bk_shown.specs.Shown.{ArePlaced}
-use Rattle.bk_world.specs.declared.database.FileSpec.{FileSpec}
 use Rattle.bk_world.specs.HomeLaws.{homed}
 use Rattle.bk_world.specs.Pending.{Pending, of_transaction, pending}
 use Rattle.bk_world.specs.Places.{home_behind, homes, last_of, later, place_behind, place_of}
 use Rattle.bk_world.specs.ReadingLaws.{homes-commit, rows-commit}
-use Rattle.bk_world.specs.Records.{Counts, Logged, RowId, id_of, is_row, more, numbered}
+use Rattle.bk_world.specs.Records.{Logged, RowId, id_of, is_row, more}
 use Rattle.bk_world.specs.Says.{commit_said}
-use Rattle.bk_world.specs.SoundLaws.{follow-join}
-use Rattle.bk_world.specs.SoundLogs.{IsSound, undoes}
 use Rattle.bk_world.specs.Telling.{row_at, rows, seen}
 
 -- Lists.
@@ -28,11 +24,6 @@ last-none id p (w ∷ ws) none = by (last_of id ws) (is_row (id_of w.change) id)
     by None true is none c rest = absurd (cc (none))
     by None false is none true rest = ap (λ (o : Option Pending). later o (cond (is_row (id_of w.change) id) (Some w) None)) (rest refl) ∙ ap (λ (b : Bool). cond b (Some w) None) is
     by None false is none false rest = rest refl
-
--- one record more
-counts-more : (n : ℕ) (rs : List Logged) (end : ℕ) (r : Logged) → r.lsn ≡ end → Counts n rs end → Counts n (rs ++ r ∷ []) (end + 1)
-counts-more n [] end r is counts = (is ∙ sym counts, ap (λ m. m + 1) counts)
-counts-more n (s ∷ rs) end r is counts = (counts.0, counts-more (n + 1) rs end r is counts.1)
 
 -- A commit that would come next.
 
@@ -56,12 +47,3 @@ module _ (rs : List Logged) (end begin : ℕ) where
           let nowhere : is_some (home_behind None None) ≡ true = sym (ap (λ o. is_some (home_behind o (homes rs id))) gone ∙ ap (λ h. is_some (home_behind None h)) at) ∙ home in
           let wrong : false ≡ true = nowhere in
           absurd (cc (wrong))
-
-  -- and its value is short, by the law on logs
-  pub seen-short : (files : List FileSpec) → Counts 1 rs end → IsSound rs → ArePlaced files [] rs → AllByRecursion (λ (r : Logged). undoes begin r ≡ false) rs
-      → ((next : List Logged) → ArePlaced files [] rs → ArePlaced files rs next → ArePlaced files [] (rs ++ next))
-      → ((log : List Logged) (n : ℕ) → Counts 1 log n → IsSound log → ArePlaced files [] log → (table key : ℕ) (value : List ℕ) → row_at (rows log table) key ≡ Some value → length value ≤ 112)
-      → (table key : ℕ) (value : List ℕ) → row_at (seen rs begin table) key ≡ Some value → length value ≤ 112
-  seen-short files counts sound placed kept joins law table key value there =
-      law (more rs end (commit_said begin 0 None)) (end + 1) (counts-more 1 rs end _ refl counts) (follow-join [] rs (numbered end (commit_said begin 0 None)) sound (kept, tt))
-      (joins (numbered end (commit_said begin 0 None)) placed (tt, tt)) table key value (ap (λ es. row_at es key) (rows-commit rs end begin 0 None table) ∙ there)

@@ -1,6 +1,6 @@
 //! Cells of rows: where a row lies, or may lie.
 
-ghost use Rattle.std.specs.Prelude.{◌≡◌, ◌<◌, ◌==◌, List, ℕ, IfOk, IfSome, MatchOption, Some};
+ghost use Rattle.std.specs.Prelude.{◌≡◌, ◌==◌, List, ℕ, IfOk, MatchOption, Some};
 ghost use Rattle.std.specs.List.{find};
 ghost use Rattle.bk_ids.specs.declared.record.Place.{Place};
 ghost use Rattle.bk_kept.specs.Keeps.{ShowsLog, database_of};
@@ -13,10 +13,7 @@ ghost use Rattle.bk_machine.specs.statements.Target as target;
 ghost use Rattle.bk_machine.specs.statements.Target.{MayPlace};
 ghost use Rattle.bk_plans.specs.Checking.{IsBrokenBy, IsCheck};
 ghost use Rattle.bk_row_plans.specs.Targets.{target_of};
-ghost use Rattle.bk_shown.specs.Shown.{IsFreeFor, Shows};
 ghost use Rattle.bk_world.specs.Places.{place_of};
-ghost use Rattle.bk_world.specs.Records.{Logged};
-ghost use Rattle.bk_world.specs.declared.database.FileSpec.{FileSpec};
 ghost use Rattle.bk_world.specs.declared.rule.Rule.TheVariants.{GroupFull};
 
 use bk_ids::{Place, Text};
@@ -27,49 +24,23 @@ use bk_shown::placed_logs;
 use bk_world::{Rule, TableSpec};
 use std::alloc::{AllocError, Global};
 
-// How many cells a page has.
-const CELLS: u16 = 63;
-
 // The cell of a row, if it has one.
 pub(crate) fn own_cell(database: &Database, table: &TableSpec, key: u64) -> Option<Place>
-    ensures slot { IfSome result (λ at. at.slot < 63) }
-    ensures own { (w : World) → ShowsLog w.history database.now → result ≡ place_of (log_of w.history (database_of database.now)) (table.now.number, key) }
+    ensures { (w : World) → ShowsLog w.history database.now → result ≡ place_of (log_of w.history (database_of database.now)) (table.now.number, key) }
 {
-    placed_logs();
-    let place = database.shown.find(table.number, key)?;
-    if place.slot < CELLS {
-        Some(place)
-    } else {
-        None
-    }
-}
-
-// A free cell for a new row of a table, or `None` exactly where there is none.
-fn free_cell(database: &Database, table: &TableSpec) -> Option<Place>
-    ensures slot { IfSome result (λ at. at.slot < 63) }
-    ensures free { MatchOption result
-        ((files : List FileSpec) (rs : List Logged) → Shows files rs database.now.shown → (at : Place) → ¬ IsFreeFor files rs table.now.number at)
-        (λ at. (files : List FileSpec) (rs : List Logged) → Shows files rs database.now.shown → IsFreeFor files rs table.now.number at) }
-{
-    let place = database.shown.place(table.number)?;
-    if place.slot < CELLS {
-        Some(place)
-    } else {
-        None
-    }
+    database.shown.find(table.number, key)
 }
 
 // The cell of a row of a table, or, where it has none, a free one of the table's group; `None` exactly where there is no such cell.
 fn cell_for(database: &Database, table: &TableSpec, key: u64) -> Option<Place>
-    ensures slot { IfSome result (λ at. at.slot < 63) }
-    ensures cell { (w : World) → ShowsLog w.history database.now → find (λ t. t.number == table.now.number) (tables_in w (database_of database.now)) ≡ Some table.now
+    ensures { (w : World) → ShowsLog w.history database.now → find (λ t. t.number == table.now.number) (tables_in w (database_of database.now)) ≡ Some table.now
         → MatchOption result ((at : Place) → ¬ MayPlace w (target_of database.now table.now) (table.now.number, key) at)
         (λ at. MayPlace w (target_of database.now table.now) (table.now.number, key) at) }
 {
     placed_logs();
     match own_cell(database, table, key) {
         Some(place) => Some(place),
-        None => free_cell(database, table),
+        None => database.shown.place(table.number),
     }
 }
 
@@ -104,7 +75,6 @@ pub(crate) fn check_room(
     ensures check { (w : World) (name : List ℕ) → IsSound w → ShowsLog w.history database.now → IsTarget w name (target_of database.now table.now)
         → IsCheck (λ at. tt) result
         (checks.refuse_if (target.is_full_for w (target_of database.now table.now) key) (GroupFull (target.group_name (database_of database.now) table.now.group))) }
-    ensures slot { IfOk result (λ at. at.slot < 63) }
     ensures cell { (w : World) (name : List ℕ) → IsSound w → ShowsLog w.history database.now → IsTarget w name (target_of database.now table.now)
         → IfOk result (λ at. MayPlace w (target_of database.now table.now) (table.now.number, key) at) }
 {

@@ -11,9 +11,9 @@ ghost use Rattle.bk_row_plans.specs.Targets.{target_of};
 ghost use Rattle.bk_world.specs.declared.database.TableSpec.{TableSpec as Spec};
 
 use bk_asked::{holder, own_writes};
-use bk_ids::Text;
+use bk_ids::{Text, VALUE_BYTES};
 use bk_kept::{Database, Kept, used_up};
-use bk_plans::{MOST_VALUE_BYTES, Refusal, limit, refuse_if};
+use bk_plans::{Refusal, limit, refuse_if};
 use bk_world::{Limit, Rule, TableSpec};
 
 // The greatest key.
@@ -29,7 +29,7 @@ pub(crate) fn check_value(value: &Text) -> Result<(), Refusal>
 {
     let bytes = value.as_str().len();
     refuse_if(
-        bytes > MOST_VALUE_BYTES,
+        bytes > VALUE_BYTES,
         Rule::ValueTooLong {
             bytes: bytes as u64,
         },

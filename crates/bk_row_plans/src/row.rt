@@ -1,6 +1,6 @@
 //! One row that is written, as it is planned.
 
-ghost use Rattle.std.specs.Prelude.{◌≡◌, ◌<◌, ◌≤◌, false, List, Option, ℕ, Some, None, length, IfOk};
+ghost use Rattle.std.specs.Prelude.{◌≡◌, ◌≤◌, false, List, Option, ℕ, Some, None, length, IfOk};
 ghost use Rattle.std.specs.Option.{option_map};
 ghost use Rattle.bk_acts.specs.Meaning.{Spell};
 ghost use Rattle.bk_acts.specs.Spelling.{KeepsAct};
@@ -17,9 +17,10 @@ ghost use Rattle.bk_world.specs.Says.{single_said};
 ghost use Rattle.bk_world.specs.declared.reply.Reply.TheVariants.{Counted};
 
 use bk_acts::{StoredAct, said_law};
-use bk_ids::{Body, CellImage, Lsn, Place, Text};
-use bk_kept::Database;
-use bk_plans::{Plan, free_image, logged, open_in, row_image, said_time, say, say_one, stored};
+use bk_ids::{Body, CellImage, Lsn, Place, Text, Value};
+use bk_images::{free_image, row_image};
+use bk_kept::{Database, copy_transactions};
+use bk_plans::{Plan, logged, said_time, say, say_one, stored};
 use bk_record::Records;
 use bk_world::{Open, Reply};
 use std::alloc::{AllocError, Global};
@@ -40,46 +41,43 @@ pub(crate) fn new_cells(table: u32, key: u64, value: &Text) -> Images
 {
     Images {
         old: free_image(),
-        new: row_image(table, key, value),
+        new: row_image(table, key, value.as_str()),
     }
 }
 
 /// The cells of a row that gets another value.
-pub(crate) fn changed_cells(table: u32, key: u64, before: &Text, value: &Text) -> Images
+pub(crate) fn changed_cells(table: u32, key: u64, before: &Value, value: &Text) -> Images
     requires low { key ≤ 9223372036854775807 }
-    requires before { length before.now ≤ 112 }
     requires short { length value.now ≤ 112 }
     ensures are { AreCells result.old result.new (record { table = table; key = key; value = Some value.now }) (Some before.now) }
     ensures cells { IsCell result.old.bytes × IsCell result.new.bytes }
 {
     Images {
-        old: row_image(table, key, before),
-        new: row_image(table, key, value),
+        old: row_image(table, key, before.as_str()),
+        new: row_image(table, key, value.as_str()),
     }
 }
 
 /// The cells of a row that goes.
-pub(crate) fn gone_cells(table: u32, key: u64, before: &Text) -> Images
-    requires low { key ≤ 9223372036854775807 }
-    requires before { length before.now ≤ 112 }
+pub(crate) fn gone_cells(table: u32, key: u64, before: &Value) -> Images
+    requires { key ≤ 9223372036854775807 }
     ensures are { AreCells result.old result.new (record { table = table; key = key; value = None }) (Some before.now) }
     ensures cells { IsCell result.old.bytes × IsCell result.new.bytes }
 {
     Images {
-        old: row_image(table, key, before),
+        old: row_image(table, key, before.as_str()),
         new: free_image(),
     }
 }
 
 // The write of a row in its cell.
-fn write_of(place: Place, cells: Images) -> Body
-    requires cells { IsCell cells.old.bytes × IsCell cells.new.bytes }
-    requires slot { place.slot < 63 }
-    ensures is { result ≡ Write place cells.old cells.new }
+fn write_of(place: &Place, cells: Images) -> Body
+    requires { IsCell cells.old.bytes × IsCell cells.new.bytes }
+    ensures is { result ≡ Write place.now cells.old cells.new }
     ensures keeps { KeepsLimits result }
 {
     Body::Write {
-        place,
+        place: *place,
         before: cells.old,
         after: cells.new,
     }
@@ -88,15 +86,14 @@ fn write_of(place: Place, cells: Images) -> Body
 // What a transaction of its own says that writes one row in its cell.
 fn single_records(
     alloc: Global,
-    place: Place,
+    place: &Place,
     cells: Images,
     lsn: Lsn,
     time: u64,
 ) -> Result<Records, AllocError>
     requires cells { IsCell cells.old.bytes × IsCell cells.new.bytes }
-    requires slot { place.slot < 63 }
     requires left { checks.used_up lsn ≡ false }
-    ensures { IfOk result (λ records. (c : RowChange) (before : Option (List ℕ)) → AreCells cells.old cells.new c before → Spell records lsn (single_said lsn place before c time)) }
+    ensures { IfOk result (λ records. (c : RowChange) (before : Option (List ℕ)) → AreCells cells.old cells.new c before → Spell records lsn (single_said lsn place.now before c time)) }
 {
     said_law();
     let mut records = Records::none(alloc);
@@ -116,16 +113,15 @@ fn single_records(
 fn row_records(
     alloc: Global,
     own: Option<&Open>,
-    place: Place,
+    place: &Place,
     cells: Images,
     lsn: Lsn,
     time: u64,
 ) -> Result<Records, AllocError>
     requires cells { IsCell cells.old.bytes × IsCell cells.new.bytes }
-    requires slot { place.slot < 63 }
     requires left { checks.used_up lsn ≡ false }
     ensures { IfOk result (λ records. (c : RowChange) (before : Option (List ℕ)) → AreCells cells.old cells.new c before
-        → Spell records lsn (row_said (option_map (λ t. t.now) own.entry) lsn place before c time)) }
+        → Spell records lsn (row_said (option_map (λ t. t.now) own.entry) lsn place.now before c time)) }
 {
     match own {
         Some(transaction) => say_one(alloc, lsn, transaction.begin, write_of(place, cells)),
@@ -138,18 +134,17 @@ fn row_act(
     alloc: Global,
     database: &Database,
     own: Option<&Open>,
-    place: Place,
+    place: &Place,
     cells: Images,
     time: u64,
 ) -> Result<StoredAct, AllocError>
     requires cells { IsCell cells.old.bytes × IsCell cells.new.bytes }
-    requires slot { place.slot < 63 }
     requires left { checks.used_up database.now.shown.«end» ≡ false }
     ensures says { IfOk result (λ act. (c : RowChange) (before : Option (List ℕ)) → AreCells cells.old cells.new c before
-        → SaysNow database.now (row_said (option_map (λ t. t.now) own.entry) database.now.shown.«end» place before c time) database.now.transactions act) }
+        → SaysNow database.now (row_said (option_map (λ t. t.now) own.entry) database.now.shown.«end» place.now before c time) database.now.transactions act) }
     ensures keeps { IfOk result KeepsAct }
 {
-    let transactions = open_in(alloc, database)?;
+    let transactions = copy_transactions(alloc, database.transactions.as_slice())?;
     match row_records(alloc, own, place, cells, database.shown.end(), time) {
         Ok(records) => logged(alloc, database, transactions, records),
         Err(error) => {
@@ -164,15 +159,14 @@ pub(crate) fn row_plan(
     alloc: Global,
     database: &Database,
     own: Option<&Open>,
-    place: Place,
+    place: &Place,
     cells: Images,
     now: u64,
 ) -> Result<Plan, AllocError>
     requires cells { IsCell cells.old.bytes × IsCell cells.new.bytes }
-    requires slot { place.slot < 63 }
     requires left { checks.used_up database.now.shown.«end» ≡ false }
     ensures says { IfOk result (λ plan. (c : RowChange) (before : Option (List ℕ)) → AreCells cells.old cells.new c before
-        → StoresOne (SaysThen database.now now (row_said (option_map (λ t. t.now) own.entry) database.now.shown.«end» place before c) database.now.transactions) (Counted 1) plan) }
+        → StoresOne (SaysThen database.now now (row_said (option_map (λ t. t.now) own.entry) database.now.shown.«end» place.now before c) database.now.transactions) (Counted 1) plan) }
     ensures keeps { IfOk result KeepsPlan }
 {
     let time = said_time(database, now);

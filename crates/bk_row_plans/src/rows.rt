@@ -25,11 +25,11 @@ use crate::row::{changed_cells, gone_cells, new_cells, row_plan};
 use crate::select::plan_select;
 use crate::tables::check_table;
 use bk_asked::{own_open, seen_row, sees_key};
-use bk_ids::{Place, Text};
+use bk_ids::{Place, Text, Value};
 use bk_items::RowStatement;
 use bk_kept::{Database, Kept};
 use bk_machine::statements_do_what_they_may;
-use bk_plans::{MOST_VALUE_BYTES, Plan, Refusal, refuse_if, refused};
+use bk_plans::{Plan, Refusal, refuse_if, refused};
 use bk_shown::placed_logs;
 use bk_world::{Reply, Rule, TableSpec};
 use std::alloc::{AllocError, Global};
@@ -46,7 +46,6 @@ fn check_new(
         → IsCheck (λ at. target_of database.now table.now) result (target.check_new w (target_of database.now table.now) key) }
     ensures low { IfOk result (λ at. key ≤ 9223372036854775807) }
     ensures left { IfOk result (λ at. checks.used_up database.now.shown.«end» ≡ false) }
-    ensures slot { IfOk result (λ at. at.slot < 63) }
     ensures cell { (w : World) (name : List ℕ) → IsSound w → ShowsLog w.history database.now → IsTarget w name (target_of database.now table.now)
         → IfOk result (λ at. MayPlace w (target_of database.now table.now) (table.now.number, key) at) }
 {
@@ -82,7 +81,6 @@ fn check_insert<'a>(
     ensures low { IfOk result (λ r. key ≤ 9223372036854775807) }
     ensures short { IfOk result (λ r. length value.now ≤ 112) }
     ensures left { IfOk result (λ r. checks.used_up r.database.now.shown.«end» ≡ false) }
-    ensures slot { IfOk result (λ r. r.place.slot < 63) }
     ensures shows { (w : World) → Keeps w kept.now → IfOk result (λ r. ShowsLog w.history r.database.now) }
     ensures its { (w : World) → Keeps w kept.now → IfOk result (λ r. IsTarget w table.now (target_of r.database.now r.table.now)) }
     ensures cell { (w : World) → IsSound w → Keeps w kept.now
@@ -115,7 +113,7 @@ fn plan_insert(
         Ok(new) => {
             let cells = new_cells(new.table.number, key, value);
             let own = own_open(kept, new.database);
-            row_plan(alloc, new.database, own, new.place, cells, now)
+            row_plan(alloc, new.database, own, &new.place, cells, now)
         }
         Err(refusal) => refused(refusal),
     }
@@ -124,7 +122,7 @@ fn plan_insert(
 // A row that is seen, and its cell.
 #[derive(Clone, Copy)]
 struct SeenRow<'a> {
-    before: &'a Text,
+    before: &'a Value,
     place: Place,
 }
 
@@ -135,20 +133,14 @@ fn found_row<'a>(
     table: &TableSpec,
     key: u64,
 ) -> Option<SeenRow<'a>>
-    ensures slot { IfSome result (λ r. r.place.slot < 63) }
-    ensures short { IfSome result (λ r. length r.before.now ≤ 112) }
-    ensures seen { (w : World) (name : List ℕ) → IsSound w → Keeps w kept.now → ShowsLog w.history database.now → IsTarget w name (target_of database.now table.now)
+    ensures { (w : World) (name : List ℕ) → IsSound w → Keeps w kept.now → ShowsLog w.history database.now → IsTarget w name (target_of database.now table.now)
         → MatchOption result (row_at (visible w (database_of database.now) table.now) key ≡ None)
         (λ r. (row_at (visible w (database_of database.now) table.now) key ≡ Some r.before.now) × MayPlace w (target_of database.now table.now) (table.now.number, key) r.place) }
 {
     placed_logs();
     let before = seen_row(kept, database, table, key)?;
     let place = own_cell(database, table, key)?;
-    if before.as_str().len() <= MOST_VALUE_BYTES {
-        Some(SeenRow { before, place })
-    } else {
-        None
-    }
+    Some(SeenRow { before, place })
 }
 
 // The row of a key, if it is seen, as a statement may write it.
@@ -162,8 +154,6 @@ fn check_write<'a>(
         → IsCheck (λ seen. target_of database.now table.now) result (target.check_write w (target_of database.now table.now) key) }
     ensures low { IfOk result (λ seen. key ≤ 9223372036854775807) }
     ensures left { IfOk result (λ seen. IfSome seen (λ r. checks.used_up database.now.shown.«end» ≡ false)) }
-    ensures slot { IfOk result (λ seen. IfSome seen (λ r. r.place.slot < 63)) }
-    ensures short { IfOk result (λ seen. IfSome seen (λ r. length r.before.now ≤ 112)) }
     ensures seen { (w : World) (name : List ℕ) → IsSound w → Keeps w kept.now → ShowsLog w.history database.now → IsTarget w name (target_of database.now table.now)
         → IfOk result (λ seen. MatchOption seen (row_at (visible w (database_of database.now) table.now) key ≡ None)
         (λ r. (row_at (visible w (database_of database.now) table.now) key ≡ Some r.before.now) × MayPlace w (target_of database.now table.now) (table.now.number, key) r.place)) }
@@ -195,8 +185,6 @@ fn check_update<'a>(
     ensures low { IfOk result (λ f. key ≤ 9223372036854775807) }
     ensures value { IfOk result (λ f. length value.now ≤ 112) }
     ensures left { IfOk result (λ f. IfSome f.seen (λ r. checks.used_up f.database.now.shown.«end» ≡ false)) }
-    ensures slot { IfOk result (λ f. IfSome f.seen (λ r. r.place.slot < 63)) }
-    ensures short { IfOk result (λ f. IfSome f.seen (λ r. length r.before.now ≤ 112)) }
     ensures shows { (w : World) → Keeps w kept.now → IfOk result (λ f. ShowsLog w.history f.database.now) }
     ensures its { (w : World) → Keeps w kept.now → IfOk result (λ f. IsTarget w table.now (target_of f.database.now f.table.now)) }
     ensures seen { (w : World) → IsSound w → Keeps w kept.now → IfOk result (λ f. MatchOption f.seen (row_at (visible w (database_of f.database.now) f.table.now) key ≡ None)
@@ -204,12 +192,14 @@ fn check_update<'a>(
 {
     let to = check_table(kept, table)?;
     check_value(value)?;
-    let seen = check_write(kept, to.database, to.table, key)?;
-    Ok(Found {
-        database: to.database,
-        table: to.table,
-        seen,
-    })
+    match check_write(kept, to.database, to.table, key) {
+        Ok(seen) => Ok(Found {
+            database: to.database,
+            table: to.table,
+            seen,
+        }),
+        Err(refusal) => Err(refusal),
+    }
 }
 
 // What `UPDATE` comes to.
@@ -229,11 +219,16 @@ fn plan_update(
         Ok(found) => found,
         Err(refusal) => return refused(refusal),
     };
-    match found.seen {
+    let Found {
+        database,
+        table: spec,
+        seen,
+    } = found;
+    match seen {
         Some(seen) => {
-            let cells = changed_cells(found.table.number, key, seen.before, value);
-            let own = own_open(kept, found.database);
-            row_plan(alloc, found.database, own, seen.place, cells, now)
+            let cells = changed_cells(spec.number, key, seen.before, value);
+            let own = own_open(kept, database);
+            row_plan(alloc, database, own, &seen.place, cells, now)
         }
         None => Ok(Plan::Answered {
             reply: Reply::Counted { rows: 0 },
@@ -247,20 +242,20 @@ fn check_delete<'a>(kept: &'a Kept, table: &Text, key: u64) -> Result<Found<'a>,
     ensures check { (w : World) → IsSound w → Keeps w kept.now → IsCheck (λ f. target_of f.database.now f.table.now) result (delete.check_delete w table.now key) }
     ensures low { IfOk result (λ f. key ≤ 9223372036854775807) }
     ensures left { IfOk result (λ f. IfSome f.seen (λ r. checks.used_up f.database.now.shown.«end» ≡ false)) }
-    ensures slot { IfOk result (λ f. IfSome f.seen (λ r. r.place.slot < 63)) }
-    ensures short { IfOk result (λ f. IfSome f.seen (λ r. length r.before.now ≤ 112)) }
     ensures shows { (w : World) → Keeps w kept.now → IfOk result (λ f. ShowsLog w.history f.database.now) }
     ensures its { (w : World) → Keeps w kept.now → IfOk result (λ f. IsTarget w table.now (target_of f.database.now f.table.now)) }
     ensures seen { (w : World) → IsSound w → Keeps w kept.now → IfOk result (λ f. MatchOption f.seen (row_at (visible w (database_of f.database.now) f.table.now) key ≡ None)
         (λ r. (row_at (visible w (database_of f.database.now) f.table.now) key ≡ Some r.before.now) × MayPlace w (target_of f.database.now f.table.now) (f.table.now.number, key) r.place)) }
 {
     let to = check_table(kept, table)?;
-    let seen = check_write(kept, to.database, to.table, key)?;
-    Ok(Found {
-        database: to.database,
-        table: to.table,
-        seen,
-    })
+    match check_write(kept, to.database, to.table, key) {
+        Ok(seen) => Ok(Found {
+            database: to.database,
+            table: to.table,
+            seen,
+        }),
+        Err(refusal) => Err(refusal),
+    }
 }
 
 // What `DELETE` comes to.
@@ -279,11 +274,16 @@ fn plan_delete(
         Ok(found) => found,
         Err(refusal) => return refused(refusal),
     };
-    match found.seen {
+    let Found {
+        database,
+        table: spec,
+        seen,
+    } = found;
+    match seen {
         Some(seen) => {
-            let cells = gone_cells(found.table.number, key, seen.before);
-            let own = own_open(kept, found.database);
-            row_plan(alloc, found.database, own, seen.place, cells, now)
+            let cells = gone_cells(spec.number, key, seen.before);
+            let own = own_open(kept, database);
+            row_plan(alloc, database, own, &seen.place, cells, now)
         }
         None => Ok(Plan::Answered {
             reply: Reply::Counted { rows: 0 },

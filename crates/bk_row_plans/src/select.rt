@@ -12,14 +12,14 @@ ghost use Rattle.bk_plans.specs.Planning.{KeepsPlan, Plans};
 
 use crate::tables::check_table;
 use bk_asked::{seen_row, seen_rows};
-use bk_ids::{Sequence, Text};
+use bk_ids::{Sequence, Text, Value};
 use bk_kept::{Database, Kept};
 use bk_plans::{Plan, refused};
 use bk_world::{Reply, TableSpec};
 use std::alloc::{AllocError, Global};
 
 // The row of a key, if there is one.
-fn row_of(alloc: Global, key: u64, value: Option<&Text>) -> Result<Vec<(u64, Text)>, AllocError>
+fn row_of(alloc: Global, key: u64, value: Option<&Value>) -> Result<Vec<(u64, Value)>, AllocError>
     ensures { IfOk result (λ rows. rows.items ≡ selecting.row_of key (option_map (λ v. v.now) value.entry)) }
 {
     match value {
@@ -39,7 +39,7 @@ fn asked_rows(
     database: &Database,
     table: &TableSpec,
     key: Option<u64>,
-) -> Result<Vec<(u64, Text)>, AllocError>
+) -> Result<Vec<(u64, Value)>, AllocError>
     ensures { IfOk result (λ rows. (w : World) → Keeps w kept.now → ShowsLog w.history database.now → rows.items ≡ selecting.asked_rows key (visible w (database_of database.now) table.now)) }
 {
     match key {

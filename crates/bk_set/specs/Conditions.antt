@@ -1,8 +1,7 @@
 -- Which bodies have a spelling.
 use Rattle.std.specs.Prelude.{◌≡◌, ◌≢◌, ◌⊎◌, ℕ, ◌+◌, ◌^◌, ◌<◌, ◌≤◌, ◌==◌, Bool, true, false, List, [], ◌∷◌, length, Some}
-use Rattle.std.specs.List.{list_any, find, All, AllByRecursion}
+use Rattle.std.specs.List.{list_any, find, AllByRecursion}
 use Rattle.bk_ids.specs.Name.{same_name}
-use Rattle.bk_ids.specs.declared.record.Place.{Place}
 use Rattle.bk_world.specs.declared.database.TableSpec.{TableSpec}
 use Rattle.bk_world.specs.declared.header.Header.{Header}
 use Rattle.bk_world.specs.declared.header.SetKind.TheVariants.{Full}
@@ -10,6 +9,7 @@ use Rattle.bk_world.specs.declared.row.PlacedRow.{PlacedRow}
 use Rattle.bk_bytes.specs.Codec.{IsString}
 use Rattle.bk_header.specs.Conditions.{IsHeader, KeepsConditions}
 use Rattle.bk_record.specs.Records.{AreRecords}
+use Rattle.bk_record.specs.Spelling.{IsPlace}
 use Rattle.bk_set.specs.declared.body.SetBody.{SetBody}
 
 -- ---- tables
@@ -36,12 +36,6 @@ pub record KeepTables (groups : ℕ) (tables : List TableSpec) : Type 0 where
   pub groups_there : AllByRecursion (λ table. table.group < groups) tables
 
 -- ---- rows
-
--- what a place's fields are
-pub record IsPlace (place : Place) : Type 0 where
-  pub file : place.file < 2 ^ 16
-  pub page : place.page < 2 ^ 32
-  pub slot : place.slot < 2 ^ 16
 
 -- what a row's fields are
 pub record IsRow (row : PlacedRow) : Type 0 where
@@ -79,12 +73,11 @@ pub record IsRowAmong (tables : List TableSpec) (row : PlacedRow) : Type 0 where
 
 -- ---- bodies
 
--- what the parts of a body keep together: a full backup, its tables, and its rows, with values of at most 112 bytes
+-- what the parts of a body keep together: a full backup, its tables, and its rows
 pub record KeepParts (h : Header) (ts : List TableSpec) (rs : List PlacedRow) : Type 0 where
   pub full : h.kind ≡ Full
   pub tables : KeepTables (length h.groups) ts
   pub rows : KeepRows ts rs
-  pub values : All (λ row. length row.value ≤ 112) rs
 
 -- which bodies have a spelling
 pub record IsBody (body : SetBody) : Type 0 where
@@ -103,4 +96,3 @@ pub record KeepsBody (body : SetBody) : Type 0 where
   pub full : body.header.kind ≡ Full
   pub tables : KeepTables (length body.header.groups) body.tables
   pub rows : KeepRows body.tables body.rows
-  pub values : All (λ row. length row.value ≤ 112) body.rows

@@ -7,11 +7,14 @@ use Rattle.bk_world.specs.declared.row.PlacedRow.{PlacedRow}
 use Rattle.bk_bytes.specs.Field.{AreBytes, bytes_of}
 use Rattle.bk_bytes.specs.Codec.{IsCodec, text_at}
 use Rattle.bk_bytes.specs.CodecLaws.{AreBytes-front, AreBytes-after, bind_some, guard_true, number-IsCodec, text-IsCodec, string-IsCodec, followed-IsCodec, converted-IsCodec}
+use Rattle.bk_record.specs.Laws.{place_form-IsCodec}
+use Rattle.bk_record.specs.Reading.{place_form}
 use Rattle.bk_record.specs.Records.{AreRecords, are_records, records_in}
 use Rattle.bk_record.specs.RecordsLaws.{are_records-from, records_in-some}
-use Rattle.bk_set.specs.Conditions.{IsTable, IsPlace, IsRow}
+use Rattle.bk_record.specs.Spelling.{IsPlace}
+use Rattle.bk_set.specs.Conditions.{IsTable, IsRow}
 use Rattle.bk_set.specs.Spelling.{log_bytes}
-use Rattle.bk_set.specs.Reading.{table_form, place_form, row_form, log_at, log_form}
+use Rattle.bk_set.specs.Reading.{table_form, row_form, log_at, log_form}
 
 pub table_form-IsCodec : IsCodec TableSpec table_form
 unfolding table_form
@@ -21,16 +24,6 @@ table_form-IsCodec = converted-IsCodec _ _ _ IsTable (followed-IsCodec _ _ (numb
       (same_Some (record { number = x.0; name = x.1.0; group = x.1.1 }) table e)
       (refl, record { number = fits.0; name = fits.1.0; group = fits.1.1 });
   gives = λ table h. (refl, (h.number, (h.name, h.group)));
-})
-
-pub place_form-IsCodec : IsCodec Place place_form
-unfolding place_form
-place_form-IsCodec = converted-IsCodec _ _ _ IsPlace (followed-IsCodec _ _ (number-IsCodec 2) (λ _. followed-IsCodec _ _ (number-IsCodec 4) (λ _. number-IsCodec 2))) (record {
-  takes = λ x place fits e.
-      subst (λ (p : Place). ((p.file, (p.page, p.slot)) ≡ x) × IsPlace p)
-      (same_Some (record { file = x.0; page = x.1.0; slot = x.1.1 }) place e)
-      (refl, record { file = fits.0; page = fits.1.0; slot = fits.1.1 });
-  gives = λ place h. (refl, (h.file, (h.page, h.slot)));
 })
 
 place-fits : (place : Place) → place_form.Fits place → IsPlace place

@@ -21,9 +21,9 @@ use Rattle.bk_set.specs.declared.body.SetBody.{SetBody}
 use Rattle.bk_record.specs.Records.{AreRecords}
 use Rattle.bk_set.specs.Conditions.{IsTable, Differ, AreDifferent, KeepTables, IsRow, has_table, IsFrom, RiseFrom, IsRowAmong, KeepParts, IsBody, KeepsBody}
 use Rattle.bk_set.specs.Spelling.{body_bytes}
-use Rattle.bk_set.specs.Reading.{table_form, place_form, row_form, is_full, differ, are_different, keep_tables, is_from, keeps_row, rise_from, keep_rows, keep_parts, body_from, body_form}
+use Rattle.bk_record.specs.Reading.{place_form}
+use Rattle.bk_set.specs.Reading.{table_form, row_form, is_full, differ, are_different, keep_tables, is_from, keeps_row, rise_from, keep_rows, keep_parts, body_from, body_form}
 use Rattle.bk_set.specs.FormLaws.{table_form-IsCodec, row_form-IsCodec, log_form-IsCodec}
-use Rattle.std.proofs.lemmas.List.Elements.{All-from_recursion, recursion_from_All}
 use Rattle.std.proofs.lemmas.Option.{same_Some}
 
 -- ---- tests
@@ -104,29 +104,26 @@ pub record Rises (tables : List TableSpec) (table key : ℕ) (rows : List Placed
   pub rise : RiseFrom table key rows
   pub tables_there : AllByRecursion (λ row. has_table tables row.table ≡ true) rows
   pub keys : AllByRecursion (λ row. row.key ≤ 9223372036854775807) rows
-  pub values : AllByRecursion (λ row. length row.value ≤ 112) rows
 
 rise_true : (tables : List TableSpec) (table key : ℕ) (rows : List PlacedRow) → rise_from tables table key rows ≡ true → Rises tables table key rows
-rise_true tables table key [] e = record { rise = tt; tables_there = tt; keys = tt; values = tt }
+rise_true tables table key [] e = record { rise = tt; tables_there = tt; keys = tt }
 rise_true tables table key (row ∷ rows) e =
     let p = and_parts (is_from table key row && keeps_row tables row) (rise_from tables row.table (row.key + 1) rows) e in
     let q = and_parts (is_from table key row) (keeps_row tables row) p.0 in
-    let r = and_parts (leb row.key 9223372036854775807 && leb (length row.value) 112) (has_table tables row.table) q.1 in
-    let s = and_parts (leb row.key 9223372036854775807) (leb (length row.value) 112) r.0 in
+    let r = and_parts (leb row.key 9223372036854775807) (has_table tables row.table) q.1 in
     let others = rise_true tables row.table (row.key + 1) rows p.1 in
     record {
       rise = (from_true table key row q.0, others.rise);
       tables_there = (r.1, others.tables_there);
-      keys = (leb-true _ _ s.0, others.keys);
-      values = (leb-true _ _ s.1, others.values);
+      keys = (leb-true _ _ r.0, others.keys);
     }
 
 rise_of : (tables : List TableSpec) (table key : ℕ) (rows : List PlacedRow) → RiseFrom table key rows → AllByRecursion (λ row. has_table tables row.table ≡ true) rows → AllByRecursion (λ row. row.key ≤ 9223372036854775807) rows
-    → AllByRecursion (λ row. length row.value ≤ 112) rows → rise_from tables table key rows ≡ true
-rise_of tables table key [] rise there keys values = refl
-rise_of tables table key (row ∷ rows) rise there keys values =
-    let kept : keeps_row tables row ≡ true = and_from _ _ (and_from _ _ (le-leb _ _ keys.0) (le-leb _ _ values.0)) there.0 in
-    and_from _ _ (and_from _ _ (from_from table key row rise.0) kept) (rise_of tables row.table (row.key + 1) rows rise.1 there.1 keys.1 values.1)
+    → rise_from tables table key rows ≡ true
+rise_of tables table key [] rise there keys = refl
+rise_of tables table key (row ∷ rows) rise there keys =
+    let kept : keeps_row tables row ≡ true = and_from _ _ (le-leb _ _ keys.0) there.0 in
+    and_from _ _ (and_from _ _ (from_from table key row rise.0) kept) (rise_of tables row.table (row.key + 1) rows rise.1 there.1 keys.1)
 
 -- ---- parts
 
@@ -142,14 +139,13 @@ parts_true header tables rows e =
       full = full_true header.kind q.0;
       tables = tables_true (length header.groups) tables q.1;
       rows = record { few = omega (arith, few); rise = rises.rise; tables_there = rises.tables_there; keys = rises.keys };
-      values = All-from_recursion (λ row. length row.value ≤ 112) rows rises.values;
     }
 
 pub parts_from : (header : Header) (tables : List TableSpec) (rows : List PlacedRow) → KeepParts header tables rows → keep_parts header tables rows ≡ true
 parts_from header tables rows keep =
     let full : is_full header.kind ≡ true = ap is_full keep.full in
     let few : leb (length rows) 4294967295 ≡ true = le-leb _ _ (omega (arith, keep.rows.few)) in
-    let rise = rise_of tables 0 0 rows keep.rows.rise keep.rows.tables_there keep.rows.keys (recursion_from_All (λ row. length row.value ≤ 112) rows keep.values) in
+    let rise = rise_of tables 0 0 rows keep.rows.rise keep.rows.tables_there keep.rows.keys in
     and_from _ _ (and_from _ _ full (tables_from (length header.groups) tables keep.tables)) (and_from _ _ few rise)
 
 -- ---- bodies
@@ -182,17 +178,12 @@ body_takes header tables rows log body fits e =
       },
     )
 
-values_of : (rows : List PlacedRow) → AllByRecursion IsRow rows → AllByRecursion (λ row. length row.value ≤ 112) rows
-values_of [] h = tt
-values_of (row ∷ rows) h = (h.0.value.most_bytes, values_of rows h.1)
-
 -- what has a spelling keeps the conditions
 pub body_parts : (body : SetBody) → IsBody body → KeepParts body.header body.tables body.rows
 body_parts body is = record {
   full = is.full;
   tables = is.tables;
   rows = is.rows;
-  values = All-from_recursion (λ row. length row.value ≤ 112) body.rows (values_of body.rows is.each_row);
 }
 
 body_gives : (body : SetBody) → IsBody body → body_from body.header body.tables body.rows body.log ≡ Some body
@@ -237,7 +228,7 @@ one_body body other a b is_body is_other same =
 
 -- a header and parts that keep their conditions are a body's
 pub parts_keep : (body : SetBody) → KeepsConditions body.header → KeepParts body.header body.tables body.rows → KeepsBody body
-parts_keep body header keep = record { header = header; full = keep.full; tables = keep.tables; rows = keep.rows; values = keep.values }
+parts_keep body header keep = record { header = header; full = keep.full; tables = keep.tables; rows = keep.rows }
 
 -- what has a spelling keeps the conditions
 pub body_keeps : (body : SetBody) → IsBody body → KeepsBody body

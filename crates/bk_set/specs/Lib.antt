@@ -1,7 +1,6 @@
 pub mod Conditions
 pub mod Spelling
 pub mod Reading
-pub mod Decoding
 pub mod Found
 pub mod FormLaws
 pub mod Laws

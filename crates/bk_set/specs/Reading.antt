@@ -1,7 +1,6 @@
 -- How a body is read from the front of bytes.
 use Rattle.std.specs.Prelude.{ℕ, ◌+◌, ◌^◌, ◌<◌, Bool, true, false, List, [], ◌∷◌, length, Option, Some, None, nat_lt, nat_le, ◌==◌, ◌&&◌, ◌||◌, not, if◌then◌else◌}
 use Rattle.std.specs.List.{list_all}
-use Rattle.bk_ids.specs.declared.record.Place.{Place}
 use Rattle.bk_ids.specs.Name.{same_name}
 use Rattle.bk_world.specs.declared.database.TableSpec.{TableSpec}
 use Rattle.bk_world.specs.declared.header.Header.{Header}
@@ -10,22 +9,17 @@ use Rattle.bk_world.specs.declared.header.SetKind.{SetKind}
 use Rattle.bk_world.specs.declared.header.SetKind.TheVariants.{Full, Log, File, Differential}
 use Rattle.bk_bytes.specs.Codec.{◌>>=◌, Codec, number, string, text_at, followed, converted, counted}
 use Rattle.bk_header.specs.Reading.{header_form}
+use Rattle.bk_record.specs.Reading.{place_form}
 use Rattle.bk_record.specs.Records.{AreRecords, records_in}
 use Rattle.bk_set.specs.declared.body.SetBody.{SetBody}
 use Rattle.bk_set.specs.Spelling.{log_bytes}
-use Rattle.bk_set.specs.Conditions.{IsTable, has_table, IsPlace, IsRow, IsBody}
+use Rattle.bk_set.specs.Conditions.{IsTable, has_table, IsRow, IsBody}
 
 unfoldable pub table_form : Codec TableSpec
 table_form = converted (followed (number 4) (λ _. followed (string 1 64) (λ _. number 1)))
     (λ x. Some (record { number = x.0; name = x.1.0; group = x.1.1 }))
     (λ table. (table.number, (table.name, table.group)))
     IsTable
-
-unfoldable pub place_form : Codec Place
-place_form = converted (followed (number 2) (λ _. followed (number 4) (λ _. number 2)))
-    (λ x. Some (record { file = x.0; page = x.1.0; slot = x.1.1 }))
-    (λ place. (place.file, (place.page, place.slot)))
-    IsPlace
 
 unfoldable pub row_form : Codec PlacedRow
 row_form = converted (followed (number 4) (λ _. followed (number 8) (λ _. followed (string 0 112) (λ _. place_form))))
@@ -67,7 +61,7 @@ abbrev pub is_from : ℕ → ℕ → PlacedRow → Bool
 is_from table key row = nat_lt table row.table || (table == row.table && nat_le key row.key)
 
 abbrev pub keeps_row : List TableSpec → PlacedRow → Bool
-keeps_row tables row = nat_le row.key 9223372036854775807 && nat_le (length row.value) 112 && has_table tables row.table
+keeps_row tables row = nat_le row.key 9223372036854775807 && has_table tables row.table
 
 abbrev pub rise_from : List TableSpec → ℕ → ℕ → List PlacedRow → Bool
 rise_from tables table key [] = true

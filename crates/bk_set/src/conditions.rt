@@ -13,9 +13,6 @@ use bk_world::{Header, PlacedRow, SetKind, TableSpec};
 /// The greatest key of a row.
 const LAST_KEY: u64 = 9_223_372_036_854_775_807;
 
-/// The greatest length of a row's value, in bytes.
-const VALUE_BYTES: usize = 112;
-
 /// The greatest number of rows.
 const MOST_ROWS: usize = 4_294_967_295;
 
@@ -78,7 +75,7 @@ fn lies_from(table: u32, key: u64, row: &PlacedRow) -> bool
 fn is_row_of(tables: &[TableSpec], row: &PlacedRow) -> bool
     ensures { result ≡ keeps_row tables.now row.now }
 {
-    row.key <= LAST_KEY && row.value.as_str().len() <= VALUE_BYTES && has_number(tables, row.table)
+    row.key <= LAST_KEY && has_number(tables, row.table)
 }
 
 fn rows_rise(tables: &[TableSpec], rows: &[PlacedRow]) -> bool
@@ -110,7 +107,7 @@ fn are_parts(header: &Header, tables: &[TableSpec], rows: &[PlacedRow]) -> bool
 }
 
 /// The body of these parts, exactly where they keep its conditions: it is a full backup, its tables differ and lie in
-/// filegroups of the header, and its rows rise and lie in the tables, with keys and values that aren't too long. Of the
+/// filegroups of the header, and its rows rise and lie in the tables, with keys that aren't too great. Of the
 /// log no more is asked than that it is records.
 #[tactic(auto, unfolding(crate::specs::Reading::body_from))]
 pub fn make(

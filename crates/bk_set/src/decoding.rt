@@ -4,14 +4,14 @@ ghost use Rattle.std.specs.Prelude.{◌≡◌, IfOk};
 ghost use Rattle.bk_header.specs.Reading.{header_form};
 ghost use Rattle.bk_set.specs.Conditions.{IsBody};
 ghost use Rattle.bk_set.specs.Reading.{body_form, body_of, parts_form};
-ghost use Rattle.bk_set.specs.Decoding.{Reads};
+ghost use Rattle.bk_reading.specs.Reading.{Reads};
 
 use crate::body::SetBody;
 use crate::conditions::make;
 use crate::lists::{read_log, read_rows, read_tables};
-use crate::unread::Unread;
 use bk_header::decode;
 use bk_ids::Sequence;
+use bk_reading::Unread;
 use bk_record::Records;
 use bk_world::{Header, PlacedRow, TableSpec};
 use std::alloc::Global;
@@ -21,7 +21,7 @@ fn read_header(alloc: Global, bytes: &[u8]) -> Result<(Header, &[u8]), Unread>
 {
     match decode(alloc, bytes)? {
         Some((header, size)) => Ok((header, &bytes[size..])),
-        None => Err(Unread::NoBody),
+        None => Err(Unread::Unspelled),
     }
 }
 
@@ -45,7 +45,7 @@ fn read_body(alloc: Global, bytes: &[u8]) -> Result<(SetBody, &[u8]), Unread>
     let ((tables, rows, log), rest) = read_parts(alloc, rest)?;
     match make(header, tables, rows, log) {
         Some(body) => Ok((body, rest)),
-        None => Err(Unread::NoBody),
+        None => Err(Unread::Unspelled),
     }
 }
 
@@ -60,6 +60,6 @@ pub fn read_all(alloc: Global, bytes: &[u8]) -> Result<SetBody, Unread>
         Ok(body)
     } else {
         drop(body);
-        Err(Unread::NoBody)
+        Err(Unread::Unspelled)
     }
 }

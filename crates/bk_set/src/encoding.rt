@@ -1,12 +1,12 @@
 //! Writing a set.
 
 ghost use Rattle.std.specs.Prelude.{◌≡◌, ◌^◌, ◌<◌, ◌≤◌, ◌++◌, length, OnOk, IfOk};
-ghost use Rattle.std.specs.List.{flat_map, All, AllByRecursion};
+ghost use Rattle.std.specs.List.{flat_map, AllByRecursion};
 ghost use Rattle.bk_bytes.specs.Field.{bytes_of};
 ghost use Rattle.bk_header.specs.Spelling.{text_bytes};
 ghost use Rattle.bk_record.specs.Records.{AreRecords};
-ghost use Rattle.bk_record.specs.Spelling.{place_bytes};
-ghost use Rattle.bk_set.specs.Conditions.{IsTable, IsPlace, IsRow, IsBody, KeepsBody};
+ghost use Rattle.bk_record.specs.Spelling.{IsPlace, place_bytes};
+ghost use Rattle.bk_set.specs.Conditions.{IsTable, IsRow, IsBody, KeepsBody};
 ghost use Rattle.bk_set.specs.Spelling.{table_bytes, row_bytes, log_bytes, body_bytes, set_bytes};
 
 use crate::body::SetBody;
@@ -29,18 +29,17 @@ fn append_table(out: &mut Vec<u8>, table: &TableSpec) -> Result<(), AllocError>
     Ok(())
 }
 
-fn append_place(out: &mut Vec<u8>, place: Place) -> Result<(), AllocError>
-    ensures ok { OnOk result (out.new.items ≡ out.old.items ++ place_bytes place) }
-    ensures fits { OnOk result (IsPlace place) }
+fn append_place(out: &mut Vec<u8>, place: &Place) -> Result<(), AllocError>
+    ensures ok { OnOk result (out.new.items ≡ out.old.items ++ place_bytes place.now) }
+    ensures fits { OnOk result (IsPlace place.now) }
 {
     append_u16(out, place.file)?;
     append_u32(out, place.page)?;
-    append_u16(out, place.slot)?;
+    append_u16(out, place.slot.get())?;
     Ok(())
 }
 
 fn append_row(out: &mut Vec<u8>, row: &PlacedRow) -> Result<(), AllocError>
-    requires { length row.now.value ≤ 112 }
     ensures ok { OnOk result (out.new.items ≡ out.old.items ++ row_bytes row.now) }
     ensures fits { OnOk result (IsRow row.now) }
 {
@@ -48,7 +47,7 @@ fn append_row(out: &mut Vec<u8>, row: &PlacedRow) -> Result<(), AllocError>
     append_u64(out, row.key)?;
     let value = row.value.as_str();
     append_text(out, value.as_bytes())?;
-    append_place(out, row.place)
+    append_place(out, &row.place)
 }
 
 fn append_tables(out: &mut Vec<u8>, tables: &[TableSpec]) -> Result<(), AllocError>
@@ -64,8 +63,7 @@ fn append_tables(out: &mut Vec<u8>, tables: &[TableSpec]) -> Result<(), AllocErr
 }
 
 fn append_rows(out: &mut Vec<u8>, rows: &[PlacedRow]) -> Result<(), AllocError>
-    requires few { length rows.now < 2 ^ 32 }
-    requires values { All (λ row. length row.value ≤ 112) rows.now }
+    requires { length rows.now < 2 ^ 32 }
     ensures ok { OnOk result (out.new.items ≡ out.old.items ++ (bytes_of 4 (length rows.now) ++ flat_map row_bytes rows.now)) }
     ensures fits { OnOk result (AllByRecursion IsRow rows.now) }
 {

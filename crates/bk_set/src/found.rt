@@ -9,7 +9,7 @@ ghost use Rattle.bk_set.specs.Found.{found, HoldsBody};
 
 use crate::body::SetBody;
 use crate::decoding::read_all;
-use crate::unread::Unread;
+use bk_reading::Unread;
 use sha2::{Digest, Sha256};
 use std::alloc::{AllocError, Global};
 
@@ -43,7 +43,7 @@ pub fn read_set(alloc: Global, blob: &[u8]) -> Result<Found, AllocError>
     }
     match read_all(alloc, front) {
         Ok(body) => Ok(Found::Holds(body)),
-        Err(Unread::NoBody) => Ok(Found::NoSet),
+        Err(Unread::Unspelled) => Ok(Found::NoSet),
         Err(Unread::NoMemory) => Err(AllocError),
     }
 }

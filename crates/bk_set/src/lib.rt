@@ -9,7 +9,6 @@ mod decoding;
 mod encoding;
 mod found;
 mod lists;
-mod unread;
 
 pub use body::SetBody;
 pub use conditions::make;

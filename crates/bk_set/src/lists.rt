@@ -2,12 +2,13 @@
 
 ghost use Rattle.std.specs.Prelude.{◌≡◌, ◌<◌, ◌≤◌, length};
 ghost use Rattle.bk_bytes.specs.Codec.{Gives, string, times, counted, text_at};
-ghost use Rattle.bk_set.specs.Reading.{table_form, place_form, row_form, log_at};
-ghost use Rattle.bk_set.specs.Decoding.{Reads};
+ghost use Rattle.bk_record.specs.Reading.{place_form};
+ghost use Rattle.bk_set.specs.Reading.{table_form, row_form, log_at};
+ghost use Rattle.bk_reading.specs.Reading.{Reads};
 
-use crate::unread::Unread;
 use bk_bytes::{split_run, split_str, split_u8, split_u16, split_u32, split_u64};
-use bk_ids::{Name, Place, Sequence, Text};
+use bk_ids::{Name, Place, Sequence, Slot, Value};
+use bk_reading::Unread;
 use bk_record::Records;
 use bk_world::{PlacedRow, TableSpec};
 use std::alloc::Global;
@@ -17,18 +18,18 @@ fn read_name(alloc: Global, bytes: &[u8]) -> Result<(Name, &[u8]), Unread>
 {
     match bk_fields::read_name(alloc, bytes)? {
         Some(read) => Ok(read),
-        None => Err(Unread::NoBody),
+        None => Err(Unread::Unspelled),
     }
 }
 
-fn read_value(alloc: Global, bytes: &[u8]) -> Result<(Text, &[u8]), Unread>
+fn read_value(alloc: Global, bytes: &[u8]) -> Result<(Value, &[u8]), Unread>
     ensures { Reads (λ x. (x.0, x.1.now)) result ((string 0 112).reading bytes.now) }
 {
     let Some((text, rest)) = split_str(bytes, 0, 112) else {
-        return Err(Unread::NoBody);
+        return Err(Unread::Unspelled);
     };
-    let text = String::from_str(alloc, text)?;
-    Ok((Text::new(text), rest))
+    let value = Value::new(alloc, text)?;
+    Ok((value, rest))
 }
 
 #[tactic(auto, unfolding(crate::specs::Reading::table_form))]
@@ -36,11 +37,11 @@ fn read_table(alloc: Global, bytes: &[u8]) -> Result<(TableSpec, &[u8]), Unread>
     ensures { Reads (λ x. (x.0, x.1.now)) result (table_form.reading bytes.now) }
 {
     let Some((number, rest)) = split_u32(bytes) else {
-        return Err(Unread::NoBody);
+        return Err(Unread::Unspelled);
     };
     let (name, rest) = read_name(alloc, rest)?;
     let Some((group, rest)) = split_u8(rest) else {
-        return Err(Unread::NoBody);
+        return Err(Unread::Unspelled);
     };
     let table = TableSpec {
         number,
@@ -50,13 +51,14 @@ fn read_table(alloc: Global, bytes: &[u8]) -> Result<(TableSpec, &[u8]), Unread>
     Ok((table, rest))
 }
 
-#[tactic(auto, unfolding(crate::specs::Reading::place_form))]
+#[tactic(auto, unfolding(bk_record::specs::Reading::place_form))]
 fn split_place(bytes: &[u8]) -> Option<(Place, &[u8])>
     ensures { Gives (λ x. (x.0, x.1.now)) result (place_form.reading bytes.now) }
 {
     let (file, rest) = split_u16(bytes)?;
     let (page, rest) = split_u32(rest)?;
     let (slot, rest) = split_u16(rest)?;
+    let slot = Slot::new(slot)?;
     Some((Place { file, page, slot }, rest))
 }
 
@@ -65,14 +67,14 @@ fn read_row(alloc: Global, bytes: &[u8]) -> Result<(PlacedRow, &[u8]), Unread>
     ensures { Reads (λ x. (x.0, x.1.now)) result (row_form.reading bytes.now) }
 {
     let Some((table, rest)) = split_u32(bytes) else {
-        return Err(Unread::NoBody);
+        return Err(Unread::Unspelled);
     };
     let Some((key, rest)) = split_u64(rest) else {
-        return Err(Unread::NoBody);
+        return Err(Unread::Unspelled);
     };
     let (value, rest) = read_value(alloc, rest)?;
     let Some((place, rest)) = split_place(rest) else {
-        return Err(Unread::NoBody);
+        return Err(Unread::Unspelled);
     };
     let row = PlacedRow {
         table,
@@ -123,7 +125,7 @@ pub fn read_tables(alloc: Global, bytes: &[u8]) -> Result<(Sequence<TableSpec>, 
     ensures { Reads (λ x. (x.0, x.1.now)) result ((counted 2 table_form).reading bytes.now) }
 {
     let Some((count, rest)) = split_u16(bytes) else {
-        return Err(Unread::NoBody);
+        return Err(Unread::Unspelled);
     };
     let (tables, rest) = read_some_tables(alloc, count, rest)?;
     Ok((Sequence::new(tables), rest))
@@ -135,7 +137,7 @@ pub fn read_rows(alloc: Global, bytes: &[u8]) -> Result<(Sequence<PlacedRow>, &[
     ensures { Reads (λ x. (x.0, x.1.now)) result ((counted 4 row_form).reading bytes.now) }
 {
     let Some((count, rest)) = split_u32(bytes) else {
-        return Err(Unread::NoBody);
+        return Err(Unread::Unspelled);
     };
     let (rows, rest) = read_some_rows(alloc, count, rest)?;
     Ok((Sequence::new(rows), rest))
@@ -156,10 +158,10 @@ pub fn read_log(alloc: Global, bytes: &[u8]) -> Result<(Records, &[u8]), Unread>
     ensures { Reads (λ x. (x.0, x.1.now)) result (log_at bytes.now) }
 {
     let Some((log, rest)) = split_long(bytes) else {
-        return Err(Unread::NoBody);
+        return Err(Unread::Unspelled);
     };
     match Records::read(alloc, log)? {
         Some(records) => Ok((records, rest)),
-        None => Err(Unread::NoBody),
+        None => Err(Unread::Unspelled),
     }
 }

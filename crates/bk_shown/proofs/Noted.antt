@@ -54,7 +54,7 @@ pub is-noted : (files : List FileSpec) (front : List Logged) (r : Logged) (given
 is-noted files front r given is placed unnoted = by r.deed placed (subst (λ (g : Rec). IsUnnoted g.body) is unnoted)
   where
     by : (d : Deed) → IsPlaced files (telling.tables front) d → IsUnnoted (body_of d) → ⊥
-    by (written at before c) placed n = n c.table c.key before c.value (record { fits = placed.0; old_is = refl; new_is = refl })
+    by (written at before c) placed n = n c.table c.key before c.value (record { fits = placed.0; old_is = refl; new_is = refl }) placed.1.1.1.slot
     by (loaded load) placed n = absurd placed
     by (committed time mark) placed n = n
     by rolled_back placed n = n

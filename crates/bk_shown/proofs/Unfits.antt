@@ -27,7 +27,7 @@ module _ (files : List FileSpec) (rs : List Logged) (n begin : ℕ) (s : Shown) 
       let above : length (telling.tables rs) + 1 ≤ spec.number = omega (arith, placed.0) in
       unfit (shows.kept.groups spec.number ∙ ap (option_map (λ (t : TableSpec). t.group)) (none-numbered 1 (telling.tables rs) spec.number shows.log.numbers above), placed.1)
   fits (written at before c) may placed unfit =
-      unfit c.table c.key before c.value (record { fits = placed.0; old_is = refl; new_is = refl }) (may-lie (id_of c) at placed.1.0.group placed.1.1.1 may.place)
+      unfit c.table c.key before c.value (record { fits = placed.0; old_is = refl; new_is = refl }) (may-lie (id_of c) at placed.1.0.group placed.1.1.1 may.place) placed.1.1.1.slot
   fits (loaded load) may placed unfit = absurd placed
   fits (committed time mark) may placed unfit = unfit
   fits rolled_back may placed unfit = unfit

@@ -96,7 +96,7 @@ TakesBody lsn begin _ old new = new ≡ old
 -- where a body isn't taken
 abbrev pub IsUnfit : Body → Shown → Type 0
 IsUnfit (Table time number name group) old = MayMake old.groups number name → ⊥
-IsUnfit (Write at before after) old = (table key : ℕ) (b v : Option (List ℕ)) → Spells before.bytes after.bytes table key b v → MayLie old.groups (table, key) at → ⊥
+IsUnfit (Write at before after) old = (table key : ℕ) (b v : Option (List ℕ)) → Spells before.bytes after.bytes table key b v → MayLie old.groups (table, key) at → at.slot < 63 → ⊥
 IsUnfit (Bulk table first count value extents) old = Unit {0}
 IsUnfit _ old = ⊥
 
@@ -131,7 +131,7 @@ NotesBody lsn begin _ old new = new ≡ old
 
 -- where a body isn't noted
 abbrev pub IsUnnoted : Body → Type 0
-IsUnnoted (Write at before after) = (table key : ℕ) (b v : Option (List ℕ)) → Spells before.bytes after.bytes table key b v → ⊥
+IsUnnoted (Write at before after) = (table key : ℕ) (b v : Option (List ℕ)) → Spells before.bytes after.bytes table key b v → at.slot < 63 → ⊥
 IsUnnoted (Bulk table first count value extents) = Unit {0}
 IsUnnoted _ = ⊥
 

@@ -16,7 +16,7 @@ ghost use Rattle.bk_shown.specs.Shown.{IsFit, IsFreeFor, Shows, pending_of};
 ghost use Rattle.bk_shown.specs.Writes.{own_of, value_after, writer_of};
 
 use crate::shown::{Shown, Written};
-use bk_ids::{Lsn, Place, RecoveryModel, Text};
+use bk_ids::{Lsn, Place, RecoveryModel, Value};
 use bk_world::{PlacedRow, TableSpec};
 use std::alloc::{AllocError, Global};
 
@@ -84,7 +84,7 @@ impl Shown {
     }
 
     /// The committed value of a row, if it is there.
-    pub fn value(&self, table: u32, key: u64) -> Option<&Text>
+    pub fn value(&self, table: u32, key: u64) -> Option<&Value>
         ensures { (files : List FileSpec) (rs : List Logged) → Shows files rs self.now → option_map (λ text. text.now) result ≡ row_at (telling.rows rs table) key }
     {
         self.rows.value(table, key)
@@ -92,7 +92,7 @@ impl Shown {
 
     /// The value of a row as the transaction of this first record sees it: its own pending writes lie over the committed
     /// rows.
-    pub fn seen(&self, begin: Lsn, table: u32, key: u64) -> Option<&Text>
+    pub fn seen(&self, begin: Lsn, table: u32, key: u64) -> Option<&Value>
         ensures { (files : List FileSpec) (rs : List Logged) → Shows files rs self.now → option_map (λ text. text.now) result ≡ row_at (telling.seen rs begin table) key }
     {
         seen_over(
@@ -105,7 +105,7 @@ impl Shown {
     }
 
     /// The committed rows of a table, their keys and values, by rising key.
-    pub fn rows(&self, alloc: Global, table: u32) -> Result<Vec<(u64, Text)>, AllocError>
+    pub fn rows(&self, alloc: Global, table: u32) -> Result<Vec<(u64, Value)>, AllocError>
         ensures { IfOk result (λ listed. (files : List FileSpec) (rs : List Logged) → Shows files rs self.now → listed.items ≡ telling.rows rs table) }
     {
         let listed = self.rows.listed(alloc, table)?;
@@ -133,12 +133,12 @@ impl Shown {
 
 // The value of a row behind a transaction's writes of it.
 fn seen_over<'a>(
-    committed: Option<&'a Text>,
+    committed: Option<&'a Value>,
     written: &'a [Written],
     begin: Lsn,
     table: u32,
     key: u64,
-) -> Option<&'a Text>
+) -> Option<&'a Value>
     ensures { option_map (λ text. text.now) result ≡ value_after (table, key) (own_of begin written.now) (option_map (λ text. text.now) committed.entry) }
 {
     let mut value = committed;

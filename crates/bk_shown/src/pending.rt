@@ -15,7 +15,7 @@ ghost use Rattle.bk_shown.specs.declared.error.TakeError.TheVariants.{Unfit};
 use crate::error::TakeError;
 use crate::shown::Written;
 use crate::taking::push;
-use crate::writing::written;
+use crate::writing::{placed, written};
 use bk_ids::Lsn;
 use bk_record::{BodyRef, RecRef, Records, cursor};
 use std::alloc::Global;
@@ -45,6 +45,7 @@ fn note(alloc: Global, writes: &mut Vec<Written>, taken: RecRef<'_>) -> Result<(
             before,
             after,
         } => {
+            let place = placed(place)?;
             let write = written(alloc, taken.lsn, taken.begin, place, before, after)?;
             push(writes, write)?;
         }

@@ -35,11 +35,11 @@ impl Shown {
         ensures ok { OnOk result (AddsRow row.now self.old self.new) }
         ensures unfit { IsErrOf result Unfit → MayAdd self.old.groups row.now → ⊥ }
     {
-        if self.groups.find(row.table, row.key).is_some() || !self.groups.is_free(row.place) {
+        if self.groups.find(row.table, row.key).is_some() || !self.groups.is_free(&row.place) {
             return Err(TakeError::Unfit);
         }
         let value = row.value.copy(self.alloc)?;
-        self.groups.put(row.table, row.key, row.place)?;
+        self.groups.put(row.table, row.key, &row.place)?;
         self.rows.put(row.table, row.key, value)?;
         Ok(())
     }

@@ -3,7 +3,7 @@
 ghost use Rattle.std.specs.Prelude.{◌≡◌, []};
 
 use bk_groups::Groups;
-use bk_ids::Text;
+use bk_ids::Value;
 use bk_world::PlacedRow;
 use std::alloc::{AllocError, Global};
 use std::collections::BTreeMap;
@@ -12,7 +12,7 @@ use std::marker::Model;
 /// Committed rows. Contracts see the list of them, each its table and key with its value, by rising table and key.
 #[derive(Drop)]
 pub struct Rows {
-    values: BTreeMap<(u32, u64), Text>,
+    values: BTreeMap<(u32, u64), Value>,
 }
 
 impl Model for Rows {
@@ -39,7 +39,7 @@ impl Rows {
     }
 
     /// Gives a row its value, in the place of the one that it has.
-    pub fn put(&mut self, table: u32, key: u64, value: Text) -> Result<(), AllocError>
+    pub fn put(&mut self, table: u32, key: u64, value: Value) -> Result<(), AllocError>
         ensures { OnOk result (SetsRow self.old self.new (table, key) (Some value)) }
     {
         self.values.insert((table, key), value)?;
@@ -61,14 +61,14 @@ impl Rows {
     }
 
     /// The value of a row, if it is there.
-    pub fn value(&self, table: u32, key: u64) -> Option<&Text>
+    pub fn value(&self, table: u32, key: u64) -> Option<&Value>
         ensures { option_map (λ text. text.now) result ≡ value_among self.now (table, key) }
     {
         self.values.get(&(table, key))
     }
 
     /// Keys and values of a table's rows, by rising key.
-    pub fn listed(&self, alloc: Global, table: u32) -> Result<Vec<(u64, Text)>, AllocError>
+    pub fn listed(&self, alloc: Global, table: u32) -> Result<Vec<(u64, Value)>, AllocError>
         ensures rows { IfOk result (λ listed. listed.items ≡ rows_in table self.now) }
         ensures rise { IfOk result (λ listed. RowsRise listed.items) }
     {

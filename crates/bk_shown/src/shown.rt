@@ -5,7 +5,7 @@ ghost use Rattle.bk_groups.specs.Groups.{AreFiles};
 
 use crate::rows::Rows;
 use bk_groups::Groups;
-use bk_ids::{Lsn, Place, RecoveryModel, Text};
+use bk_ids::{Lsn, Place, RecoveryModel, Value};
 use bk_world::{FileSpec, TableSpec};
 use std::alloc::{AllocError, Global};
 
@@ -19,8 +19,8 @@ pub struct Written {
     pub place: Place,
     pub table: u32,
     pub key: u64,
-    pub before: Option<Text>,
-    pub value: Option<Text>,
+    pub before: Option<Value>,
+    pub value: Option<Value>,
 }
 
 /// What the log of a database shows: its tables, the committed rows, the place of each row, the writes that are

@@ -49,14 +49,14 @@ undoing_all P n records each all =
     all_undoing P (reverse (pending below)) each (all_reverse IsTold (pending below) told)
 
 pub undoing_limits : (n : ℕ) (records : List Rec) → AllByRecursion IsRecord records → AllByRecursion (λ (r : Rec). KeepsLimits r.body) (compensation n records)
-undoing_limits n records all = undoing_all (λ (r : Rec). KeepsLimits r.body) n records (λ w told. (told.place.slot, told.cell)) all
+undoing_limits n records all = undoing_all (λ (r : Rec). KeepsLimits r.body) n records (λ w told. told.cell) all
 
 -- a record that undoes a write, under any number
 spelled_under : (w : Pending) → IsTold w → (lsn : ℕ) → lsn < 2 ^ 64 → IsRecord (record (compensation_of w) { lsn = lsn })
 spelled_under w told lsn low =
     let r : Rec = record (compensation_of w) { lsn = lsn } in
     let body : IsBody r.body = (told.place, (told.cell, told.lsn)) in
-    record { lsn = low; begin = told.begin; body = body; len = inside_short r body (told.place.slot, told.cell) }
+    record { lsn = low; begin = told.begin; body = body; len = inside_short r body told.cell }
 
 pub undoing_spelled : (n : ℕ) (records : List Rec) → AllByRecursion IsRecord records → AllByRecursion (λ (r : Rec). (lsn : ℕ) → lsn < 2 ^ 64 → IsRecord (record r { lsn = lsn })) (compensation n records)
 undoing_spelled n records all = undoing_all (λ (r : Rec). (lsn : ℕ) → lsn < 2 ^ 64 → IsRecord (record r { lsn = lsn })) n records spelled_under all

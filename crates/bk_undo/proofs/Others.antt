@@ -1,11 +1,11 @@
 -- The kinds of records that leave the pending writes as they are.
 use Rattle.std.proofs.Common.{◌≡◌, ◌<◌, ℕ, false, List, [], ◌++◌, Option, Bor, refl, ap, ◌∙◌}
 use Rattle.std.proofs.lemmas.List.{append-nil}
-use Rattle.bk_ids.specs.declared.record.Place.{Place}
 use Rattle.bk_ids.specs.declared.record.Rec.{Rec}
 use Rattle.bk_record.specs.View.{record_of}
 use Rattle.bk_record.specs.declared.view.BodyRef.{BodyRef}
 use Rattle.bk_record.specs.declared.view.MarkRef.{MarkRef}
+use Rattle.bk_record.specs.declared.view.PlaceRef.{PlaceRef}
 use Rattle.bk_record.specs.declared.view.BodyRef.TheVariants.{Database, Table, Begin, Write, Commit, RollbackEnd, Compensation, Checkpoint, Stamp, Model, Bulk, Recovery}
 use Rattle.bk_undo.specs.declared.pending.Pending.{Pending}
 use Rattle.bk_undo.specs.Losers.{closes, writes, noted}
@@ -15,7 +15,7 @@ use Rattle.bk_undo.proofs.Replay.{noted_open}
 quiet : (n : ℕ) (r : Rec) (before : List Pending) → r.lsn < n → ((write : Pending) → closes r write ≡ false) → writes r ≡ [] → noted n r before ≡ before
 quiet n r before less none nothing = noted_open n r before less none ∙ ap (λ (ws : List Pending). before ++ ws) nothing ∙ append-nil before
 
-pub noted_other : (n lsn begin : ℕ) (body : BodyRef) (before : List Pending) → lsn < n → ((place : Place) (old new : Bor (List ℕ)) → body ≡ Write place old new → ⊥) → ((time : ℕ) (mark : Option MarkRef) → body ≡ Commit time mark → ⊥) → (body ≡ RollbackEnd → ⊥) → ((place : Place) (cell : Bor (List ℕ)) (undone : ℕ) → body ≡ Compensation place cell undone → ⊥) → noted n (record_of (record { lsn = lsn; begin = begin; body = body })) before ≡ before
+pub noted_other : (n lsn begin : ℕ) (body : BodyRef) (before : List Pending) → lsn < n → ((place : PlaceRef) (old new : Bor (List ℕ)) → body ≡ Write place old new → ⊥) → ((time : ℕ) (mark : Option MarkRef) → body ≡ Commit time mark → ⊥) → (body ≡ RollbackEnd → ⊥) → ((place : PlaceRef) (cell : Bor (List ℕ)) (undone : ℕ) → body ≡ Compensation place cell undone → ⊥) → noted n (record_of (record { lsn = lsn; begin = begin; body = body })) before ≡ before
 noted_other n lsn begin (Write place old new) before less no_write no_commit no_end no_undo = absurd (no_write place old new refl)
 noted_other n lsn begin (Commit time mark) before less no_write no_commit no_end no_undo = absurd (no_commit time mark refl)
 noted_other n lsn begin RollbackEnd before less no_write no_commit no_end no_undo = absurd (no_end refl)

@@ -7,6 +7,7 @@ use Rattle.std.proofs.lemmas.List.{length-append}
 use Rattle.bk_ids.specs.Path.{last_branch}
 use Rattle.bk_ids.specs.declared.guid.Guid.{Guid}
 use Rattle.bk_machine.specs.Acts.{done, gone_on, logged, says}
+use Rattle.bk_machine.specs.Fits.{FitsLog}
 use Rattle.bk_machine.specs.MayDo.{HoldsOf, IsOpenOrNew, MayDo, MayLog, MaySay}
 use Rattle.bk_machine.specs.Same.{SameLogs}
 use Rattle.bk_machine.specs.SettledLaws.{logs-same}
@@ -14,7 +15,7 @@ use Rattle.bk_machine.specs.Sound.{AreNumbered, AreOpen, ArePlaced, IsSound, IsW
 use Rattle.bk_machine.specs.World.{Database, World, database_named, log_of, with_database}
 use Rattle.bk_machine.specs.JoinLaws.{placed-join}
 use Rattle.bk_machine.specs.SaysLaws.{done-says}
-use Rattle.bk_waiting.proofs.Points.{found-behind, gone_on-files, gone_on-name, gone_on-path, gone_on-twice, said_on_last-twice, with-twice}
+use Rattle.bk_waiting.proofs.Points.{found-behind, gone_on-files, gone_on-groups, gone_on-name, gone_on-path, gone_on-twice, said_on_last-twice, with-twice}
 use Rattle.bk_waiting.specs.Lagging.{SaysNoCheckpoint}
 use Rattle.bk_world.specs.declared.database.FileSpec.{FileSpec}
 use Rattle.bk_world.specs.Lines.{said_on_last}
@@ -84,6 +85,8 @@ module _ (w : World) (name : List ℕ) (db : Database) (said others : List Said)
               (placed-join db.files rs (numbered db.end said) next first.places
               (subst (λ (files : List FileSpec). ArePlaced files (rs ++ numbered db.end said) next) (gone_on-files (model (log_of w.history db)) said between db)
               (subst (λ (front : List Logged). ArePlaced its.files front next) log second.places)));
+          fits = subst (λ (all : List Logged). FitsLog (length db.groups) all) whole-log
+              (subst (λ (groups : List (List ℕ)). FitsLog (length groups) (more (log_of mid.history its) (db.end + length said) others)) (gone_on-groups (model (log_of w.history db)) said between db) second.fits);
         }
 
     pub logs-joined : MayLog w db said between → MayLog mid its others transactions → MayLog w db (said ++ others) transactions

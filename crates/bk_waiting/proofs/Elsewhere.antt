@@ -3,6 +3,7 @@ use Rattle.std.proofs.Common.{◌≡◌, ℕ, ◌+◌, List, length, Option, Non
 use Rattle.std.specs.List.{AllByRecursion}
 use Rattle.bk_ids.specs.declared.path.Branch.{Branch}
 use Rattle.bk_machine.specs.Acts.{Act, done, gone_on, logged, says}
+use Rattle.bk_machine.specs.Fits.{FitsLog}
 use Rattle.bk_machine.specs.MayDo.{HoldsOf, MayDo, MayLog}
 use Rattle.bk_machine.specs.NamedLaws.{all-changed, named-own, of-named}
 use Rattle.bk_machine.specs.Same.{SameLogs}
@@ -34,6 +35,7 @@ log-elsewhere w v db said transactions is may = record {
     may = subst (λ (rs : List Logged). MayFollow rs (numbered db.end said)) is may.says.may;
     tables = subst (λ (rs : List Logged). AreNumbered 1 (tables (more rs db.end said))) is may.says.tables;
     places = subst (λ (rs : List Logged). ArePlaced db.files rs (numbered db.end said)) is may.says.places;
+    fits = subst (λ (rs : List Logged). FitsLog (length db.groups) (more rs db.end said)) is may.says.fits;
   };
   each = may.each;
   opens = subst (λ (rs : List Logged). AreOpen (more rs db.end said) (db.end + length said) transactions) is may.opens;

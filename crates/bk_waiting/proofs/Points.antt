@@ -80,6 +80,9 @@ gone_on-path m said transactions db = ap (λ (d : Database). d.path) (gone_on-on
 pub gone_on-files : (m : RecoveryModel) (said : List Said) (transactions : List Open) (db : Database) → (gone_on m said transactions db).files ≡ db.files
 gone_on-files m said transactions db = ap (λ (d : Database). d.files) (gone_on-only m said transactions db)
 
+pub gone_on-groups : (m : RecoveryModel) (said : List Said) (transactions : List Open) (db : Database) → (gone_on m said transactions db).groups ≡ db.groups
+gone_on-groups m said transactions db = ap (λ (d : Database). d.groups) (gone_on-only m said transactions db)
+
 -- without a checkpoint its points stay
 pub gone_on-still : (m : RecoveryModel) (said : List Said) (transactions : List Open) (db : Database) → SaysNoCheckpoint said
     → gone_on m said transactions db ≡ record db { end = db.end + length said; transactions = transactions }

@@ -1,15 +1,13 @@
 //! What a database says has a spelling.
 
-ghost use Rattle.std.specs.Prelude.{◌<◌, ◌^◌, length, IfSome};
-ghost use Rattle.std.specs.List.{All};
-ghost use Rattle.bk_acts.specs.Spelling.{IsAct, KeepsAct};
-ghost use Rattle.bk_acts.specs.Transactions.{AreTransactions, IsTransaction, KeepsTransaction};
+ghost use Rattle.bk_acts.specs.Spelling.{IsAct};
+ghost use Rattle.bk_acts.specs.Transactions.{AreTransactions, IsTransaction};
 ghost use Rattle.bk_bytes.specs.Codec.{IsString};
-ghost use Rattle.bk_record.specs.Spelling.{IsDescription, IsMark, KeepsMarkLimits};
+ghost use Rattle.bk_record.specs.Spelling.{IsDescription, IsMark};
 ghost use Rattle.bk_waiting.specs.Waiting.{IsSaid};
 
 use bk_acts::StoredAct;
-use bk_ids::{Mark, Name, Text};
+use bk_ids::{Description, Mark, Name};
 use bk_world::Open;
 
 fn name_fits(name: &Name)
@@ -18,8 +16,7 @@ fn name_fits(name: &Name)
     let _text = name.as_str();
 }
 
-fn description_fits(description: &Option<Text>)
-    requires { IfSome description.now (λ text. (0 < length text) × (length text < 2 ^ 16)) }
+fn description_fits(description: &Option<Description>)
     ensures { IsDescription description.now }
 {
     if let Some(text) = description {
@@ -28,7 +25,6 @@ fn description_fits(description: &Option<Text>)
 }
 
 fn mark_fits(mark: &Option<Mark>)
-    requires { KeepsMarkLimits mark.now }
     ensures { IsMark mark.now }
 {
     if let Some(mark) = mark {
@@ -38,7 +34,6 @@ fn mark_fits(mark: &Option<Mark>)
 }
 
 fn transaction_fits(transaction: &Open)
-    requires { KeepsTransaction transaction.now }
     ensures { IsTransaction transaction.now }
 {
     let _session = transaction.session;
@@ -47,7 +42,6 @@ fn transaction_fits(transaction: &Open)
 }
 
 fn transactions_fit(transactions: &[Open])
-    requires { All KeepsTransaction transactions.now }
     ensures { AreTransactions transactions.now }
 {
     for transaction in transactions {
@@ -55,10 +49,9 @@ fn transactions_fit(transactions: &[Open])
     }
 }
 
-// What a database says has a spelling, where its transactions keep their conditions. It takes no memory.
+// What a database says has a spelling. It takes no memory.
 pub(crate) fn said_fits(act: &StoredAct)
-    requires said { IsSaid act.now }
-    requires keeps { KeepsAct act.now }
+    requires { IsSaid act.now }
     ensures { IsAct act.now }
 {
     match act {

@@ -1,9 +1,7 @@
 //! Two acts of one database as one.
 
 ghost use Rattle.std.specs.Prelude.{◌≡◌, ℕ, true, List, Some, IfOk, OnOk};
-ghost use Rattle.std.specs.List.{All};
 ghost use Rattle.bk_acts.specs.Spelling.{act_bytes, IsAct, KeepsAct};
-ghost use Rattle.bk_acts.specs.Transactions.{KeepsTransaction};
 ghost use Rattle.bk_acts.specs.declared.act.StoredAct.TheVariants.{Logged};
 ghost use Rattle.bk_waiting.specs.Waiting.{IsSaid, Joins, KeepsOpen, joined};
 
@@ -56,7 +54,6 @@ fn logged(
     transactions: &[Open],
     records: Records,
 ) -> Result<StoredAct, AllocError>
-    requires { All KeepsTransaction transactions.now }
     ensures same { IfOk result (λ act. act ≡ Logged name.now transactions.now records) }
     ensures keeps { IfOk result KeepsAct }
 {
@@ -146,7 +143,6 @@ fn go_on(
 ) -> Result<(), AllocError>
     requires said { IsSaid waiting.old }
     requires kept { KeepsAct waiting.old }
-    requires keeps { All KeepsTransaction open.now }
     ensures ok { OnOk result ((name : List ℕ) → Joins (Some waiting.old) (Logged name open.now more.now) → waiting.new ≡ joined (Some waiting.old) (Logged name open.now more.now)) }
     ensures keeps { KeepsAct waiting.new }
 {

@@ -1,5 +1,5 @@
 use crate::rule::Rule;
-use bk_ids::{Lsn, Sequence, Text};
+use bk_ids::{Lsn, Sequence, Value};
 
 /// What is answered to a statement.
 #[derive(Debug, Drop)]
@@ -14,7 +14,7 @@ pub enum Reply {
     },
     /// The rows that it selected, by rising key.
     Selected {
-        rows: Sequence<(u64, Text)>,
+        rows: Sequence<(u64, Value)>,
     },
     /// A backup set was made: its position on the medium from 1, the first log record that it holds, its checkpoint, and
     /// one more than the last record.

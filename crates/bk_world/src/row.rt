@@ -1,4 +1,4 @@
-use bk_ids::{Place, Text};
+use bk_ids::{Place, Value};
 
 /// A committed row of a database, with the cell in which it lies.
 #[derive(Debug, Drop)]
@@ -7,8 +7,7 @@ pub struct PlacedRow {
     pub table: u32,
     /// At most 9223372036854775807.
     pub key: u64,
-    /// 0 to 112 bytes.
-    pub value: Text,
+    pub value: Value,
     /// Its cell.
     pub place: Place,
 }

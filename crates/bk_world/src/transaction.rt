@@ -2,7 +2,7 @@
 
 ghost use Rattle.std.specs.Prelude.{◌≡◌, IfOk};
 
-use bk_ids::{Lsn, Mark, Text};
+use bk_ids::{Description, Lsn, Mark};
 use std::alloc::{AllocError, Global};
 
 /// An open transaction. Its writes are those that are pending in the log.
@@ -17,7 +17,10 @@ pub struct Open {
 }
 
 // A description of its own.
-fn copy_description(alloc: Global, description: &Option<Text>) -> Result<Option<Text>, AllocError>
+fn copy_description(
+    alloc: Global,
+    description: &Option<Description>,
+) -> Result<Option<Description>, AllocError>
     ensures { IfOk result (λ copy. copy ≡ description.now) }
 {
     match description {

@@ -4,7 +4,7 @@ ghost use Rattle.std.specs.Prelude.{◌≡◌, ◌≤◌, IfOk};
 
 use crate::words::{number, word};
 use bk_groups::Groups;
-use bk_ids::{Name, Place, Text};
+use bk_ids::{Name, Place, Slot, Text};
 use bk_world::FileSpec;
 use std::alloc::{AllocError, Global};
 
@@ -88,23 +88,23 @@ fn show_fresh(groups: &Groups, command: &str, out: &mut String) -> Result<(), Al
     )
 }
 
-// The place that a command names by its file, page and slot.
-fn place_in(command: &str, i: usize) -> Place
+// The place that a command names by its file, page and slot, if it is one of a cell.
+fn place_in(command: &str, i: usize) -> Option<Place>
     requires { i ≤ 4 }
 {
-    Place {
+    let slot = Slot::new(word(command, i + 2).parse().unwrap_or(0))?;
+    Some(Place {
         file: word(command, i).parse().unwrap_or(0),
         page: word(command, i + 1).parse().unwrap_or(0),
-        slot: word(command, i + 2).parse().unwrap_or(0),
-    }
+        slot,
+    })
 }
 
 fn show_free(groups: &Groups, command: &str, out: &mut String) -> Result<(), AllocError> {
-    out.push_str(if groups.is_free(place_in(command, 2)) {
-        "free\n"
-    } else {
-        "not free\n"
-    })
+    match place_in(command, 2) {
+        Some(at) if groups.is_free(&at) => out.push_str("free\n"),
+        _ => out.push_str("not free\n"),
+    }
 }
 
 fn answer_row(groups: &mut Groups, command: &str, out: &mut String) -> Result<(), AllocError> {
@@ -141,13 +141,15 @@ fn put(
     groups: &mut Groups,
     table: u32,
     key: u64,
-    at: Place,
+    at: Option<Place>,
     out: &mut String,
 ) -> Result<(), AllocError> {
-    if groups.find(table, key).is_some() || !groups.is_free(at) {
-        return out.push_str("has a place, or isn't free\n");
+    match at {
+        Some(at) if groups.find(table, key).is_none() && groups.is_free(&at) => {
+            groups.put(table, key, &at)
+        }
+        _ => out.push_str("has a place, or isn't free\n"),
     }
-    groups.put(table, key, at)
 }
 
 fn free(groups: &mut Groups, table: u32, key: u64, out: &mut String) -> Result<(), AllocError> {
@@ -160,7 +162,10 @@ fn free(groups: &mut Groups, table: u32, key: u64, out: &mut String) -> Result<(
 
 pub(crate) fn show_place(at: Option<Place>, out: &mut String) -> Result<(), AllocError> {
     match at {
-        Some(at) => writeln!(out, "file {} page {} slot {}", at.file, at.page, at.slot),
+        Some(at) => {
+            let slot = at.slot.get();
+            writeln!(out, "file {} page {} slot {slot}", at.file, at.page)
+        }
         None => out.push_str("no place\n"),
     }
 }

@@ -19,6 +19,8 @@ pub(crate) fn answer_pool(
         "dirty" => mark(pool, index(command, 2)),
         "write" => write(pool, index(command, 2), (number(command, 3) % 256) as u8),
         "show" => return show(pool, out),
+        "byte" => return tell_byte(pool, index(command, 2), out),
+        "put" => return put(pool, command, out),
         "find" | "claim" => return answer_page(pool, command, out),
         _ => return out.push_str("no such command\n"),
     }
@@ -41,9 +43,32 @@ fn write(pool: &mut Pool, i: usize, byte: u8) {
     }
 }
 
+// The file and the number of the page that a command names from the word of this number on.
+fn page_in(command: &str, at: usize) -> (u16, u32) {
+    let file = word(command, at).parse().unwrap_or(0);
+    let page = word(command, at.saturating_add(1)).parse().unwrap_or(0);
+    (file, page)
+}
+
+// Puts a page that lies in no frame in one that isn't dirty.
+fn put(pool: &mut Pool, command: &str, out: &mut String) -> Result<(), AllocError> {
+    let i = index(command, 2);
+    let (file, page) = page_in(command, 3);
+    if let Some(i) = pool.find(file, page) {
+        return writeln!(out, "found in {i}");
+    }
+    if i >= pool.len() {
+        return out.push_str("no frame\n");
+    }
+    if pool.is_dirty(i) {
+        return out.push_str("dirty\n");
+    }
+    pool.put(i, file, page);
+    writeln!(out, "put in {i}")
+}
+
 fn answer_page(pool: &mut Pool, command: &str, out: &mut String) -> Result<(), AllocError> {
-    let file = word(command, 2).parse().unwrap_or(0);
-    let page = word(command, 3).parse().unwrap_or(0);
+    let (file, page) = page_in(command, 2);
     if let Some(i) = pool.find(file, page) {
         return writeln!(out, "found in {i}");
     }
@@ -54,6 +79,15 @@ fn answer_page(pool: &mut Pool, command: &str, out: &mut String) -> Result<(), A
         Claim::Free(i) => writeln!(out, "free {i}"),
         Claim::Spill(i, file, page) => writeln!(out, "spill {i}: file {file} page {page}"),
     }
+}
+
+// The byte of a frame, as the pool lends it to be read.
+fn tell_byte(pool: &mut Pool, i: usize, out: &mut String) -> Result<(), AllocError> {
+    if i >= pool.frames().len() {
+        return out.push_str("no frame\n");
+    }
+    let byte = pool.frame(i)[LAST];
+    writeln!(out, "{byte}")
 }
 
 // What lies in each frame, whether it is dirty, and its byte.

@@ -36,10 +36,11 @@ fn show_record(r: &Rec, out: &mut String) -> Result<(), AllocError> {
         return out.push_str("no compensation\n");
     };
     write!(out, "lsn {} begin {} undoes {undone} ", r.lsn, r.begin)?;
+    let slot = place.slot.get();
     write!(
         out,
-        "at file {} page {} slot {}: ",
-        place.file, place.page, place.slot
+        "at file {} page {} slot {slot}: ",
+        place.file, place.page
     )?;
     show_cell(Cell::read(&cell.bytes), out)
 }

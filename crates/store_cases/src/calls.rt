@@ -1,13 +1,14 @@
 // The calls on a database that a line says.
-ghost use Rattle.std.specs.Prelude.{◌≡◌, ◌<◌, ◌≤◌, ◌^◌, false, IfSome, OnOk};
+ghost use Rattle.std.specs.Prelude.{◌≡◌, ◌<◌, ◌≤◌, ◌^◌, ℕ, false, IfSome, OnOk};
 ghost use Rattle.bk_bytes.specs.Cell.{IsCell};
-ghost use Rattle.bk_paged.specs.Appends.{page_at};
+ghost use Rattle.bk_paged.specs.Appends.{MayAppend, MaySay, page_at};
 ghost use Rattle.bk_paged.specs.Names.{IsThere};
+ghost use Rattle.bk_record.specs.Spelling.{KeepsLimits};
 
 use crate::untold::Untold;
 use crate::words::{at, number, numbers};
 use bk_bytes::Cell;
-use bk_ids::{Body, CellImage, Lsn, Place, Rec};
+use bk_ids::{Body, CellImage, Lsn, Place, Rec, Slot};
 use bk_paged::{Paged, PagedError};
 use std::alloc::Global;
 
@@ -35,14 +36,14 @@ fn small(number: u64) -> u16 {
 
 // The place that a line names, if a page that is there has it.
 fn place_of(paged: &Paged, numbers: &[u64]) -> Option<Place>
-    ensures { IfSome result (λ place. (place.slot < 63) × IsThere paged.now.facts.files (page_at place)) }
+    ensures { IfSome result (λ place. IsThere paged.now.facts.files (page_at place)) }
 {
     let place = Place {
         file: small(at(numbers, 0)),
         page: u32::try_from(at(numbers, 1)).unwrap_or(u32::MAX),
-        slot: small(at(numbers, 2)),
+        slot: Slot::new(small(at(numbers, 2)))?,
     };
-    if place.slot >= 63 || place.page >= paged.pages(place.file) {
+    if place.page >= paged.pages(place.file) {
         return None;
     }
     Some(place)
@@ -63,87 +64,69 @@ fn begin_of(paged: &Paged, named: u64) -> Option<Lsn>
     Some(begin)
 }
 
-// `write FILE PAGE SLOT BEFORE AFTER BEGIN`, with keys for what the cell held and holds.
-fn write(
-    alloc: Global,
-    device: &mut Untold,
-    paged: &mut Paged,
-    numbers: &[u64],
-) -> Result<(), PagedError>
-    requires fit { paged.old.failed ≡ false }
-    ensures fit { OnOk result (paged.new.failed ≡ false) }
+// What `write FILE PAGE SLOT BEFORE AFTER BEGIN` says, with keys for what the cell held and holds, where it may be said.
+fn write_of(paged: &Paged, numbers: &[u64], begin: Lsn) -> Option<Body>
+    ensures limits { IfSome result KeepsLimits }
+    ensures may { IfSome result (MaySay paged.now begin) }
 {
-    let Some(place) = place_of(paged, numbers) else {
-        return Ok(());
-    };
-    let Some(begin) = begin_of(paged, at(numbers, 5)) else {
-        return Ok(());
-    };
+    let place = place_of(paged, numbers)?;
     if begin < paged.kept() {
-        return Ok(());
+        return None;
     }
-    let r = Rec {
-        lsn: paged.end(),
-        begin,
-        body: Body::Write {
-            place,
-            before: image(at(numbers, 3)),
-            after: image(at(numbers, 4)),
-        },
-    };
-    paged.append(alloc, device, &r)
+    Some(Body::Write {
+        place,
+        before: image(at(numbers, 3)),
+        after: image(at(numbers, 4)),
+    })
 }
 
-// `undo FILE PAGE SLOT KEY UNDONE BEGIN`, with the key that the cell holds again, and the number of the write that is undone.
-fn undo(
-    alloc: Global,
-    device: &mut Untold,
-    paged: &mut Paged,
-    numbers: &[u64],
-) -> Result<(), PagedError>
-    requires fit { paged.old.failed ≡ false }
-    ensures fit { OnOk result (paged.new.failed ≡ false) }
+// What `undo FILE PAGE SLOT KEY UNDONE BEGIN` says, with the key that the cell holds again, and the number of the write that is undone.
+fn undo_of(paged: &Paged, numbers: &[u64]) -> Option<Body>
+    ensures limits { IfSome result KeepsLimits }
+    ensures may { (begin : ℕ) → IfSome result (MaySay paged.now begin) }
 {
-    let Some(place) = place_of(paged, numbers) else {
-        return Ok(());
-    };
-    let Some(begin) = begin_of(paged, at(numbers, 5)) else {
-        return Ok(());
-    };
-    let r = Rec {
-        lsn: paged.end(),
-        begin,
-        body: Body::Compensation {
-            place,
-            cell: image(at(numbers, 3)),
-            undone: at(numbers, 4),
-        },
-    };
-    paged.append(alloc, device, &r)
+    let place = place_of(paged, numbers)?;
+    Some(Body::Compensation {
+        place,
+        cell: image(at(numbers, 3)),
+        undone: at(numbers, 4),
+    })
 }
 
-// `commit BEGIN`.
-fn commit(
-    alloc: Global,
-    device: &mut Untold,
-    paged: &mut Paged,
-    named: u64,
-) -> Result<(), PagedError>
-    requires fit { paged.old.failed ≡ false }
-    ensures fit { OnOk result (paged.new.failed ≡ false) }
+// What a line says next, where it may be said: `write ..`, `undo ..`, or else `commit BEGIN`.
+fn body_of(paged: &Paged, name: &str, numbers: &[u64], begin: Lsn) -> Option<Body>
+    ensures limits { IfSome result KeepsLimits }
+    ensures may { IfSome result (MaySay paged.now begin) }
 {
-    let Some(begin) = begin_of(paged, named) else {
-        return Ok(());
-    };
-    let r = Rec {
-        lsn: paged.end(),
-        begin,
-        body: Body::Commit {
+    match name {
+        "write" => write_of(paged, numbers, begin),
+        "undo" => undo_of(paged, numbers),
+        _ => Some(Body::Commit {
             time: 0,
             mark: None,
-        },
-    };
-    paged.append(alloc, device, &r)
+        }),
+    }
+}
+
+// The number of the first record of the transaction, as a line has it.
+fn named_begin(name: &str, numbers: &[u64]) -> u64 {
+    match name {
+        "write" | "undo" => at(numbers, 5),
+        _ => at(numbers, 0),
+    }
+}
+
+// The record that a line says next, where it may be said.
+fn record_of(paged: &Paged, name: &str, numbers: &[u64]) -> Option<Rec>
+    ensures { IfSome result (MayAppend paged.now) }
+{
+    let begin = begin_of(paged, named_begin(name, numbers))?;
+    let body = body_of(paged, name, numbers, begin)?;
+    Some(Rec {
+        lsn: paged.end(),
+        begin,
+        body,
+    })
 }
 
 // `checkpoint TIME`, where there are numbers.
@@ -177,7 +160,7 @@ fn truncate(device: &mut Untold, paged: &mut Paged, to: u64) -> Result<(), Paged
     paged.truncate(device, to)
 }
 
-// `note TEXT`, of at most 12,288 bytes.
+// `note TEXT`, of at most 30,720 bytes.
 fn set_note(
     alloc: Global,
     device: &mut Untold,
@@ -187,22 +170,22 @@ fn set_note(
     requires fit { paged.old.failed ≡ false }
     ensures fit { OnOk result (paged.new.failed ≡ false) }
 {
-    if text.len() > 12_288 {
+    if text.len() > 30_720 {
         return Ok(());
     }
     paged.set_note(alloc, device, text.as_bytes())
 }
 
-// The call that a line says of those that say a record: `write ..`, `undo ..`, `commit BEGIN`.
+// Says the record that a line says next, if it may be said.
 fn say(alloc: Global, device: &mut Untold, paged: &mut Paged, line: &str) -> Result<(), PagedError>
     requires fit { paged.old.failed ≡ false }
     ensures fit { OnOk result (paged.new.failed ≡ false) }
 {
     let numbers = numbers(alloc, line)?;
-    match line.split_whitespace().next().unwrap_or("") {
-        "write" => write(alloc, device, paged, &numbers),
-        "undo" => undo(alloc, device, paged, &numbers),
-        _ => commit(alloc, device, paged, at(&numbers, 0)),
+    let name = line.split_whitespace().next().unwrap_or("");
+    match record_of(paged, name, &numbers) {
+        Some(r) => paged.append(alloc, device, &r),
+        None => Ok(()),
     }
 }
 

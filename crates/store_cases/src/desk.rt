@@ -1,7 +1,7 @@
 // The device of the case that runs, and what its commands do.
 use crate::mix::{Mix, crash_often};
-use crate::session::{Session, find, run};
-use crate::trial::{Trial, at_each, prepared};
+use crate::session::{Session, find, list, run};
+use crate::trial::{Trial, at_each, at_each_place, damaged, prepared};
 use crate::words::{count, number, word};
 use bk_device::MemDevice;
 use cases::Subject;
@@ -56,6 +56,27 @@ fn restart(alloc: Global, device: &mut MemDevice, word: &str) -> Result<String, 
     String::from_str(alloc, "ok")
 }
 
+// `damage FILE PLACE`: another byte stands there.
+fn damage(device: &mut MemDevice, words: &[&str]) -> Result<&'static str, AllocError> {
+    let Some(next) = damaged(device, word(words, 1), number(word(words, 2)))? else {
+        return Ok("no such place");
+    };
+    *device = next;
+    Ok("ok")
+}
+
+// `damage ..`, or `lose FILE`.
+fn spoil(alloc: Global, device: &mut MemDevice, words: &[&str]) -> Result<String, AllocError> {
+    let said = match word(words, 0) {
+        "damage" => damage(device, words)?,
+        _ => {
+            device.lose(word(words, 1));
+            "ok"
+        }
+    };
+    String::from_str(alloc, said)
+}
+
 // Makes a session on a copy of the device, and goes on with that.
 fn play<R: Threads + Sync>(
     rt: &R,
@@ -78,6 +99,23 @@ fn look<R: Threads + Sync>(
     find(rt, session, copy)
 }
 
+// `log DB FROM TO`, on a copy of the device.
+fn records<R: Threads + Sync>(
+    rt: &R,
+    device: &MemDevice,
+    session: &Session,
+    words: &[&str],
+) -> Result<String, AllocError> {
+    let copy = prepared(device, Trial::None, 0)?;
+    list(
+        rt,
+        session,
+        copy,
+        number(word(words, 2)),
+        number(word(words, 3)),
+    )
+}
+
 // `mix DB SEED CALLS CRASHES`, which leaves the device as it was.
 fn mixed<R: Threads + Sync>(
     rt: &R,
@@ -98,10 +136,25 @@ fn once<R: Threads + Sync>(
 ) -> Result<String, AllocError> {
     match word(words, 0) {
         "find" => look(rt, device, session),
+        "log" => records(rt, device, session, words),
         "mix" => mixed(rt, session.alloc, device, words),
+        "damage" | "lose" => spoil(session.alloc, device, words),
         "restart" => restart(session.alloc, device, word(words, 1)),
         _ => play(rt, device, session),
     }
+}
+
+// `each-place FILE STEP` before a session.
+fn at_places<R: Threads + Sync>(
+    rt: &R,
+    alloc: Global,
+    device: &MemDevice,
+    words: &[&str],
+    out: &mut String,
+) -> Answered {
+    let session = Session::new(alloc, words.get(3..).unwrap_or(&[]), "");
+    let (file, step) = (word(words, 1), number(word(words, 2)));
+    at_each_place(rt, device, &session, file, step.max(1), out)
 }
 
 // Does what a command says, and writes the answer.
@@ -118,6 +171,7 @@ pub(crate) fn answer_command<R: Threads + Sync>(
     match word(&words, 0) {
         "each-write" => at_each(rt, device, &behind, Trial::Write, out),
         "each-call" => at_each(rt, device, &behind, Trial::Call, out),
+        "each-place" => at_places(rt, alloc, device, &words, out),
         _ => {
             let said = once(rt, device, &Session::new(alloc, &words, calls), &words)?;
             writeln!(out, "{said}")

@@ -5,7 +5,10 @@
 
 mod calls;
 mod desk;
+mod dice;
 mod mix;
+mod page_mix;
+mod page_session;
 mod plain;
 mod session;
 mod shown;

@@ -1,55 +1,21 @@
 // A mix of calls and crashes that a seed draws, beside a plain list of what was said.
-ghost use Rattle.std.specs.Prelude.{◌≡◌, false, IfOk, OnOk};
-
-use crate::calls::call;
-use crate::plain::{Deed, PAGES, Said, cell_at, cells_of, open_in, settled};
-use crate::shown::cells_in;
+use crate::dice::Dice;
+use crate::page_mix;
+use crate::plain::{Deed, Said, cells_of, settled};
 use crate::untold::Untold;
 use bk_device::MemDevice;
-use bk_paged::{Paged, PagedError};
+use bk_paged::PagedError;
 use std::alloc::{AllocError, Global};
 use std::thread::Threads;
-
-// Numbers that a seed draws, one behind the other.
-#[derive(Clone, Copy)]
-struct Dice {
-    state: u64,
-}
-
-impl Dice {
-    // The next one, below a bound.
-    fn below(&mut self, bound: u64) -> u64 {
-        let mut state = self.state;
-        state ^= state << 13;
-        state ^= state >> 7;
-        state ^= state << 17;
-        self.state = state;
-        state.checked_rem(bound).unwrap_or(0)
-    }
-}
-
-// How many records are durable.
-fn durable(paged: &Paged) -> usize {
-    usize::try_from(paged.stored())
-        .unwrap_or(0)
-        .saturating_sub(1)
-}
 
 // The mix so far: all records that were said, and how many of them are durable for sure.
 #[derive(Drop)]
 pub(crate) struct Mix {
-    alloc: Global,
-    db: u32,
-    dice: Dice,
-    said: Vec<Said>,
-    least: usize,
-}
-
-// A drawn call: its line, and the record that it says, if it says one.
-#[derive(Drop)]
-struct Drawn {
-    line: String,
-    says: Option<Said>,
+    pub(crate) alloc: Global,
+    pub(crate) db: u32,
+    pub(crate) dice: Dice,
+    pub(crate) said: Vec<Said>,
+    pub(crate) least: usize,
 }
 
 impl Mix {
@@ -57,119 +23,25 @@ impl Mix {
         Mix {
             alloc,
             db,
-            dice: Dice { state: seed | 1 },
+            dice: Dice::new(seed),
             said: Vec::new(alloc),
             least: 0,
         }
     }
 
     // The number of the next record.
-    fn next(&self) -> u64 {
+    pub(crate) fn next(&self) -> u64 {
         (self.said.len() as u64).saturating_add(1)
     }
 
-    // A transaction that is open, or one that begins.
-    fn draw_begin(&mut self) -> Result<u64, AllocError> {
-        let open = open_in(self.alloc, &self.said)?;
-        let most = (open.len() as u64).saturating_mul(2).saturating_add(1);
-        let picked = usize::try_from(self.dice.below(most)).unwrap_or(0);
-        Ok(open.get(picked).map_or(self.next(), |write| write.begin))
-    }
-
-    // A write of a cell on the first pages behind the headers.
-    fn draw_write(&mut self) -> Result<Drawn, AllocError> {
-        let begin = self.draw_begin()?;
-        let (file, page) = (self.dice.below(2), self.dice.below(4).saturating_add(8));
-        let slot = self.dice.below(63);
-        let cell = cell_at(file, page, slot);
-        let before = cells_of(self.alloc, &self.said)?
-            .get(cell)
-            .copied()
-            .unwrap_or(0);
-        let after = self.dice.below(5);
-        let file = file.saturating_add(1);
-        let line = format!(in self.alloc; "write {file} {page} {slot} {before} {after} {begin}")?;
-        let deed = Deed::Write {
-            cell,
-            before,
-            after,
-        };
-        Ok(Drawn {
-            line,
-            says: Some(Said { begin, deed }),
-        })
-    }
-
-    // The commit of a transaction that is open.
-    fn draw_commit(&mut self) -> Result<Drawn, AllocError> {
-        let begin = self.draw_begin()?;
-        let line = format!(in self.alloc; "commit {begin}")?;
-        let deed = Deed::Commit;
-        Ok(Drawn {
-            line,
-            says: Some(Said { begin, deed }),
-        })
-    }
-
-    // A cut at the least number that what is open or redo needs, or some number below.
-    fn draw_cut(&mut self, checkpoint: u64) -> Result<Drawn, AllocError> {
-        let mut to = checkpoint;
-        for write in open_in(self.alloc, &self.said)? {
-            to = to.min(write.begin);
-        }
-        let less = self.dice.below(3);
-        let to = to.saturating_sub(less);
-        let line = format!(in self.alloc; "truncate {to}")?;
-        Ok(Drawn { line, says: None })
-    }
-
-    fn draw(&mut self, checkpoint: u64) -> Result<Drawn, AllocError> {
-        match self.dice.below(10) {
-            0 => {
-                let line = String::from_str(self.alloc, "flush")?;
-                Ok(Drawn { line, says: None })
-            }
-            1 => {
-                let line = String::from_str(self.alloc, "checkpoint 7")?;
-                let (begin, deed) = (0, Deed::Checkpoint);
-                Ok(Drawn {
-                    line,
-                    says: Some(Said { begin, deed }),
-                })
-            }
-            2 => self.draw_cut(checkpoint),
-            3 | 4 => self.draw_commit(),
-            _ => self.draw_write(),
-        }
-    }
-
-    // Makes a call, and notes what it says. Its record may be durable even where it fails.
-    fn call_one(&mut self, device: &mut Untold, paged: &mut Paged) -> Result<(), PagedError>
-        requires fit { paged.old.failed ≡ false }
-        ensures fit { OnOk result (paged.new.failed ≡ false) }
-    {
-        let drawn = self.draw(paged.checkpointed())?;
-        if let Some(said) = drawn.says {
-            self.said.push(said)?;
-        }
-        call(self.alloc, device, paged, drawn.line.as_str())?;
-        self.least = durable(paged);
-        Ok(())
-    }
-
-    // Opens the database, and makes so many calls.
-    fn call_some<R: Threads + Sync>(
-        &mut self,
+    // The end of the database, which is opened, and what each cell holds.
+    fn look<R: Threads + Sync>(
+        &self,
         rt: &R,
-        device: &mut Untold,
-        calls: u64,
-    ) -> Result<(), PagedError> {
-        let mut paged = Paged::load(rt, self.alloc, device, self.db)?;
-        self.least = durable(&paged);
-        for _ in 0..calls {
-            self.call_one(device, &mut paged)?;
-        }
-        Ok(())
+        device: MemDevice,
+    ) -> Result<(u64, Vec<u64>), PagedError> {
+        let mut device = Untold::new(device);
+        page_mix::look(rt, self.alloc, &mut device, self.db)
     }
 
     // Whether a database that was opened holds a front of what was said, with at least the durable records, and all undone that was pending there. Goes on with that front.
@@ -187,37 +59,52 @@ impl Mix {
         Ok(false)
     }
 
-    // Opens a copy of what a crash left, and compares it.
-    fn compare<R: Threads + Sync>(
-        &mut self,
-        rt: &R,
-        device: MemDevice,
-    ) -> Result<bool, PagedError> {
-        let mut device = Untold::new(device);
-        let mut paged = Paged::load(rt, self.alloc, &mut device, self.db)?;
-        let end = paged.end();
-        let cells = cells_in(self.alloc, &mut device, &mut paged, PAGES)?;
-        let holds = self.holds(end, &cells)?;
-        Ok(holds)
-    }
-
     // Some calls on the database, of which a write fails and all that follow; then a crash, which keeps what wasn't synced or loses it. Gives what it left.
-    fn round<R: Threads + Sync>(
+    fn crash<R: Threads + Sync>(
         &mut self,
         rt: &R,
         start: &MemDevice,
         calls: u64,
-    ) -> Result<MemDevice, AllocError> {
+    ) -> Result<MemDevice, PagedError> {
         let mut device = start.copy()?;
         device.stop_at(self.dice.below(60).saturating_add(1));
         let mut device = Untold::new(device);
-        match self.call_some(rt, &mut device, calls) {
-            Err(PagedError::NoMemory) => Err(AllocError),
+        match self.call_pages(rt, &mut device, calls) {
+            Err(PagedError::NoMemory) => Err(PagedError::NoMemory),
             Ok(()) | Err(PagedError::Fault | PagedError::Foreign) => {
                 let keeps = self.dice.below(2) == 0;
                 Ok(device.into_device().restart(keeps))
             }
         }
+    }
+
+    // The same, and whether a copy of what it left is opened as the list says.
+    fn round<R: Threads + Sync>(
+        &mut self,
+        rt: &R,
+        device: &mut MemDevice,
+        calls: u64,
+    ) -> Result<bool, PagedError> {
+        *device = self.crash(rt, device, calls)?;
+        let (end, cells) = self.look(rt, device.copy()?)?;
+        let holds = self.holds(end, &cells)?;
+        Ok(holds)
+    }
+
+    // Notes the records of a database that was made, which say nothing of cells.
+    fn note_made<R: Threads + Sync>(
+        &mut self,
+        rt: &R,
+        start: &MemDevice,
+    ) -> Result<(), PagedError> {
+        let (end, _) = self.look(rt, start.copy()?)?;
+        for _ in 1..end {
+            self.said.push(Said {
+                begin: 0,
+                deed: Deed::Other,
+            })?;
+        }
+        Ok(())
     }
 }
 
@@ -231,10 +118,11 @@ pub(crate) fn crash_often<R: Threads + Sync>(
 ) -> Result<String, AllocError> {
     let alloc = mix.alloc;
     let mut device = start.copy()?;
+    if let Err(error) = mix.note_made(rt, start) {
+        return format!(in alloc; "{error}");
+    }
     for crash in 0..crashes {
-        device = mix.round(rt, &device, calls)?;
-        let held = device.copy()?;
-        match mix.compare(rt, held) {
+        match mix.round(rt, &mut device, calls) {
             Ok(true) => {}
             Ok(false) => return format!(in alloc; "another database behind crash {crash}"),
             Err(error) => return format!(in alloc; "{error} behind crash {crash}"),

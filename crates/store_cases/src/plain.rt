@@ -13,7 +13,12 @@ pub(crate) fn cell_at(file: u64, page: u64, slot: u64) -> usize {
     usize::try_from(cell).unwrap_or(CELLS)
 }
 
-// What a record says of a cell, which is counted through both files: it is written, or a write is undone; or the end of its transaction; or a checkpoint.
+// Nothing in each cell.
+fn no_cells(alloc: Global) -> Result<Vec<u64>, AllocError> {
+    Ok(vec![in alloc; 0u64; CELLS]?)
+}
+
+// What a record says of a cell, which is counted through both files: it is written, or a write is undone; or that its transaction is committed; or another thing.
 #[derive(Clone, Copy)]
 pub(crate) enum Deed {
     Write {
@@ -27,7 +32,7 @@ pub(crate) enum Deed {
         undone: u64,
     },
     Commit,
-    Checkpoint,
+    Other,
 }
 
 // A record, with the number of its transaction's first one. Its own number is its place in the list, from 1 on.
@@ -54,31 +59,24 @@ fn set(cells: &mut [u64], cell: usize, key: u64) {
 
 // What each cell holds behind these records: a key, or 0.
 pub(crate) fn cells_of(alloc: Global, records: &[Said]) -> Result<Vec<u64>, AllocError> {
-    let mut cells = vec![in alloc; 0u64; CELLS]?;
+    let mut cells = no_cells(alloc)?;
     for said in records {
         match said.deed {
             Deed::Write { cell, after, .. } => set(&mut cells, cell, after),
             Deed::Undo { cell, key, .. } => set(&mut cells, cell, key),
-            Deed::Commit | Deed::Checkpoint => {}
+            Deed::Commit | Deed::Other => {}
         }
     }
     Ok(cells)
 }
 
-// The writes that stay where this record comes behind them.
-fn left(alloc: Global, open: &[Open], said: Said) -> Result<Vec<Open>, AllocError> {
-    let mut left = Vec::new(alloc);
-    for write in open {
-        let goes = match said.deed {
-            Deed::Commit => write.begin == said.begin,
-            Deed::Undo { undone, .. } => write.begin == said.begin && write.lsn == undone,
-            Deed::Write { .. } | Deed::Checkpoint => false,
-        };
-        if !goes {
-            left.push(*write)?;
-        }
+// Whether a pending write stays where this record comes behind it.
+fn stays(write: Open, said: Said) -> bool {
+    match said.deed {
+        Deed::Commit => write.begin != said.begin,
+        Deed::Undo { undone, .. } => write.begin != said.begin || write.lsn != undone,
+        Deed::Write { .. } | Deed::Other => true,
     }
-    Ok(left)
 }
 
 // The writes that are pending behind these records, in their order.
@@ -87,7 +85,7 @@ pub(crate) fn open_in(alloc: Global, records: &[Said]) -> Result<Vec<Open>, Allo
     let mut lsn = 0u64;
     for said in records {
         lsn = lsn.saturating_add(1);
-        open = left(alloc, &open, *said)?;
+        open.retain(|write| stays(*write, *said));
         if let Deed::Write { cell, before, .. } = said.deed {
             let begin = said.begin;
             open.push(Open {

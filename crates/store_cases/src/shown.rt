@@ -6,6 +6,7 @@ use crate::untold::Untold;
 use bk_bytes::Cell;
 use bk_page::{page_lsn, read_cell};
 use bk_paged::{Paged, PagedError};
+use bk_record::cursor;
 use std::alloc::{AllocError, Global};
 
 // Adds a page that a record changed: its file, its number, the number of the last record that changed it, and the slot and key of each used cell.
@@ -111,12 +112,46 @@ pub(crate) fn cells_in(
     Ok(cells)
 }
 
-// The bytes of a note as a text; `-` where there are none.
+// Adds the number of each record that a log of these bytes has.
+fn add_numbers(out: &mut String, log: &[u8]) -> Result<(), AllocError> {
+    for record in cursor(log) {
+        let Ok(record) = record else {
+            return out.push_str(" no record");
+        };
+        write!(out, " {}", record.lsn)?;
+    }
+    Ok(())
+}
+
+// The numbers of the durable records from one number to below another, where the log holds them.
+pub(crate) fn records_told(
+    alloc: Global,
+    device: &mut Untold,
+    paged: &Paged,
+    from: u64,
+    to: u64,
+) -> Result<String, PagedError>
+    requires fit { paged.now.failed ≡ false }
+{
+    if from < paged.kept() || to < from || to > paged.stored() {
+        let out = String::from_str(alloc, "not held")?;
+        return Ok(out);
+    }
+    let mut out = String::from_str(alloc, "records")?;
+    let log = paged.log_bytes(alloc, device, from, to)?;
+    add_numbers(&mut out, &log)?;
+    Ok(out)
+}
+
+// The bytes of a note as a text; `-` where there are none, and `?` where they are no text of one line.
 fn shown_note(note: &[u8]) -> &str {
     if note.is_empty() {
         return "-";
     }
-    std::str::from_utf8(note).unwrap_or("?")
+    match std::str::from_utf8(note) {
+        Ok(text) if note.iter().all(|byte| *byte >= b' ') => text,
+        _ => "?",
+    }
 }
 
 // The kept point, the number behind the last durable record, the end, the latest checkpoint and the note; then the pages that records changed.

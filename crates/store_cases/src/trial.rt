@@ -1,5 +1,6 @@
 // Sessions under faults.
 use crate::session::{Session, find, run};
+use crate::untold::has_bytes;
 use bk_device::MemDevice;
 use std::alloc::AllocError;
 use std::thread::Threads;
@@ -30,6 +31,65 @@ pub(crate) fn prepared(
     Ok(device)
 }
 
+// A copy of a device with another byte at a place of a file; none where there is no such place.
+pub(crate) fn damaged(
+    start: &MemDevice,
+    file: &str,
+    place: u64,
+) -> Result<Option<MemDevice>, AllocError> {
+    let mut device = start.copy()?;
+    if place == u64::MAX {
+        return Ok(None);
+    }
+    let Ok(true) = has_bytes(&mut device, file, place + 1) else {
+        return Ok(None);
+    };
+    device.damage(file, place);
+    Ok(Some(device))
+}
+
+// Whether a session met a fault.
+fn is_met(said: &str) -> bool {
+    said.starts_with("the device has failed")
+}
+
+// Whether opening the database, stopped at a write, leaves what is found without that. Tells also whether it was stopped.
+fn is_left<R: Threads + Sync>(
+    rt: &R,
+    start: &MemDevice,
+    session: &Session,
+    write: u64,
+    found: &str,
+) -> Result<(bool, bool), AllocError> {
+    let device = prepared(start, Trial::Write, write)?;
+    let (said, device) = run(rt, &session.opening(), device)?;
+    let kept = find(rt, session, device.copy()?)?;
+    let lost = find(rt, session, device.restart(false))?;
+    let same = kept.as_str() == found && lost.as_str() == found;
+    Ok((same, is_met(said.as_str())))
+}
+
+// What is found when the database is opened anew. Where opening it, stopped at a write, leaves another one, that is told too.
+fn found<R: Threads + Sync>(
+    rt: &R,
+    device: MemDevice,
+    session: &Session,
+) -> Result<String, AllocError> {
+    let found = find(rt, session, device.copy()?)?;
+    for write in 1..1000u64 {
+        let (same, stopped) = is_left(rt, &device, session, write, found.as_str())?;
+        if !same {
+            return format!(in session.alloc;
+                "{found} (another one where opening it stops at write {write})"
+            );
+        }
+        if !stopped {
+            return Ok(found);
+        }
+    }
+    Ok(found)
+}
+
 // What a session says, what is found behind it, and what is found where all that wasn't synced is gone.
 fn outcome<R: Threads + Sync>(
     rt: &R,
@@ -40,8 +100,8 @@ fn outcome<R: Threads + Sync>(
 ) -> Result<String, AllocError> {
     let device = prepared(start, trial, number)?;
     let (said, device) = run(rt, session, device)?;
-    let kept = find(rt, session, device.copy()?)?;
-    let lost = find(rt, session, device.restart(false))?;
+    let kept = found(rt, device.copy()?, session)?;
+    let lost = found(rt, device.restart(false), session)?;
     format!(in session.alloc; "{said} / {kept} / {lost}")
 }
 
@@ -65,11 +125,33 @@ pub(crate) fn at_each<R: Threads + Sync>(
     let mut last = String::new(session.alloc);
     for number in 1..1000u64 {
         let next = outcome(rt, start, session, trial, number)?;
-        let is_met = next.as_str().starts_with("the device has failed");
+        let is_met = is_met(next.as_str());
         note(out, &mut last, number, next)?;
         if !is_met {
             return Ok(());
         }
+    }
+    Ok(())
+}
+
+// The session with another byte in a file, at each place that so many bytes lie between. The database is found in the files as they are left.
+pub(crate) fn at_each_place<R: Threads + Sync>(
+    rt: &R,
+    start: &MemDevice,
+    session: &Session,
+    file: &str,
+    step: u64,
+    out: &mut String,
+) -> Result<(), AllocError> {
+    let mut last = String::new(session.alloc);
+    for number in 0..10_000u64 {
+        let place = number.saturating_mul(step);
+        let Some(device) = damaged(start, file, place)? else {
+            return Ok(());
+        };
+        let (said, device) = run(rt, session, device)?;
+        drop(device);
+        note(out, &mut last, place, said)?;
     }
     Ok(())
 }

@@ -24,7 +24,7 @@ fn begins_inside(device: &mut MemDevice, name: &str, at: u64) -> Result<bool, Fa
 }
 
 // Whether the file is there and has at least so many bytes.
-fn has_bytes(device: &mut MemDevice, name: &str, len: u64) -> Result<bool, Failed>
+pub(crate) fn has_bytes(device: &mut MemDevice, name: &str, len: u64) -> Result<bool, Failed>
     ensures { IfOk result (λ yes. yes ≡ true → IsSomeAnd ((disk_of device.new).files name.now) (λ content. len ≤ length content)) }
 {
     match device.len(name)? {

@@ -9,7 +9,6 @@ use Rattle.bk_bytes.specs.Field.{bytes_of}
 use Rattle.bk_bytes.specs.FieldLaws.{length-bytes_of}
 use Rattle.bk_record.specs.Spelling.{text_bytes, extent_bytes, body_bytes, kind_of, inside, IsBody, IsRecord, KeepsLimits}
 use Rattle.bk_record.specs.LengthLaws.{length-extents}
-use Rattle.bk_acts.specs.TransactionLaws.{mark-keeps}
 
 length-load : (table first count : ℕ) (value : List ℕ) (extents : List ExtentId) → length (body_bytes (Bulk table first count value extents)) ≡ 22 + length value + 6 * length extents
 length-load table first count value extents =
@@ -41,15 +40,14 @@ body_kept : (body : Body) → IsBody body → 24 + length (body_bytes body) < 2 
 body_kept (Database time family branch) h short = tt
 body_kept (Table time number name group) h short = tt
 body_kept Begin h short = tt
-body_kept (Write place before after) h short = (h.0.slot, h.1)
-body_kept (Commit time mark) h short = mark-keeps mark h.1
+body_kept (Write place before after) h short = h.1
+body_kept (Commit time mark) h short = tt
 body_kept RollbackEnd h short = tt
-body_kept (Compensation place cell undone) h short = (h.0.slot, h.1.0)
+body_kept (Compensation place cell undone) h short = h.1.0
 body_kept (Checkpoint time) h short = tt
 body_kept (Stamp time set) h short = tt
 body_kept (Model time model) h short = tt
-body_kept (Bulk table first count value extents) h short =
-    (h.1.1.1.0.most_bytes, omega (arith, short, length-load table first count value extents))
+body_kept (Bulk table first count value extents) h short = omega (arith, short, length-load table first count value extents)
 body_kept (Recovery branch) h short = tt
 
 pub limits_kept : (r : Rec) → IsRecord r → KeepsLimits r.body

@@ -2,8 +2,9 @@
 ghost use Rattle.bk_acts.specs.Spelling.{KeepsAct};
 
 use crate::{records, sets};
-use bk_acts::{StoredAct, Unread, acts_law, encode_act, read_act};
+use bk_acts::{StoredAct, acts_law, encode_act, read_act};
 use bk_ids::{Guid, Lsn, Mark, Name};
+use bk_reading::Unread;
 use bk_record::Records;
 use bk_set::SetBody;
 use bk_world::{Creation, Header, Open, Storage};
@@ -25,7 +26,7 @@ pub fn spelled_again(alloc: Global, bytes: &[u8]) -> Result<Option<Vec<u8>>, All
             drop(act);
             again
         }
-        Err(Unread::NoAct) => Ok(None),
+        Err(Unread::Unspelled) => Ok(None),
         Err(Unread::NoMemory) => Err(AllocError),
     }
 }
@@ -160,7 +161,7 @@ pub fn show(alloc: Global, bytes: &[u8], out: &mut String) -> Result<(), AllocEr
             drop(act);
             done
         }
-        Err(Unread::NoAct) => Ok(()),
+        Err(Unread::Unspelled) => Ok(()),
         Err(Unread::NoMemory) => Err(AllocError),
     }
 }

@@ -1,13 +1,13 @@
 // Log records.
-ghost use Rattle.std.specs.Prelude.{◌≡◌, ◌<◌, length, IfOk};
+ghost use Rattle.std.specs.Prelude.{◌≡◌, ◌<◌, ◌≤◌, length, option_map, IfOk, IfSome};
 ghost use Rattle.bk_ids.specs.declared.record.Body.TheVariants.{Bulk};
 ghost use Rattle.bk_record.specs.Extents.{extents_shown};
 ghost use Rattle.bk_record.specs.Spelling.{IsBody, IsMark, IsRecord};
 ghost use Rattle.bk_record.specs.View.{body_of, mark_of, record_of};
 
 use bk_bytes::Cell;
-use bk_ids::{Body, CellImage, ExtentId, Mark, Name, Place, Rec, Sequence, Text};
-use bk_record::{BodyRef, Extents, MarkRef, RecRef, cursor, encode};
+use bk_ids::{Body, CellImage, Description, ExtentId, Mark, Name, Rec, Sequence, Value};
+use bk_record::{BodyRef, Extents, MarkRef, PlaceRef, RecRef, cursor, encode};
 use std::alloc::{AllocError, Global};
 
 fn name_of(alloc: Global, text: &str) -> Result<Name, AllocError>
@@ -17,10 +17,14 @@ fn name_of(alloc: Global, text: &str) -> Result<Name, AllocError>
     Name::new(alloc, text).map_err(|_| AllocError)
 }
 
-fn text_of(alloc: Global, text: &str) -> Result<Text, AllocError>
-    ensures { IfOk result (λ own. own ≡ text.now) }
+fn description_of(alloc: Global, text: Option<&str>) -> Result<Option<Description>, AllocError>
+    requires { IfSome text (λ t. (0 < length t.now) × (length t.now ≤ 65535)) }
+    ensures { IfOk result (λ own. own ≡ option_map (λ t. t.now) text.entry) }
 {
-    Ok(Text::new(String::from_str(alloc, text)?))
+    match text {
+        Some(text) => Ok(Some(Description::new(alloc, text)?)),
+        None => Ok(None),
+    }
 }
 
 // The mark as a value of its own.
@@ -32,10 +36,7 @@ fn owned_mark(alloc: Global, mark: Option<MarkRef<'_>>) -> Result<Option<Mark>, 
         return Ok(None);
     };
     let name = name_of(alloc, mark.name)?;
-    let description = match mark.description {
-        None => None,
-        Some(text) => Some(text_of(alloc, text)?),
-    };
+    let description = description_of(alloc, mark.description)?;
     Ok(Some(Mark { name, description }))
 }
 
@@ -89,9 +90,10 @@ fn owned_load(
     value: &str,
     extents: Extents<'_>,
 ) -> Result<Body, AllocError>
+    requires { length value.now ≤ 112 }
     ensures { IfOk result (λ own. own ≡ Bulk table first count value.now (extents_shown extents.entry)) }
 {
-    let value = text_of(alloc, value)?;
+    let value = Value::new(alloc, value)?;
     let extents = owned_extents(alloc, extents)?;
     Ok(Body::Bulk {
         table,
@@ -136,7 +138,7 @@ fn owned_cells(body: BodyRef<'_>) -> Result<Body, AllocError>
             before,
             after,
         } => Ok(Body::Write {
-            place,
+            place: place.place().ok_or(AllocError)?,
             before: CellImage { bytes: *before },
             after: CellImage { bytes: *after },
         }),
@@ -145,7 +147,7 @@ fn owned_cells(body: BodyRef<'_>) -> Result<Body, AllocError>
             cell,
             undone,
         } => Ok(Body::Compensation {
-            place,
+            place: place.place().ok_or(AllocError)?,
             cell: CellImage { bytes: *cell },
             undone,
         }),
@@ -188,7 +190,7 @@ fn show_extents(extents: Extents<'_>, out: &mut String) -> Result<(), AllocError
 }
 
 fn show_write(
-    place: Place,
+    place: PlaceRef,
     before: &[u8; 128],
     after: &[u8; 128],
     out: &mut String,
@@ -198,7 +200,7 @@ fn show_write(
 }
 
 fn show_compensation(
-    place: Place,
+    place: PlaceRef,
     cell: &[u8; 128],
     undone: u64,
     out: &mut String,

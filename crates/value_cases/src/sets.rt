@@ -45,7 +45,7 @@ pub fn show_body(body: &SetBody, out: &mut String) -> Result<(), AllocError> {
     }
     for row in body.rows.as_slice() {
         let (table, key, value) = (row.table, row.key, row.value.as_str());
-        let (file, page, slot) = (row.place.file, row.place.page, row.place.slot);
+        let (file, page, slot) = (row.place.file, row.place.page, row.place.slot.get());
         writeln!(out, "row {table} {key} {value:?} at {file} {page} {slot}")?;
     }
     records::show(body.log.as_slice(), out)

@@ -20,14 +20,17 @@ use Rattle.bk_world.specs.Records.{Logged, Said, checkpointed, more, numbered, s
 use Rattle.bk_world.specs.Says.{alone}
 use Rattle.bk_world.specs.Telling.{model, telling, time}
 use Rattle.bk_lemmas.specs.Tests.{first_false}
-use Rattle.bk_machine.specs.Acts.{based, done, drawn, gone_on, logged, medium_made, said_time, says, set_sealed}
+use Rattle.bk_machine.specs.Acts.{latest, based, done, drawn, gone_on, logged, medium_made, said_time, says, set_sealed}
 use Rattle.bk_machine.specs.Built.{IsBuilt, IsBuiltLog, SayNoLoad}
 use Rattle.bk_machine.specs.Checks.{is_path, kept_numbers, last_number, limit, online, or_refuse, outside, refuse_if, used_up}
+use Rattle.bk_machine.specs.FitLaws.{said-time}
+use Rattle.bk_machine.specs.Fits.{FitsLog, FitsSet}
 use Rattle.bk_machine.specs.MayDo.{MayDoAll}
-use Rattle.bk_machine.specs.Sound.{AreNumbered, IsHeld, IsLog, IsPassed, IsReached, IsSound, IsSoundSet, files_of_set}
+use Rattle.bk_machine.specs.Sound.{AreNumbered, IsHeld, IsLog, IsPassed, IsReached, IsSound, IsSoundSet, files_of_set, storage_of}
 use Rattle.bk_machine.specs.World.{World, Database, database_named, log_of}
 use Rattle.bk_machine.specs.statements.Backup.{check_backup, full_backup, full_header, is_whole_backup, DoesBackup}
 use Rattle.bk_machine.proofs.Acting.{act-sound}
+use Rattle.bk_machine.proofs.Fitting.{fits-more}
 use Rattle.bk_machine.proofs.LeftNumbers.{below-kept, numbers-there}
 use Rattle.bk_machine.proofs.Loads.{BuiltIn, act-built}
 use Rattle.bk_machine.specs.NamedLaws.{named-own, of-named}
@@ -73,15 +76,17 @@ tells-left w db r low =
     let left : db.end + (length (pending (log_of w.history db)) + (length db.transactions + 16)) ≤ last_number = numbers-there (log_of w.history db) db.end db.transactions r.opens low in
     omega (arith, left)
 
-checkpoint-tells : (w : World) (db : Database) (at : ℕ) (r : IsUp w db) → db.end ≤ kept_numbers + 16 → MayTell w db (alone (checkpointed at))
-checkpoint-tells w db at r low =
+checkpoint-tells : (w : World) (db : Database) (at : ℕ) (r : IsUp w db) → at ≤ latest → db.end ≤ kept_numbers + 16 → MayTell w db (alone (checkpointed at))
+checkpoint-tells w db at r timely low =
     let t = tells-checkpoint (log_of w.history db) db.end at in
-    record { may = record { online = r.up; may = (tt, tt); tables = subst (AreNumbered 1) (sym t.tables) r.whole.log.tables; places = (tt, tt) }; none = (λ b. refl, tt); same = t.pending; left = tells-left w db r low }
+    let fits : FitsLog (length db.groups) (more (log_of w.history db) db.end (alone (checkpointed at))) = fits-more (length db.groups) (log_of w.history db) db.end (alone (checkpointed at)) r.whole.fits.log t.tables (timely, tt) in
+    record { may = record { online = r.up; may = (tt, tt); tables = subst (AreNumbered 1) (sym t.tables) r.whole.log.tables; places = (tt, tt); fits = fits }; none = (λ b. refl, tt); same = t.pending; left = tells-left w db r low }
 
-stamp-tells : (w : World) (db : Database) (at : ℕ) (set : Guid) (r : IsUp w db) → db.end ≤ kept_numbers + 16 → MayTell w db (alone (stamped at set))
-stamp-tells w db at set r low =
+stamp-tells : (w : World) (db : Database) (at : ℕ) (set : Guid) (r : IsUp w db) → at ≤ latest → db.end ≤ kept_numbers + 16 → MayTell w db (alone (stamped at set))
+stamp-tells w db at set r timely low =
     let t = tells-stamp (log_of w.history db) db.end at set in
-    record { may = record { online = r.up; may = (tt, tt); tables = subst (AreNumbered 1) (sym t.tables) r.whole.log.tables; places = (tt, tt) }; none = (λ b. refl, tt); same = t.pending; left = tells-left w db r low }
+    let fits : FitsLog (length db.groups) (more (log_of w.history db) db.end (alone (stamped at set))) = fits-more (length db.groups) (log_of w.history db) db.end (alone (stamped at set)) r.whole.fits.log t.tables (timely, tt) in
+    record { may = record { online = r.up; may = (tt, tt); tables = subst (AreNumbered 1) (sym t.tables) r.whole.log.tables; places = (tt, tt); fits = fits }; none = (λ b. refl, tt); same = t.pending; left = tells-left w db r low }
 
 -- ---- what is held
 
@@ -114,6 +119,9 @@ module _ (w : World) (db : Database) (path : List ℕ) (now : ℕ) (sound : IsSo
   abbrev header : Header
   header = full_header w db (drawn w w.counter) (said_time w db now)
 
+  timely : said_time w db now ≤ latest
+  timely = said-time w db now (length db.groups) r.whole.fits.log
+
   -- behind the medium
   abbrev made : World
   made = done w (medium_made path)
@@ -130,7 +138,7 @@ module _ (w : World) (db : Database) (path : List ℕ) (now : ℕ) (sound : IsSo
   start_said = alone (checkpointed at)
 
   start-tells : MayTell made db start_said
-  start-tells = checkpoint-tells made db at made-up (omega (arith, low))
+  start-tells = checkpoint-tells made db at made-up timely (omega (arith, low))
 
   abbrev started : World
   started = says made db start_said db.transactions
@@ -149,7 +157,7 @@ module _ (w : World) (db : Database) (path : List ℕ) (now : ℕ) (sound : IsSo
   finish_said = alone (stamped at set)
 
   finish-tells : MayTell started started_db finish_said
-  finish-tells = stamp-tells started started_db at set started-up (omega (arith, low))
+  finish-tells = stamp-tells started started_db at set started-up timely (omega (arith, low))
 
   abbrev finished : World
   finished = says started started_db finish_said db.transactions
@@ -195,6 +203,8 @@ module _ (w : World) (db : Database) (path : List ℕ) (now : ℕ) (sound : IsSo
         model = sym (ap model log ∙ two.model ∙ one.model);
         finish = sym (ap time log ∙ two.time);
         numbers = subst (λ n. n + (length (pending (log_below finished.history db.path n)) + 1) ≤ last_number) end (omega (arith, left));
+        fits = subst (λ files. FitsSet (record { groups = db.groups; files = files; log_name = db.log_name; log_path = db.log_path }) db.path (log_below finished.history db.path (db.end + 2))) (sym (files-same header db.files))
+            (subst (λ n. FitsSet (storage_of db) db.path (log_below finished.history db.path n)) end finished-up.whole.fits);
       }
 
   -- each part may be done

@@ -1,5 +1,5 @@
 -- CREATE DATABASE makes a database of a new name, with files as a database may have them.
-use Rattle.std.proofs.Common.{◌≡◌, ◌≤◌, inl, inr, ℕ, false, ◌||◌, List, Option, None, refl, subst, arith}
+use Rattle.std.proofs.Common.{◌≡◌, ◌≤◌, inl, inr, ℕ, Bool, true, false, ◌||◌, List, Option, None, refl, subst, arith}
 use Rattle.std.specs.Prelude.{is_some, nat_le, nat_lt, not, length, Ok}
 use Rattle.std.proofs.lemmas.Bool.Decides.{nat_tests}
 use Rattle.bk_items.specs.declared.item.NewFile.{NewFile}
@@ -10,12 +10,13 @@ use Rattle.bk_world.specs.declared.rule.Rule.TheVariants.{DatabaseExists, LimitR
 use Rattle.bk_machine.specs.Acts.{created}
 use Rattle.bk_machine.specs.CheckLaws.{passed, not-refused, second-false, is-none}
 use Rattle.bk_machine.specs.Checks.{is_system, limit, most_databases, outside, refuse_if, used_up}
-use Rattle.bk_machine.specs.Files.{AreDataFiles, extents_in, most_extents, most_files}
+use Rattle.bk_machine.specs.Files.{extents_in, most_extents, most_files}
+use Rattle.bk_machine.specs.Fits.{FitsStorage}
 use Rattle.bk_machine.specs.Outcome.{Outcome}
 use Rattle.bk_machine.specs.World.{World, database_named}
 use Rattle.bk_machine.specs.statements.CreateDatabase.{are_named, check_create_database, check_free, check_in_use, check_limits, new_storage, DoesCreateDatabase}
 use Rattle.bk_machine.specs.statements.CreateTable.{most_groups}
-use Rattle.bk_machine.proofs.NewFiles.{new-files}
+use Rattle.bk_machine.proofs.NewFiles.{new-files, new-storage-fits}
 use Rattle.bk_machine.proofs.statements.Facts.{Facts, NoMedium, facts-of}
 
 -- ---- what was checked
@@ -49,11 +50,15 @@ freed w asked s e =
     let last = two.then in
     cc
 
+-- what isn't denied holds
+was-not : (b : Bool) → not b ≡ false → b ≡ true
+was-not true e = refl
+was-not false e = absurd cc
+
 -- a new name, and files and filegroups as a database may have them
 record MayMake (w : World) (name : List ℕ) (s : Storage) : Type 0 where
   new : database_named w.databases name ≡ None
-  groups : length s.groups ≤ most_groups
-  files : AreDataFiles (length s.groups) s.files
+  fits : FitsStorage s
 
 checked : (w : World) (line : ℕ) (name : List ℕ) (primary : List NewFile) (groups : List NewGroup) (log : Option NewFile) (s : Storage)
     → check_create_database w line name primary groups log ≡ Ok s → MayMake w name s
@@ -65,11 +70,11 @@ checked w line name primary groups log s e =
     let three = passed (refuse_if (nat_le most_databases (length w.databases)) (LimitReached which.Databases)) _ s two.then in
     let four = passed (check_limits (new_storage name primary groups log)) _ s three.then in
     let same : new_storage name primary groups log ≡ s = freed w (new_storage name primary groups log) s four.then in
+    let named : are_named name primary groups log ≡ true = was-not (are_named name primary groups log) (not-refused (not (are_named name primary groups log)) (NotBuilt line) one.found one.is) in
     let keeps : KeepsLimits (new_storage name primary groups log) = within (new_storage name primary groups log) four.found four.is in
     subst (MayMake w name) same (record {
       new = is-none (database_named w.databases name) (second-false (is_system name) (is_some (database_named w.databases name)) (not-refused (is_system name || is_some (database_named w.databases name)) DatabaseExists two.found two.is));
-      groups = keeps.groups;
-      files = new-files name primary groups keeps.files keeps.extents;
+      fits = new-storage-fits name primary groups log named keeps.groups (new-files name primary groups keeps.files keeps.extents);
     })
 
 pub facts : (w : World) (line : ℕ) (name : List ℕ) (primary : List NewFile) (groups : List NewGroup) (log : Option NewFile) (now : ℕ) (s : Storage)
@@ -80,7 +85,7 @@ facts w line name primary groups log now s e outcome is =
       writes = (tt, tt);
       refused = λ rule no. absurd cc;
       well = λ sound. record {
-        may = (record { family = refl; branch = refl; new = made.new; groups = made.groups; files = made.files }, tt);
+        may = (record { family = refl; branch = refl; new = made.new; fits = made.fits; time = omega arith }, tt);
         opens = (tt, tt);
         own = (tt, tt);
         numbers = (tt, tt);

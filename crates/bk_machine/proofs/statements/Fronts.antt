@@ -10,12 +10,14 @@ use Rattle.bk_world.specs.SoundLogs.{MayFollow}
 use Rattle.bk_world.specs.Telling.{entries_from, tables}
 use Rattle.bk_machine.specs.Acts.{Act, turned, seated, created, dropped, logged, medium_made, set_sealed, based, replaced, restored, recovered, done, done_all, says, where_found}
 use Rattle.bk_machine.specs.Crash.{front_of}
+use Rattle.bk_machine.specs.Fits.{FitsLog}
 use Rattle.bk_machine.specs.MayDo.{HoldsOf, MayDoAll, MayLog, MaySay}
 use Rattle.bk_machine.specs.NamedLaws.{named-own}
 use Rattle.bk_machine.specs.Sound.{AreNumbered, ArePlaced, IsWhole}
 use Rattle.bk_world.specs.declared.transaction.Open.{Open}
 use Rattle.bk_machine.specs.World.{World, Database, database_named, log_of}
 use Rattle.bk_machine.proofs.ActsLogs.{placed-front, tables-more, numbered-front}
+use Rattle.bk_machine.proofs.Fitting.{fits-front}
 use Rattle.bk_machine.proofs.ActsSays.{says-whole}
 
 -- ---- what is said
@@ -32,6 +34,7 @@ says-front w db said n may =
       may = follow-front rs front back (subst (MayFollow rs) whole may.may);
       tables = numbered-front 1 (tables (rs ++ front)) _ (subst (AreNumbered 1) made may.tables);
       places = placed-front db.files rs front back (subst (ArePlaced db.files rs) whole may.places);
+      fits = fits-front (length db.groups) (rs ++ front) back (subst (FitsLog (length db.groups)) (ap (λ ss. rs ++ ss) whole ∙ sym (append_assoc rs front back)) may.fits);
     }
 
 -- ---- an act that is cut

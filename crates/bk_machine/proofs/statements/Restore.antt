@@ -2,6 +2,7 @@
 use Rattle.std.proofs.Common.{◌≡◌, ◌<◌, ◌≤◌, inr, ℕ, min, Bool, false, List, [], length, Option, refl, sym, subst, arith}
 use Rattle.std.specs.Prelude.{◌&&◌, ◌||◌, nat_le, not, Ok}
 use Rattle.std.proofs.Math.Nat.{min-le_right}
+use Rattle.std.proofs.lemmas.Bool.Decides.{nat_tests}
 use Rattle.bk_items.specs.declared.item.RestoredUnits.{RestoredUnits}
 use Rattle.bk_items.specs.declared.options.RestoreOptions.{RestoreOptions}
 use Rattle.bk_world.specs.declared.database.State.TheVariants as state
@@ -14,7 +15,7 @@ use Rattle.bk_world.specs.Records.{Logged}
 use Rattle.bk_world.specs.SoundLogs.{NoLoadPends}
 use Rattle.bk_lemmas.specs.Tests.{first_false}
 use Rattle.bk_machine.specs.Acts.{Recovery, done, drawn, taken_over, units_in}
-use Rattle.bk_machine.specs.Checks.{different_paths, free_paths, is_name, is_path, kept_numbers, others, outside, paths_of, refuse_if, used_up}
+use Rattle.bk_machine.specs.Checks.{different_paths, free_paths, is_name, is_path, kept_numbers, most_branches, others, outside, paths_of, refuse_if, used_up}
 use Rattle.bk_machine.specs.MayDo.{MayDoAll}
 use Rattle.bk_machine.specs.Sound.{IsSound, IsSoundSet, SetIn, files_of_set}
 use Rattle.bk_machine.specs.World.{World, Database, database_named, log_to, with_new_database}
@@ -36,23 +37,30 @@ use Rattle.bk_machine.specs.ReadyLaws.{holds-of}
 
 -- ---- the set
 
--- the numbers of a set aren't used up
-low-set : (w : World) (name : List ℕ) (replace : Bool) (header : Header) (u : Unit {0}) → check_set w name replace header ≡ Ok u → used_up header.last ≡ false
+-- the numbers of a set aren't used up, and its path has room for a branch
+record HasRoom (header : Header) : Type 0 where
+  low : used_up header.last ≡ false
+  branches : length header.path < most_branches
+
+room-of : (w : World) (name : List ℕ) (replace : Bool) (header : Header) (u : Unit {0}) → check_set w name replace header ≡ Ok u → HasRoom header
 unfolding check_set
-low-set w name replace header u e =
+room-of w name replace header u e =
     let one = passed (check_unused (database_named w.databases name)) _ u e in
     let two = passed (check_family (database_named w.databases name) replace header) _ u one.then in
     let three = passed (check_tail w (database_named w.databases name) replace) _ u two.then in
     let four = passed (check_number w.databases (database_named w.databases name)) _ u three.then in
     let five = passed (free_paths (paths_of (others w.databases name)) (set_paths header)) _ u four.then in
     let six = passed (different_paths [] (set_paths header)) _ u five.then in
-    let seven = passed (refuse_if (nat_le 64 (length header.path)) PathFull) _ u six.then in
-    first_false (used_up header.last) (used_up w.counter) (not-refused (used_up header.last || used_up w.counter) (LimitReached Lsn) u seven.then)
+    let seven = passed (refuse_if (nat_le most_branches (length header.path)) PathFull) _ u six.then in
+    let short : nat_le most_branches (length header.path) ≡ false = not-refused (nat_le most_branches (length header.path)) PathFull seven.found seven.is in record {
+      low = first_false (used_up header.last) (used_up w.counter) (not-refused (used_up header.last || used_up w.counter) (LimitReached Lsn) u seven.then);
+      branches = grind (arith, nat_tests, short);
+    }
 
--- it is on the medium, and its numbers aren't used up
+-- it is on the medium
 record IsFound (w : World) (path : List ℕ) (header : Header) : Type 0 where
   there : SetIn w path header
-  low : used_up header.last ≡ false
+  room : HasRoom header
 
 found : (w : World) (line : ℕ) (name : List ℕ) (units : RestoredUnits) (disk : Option (List ℕ)) (options : RestoreOptions) (header : Header) → check_restore w line name units disk options ≡ Ok header → IsFound w (disk_path disk) header
 unfolding check_restore
@@ -63,7 +71,7 @@ found w line name units disk options header e =
     let three = passed (check_set w name options.replace two.found) _ header two.then in
     let last = three.then in
     let same : two.found ≡ header = cc in
-    subst (IsFound w (disk_path disk)) same (record { there = first-in w (disk_path disk) two.found two.is; low = low-set w name options.replace two.found three.found three.is })
+    subst (IsFound w (disk_path disk)) same (record { there = first-in w (disk_path disk) two.found two.is; room = room-of w name options.replace two.found three.found three.is })
 
 -- ---- the parts
 
@@ -72,12 +80,12 @@ taken : List ℕ → Header → Database
 taken name header = record (taken_over name header) { units = units_in (state.Restoring (base_of header) header.last) (taken_over name header).units }
 
 -- a set that is sound may be taken over by any name
-restores : (w : World) (name : List ℕ) (header : Header) (r : Recovery) → IsSoundSet w header → r.at ≡ header.last → r.branch ≡ drawn w w.counter → Recovers (log_below w.history header.path header.last) r → used_up header.last ≡ false
+restores : (w : World) (name : List ℕ) (header : Header) (r : Recovery) → IsSoundSet w header → r.at ≡ header.last → r.branch ≡ drawn w w.counter → Recovers (log_below w.history header.path header.last) r → HasRoom header
     → MayDoAll w (whole_restore name header r)
 unfolding done taken log_to
-restores w name header r set at branch recovers low =
+restores w name header r set at branch recovers room =
     let positive : 1 ≤ header.last = counts-positive 1 header.last (log_below w.history header.path header.last) set.log.counts in
-    let lower : header.last < kept_numbers = below-kept header.last low in
+    let lower : header.last < kept_numbers = below-kept header.last room.low in
     let few : length r.said ≤ 4194304 = (let most : min r.at 4194304 ≤ 4194304 = min-le_right r.at 4194304 in omega (arith, most, recovers.few)) in (
       set,
       (
@@ -92,6 +100,7 @@ restores w name header r set at branch recovers low =
                 branch = branch;
                 recovers = subst (λ n. Recovers (log_below w.history header.path n) r) (sym at) recovers;
                 numbers = omega (arith, at, lower, few);
+                room = room.branches;
               }),
           tt,
         ),
@@ -116,7 +125,7 @@ module _ (w : World) (line : ℕ) (name : List ℕ) (units : RestoredUnits) (dis
     writes = (tt, (tt, (tt, tt)));
     refused = λ rule no. absurd cc;
     well = λ sound. record {
-      may = restores w (name_known (database_named w.databases name) name) header r (set-sound w (disk_path disk) header sound there) at branch recovers its.low;
+      may = restores w (name_known (database_named w.databases name) name) header r (set-sound w (disk_path disk) header sound there) at branch recovers its.room;
       opens = (tt, (tt, (tt, tt)));
       own = (tt, (tt, (tt, tt)));
       numbers = (tt, (tt, (tt, tt)));

@@ -1,5 +1,5 @@
 -- BEGIN, COMMIT, ROLLBACK and `:session n` do acts that may be done.
-use Rattle.std.proofs.Common.{◌≡◌, ◌≤◌, inl, ℕ, ◌+◌, Bool, true, false, not, ◌&&◌, List, [], ◌∷◌, ◌++◌, Option, None, Some, refl, sym, ◌∙◌, ap, subst, arith}
+use Rattle.std.proofs.Common.{◌≡◌, ◌≤◌, inl, ℕ, ◌+◌, Bool, true, false, not, ◌&&◌, List, [], ◌∷◌, ◌++◌, length, Option, None, Some, refl, sym, ◌∙◌, ap, subst, arith}
 use Rattle.std.specs.Prelude.{◌==◌, is_some, nat_le, nat_lt, reverse, Ok, Contains}
 use Rattle.std.specs.List.{AllByRecursion}
 use Rattle.std.proofs.lemmas.Bool.Decides.{nat_tests}
@@ -8,8 +8,8 @@ use Rattle.bk_items.specs.declared.item.NamedTransaction.{NamedTransaction}
 use Rattle.bk_world.specs.Cut.{end_behind, is_among}
 use Rattle.bk_lemmas.specs.Lists.{all_filter, all_joined}
 use Rattle.bk_world.specs.Pending.{Pending, of_transaction, pending}
-use Rattle.bk_world.specs.ReadingLaws.{pending-commit, pending-rollback}
-use Rattle.bk_world.specs.Records.{Counts, Logged, Said, rolled_back}
+use Rattle.bk_world.specs.ReadingLaws.{entries-rollback, pending-commit, pending-rollback}
+use Rattle.bk_world.specs.Records.{Counts, Logged, Said, more, rolled_back}
 use Rattle.bk_world.specs.Says.{begin_said, commit_said, rollback_said, undoing, within}
 use Rattle.bk_world.specs.SoundLaws.{sound-rise}
 use Rattle.bk_world.specs.declared.database.Status.TheVariants.{Online}
@@ -22,6 +22,7 @@ use Rattle.bk_machine.specs.Built.{IsNoLoad, SaysNoLoad}
 use Rattle.bk_machine.specs.CheckLaws.{Up, is-none, not-refused, passed, was-found, was-online}
 use Rattle.bk_machine.specs.Checks.{limit, online, or_refuse, outside, refuse_if, used_up}
 use Rattle.bk_machine.specs.Crash.{begins_in, begins_of}
+use Rattle.bk_machine.specs.FitLaws.{said-time}
 use Rattle.bk_machine.specs.FindingLaws.{current-found}
 use Rattle.bk_machine.specs.MayDo.{MayDo}
 use Rattle.bk_machine.specs.NamedLaws.{of-named}
@@ -35,6 +36,7 @@ use Rattle.bk_machine.specs.statements.Commit.{check_commit, commit_of, commits,
 use Rattle.bk_machine.specs.statements.Rollback.{check_rollback, rolls_back, DoesRollback}
 use Rattle.bk_machine.specs.statements.Session.{check_session, is_session, DoesSession}
 use Rattle.bk_machine.proofs.Cutting.{IsOwn, OpensOwn}
+use Rattle.bk_machine.proofs.Fitting.{fits-more, fits-told}
 use Rattle.bk_machine.proofs.Histories.{counts-positive}
 use Rattle.bk_machine.specs.SettledLaws.{counts-end}
 use Rattle.bk_machine.proofs.Left.{of-contained}
@@ -83,6 +85,7 @@ module _ (w : World) (session : ℕ) (h : Held) (sound : IsSound w) (is : held_i
         may = (of-contained (KeepsAll rs) db.transactions h.transaction held.up.opens.kept there, tt);
         tables = subst (AreNumbered 1) (sym (tables-commit rs db.end begin time mark)) held.up.whole.log.tables;
         places = (tt, tt);
+        fits = fits-more (length db.groups) rs db.end (commit_said begin time mark) held.up.whole.fits.log (tables-commit rs db.end begin time mark) (said-time w db now (length db.groups) held.up.whole.fits.log, tt);
       }) (each-without db begin) (opens-without rs db.end db.transactions held.up.opens begin (commit_said begin time mark) (pending-commit rs db.end begin time mark) (kept-commit rs db.end db.transactions begin time mark held.up.opens.kept)
       its-begin (omega arith))
 
@@ -97,6 +100,7 @@ module _ (w : World) (session : ℕ) (h : Held) (sound : IsSound w) (is : held_i
         may = may-roll-back rs db.end begin (sound-rise rs held.up.whole.log.sound counts held.up.opens.loads) held.up.opens.loads;
         tables = subst (AreNumbered 1) (sym (tables-rollback rs db.end begin)) held.up.whole.log.tables;
         places = placed-rollback db.files rs db.end begin;
+        fits = fits-told (length db.groups) rs (more rs db.end (rollback_said begin (pending rs))) (entries-rollback rs db.end begin) held.up.whole.fits.log;
       }) (each-without db begin) (opens-without rs db.end db.transactions held.up.opens begin (rollback_said begin (pending rs)) (pending-rollback rs db.end begin) (kept-rollback rs db.end db.transactions begin held.up.opens.kept)
       its-begin (few-rollback rs begin))
 
@@ -186,6 +190,7 @@ begin-may w db mark sound its r =
       may = (tt, tt);
       tables = subst (AreNumbered 1) (sym (tables-begun rs db.end)) r.whole.log.tables;
       places = (tt, tt);
+      fits = fits-more (length db.groups) rs db.end (begin_said db.end) r.whole.fits.log (tables-begun rs db.end) (tt, tt);
     }) (each-begun db (new_open w db mark) refl) (opens-begun rs db.end db.transactions r.opens (begin-below rs db.end r.whole.log.sound r.whole.log.counts) (omega (arith, positive)) w.session mark sound.seat none
     (numbers-before rs db.end db.transactions r.opens its.low))
 

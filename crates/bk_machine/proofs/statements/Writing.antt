@@ -21,6 +21,7 @@ use Rattle.bk_machine.specs.Acts.{logged, said_time}
 use Rattle.bk_machine.specs.BeginLaws.{each-own}
 use Rattle.bk_machine.specs.Built.{IsBuilt, IsBuiltLog}
 use Rattle.bk_machine.specs.Checks.{last_number, used_up}
+use Rattle.bk_machine.specs.FitLaws.{said-time}
 use Rattle.bk_machine.specs.MayDo.{MayDo}
 use Rattle.bk_machine.specs.NamedLaws.{of-named}
 use Rattle.bk_machine.specs.Seen.{visible, visible_by}
@@ -32,6 +33,7 @@ use Rattle.bk_world.specs.declared.transaction.Open.{Open}
 use Rattle.bk_machine.specs.World.{World, Database, log_of, most_writes, transaction_of}
 use Rattle.bk_machine.specs.statements.Target.{MayPlace, Target, has_all_writes, holder, own_open, row_said, row_set, writes_of, writes_row}
 use Rattle.bk_machine.proofs.Cutting.{HasNumbers, IsOwn}
+use Rattle.bk_machine.proofs.Fitting.{fits-more}
 use Rattle.bk_machine.proofs.LeftNumbers.{numbers-before}
 use Rattle.bk_machine.proofs.Room.{well}
 use Rattle.bk_machine.proofs.statements.Begins.{BeginBelow, begin-below}
@@ -175,6 +177,8 @@ module _ (w : World) (name : List ℕ) (to : Target) (its : IsTarget w name to) 
         online = r.up;
         may = (tt, (may-write rs n begins.pending at before (row_set to key value) nobody (few-pend rs n to.database.transactions r.opens) place.place committed, (may-commit rs n begins _ _ refl refl, tt)));
         tables = subst (AreNumbered 1) (sym (tables-single rs n at before (row_set to key value) time begins.pending)) r.whole.log.tables;
+        fits = fits-more (length to.database.groups) rs n (single_said n at before (row_set to key value) time) r.whole.fits.log (tables-single rs n at before (row_set to key value) time begins.pending)
+            (tt, (tt, (said-time w to.database now (length to.database.groups) r.whole.fits.log, tt)));
         places = (tt, ((to.table, subst (λ made. find (λ (m : TableSpec). m.number == to.table.number) made ≡ Some to.table) (sym (tables-begun rs n)) (numbered_own r), place.cell), (tt, tt)));
       }) (λ b. refl, (λ b. refl, (λ b. refl, tt))) (pending-single rs n at before (row_set to key value) time begins.pending) (omega (arith, left))
 
@@ -191,6 +195,7 @@ module _ (w : World) (name : List ℕ) (to : Target) (its : IsTarget w name to) 
         online = r.up;
         may = (record { place = place.place; noted = sym noted; unlocked = alone; behind = begin-lies to.database.transactions w.session n t own r.opens.begins; room = few-pend rs n to.database.transactions r.opens }, tt);
         tables = subst (AreNumbered 1) (sym (tables-written rs n t.begin at before (row_set to key value))) r.whole.log.tables;
+        fits = fits-more (length to.database.groups) rs n (write_said t.begin at before (row_set to key value)) r.whole.fits.log (tables-written rs n t.begin at before (row_set to key value)) (tt, tt);
         places = ((to.table, numbered_own r, place.cell), tt);
       }) (each-own to.database) (opens-written rs n to.database.transactions r.opens w.session t own at before (row_set to key value) fewer (room r))
 

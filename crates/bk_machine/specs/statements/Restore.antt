@@ -24,7 +24,7 @@ use Rattle.bk_world.specs.Records.{Deed, Logged, Said, more, numbered, undone, r
 use Rattle.bk_world.specs.SoundLogs.{MayFollow}
 use Rattle.bk_world.specs.Telling.{model}
 use Rattle.bk_machine.specs.Acts.{Act, Recovery, replaced, restored, recovered, drawn, is_simple}
-use Rattle.bk_machine.specs.Checks.{Checked, ◌>>=◌, refuse_if, outside, unused, limit, used_up, is_name, is_path, most_databases, paths_of, others, free_paths, different_paths}
+use Rattle.bk_machine.specs.Checks.{Checked, ◌>>=◌, refuse_if, outside, unused, limit, used_up, is_name, is_path, most_branches, most_databases, paths_of, others, free_paths, different_paths}
 use Rattle.bk_machine.specs.Outcome.{Outcome}
 use Rattle.bk_machine.specs.World.{World, Database, database_named, log_of}
 
@@ -118,7 +118,7 @@ check_set w name replace header = do
   _ ← check_number w.databases (database_named w.databases name)
   _ ← free_paths (paths_of (others w.databases name)) (set_paths header)
   _ ← different_paths [] (set_paths header)
-  _ ← refuse_if (nat_le 64 (length header.path)) PathFull
+  _ ← refuse_if (nat_le most_branches (length header.path)) PathFull
   limit (used_up header.last || used_up w.counter)
 
 unfoldable pub check_restore : World → ℕ → List ℕ → RestoredUnits → Option (List ℕ) → RestoreOptions → Checked Header

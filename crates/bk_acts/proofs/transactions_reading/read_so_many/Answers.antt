@@ -2,7 +2,7 @@ use Rattle.std.proofs.lemmas.Result.{err_from_is_err_and}
 use Rattle.bk_bytes.specs.Codec.{times_at}
 use Rattle.bk_bytes.specs.LoopLaws.{goes_on, is_done}
 use Rattle.bk_acts.specs.Transactions.{transaction_form}
-use Rattle.bk_acts.proofs.StorageCodes.{refuses_list}
+use Rattle.bk_reading.specs.Laws.{refuses_list}
 use Rattle.bk_acts.proofs.transactions_reading.read_so_many.Goals as goal
 
 pub returns-in_err-transaction : goal.returns-in_err-transaction

@@ -13,5 +13,5 @@ returns-in-Ok c =
     let fits : AreBytes c.args.b.now = λ i. omega (arith, c.type_inv.b i) in
     header_found c.args.b.now c.in-Ok.header c.in-Ok.rest.now fits c.in-Ok.ensures
 
-pub returns-in-Err-NoHeader : goal.returns-in-Err-NoHeader
-returns-in-Err-NoHeader c = header_unread c.args.b.now (rw c.in-Err-NoHeader.field-0-is at c.in-Err-NoHeader.ensures)
+pub returns-in-Err-Unspelled : goal.returns-in-Err-Unspelled
+returns-in-Err-Unspelled c = header_unread c.args.b.now (rw c.in-Err-Unspelled.field-0-is at c.in-Err-Unspelled.ensures)

@@ -1,7 +1,7 @@
 use Rattle.std.proofs.lemmas.Result.{err_from_is_err_and}
 use Rattle.bk_bytes.specs.Codec.{times_at, string_at}
 use Rattle.bk_bytes.specs.LoopLaws.{goes_on, is_done}
-use Rattle.bk_header.proofs.Readings.{refuses_list}
+use Rattle.bk_reading.specs.Laws.{refuses_list}
 use Rattle.bk_header.proofs.lists.read_names.Goals as goal
 
 pub returns-in_err-name : goal.returns-in_err-name

@@ -7,7 +7,7 @@ use Rattle.bk_media_plans.proofs.planning_backup.backup.Goals as goal
 pub returns-clause-parts : goal.returns-clause-parts
 returns-clause-parts c =
     let ts = c.args.database.now.transactions in
-    (c.in_ok-parts.ensures, ap (λ (first : ℕ). SetMade 1 first c.end-end.result (c.end-end.result + 2)) c.least_begin.ensures ∙ ap (λ (n : ℕ). SetMade 1 (least_begin ts n) n (n + 2)) c.end-end.ensures.same)
+    (c.in_ok-parts.ensures.parts, ap (λ (first : ℕ). SetMade 1 first c.end-end.result (c.end-end.result + 2)) c.least_begin.ensures ∙ ap (λ (n : ℕ). SetMade 1 (least_begin ts n) n (n + 2)) c.end-end.ensures.same)
 
 pub returns-clause-keeps : goal.returns-clause-keeps
-returns-clause-keeps c = parts-keep c.args.database.now c.args.disk.now _ c.args.time _ c.requires.path c.in_ok-parts.ensures
+returns-clause-keeps c = parts-keep c.args.database.now c.args.disk.now _ c.args.time _ c.requires.path c.in_ok-parts.ensures.parts

@@ -1,4 +1,4 @@
-use Rattle.bk_media_plans.proofs.Backed.{Laws, backup-made, backup-refused}
+use Rattle.bk_media_plans.proofs.Backed.{Laws, backup-made, backup-refused, may-make}
 use Rattle.bk_plans.specs.PlanLaws.{if-plan}
 use Rattle.bk_media_plans.proofs.planning_backup.plan_backup.Goals as goal
 
@@ -18,6 +18,12 @@ returns-in-Ok-clause-plans c =
 
 pub returns-in-Err-clause-plans : goal.returns-in-Err-clause-plans
 returns-in-Err-clause-plans c =
-    if-plan _ _ c.refused.result
+    if-plan _ _ c.refusing.result
     (λ plan is. backup-refused c.args.kept.now c.args.line c.args.now c.args.database.now c.args.units.now c.args.disk.now c.args.options.now c.args.is_there c.in-Err.refusal plan is c.in-Err.ensures.check)
-    c.refused.ensures.rule
+    c.refusing.ensures.rule
+
+pub returns-in-Ok-clause-unfit : goal.returns-in-Ok-clause-unfit
+returns-in-Ok-clause-unfit c = λ unfit w sound keeps known.
+    c.backup.ensures.unfit unfit w
+    (may-make w c.args.line c.args.database.now c.args.units.now c.args.disk.now c.args.options.now c.args.now c.in-Ok.database.now c.said_time.result sound (c.in-Ok.ensures.check w keeps known) (c.in-Ok.ensures.shows w keeps)
+    (c.said_time.ensures w (c.in-Ok.ensures.shows w keeps)))

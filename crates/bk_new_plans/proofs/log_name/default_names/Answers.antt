@@ -1,4 +1,4 @@
-use Rattle.bk_new_plans.proofs.Cuts.{default_log-named}
+use Rattle.bk_machine.specs.NewFileLaws.{default_log-named}
 use Rattle.bk_new_plans.proofs.log_name.default_names.Goals as goal
 
 pub name_in-requires : goal.name_in-requires

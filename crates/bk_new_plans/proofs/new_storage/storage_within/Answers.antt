@@ -1,7 +1,7 @@
 use Rattle.std.proofs.Common.{◌≡◌, List, sym, ◌∙◌, ap, subst}
 use Rattle.std.specs.Prelude.{nat_lt}
 use Rattle.std.proofs.lemmas.Result.{err_from_is_err_and}
-use Rattle.bk_acts.specs.Storage.{KeepsStorage}
+use Rattle.bk_storage.specs.Storage.{KeepsStorage}
 use Rattle.bk_machine.specs.Checks.{refuse_if}
 use Rattle.bk_machine.specs.statements.CreateDatabase.{new_files, new_groups, new_log_name, new_log_path}
 use Rattle.bk_world.specs.declared.database.FileSpec.{FileSpec}

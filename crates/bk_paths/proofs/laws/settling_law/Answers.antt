@@ -1,7 +1,7 @@
 use Rattle.std.specs.Prelude.{reverse}
 use Rattle.bk_undo.specs.Losers.{pending, records_below}
 use Rattle.bk_paths.specs.Paths.{end_of}
-use Rattle.bk_paths.proofs.Machines.{settled_spelled}
+use Rattle.bk_paths.proofs.Machines.{keeps_opened, settled_spelled}
 use Rattle.bk_paths.proofs.Settling.{Undo, kept_is_enough, nothing_pends, settled_again, settled_path, settling_keeps_open, undo_fills_nothing}
 use Rattle.bk_paths.proofs.laws.settling_law.Goals as goal
 
@@ -16,4 +16,5 @@ returns c =
       enough = kept_is_enough undo;
       keeps = settling_keeps_open undo;
       machine = settled_spelled;
+      opened = keeps_opened;
     }

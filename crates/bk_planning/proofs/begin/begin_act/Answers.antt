@@ -18,7 +18,7 @@ returns-in-Ok-clause-says c =
     let d = c.args.database.now in
     let records = c.in-Ok.records in
     let spell = c.in-Ok.ensures (record { begin = c.end-end.result; deed = begun }) refl in
-    let opens = c.in_ok-transactions.ensures.same ∙ ap (with_one d.transactions c.args.kept.now.session c.args.mark) c.end-end.ensures.same in
+    let opens = c.in_ok-transactions.ensures ∙ ap (with_one d.transactions c.args.kept.now.session c.args.mark) c.end-end.ensures.same in
     if-ok _ _ c.logged.result
     (λ act is.
     says-now d (begin_said d.shown.«end») (begun_in d c.args.kept.now.session c.args.mark) act records (is ∙ ap (λ (ts : List Open). Logged d.name ts records) opens)

@@ -7,18 +7,18 @@ use Rattle.bk_world.specs.Pending.{Pending, of_transaction}
 use Rattle.bk_planning.proofs.Marks.{marked, unmarked}
 use Rattle.bk_planning.proofs.commit.mark_with.Goals as goal
 
-pub returns-then-has_written-clause-is : goal.returns-then-has_written-clause-is
+pub returns-then-has_written : goal.returns-then-has_written
 unfolding log_of
-returns-then-has_written-clause-is c = λ w shows.
+returns-then-has_written c = λ w shows.
     let d = c.args.database.now in
     let t = c.args.transaction.now in
     let pends = c.written.ensures.shown d.files (log_of w.history (database_of d)) shows in
     if-ok _ _ c.own_mark.result
-    (λ mark same. same ∙ sym (marked t.begin c.written.result.now t.mark (sym c.has_written.ensures ∙ c.if-has_written.true)) ∙ ap (λ (ws : List Pending). mark_with (of_transaction t.begin ws) t.mark) pends) c.own_mark.ensures.same
+    (λ mark same. same ∙ sym (marked t.begin c.written.result.now t.mark (sym c.has_written.ensures ∙ c.if-has_written.true)) ∙ ap (λ (ws : List Pending). mark_with (of_transaction t.begin ws) t.mark) pends) c.own_mark.ensures
 
-pub returns-clause-is : goal.returns-clause-is
+pub returns : goal.returns
 unfolding log_of
-returns-clause-is c = λ w shows.
+returns c = λ w shows.
     let d = c.args.database.now in
     let t = c.args.transaction.now in
     let pends = c.written.ensures.shown d.files (log_of w.history (database_of d)) shows in

@@ -17,6 +17,6 @@ returns-in-Ok-clause-says c =
     (ap (λ (name : List ℕ). under c.end.result (record { begin = 0; deed = table_made c.args.time (record { number = c.args.number; name = name; group = c.args.group }) })) (sym same)) in
     if-ok _ _ c.logged.result
     (λ act is.
-    says-now d said d.transactions act c.in_ok-records.records (is ∙ ap (λ (ts : List Open). Logged d.name ts c.in_ok-records.records) c.in-Ok.ensures.same)
+    says-now d said d.transactions act c.in_ok-records.records (is ∙ ap (λ (ts : List Open). Logged d.name ts c.in_ok-records.records) (c.in-Ok.ensures ∙ c.as_slice.ensures))
     (subst (λ (n : ℕ). Spell c.in_ok-records.records n said) c.end.ensures.same spell))
     c.logged.ensures.is

@@ -23,7 +23,7 @@ returns-in-Ok-clause-says c =
     let records = c.in_ok-records.records in
     if-ok _ _ c.logged.result
     (λ act is.
-    says-rollback d act records written (λ w shows. c.written-written.ensures.shown d.files (log_of w.history (database_of d)) shows) t (is ∙ ap (λ (ts : List Open). Logged d.name ts records) c.in-Ok.ensures.same)
+    says-rollback d act records written (λ w shows. c.written-written.ensures.shown d.files (log_of w.history (database_of d)) shows) t (is ∙ ap (λ (ts : List Open). Logged d.name ts records) c.in-Ok.ensures)
     (subst (λ (n : ℕ). Spell records n (rollback_said t.begin (map pending_of written))) c.end.ensures.same c.in_ok-records.ensures) low)
     c.logged.ensures.is
 
@@ -38,7 +38,7 @@ returns-in-Ok-clause-is_done c =
     if-ok _ _ c.logged.result
     (λ act is w named shows may.
     rollback-done w d act named shows t
-    (says-rollback d act records written (λ v sh. c.written-written.ensures.shown d.files (log_of v.history (database_of d)) sh) t (is ∙ ap (λ (ts : List Open). Logged d.name ts records) c.in-Ok.ensures.same)
+    (says-rollback d act records written (λ v sh. c.written-written.ensures.shown d.files (log_of v.history (database_of d)) sh) t (is ∙ ap (λ (ts : List Open). Logged d.name ts records) c.in-Ok.ensures)
     (subst (λ (n : ℕ). Spell records n (rollback_said t.begin (map pending_of written))) c.end.ensures.same c.in_ok-records.ensures) low)
     may)
     c.logged.ensures.is

@@ -14,7 +14,7 @@ returns-in-Ok-clause-says c =
     let own = option_map (λ t. t.now) c.args.own in
     if-ok _ _ c.logged.result
     (λ act is change before cells.
-    says-now d (row_said own d.shown.«end» c.args.place before change c.args.time) d.transactions act c.in-Ok.records
-    (is ∙ ap (λ (ts : List Open). Logged d.name ts c.in-Ok.records) c.in_ok-transactions.ensures.same)
-    (subst (λ (n : ℕ). Spell c.in-Ok.records n (row_said own n c.args.place before change c.args.time)) c.end.ensures.same (c.in-Ok.ensures change before cells)))
+    says-now d (row_said own d.shown.«end» c.args.place.now before change c.args.time) d.transactions act c.in-Ok.records
+    (is ∙ ap (λ (ts : List Open). Logged d.name ts c.in-Ok.records) (c.in_ok-transactions.ensures ∙ c.as_slice.ensures))
+    (subst (λ (n : ℕ). Spell c.in-Ok.records n (row_said own n c.args.place.now before change c.args.time)) c.end.ensures.same (c.in-Ok.ensures change before cells)))
     c.logged.ensures.is

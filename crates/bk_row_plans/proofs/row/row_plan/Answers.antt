@@ -10,5 +10,5 @@ returns-clause-says c =
     let own = option_map (λ t. t.now) c.args.own in
     if-plan _ _ c.stored.result
     (λ plan one change before cells.
-    (c.in_ok-act.act, one, says-then d c.args.now (row_said own d.shown.«end» c.args.place before change) d.transactions c.in_ok-act.act c.said_time-time.result (c.in_ok-act.ensures.says change before cells) c.said_time-time.ensures))
+    (c.in_ok-act.act, one, says-then d c.args.now (row_said own d.shown.«end» c.args.place.now before change) d.transactions c.in_ok-act.act c.said_time-time.result (c.in_ok-act.ensures.says change before cells) c.said_time-time.ensures))
     c.stored.ensures.one

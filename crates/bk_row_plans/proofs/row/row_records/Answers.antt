@@ -14,7 +14,7 @@ use Rattle.bk_row_plans.proofs.row.row_records.Goals as goal
 
 pub returns-in-Some : goal.returns-in-Some
 returns-in-Some c =
-    let at = c.args.place in
+    let at = c.args.place.now in
     let n = c.args.lsn in
     let t : Open = c.in-Some.transaction.now in
     let by : Body → Rec = λ (b : Body). record { lsn = n; begin = t.begin; body = b } in

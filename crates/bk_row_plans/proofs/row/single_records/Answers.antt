@@ -20,12 +20,12 @@ pub returns : goal.returns
 returns c = λ change before cells.
     let n : ℕ = c.args.lsn in
     let begin : Said = record { begin = n; deed = begun } in
-    let write : Said = record { begin = n; deed = written c.args.place before change } in
+    let write : Said = record { begin = n; deed = written c.args.place.now before change } in
     let commit : Said = record { begin = n; deed = committed c.args.time None } in
     let first : List Said = [] in
     let none : Spell c.none-records.result n first = subst (λ (b : List ℕ). Spell b n first) (sym c.none-records.ensures) (c.said_law.ensures.nothing n) in
     let one = c.in_ok-say.ensures n first begin none (omega arith) refl in
     let two = c.in_ok-say-2.ensures n (begin ∷ []) write one (omega arith)
-    (ap (λ (i : CellImage). the_write c.args.place n i (image change.table change.key change.value)) (sym cells.old_is) ∙ ap (λ (i : CellImage). the_write c.args.place n c.args.cells.old i) (sym cells.new_is)
+    (ap (λ (i : CellImage). the_write c.args.place.now n i (image change.table change.key change.value)) (sym cells.old_is) ∙ ap (λ (i : CellImage). the_write c.args.place.now n c.args.cells.old i) (sym cells.new_is)
     ∙ ap (λ (b : Body). the_record n b) (sym c.write_of.ensures.is)) in
     c.in_ok-say-3.ensures n (begin ∷ write ∷ []) commit two (omega arith) refl

@@ -14,7 +14,7 @@ pub returns-in_err-check_left-clause-check : goal.returns-in_err-check_left-clau
 returns-in_err-check_left-clause-check c = λ w name sound keeps shows its.
     let key = c.args.key in
     let to : Target = target_of c.args.database.now c.args.table.now in
-    let sees : c.is_some.result ≡ sees_key w to key = c.is_some.ensures ∙ found-is _ _ _ _ (c.found_row-seen.ensures.seen w name sound keeps shows its) in
+    let sees : c.is_some.result ≡ sees_key w to key = c.is_some.ensures ∙ found-is _ _ _ _ (c.found_row-seen.ensures w name sound keeps shows its) in
     let own : IsRefused c.in_err-check_left.field-0.0 (check_left w to (sees_key w to key)) =
     subst (λ (b : Bool). IsRefused c.in_err-check_left.field-0.0 (check_left w to b)) sees (c.in_err-check_left.ensures.check w c.args.table.now keeps shows) in
     let same = left-is (sees_key w to key) (has_all_writes w to) (used_up to.database.end) (LimitReached Writes) to in
@@ -27,7 +27,7 @@ pub returns-clause-check : goal.returns-clause-check
 returns-clause-check c = λ w name sound keeps shows its.
     let key = c.args.key in
     let to : Target = target_of c.args.database.now c.args.table.now in
-    let sees : c.is_some.result ≡ sees_key w to key = c.is_some.ensures ∙ found-is _ _ _ _ (c.found_row-seen.ensures.seen w name sound keeps shows its) in
+    let sees : c.is_some.result ≡ sees_key w to key = c.is_some.ensures ∙ found-is _ _ _ _ (c.found_row-seen.ensures w name sound keeps shows its) in
     let same = left-is (sees_key w to key) (has_all_writes w to) (used_up to.database.end) (LimitReached Writes) to in
     let left : check_left w to (sees_key w to key) ≡ Ok tt = ap (check_left w to) (sym sees) ∙ c.in_ok-check_left.ensures.check w c.args.table.now keeps shows in
     through (check_lock w to key) _ tt to (c.in_ok-check_lock.ensures w keeps shows)

@@ -1,29 +1,21 @@
-use Rattle.std.proofs.Common.{◌≤◌, length, rules, sym}
+use Rattle.std.proofs.Common.{sym}
 use Rattle.bk_kept.specs.Keeps.{database_of}
 use Rattle.bk_machine.specs.World.{log_of}
-use Rattle.bk_row_plans.proofs.Placing.{known, may-own, shows-of, visible-lies, visible-short, where-none}
+use Rattle.bk_row_plans.proofs.Placing.{known, may-own, shows-of, visible-lies, where-none}
 use Rattle.bk_row_plans.proofs.rows.found_row.Goals as goal
 
-pub returns-in_err-before-clause-seen : goal.returns-in_err-before-clause-seen
-returns-in_err-before-clause-seen c = λ w name sound keeps shows its. where-none _ _ _ c.from_residual.ensures (sym (c.in_err-before.ensures w keeps shows))
+pub returns-in_err-before : goal.returns-in_err-before
+returns-in_err-before c = λ w name sound keeps shows its. where-none _ _ _ c.from_residual.ensures (sym (c.in_err-before.ensures w keeps shows))
 
-pub returns-in_err-place-clause-seen : goal.returns-in_err-place-clause-seen
-returns-in_err-place-clause-seen c = λ w name sound keeps shows its.
-    absurd (visible-lies w c.args.database.now c.args.table.now c.args.key c.in_ok-before.before.now (sym (c.in_ok-before.ensures w keeps shows)) (sym (c.in_err-place.ensures.own w shows)))
+pub returns-in_err-place : goal.returns-in_err-place
+returns-in_err-place c = λ w name sound keeps shows its.
+    absurd (visible-lies w c.args.database.now c.args.table.now c.args.key c.in_ok-before.before.now (sym (c.in_ok-before.ensures w keeps shows)) (sym (c.in_err-place.ensures w shows)))
 
-pub returns-then-as_str-le-MOST_VALUE_BYTES-clause-seen : goal.returns-then-as_str-le-MOST_VALUE_BYTES-clause-seen
-returns-then-as_str-le-MOST_VALUE_BYTES-clause-seen c = λ w name sound keeps shows its.
+pub returns : goal.returns
+returns c = λ w name sound keeps shows its.
     let d = c.args.database.now in
     let t = c.args.table.now in
     let s = shows-of w d shows in (
       sym (c.in_ok-before.ensures w keeps shows),
-      may-own w d t c.args.key (known w name d t sound its).there c.in_ok-place.place (c.in_ok-place.ensures.own w shows) (c.placed_logs.ensures.lie d.files (log_of w.history (database_of d)) d.shown.«end» s.log.counts s.log.sound s.placed),
+      may-own w d t c.args.key (known w name d t sound its).there c.in_ok-place.place (c.in_ok-place.ensures w shows) (c.placed_logs.ensures.lie d.files (log_of w.history (database_of d)) d.shown.«end» s.log.counts s.log.sound s.placed),
     )
-
-pub returns-else-as_str-le-MOST_VALUE_BYTES-clause-seen : goal.returns-else-as_str-le-MOST_VALUE_BYTES-clause-seen
-returns-else-as_str-le-MOST_VALUE_BYTES-clause-seen c = λ w name sound keeps shows its.
-    let d = c.args.database.now in
-    let t = c.args.table.now in
-    let short : length c.in_ok-before.before.now ≤ 112 =
-    visible-short w d t c.args.key c.in_ok-before.before.now (sym (c.in_ok-before.ensures w keeps shows)) shows (known w name d t sound its).opens (c.placed_logs.ensures.more d.files) (c.placed_logs.ensures.values d.files) in
-    search rules

@@ -2,7 +2,7 @@ use Rattle.std.proofs.lemmas.Result.{err_from_is_err_and}
 use Rattle.bk_bytes.specs.Codec.{times_at}
 use Rattle.bk_bytes.specs.LoopLaws.{goes_on, is_done}
 use Rattle.bk_set.specs.Reading.{row_form}
-use Rattle.bk_set.proofs.Readings.{refuses_list}
+use Rattle.bk_reading.specs.Laws.{refuses_list}
 use Rattle.bk_set.proofs.lists.read_some_rows.Goals as goal
 
 pub returns-in_err-row : goal.returns-in_err-row

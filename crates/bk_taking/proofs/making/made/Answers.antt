@@ -9,7 +9,7 @@ pub returns-then-not-are_data_files-clause-unfit : goal.returns-then-not-are_dat
 returns-then-not-are_data_files-clause-unfit c = λ e w may.
     let files : c.as_slice-asked.result.now ≡ c.args.creation.now.storage.files = search rules in
     let pass : (nat_le (length c.as_slice-asked.result.now) 16 && are_counted 1 c.as_slice-asked.result.now) ≡ true =
-    subst (λ (fs : List FileSpec). (nat_le (length fs) 16 && are_counted 1 fs) ≡ true) (sym files) (files-pass (length c.args.creation.now.storage.groups) c.args.creation.now.storage.files may.files) in
+    subst (λ (fs : List FileSpec). (nat_le (length fs) 16 && are_counted 1 fs) ≡ true) (sym files) (files-pass (length c.args.creation.now.storage.groups) c.args.creation.now.storage.files may.fits.files) in
     let no : c.are_data_files.result ≡ false = c.if-not-are_data_files.true in
     let wrong : false ≡ true = sym no ∙ c.are_data_files.ensures ∙ pass in
     absurd cc

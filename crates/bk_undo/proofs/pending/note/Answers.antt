@@ -1,4 +1,5 @@
-use Rattle.std.proofs.Common.{◌∙◌, ap, refl, sym, arith}
+use Rattle.std.proofs.Common.{[], ◌∷◌, ◌++◌, ◌∙◌, ap, refl, sym, arith}
+use Rattle.bk_ids.specs.declared.record.Place.{Place}
 use Rattle.bk_record.specs.View.{record_of, body_of}
 use Rattle.bk_undo.proofs.Others.{noted_other}
 use Rattle.bk_undo.proofs.Replay.{noted_write}
@@ -7,6 +8,7 @@ use Rattle.bk_undo.proofs.pending.note.Goals as goal
 pub returns-in_ok-push-in-Write : goal.returns-in_ok-push-in-Write
 returns-in_ok-push-in-Write c =
     c.in_ok-push-in-Write.ensures.items
+    ∙ ap (λ (at : Place). c.args.writes.now.items ++ (record { lsn = c.args.logged.lsn; begin = c.args.logged.begin; place = at; before = record { bytes = c.in-Write.before.now } }) ∷ []) c.place_in.ensures
     ∙ sym (noted_write c.args.below (record_of c.args.logged) _ _ c.args.writes.now.items (omega (arith, c.if-logged-below.false)) (ap body_of c.in-Write.is) refl refl)
 
 pub returns-in_default : goal.returns-in_default

@@ -12,7 +12,7 @@ invariant_of-self-2 c =
     let places = c.self.inside.places.entries in
     let new_files = c.take_cell.new.files.items in
     let new_places = c.insert.new.self.entries in
-    let at = c.args.at in
+    let at = c.args.at.now in
     let rooms : rooms_of files ≡ c.args.self.now.rooms = ap (λ (s : Space). s.rooms) c.self.view_is in
     let same : places ≡ c.args.self.now.places = ap (λ (s : Space). s.places) c.self.view_is in
     let cell : IsCell (rooms_of files) at = subst (λ (r : List Room). IsCell r at) (sym rooms) c.requires.cell in
@@ -38,6 +38,6 @@ returns-clause-ok c =
     record {
       rooms = c.take_cell.ensures.rooms ∙ ap (λ (s : Space). s.rooms) c.self.view_is;
       tables = ap (λ (s : Space). s.tables) c.self.view_is;
-      places = λ t k. updates.0 (t, k) ∙ ap (λ b. cond b (Some c.args.at) (place_among places (t, k))) (is_at-row_cmp row (t, k))
-          ∙ ap (λ ps. cond (t == c.args.table && k == c.args.key) (Some c.args.at) (place_among ps (t, k))) same;
+      places = λ t k. updates.0 (t, k) ∙ ap (λ b. cond b (Some c.args.at.now) (place_among places (t, k))) (is_at-row_cmp row (t, k))
+          ∙ ap (λ ps. cond (t == c.args.table && k == c.args.key) (Some c.args.at.now) (place_among ps (t, k))) same;
     }

@@ -1,8 +1,9 @@
 use Rattle.std.proofs.Common.{◌<◌, ◌^◌, ◌∙◌, ap, arith, rules}
 use Rattle.bk_device.specs.Compose.{effect_then}
+use Rattle.bk_paged.specs.Laws.{crash_as}
 use Rattle.bk_paged.specs.Holds.{with_one}
 use Rattle.bk_paged.specs.Paged.{Kept, checkpoint_record, sealed_count}
-use Rattle.bk_paged.proofs.Saying.{checkpoint_said, crash_as, none_one}
+use Rattle.bk_paged.proofs.Saying.{checkpoint_said, none_one}
 use Rattle.bk_paged.proofs.paged.Paged.checkpoint.Goals as goal
 
 pub returns-in_err-append_checkpoint-clause-crash : goal.returns-in_err-append_checkpoint-clause-crash

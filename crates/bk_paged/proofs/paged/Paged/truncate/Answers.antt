@@ -6,21 +6,21 @@ use Rattle.bk_paged.proofs.Noting.{Cut, cut_crash, cut_stands}
 use Rattle.bk_paged.proofs.paged.Paged.truncate.Goals as goal
 
 pub returns-in_err-truncate-clause-crash : goal.returns-in_err-truncate-clause-crash
-returns-in_err-truncate-clause-crash g c t stood is opened =
+returns-in_err-truncate-clause-crash g c t stood is opened need =
     let a = g.D.Device.disk c.args.dev.now in
     let b = g.D.Device.disk c.truncate.new.dev in
     let At : Kept → Type 0 = λ k. Effect (IsOwn k.log.db) (Cut k.log c.args.to a) a b in
-    cut_crash c.args.self.now stood c.args.to a b is c.requires.sealed c.requires.from c.requires.early opened (subst At c.self.view_is (c.truncate.ensures.crash t))
+    cut_crash c.args.self.now stood c.args.to a b is c.requires.sealed c.requires.from c.requires.early opened need (subst At c.self.view_is (c.truncate.ensures.crash t))
 
 pub returns-clause-crash : goal.returns-clause-crash
-returns-clause-crash g c t stood is opened =
+returns-clause-crash g c t stood is opened need =
     let a = g.D.Device.disk c.args.dev.now in
     let b = g.D.Device.disk c.truncate.new.dev in
     let At : Kept → Type 0 = λ k. Effect (IsOwn k.log.db) (Cut k.log c.args.to a) a b in
-    cut_crash c.args.self.now stood c.args.to a b is c.requires.sealed c.requires.from c.requires.early opened (subst At c.self.view_is (c.truncate.ensures.crash t))
+    cut_crash c.args.self.now stood c.args.to a b is c.requires.sealed c.requires.from c.requires.early opened need (subst At c.self.view_is (c.truncate.ensures.crash t))
 
 pub returns-clause-stands : goal.returns-clause-stands
-returns-clause-stands g c t stood is opened =
+returns-clause-stands g c t stood is opened need =
     let a = g.D.Device.disk c.args.dev.now in
     let b = g.D.Device.disk c.truncate.new.dev in
     let At : Kept → Type 0 = λ k. IsPaged a k stood in
@@ -29,4 +29,4 @@ returns-clause-stands g c t stood is opened =
     let Early : Kept → Type 0 = λ k. c.args.to ≤ k.facts.checkpoint in
     let same = c.in_ok-truncate.ensures.same in
     cut_stands _ stood c.args.to c.truncate.new.self _ a b (subst At (sym c.self.view_is) is) (subst Sealed (sym c.self.view_is) c.requires.sealed) (subst From (sym c.self.view_is) c.requires.from)
-    (subst Early (sym c.self.view_is) c.requires.early) opened (c.truncate.ensures.crash t) (c.in_ok-truncate.ensures.stands t) (c.in_ok-truncate.ensures.value t) same.0 same.1 same.2 same.3
+    (subst Early (sym c.self.view_is) c.requires.early) opened need (c.truncate.ensures.crash t) (c.in_ok-truncate.ensures.stands t) (c.in_ok-truncate.ensures.value t) same.0 same.1 same.2 same.3

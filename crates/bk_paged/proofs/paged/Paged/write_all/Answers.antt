@@ -1,7 +1,8 @@
 use Rattle.std.proofs.Common.{◌∙◌, sym, arith}
 use Rattle.bk_device.specs.Compose.{effect_then}
+use Rattle.bk_paged.specs.Laws.{crash_as}
 use Rattle.bk_paged.specs.Paged.{sealed_count}
-use Rattle.bk_paged.proofs.Saying.{all_same, crash_as}
+use Rattle.bk_paged.proofs.Saying.{all_same}
 use Rattle.bk_paged.proofs.paged.Paged.write_all.Goals as goal
 
 pub write_pages-requires-clause-stands : goal.write_pages-requires-clause-stands

@@ -1,0 +1,32 @@
+use bk_ids::{Guid, Lsn, Name, Path, RecoveryModel, Sequence};
+use bk_world::{Storage, TableSpec};
+
+/// A database's name, its family, the path that it is on, and where it lies.
+#[derive(Debug, Drop)]
+pub struct DatabaseSpec {
+    pub name: Name,
+    /// What its backups have in common.
+    pub family: Guid,
+    /// Its branches, the oldest first.
+    pub path: Path,
+    pub storage: Storage,
+}
+
+/// What the log records below a number say.
+#[derive(Debug, Drop)]
+pub struct AsOf {
+    /// That number.
+    pub from: Lsn,
+    /// The tables that were made, in their order.
+    pub tables: Sequence<TableSpec>,
+    pub model: RecoveryModel,
+    /// The last time, in milliseconds since 1970-01-01 00:00:00 UTC; 0 where no record carries one.
+    pub time: u64,
+}
+
+/// What a database's note holds before that of the layer above.
+#[derive(Debug, Drop)]
+pub struct Known {
+    pub spec: DatabaseSpec,
+    pub as_of: AsOf,
+}

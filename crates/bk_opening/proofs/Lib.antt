@@ -1,0 +1,7 @@
+mod Bringing
+mod Causes
+mod Loading
+mod NoteFacts
+mod Places
+mod Settled
+mod Undoing

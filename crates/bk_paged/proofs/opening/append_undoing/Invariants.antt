@@ -1,5 +1,0 @@
-use Rattle.bk_paged.proofs.Undoing.{Undone}
-use Rattle.bk_paged.proofs.opening.append_undoing.Given as goal
-
-abbrev pub invariant-loop-r : goal.invariant-loop-r
-invariant-loop-r l = Undone l.yielded l.initial.log l.log l.initial.bytes.items l.bytes.items

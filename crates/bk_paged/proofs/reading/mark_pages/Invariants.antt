@@ -1,5 +1,0 @@
-use Rattle.bk_paged.specs.Opening.{Marks}
-use Rattle.bk_paged.proofs.reading.mark_pages.Given as goal
-
-abbrev pub invariant-loop-i : goal.invariant-loop-i
-invariant-loop-i l = Marks l.from l.i l.fn.pool l.pool

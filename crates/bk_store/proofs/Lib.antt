@@ -1,0 +1,9 @@
+mod Behind
+mod Cutting
+mod Founded
+mod Fronts
+mod Lifting
+mod More
+mod Renoted
+mod Undone
+mod Written

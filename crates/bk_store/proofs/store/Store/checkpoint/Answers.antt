@@ -1,0 +1,58 @@
+use Rattle.std.proofs.Common.{◌∙◌, arith}
+use Rattle.bk_device.specs.Compose.{effect_then}
+use Rattle.bk_world.specs.Records.{checkpointed}
+use Rattle.bk_store.specs.Store.{at_end}
+use Rattle.bk_store.specs.Told.{said}
+use Rattle.bk_store.proofs.Cutting.{crash-later}
+use Rattle.bk_store.proofs.store.Store.checkpoint.Goals as goal
+
+pub note_end-requires-clause-stands : goal.note_end-requires-clause-stands
+note_end-requires-clause-stands g c t =
+    let some = c.requires.stands t in
+    (said some.0 (at_end c.args.self.now 0 (checkpointed c.args.now)), c.in_ok-mark_checkpoint.ensures.stands t some.0 some.1)
+
+pub cut-requires-clause-stands : goal.cut-requires-clause-stands
+cut-requires-clause-stands g c t =
+    let some = c.requires.stands t in
+    let then = said some.0 (at_end c.args.self.now 0 (checkpointed c.args.now)) in
+    (then, c.in_ok-note_end.ensures.stands t then (c.in_ok-mark_checkpoint.ensures.stands t some.0 some.1))
+
+pub returns-in_err-note_end-clause-crash : goal.returns-in_err-note_end-clause-crash
+returns-in_err-note_end-clause-crash g c t told is =
+    let then = said told (at_end c.args.self.now 0 (checkpointed c.args.now)) in
+    let first = c.in_ok-mark_checkpoint.ensures.stands t told is in
+    let marked = c.in_ok-mark_checkpoint.ensures.ends in
+    let noting = crash-later c.args.self.now c.mark_checkpoint.new.self then (g.D.Device.disk c.mark_checkpoint.new.dev) (g.D.Device.disk c.note_end.new.dev) marked.0 (omega (arith, marked.1, marked.2, is.paged.sealed))
+    (c.note_end.ensures.crash t then first) in
+    effect_then (c.mark_checkpoint.ensures.crash t told is) noting
+
+pub returns-in_err-cut-clause-crash : goal.returns-in_err-cut-clause-crash
+returns-in_err-cut-clause-crash g c t told is =
+    let then = said told (at_end c.args.self.now 0 (checkpointed c.args.now)) in
+    let first = c.in_ok-mark_checkpoint.ensures.stands t told is in
+    let marked = c.in_ok-mark_checkpoint.ensures.ends in
+    let noting = crash-later c.args.self.now c.mark_checkpoint.new.self then (g.D.Device.disk c.mark_checkpoint.new.dev) (g.D.Device.disk c.note_end.new.dev) marked.0 (omega (arith, marked.1, marked.2, is.paged.sealed))
+    (c.note_end.ensures.crash t then first) in
+    let second = c.in_ok-note_end.ensures.stands t then first in
+    let noted = c.in_ok-note_end.ensures.ends in
+    let cutting = crash-later c.args.self.now c.note_end.new.self then (g.D.Device.disk c.note_end.new.dev) (g.D.Device.disk c.cut.new.dev) (noted.0 ∙ marked.0) (omega (arith, noted.2, marked.1, marked.2, is.paged.sealed))
+    (c.cut.ensures.crash t then second) in
+    effect_then (c.mark_checkpoint.ensures.crash t told is) (effect_then noting cutting)
+
+pub returns-clause-crash : goal.returns-clause-crash
+returns-clause-crash g c t told is =
+    let then = said told (at_end c.args.self.now 0 (checkpointed c.args.now)) in
+    let first = c.in_ok-mark_checkpoint.ensures.stands t told is in
+    let marked = c.in_ok-mark_checkpoint.ensures.ends in
+    let noting = crash-later c.args.self.now c.mark_checkpoint.new.self then (g.D.Device.disk c.mark_checkpoint.new.dev) (g.D.Device.disk c.note_end.new.dev) marked.0 (omega (arith, marked.1, marked.2, is.paged.sealed))
+    (c.note_end.ensures.crash t then first) in
+    let second = c.in_ok-note_end.ensures.stands t then first in
+    let noted = c.in_ok-note_end.ensures.ends in
+    let cutting = crash-later c.args.self.now c.note_end.new.self then (g.D.Device.disk c.note_end.new.dev) (g.D.Device.disk c.cut.new.dev) (noted.0 ∙ marked.0) (omega (arith, noted.2, marked.1, marked.2, is.paged.sealed))
+    (c.cut.ensures.crash t then second) in
+    effect_then (c.mark_checkpoint.ensures.crash t told is) (effect_then noting cutting)
+
+pub returns-clause-stands : goal.returns-clause-stands
+returns-clause-stands g c t told is =
+    let then = said told (at_end c.args.self.now 0 (checkpointed c.args.now)) in
+    c.in_ok-cut.ensures.stands t then (c.in_ok-note_end.ensures.stands t then (c.in_ok-mark_checkpoint.ensures.stands t told is))

@@ -1,0 +1,31 @@
+use Rattle.std.proofs.Common.{sym, subst, arith}
+use Rattle.bk_store.specs.Store.{Crashes, IsStore, Kept}
+use Rattle.bk_store.specs.Told.{stood_of}
+use Rattle.bk_store.proofs.Lifting.{crash-lift, paged-stands}
+use Rattle.bk_store.proofs.store.Store.flush.Goals as goal
+
+pub returns-in_err-flush-clause-crash : goal.returns-in_err-flush-clause-crash
+returns-in_err-flush-clause-crash g c t told is =
+    let a = g.D.Device.disk c.args.dev.now in
+    let b = g.D.Device.disk c.flush.new.dev in
+    let At : Kept → Type 0 = λ k. IsStore a k told in
+    let Crash : Kept → Type 0 = λ k. Crashes k told a b in
+    let here = subst At (sym c.self.view_is) is in
+    subst Crash c.self.view_is (crash-lift _ told a b here (c.flush.ensures.crash t (stood_of c.self.inside.known told) here.paged))
+
+pub returns-clause-crash : goal.returns-clause-crash
+returns-clause-crash g c t told is =
+    let a = g.D.Device.disk c.args.dev.now in
+    let b = g.D.Device.disk c.flush.new.dev in
+    let At : Kept → Type 0 = λ k. IsStore a k told in
+    let Crash : Kept → Type 0 = λ k. Crashes k told a b in
+    let here = subst At (sym c.self.view_is) is in
+    subst Crash c.self.view_is (crash-lift _ told a b here (c.flush.ensures.crash t (stood_of c.self.inside.known told) here.paged))
+
+pub returns-clause-stands : goal.returns-clause-stands
+returns-clause-stands g c t told is =
+    let a = g.D.Device.disk c.args.dev.now in
+    let b = g.D.Device.disk c.flush.new.dev in
+    let At : Kept → Type 0 = λ k. IsStore a k told in
+    let here = subst At (sym c.self.view_is) is in
+    paged-stands _ told c.flush.new.self a b here (c.in_ok-flush.ensures.stands t (stood_of c.self.inside.known told) here.paged) (omega (arith, c.in_ok-flush.ensures.sealed.2, here.paged.sealed))

@@ -1,0 +1,78 @@
+use Rattle.std.proofs.Common.{◌≤◌, ◌∙◌, sym, subst}
+use Rattle.bk_store.specs.Store.{Crashes, IsStore, Kept}
+use Rattle.bk_store.specs.Told.{files_of, stood_of}
+use Rattle.bk_store.proofs.Lifting.{crash-lift, moved-crash, moved-stands, said-stands}
+use Rattle.bk_store.proofs.store.Store.say.Goals as goal
+
+pub returns-then-not-may_append-clause-crash : goal.returns-then-not-may_append-clause-crash
+returns-then-not-may_append-clause-crash g c t told is =
+    let a = g.D.Device.disk c.args.dev.now in
+    let r = g.D.Device.disk c.at_rest.new.dev in
+    let At : Kept → Type 0 = λ k. IsStore a k told in
+    let Crash : Kept → Type 0 = λ k. Crashes k told a r in
+    let here = subst At (sym c.self.view_is) is in
+    subst Crash c.self.view_is (crash-lift _ told a r here (c.at_rest.ensures.crash t (stood_of c.self.inside.known told) here.paged))
+
+pub returns-in_default-clause-crash : goal.returns-in_default-clause-crash
+returns-in_default-clause-crash g c t told is =
+    let a = g.D.Device.disk c.args.dev.now in
+    let r = g.D.Device.disk c.at_rest.new.dev in
+    let At : Kept → Type 0 = λ k. IsStore a k told in
+    let Crash : Kept → Type 0 = λ k. Crashes k told a r in
+    let here = subst At (sym c.self.view_is) is in
+    subst Crash c.self.view_is (crash-lift _ told a r here (c.at_rest.ensures.crash t (stood_of c.self.inside.known told) here.paged))
+
+pub returns-in_err-take-clause-crash : goal.returns-in_err-take-clause-crash
+returns-in_err-take-clause-crash g c t told is =
+    let a = g.D.Device.disk c.args.dev.now in
+    let r = g.D.Device.disk c.at_rest.new.dev in
+    let At : Kept → Type 0 = λ k. IsStore a k told in
+    let Crash : Kept → Type 0 = λ k. Crashes k told a r in
+    let here = subst At (sym c.self.view_is) is in
+    subst Crash c.self.view_is (crash-lift _ told a r here (c.at_rest.ensures.crash t (stood_of c.self.inside.known told) here.paged))
+
+pub returns-in_err-append-clause-crash : goal.returns-in_err-append-clause-crash
+returns-in_err-append-clause-crash g c t told is =
+    let disk = g.D.Device.disk in
+    let a = disk c.args.dev.now in
+    let b = disk c.append.new.dev in
+    let s : Kept = record { paged = c.self.inside.paged; shown = c.self.inside.shown; known = c.self.inside.known; note = c.self.inside.note.items } in
+    let At : Kept → Type 0 = λ k. IsStore a k told in
+    let Crash : Kept → Type 0 = λ k. Crashes k told a b in
+    let here = moved-stands disk c.args.dev.now c.at_rest.new.dev s told c.at_rest.ensures.same (subst At (sym c.self.view_is) is) in
+    let crash = crash-lift s told (disk c.at_rest.new.dev) b here (c.append.ensures.crash t (stood_of c.self.inside.known told) here.paged) in
+    subst Crash c.self.view_is (moved-crash disk c.args.dev.now c.at_rest.new.dev s told b c.at_rest.ensures.same crash)
+
+pub returns-clause-crash : goal.returns-clause-crash
+returns-clause-crash g c t told is =
+    let disk = g.D.Device.disk in
+    let a = disk c.args.dev.now in
+    let b = disk c.append.new.dev in
+    let s : Kept = record { paged = c.self.inside.paged; shown = c.self.inside.shown; known = c.self.inside.known; note = c.self.inside.note.items } in
+    let At : Kept → Type 0 = λ k. IsStore a k told in
+    let Crash : Kept → Type 0 = λ k. Crashes k told a b in
+    let here = moved-stands disk c.args.dev.now c.at_rest.new.dev s told c.at_rest.ensures.same (subst At (sym c.self.view_is) is) in
+    let crash = crash-lift s told (disk c.at_rest.new.dev) b here (c.append.ensures.crash t (stood_of c.self.inside.known told) here.paged) in
+    subst Crash c.self.view_is (moved-crash disk c.args.dev.now c.at_rest.new.dev s told b c.at_rest.ensures.same crash)
+
+pub returns-clause-stands : goal.returns-clause-stands
+returns-clause-stands g c t told r is next spells =
+    let disk = g.D.Device.disk in
+    let a = disk c.args.dev.now in
+    let b = disk c.append.new.dev in
+    let s : Kept = record { paged = c.self.inside.paged; shown = c.self.inside.shown; known = c.self.inside.known; note = c.self.inside.note.items } in
+    let At : Kept → Type 0 = λ k. IsStore a k told in
+    let here = moved-stands disk c.args.dev.now c.at_rest.new.dev s told c.at_rest.ensures.same (subst At (sym c.self.view_is) is) in
+    let stood = stood_of c.self.inside.known told in
+    said-stands s told r c.args.r.now c.append.new.self c.take.new.self (disk c.at_rest.new.dev) b here spells (c.in_ok-append.ensures.stands t stood here.paged)
+    (c.in_ok-take.ensures.next (files_of told) told.records r here.shows next (c.in-Some.ensures ∙ sym spells)) (c.in_ok-append.ensures.later t stood here.paged)
+
+pub returns-clause-later : goal.returns-clause-later
+returns-clause-later g c t told is =
+    let disk = g.D.Device.disk in
+    let a = disk c.args.dev.now in
+    let s : Kept = record { paged = c.self.inside.paged; shown = c.self.inside.shown; known = c.self.inside.known; note = c.self.inside.note.items } in
+    let At : Kept → Type 0 = λ k. IsStore a k told in
+    let Later : Kept → Type 0 = λ k. k.paged.log.stored ≤ c.append.new.self.log.stored in
+    let here = moved-stands disk c.args.dev.now c.at_rest.new.dev s told c.at_rest.ensures.same (subst At (sym c.self.view_is) is) in
+    subst Later c.self.view_is (c.in_ok-append.ensures.later t (stood_of c.self.inside.known told) here.paged)

@@ -1,0 +1,54 @@
+use Rattle.std.proofs.Common.{◌<◌, ◌^◌, ◌∙◌, ℕ, Option, ap, ap₂, map, sym, subst}
+use Rattle.bk_ids.specs.declared.record.Body.{Body}
+use Rattle.bk_ids.specs.declared.record.Rec.{Rec}
+use Rattle.bk_store.specs.Store.{Crashes, IsStore, Kept, at_end}
+use Rattle.bk_store.specs.Told.{files_of, stood_of}
+use Rattle.bk_shown.specs.Shown.{IsNext, pending_of}
+use Rattle.bk_store.specs.Writing.{SaysUndoing, undo_of}
+use Rattle.bk_store.proofs.Lifting.{crash-lift, moved-stands}
+use Rattle.bk_store.proofs.Undone.{own-ends, own-of, undo-next}
+use Rattle.bk_store.proofs.store.Store.undo_last.Goals as goal
+
+pub returns-in_default-clause-crash : goal.returns-in_default-clause-crash
+returns-in_default-clause-crash g c t told is =
+    let disk = g.D.Device.disk in
+    let a = disk c.args.dev.now in
+    let s : Kept = record { paged = c.self.inside.paged; shown = c.self.inside.shown; known = c.self.inside.known; note = c.self.inside.note.items } in
+    let At : Kept → Type 0 = λ k. IsStore a k told in
+    let own = subst At (sym c.self.view_is) is in
+    let r = disk c.at_rest.new.dev in
+    let Crash : Kept → Type 0 = λ k. Crashes k told a r in
+    subst Crash c.self.view_is (crash-lift s told a r own (c.at_rest.ensures.crash t (stood_of c.self.inside.known told) own.paged))
+
+pub returns-in_default-clause-stands : goal.returns-in_default-clause-stands
+returns-in_default-clause-stands g c t told is =
+    let disk = g.D.Device.disk in
+    let a = disk c.args.dev.now in
+    let s : Kept = record { paged = c.self.inside.paged; shown = c.self.inside.shown; known = c.self.inside.known; note = c.self.inside.note.items } in
+    let At : Kept → Type 0 = λ k. IsStore a k told in
+    let own = subst At (sym c.self.view_is) is in
+    let here = moved-stands disk c.args.dev.now c.at_rest.new.dev c.args.self.now told c.at_rest.ensures.same is in
+    let items = c.self.inside.shown.written.items in
+    let Says : Option Body → Type 0 = λ found. SaysUndoing c.args.begin items found in
+    let none = subst Says c.in_default.is c.undo_body.ensures.says in
+    (own-of s told c.args.begin a own ∙ ap (map pending_of) none, here)
+
+pub returns-clause-stands : goal.returns-clause-stands
+returns-clause-stands g c t told is =
+    let disk = g.D.Device.disk in
+    let a = disk c.args.dev.now in
+    let s : Kept = record { paged = c.self.inside.paged; shown = c.self.inside.shown; known = c.self.inside.known; note = c.self.inside.note.items } in
+    let At : Kept → Type 0 = λ k. IsStore a k told in
+    let own = subst At (sym c.self.view_is) is in
+    let here = moved-stands disk c.args.dev.now c.at_rest.new.dev c.args.self.now told c.at_rest.ensures.same is in
+    let items = c.self.inside.shown.written.items in
+    let Says : Option Body → Type 0 = λ found. SaysUndoing c.args.begin items found in
+    let Low : Kept → Type 0 = λ k. k.paged.log.end < 2 ^ 62 in
+    let End : Kept → ℕ = λ k. k.paged.log.end in
+    let says = subst Says c.in-Some.is c.undo_body.ensures.says in
+    let write = says.1 in
+    let Next : Kept → Type 0 = λ k. IsNext (files_of told) told.records (at_end k c.args.begin (undo_of (pending_of write))) in
+    let next = subst Next c.self.view_is (undo-next s told c.args.begin says.0 write a own (subst Low (sym c.self.view_is) c.requires.room) says.2) in
+    let r = at_end c.args.self.now c.args.begin (undo_of (pending_of write)) in
+    let As : ℕ → Body → Rec = λ n b. record { lsn = n; begin = c.args.begin; body = b } in
+    (map pending_of says.0, pending_of write, own-ends s told c.args.begin says.0 write a own says.2, c.in_ok-done.ensures.stands t told r here next (sym (ap₂ As (c.end.ensures ∙ ap End c.self.view_is) says.3)))

@@ -1,0 +1,18 @@
+//! One database over its files, as a list of log records of the machine: what was said is shown, and a crash leaves a front of it.
+#![tactic(auto)]
+
+mod asking;
+mod calls;
+mod error;
+mod making;
+mod noting;
+mod recent;
+mod saying;
+mod store;
+mod undoing;
+mod view;
+mod writing;
+
+pub use error::StoreError;
+pub use recent::{Recent, told_behind};
+pub use store::Store;

@@ -1,0 +1,139 @@
+// Making a database, and removing one.
+ghost use Rattle.std.specs.Prelude.{◌≡◌, ◌≤◌, [], List, None, false, map, IfOk, OnOk, IsErrOf};
+ghost use Rattle.bk_control.specs.Slots.{control_of};
+ghost use Rattle.bk_device.specs.Counts.{HasCause};
+ghost use Rattle.bk_device.specs.Disk.{IsDurable};
+ghost use Rattle.bk_groups.specs.Groups.{AreFiles};
+ghost use Rattle.bk_segments.specs.Files.{control_file, AreDurable as LogsAreDurable};
+ghost use Rattle.bk_device.specs.Effects.{Effect};
+ghost use Rattle.bk_facts.specs.declared.facts.DataFile.{DataFile as DataFiles};
+ghost use Rattle.bk_paged.specs.Making.{AreAbsent, HoldsNone, NamesFiles, Removes};
+ghost use Rattle.bk_paged.specs.Names.{IsOwn, names_of};
+ghost use Rattle.bk_side.specs.Names.{side_file, IsOwn as IsOfSide};
+ghost use Rattle.bk_store.specs.Making.{Makes, MayDescribe, founded};
+ghost use Rattle.bk_store.specs.Store.{IsStore};
+ghost use Rattle.bk_store.specs.Told.{data_file, unsaid};
+
+use crate::error::StoreError;
+use crate::store::Store;
+use bk_device::Device;
+use bk_facts::DataFile;
+use bk_ids::{Guid, RecoveryModel, Sequence};
+use bk_known::{AsOf, DatabaseSpec, Known, spell_known};
+use bk_paged::{Paged, may_make};
+use bk_shown::Shown;
+use bk_world::FileSpec;
+use std::alloc::{AllocError, Global};
+
+// A data file with the header pages and the pages of so many extents.
+fn file_of(alloc: Global, file: &FileSpec) -> Result<DataFile, AllocError>
+    requires { file.now.extents ≤ 4096 }
+    ensures { IfOk result (λ made. made ≡ data_file file.now) }
+{
+    let path = file.path.copy(alloc)?;
+    Ok(DataFile {
+        path,
+        pages: 8 + 8 * file.extents,
+    })
+}
+
+// The data files of a database.
+fn files_of(alloc: Global, files: &[FileSpec]) -> Result<Vec<DataFile>, AllocError>
+    requires { AreFiles files.now }
+    ensures { IfOk result (λ made. made.items ≡ map data_file files.now) }
+{
+    let mut made = Vec::new(alloc);
+    for file in files {
+        made.push(file_of(alloc, file)?)?;
+    }
+    Ok(made)
+}
+
+// What is known of a database without a record.
+fn known_first(alloc: Global, spec: DatabaseSpec) -> Known
+    ensures { result ≡ record { spec = spec; as_of = record { from = 1; tables = []; model = RecoveryModel.Full; time = 0 } } }
+{
+    let as_of = AsOf {
+        from: 1,
+        tables: Sequence::new(Vec::new(alloc)),
+        model: RecoveryModel::Full,
+        time: 0,
+    };
+    Known { spec, as_of }
+}
+
+impl Store {
+    // Makes a database without a record.
+    fn make<D: Device>(
+        alloc: Global,
+        dev: &mut D,
+        db: u32,
+        spec: DatabaseSpec,
+        frames: usize,
+    ) -> Result<Store, StoreError>
+        requires some { 1 ≤ frames }
+        requires may { MayDescribe spec }
+        requires durable { D.tells → IsDurable (D.disk dev.old) (control_file db) }
+        requires none { D.tells → control_of ((D.disk dev.old).files (control_file db)) ≡ None }
+        ensures fit { IfOk result (λ s. s.paged.failed ≡ false) }
+        ensures ends { IfOk result (λ s. (s.paged.log.db ≡ db) × (s.paged.log.stored ≡ 1) × (s.paged.log.end ≡ 1)) }
+        ensures stands { D.tells → IfOk result (λ s. IsStore (D.disk dev.new) s (unsaid spec [])) }
+        ensures crash { D.tells → Makes db (unsaid spec []) (D.disk dev.old) (D.disk dev.new) }
+        ensures cause { HasCause D.disk_faults D.tell_faults dev.old dev.new (IsErrOf result StoreError.Fault) }
+    {
+        let shown = Shown::new(alloc, spec.storage.files.as_slice())?;
+        let files = files_of(alloc, spec.storage.files.as_slice())?;
+        let known = known_first(alloc, spec);
+        let bytes = spell_known(alloc, &known, &[])?;
+        if !may_make(alloc, &files, &bytes)? {
+            return Err(StoreError::NoMemory);
+        }
+        let paged = Paged::make(alloc, dev, db, files, &bytes, frames)?;
+        Ok(Store {
+            paged,
+            shown,
+            known,
+            note: Vec::new(alloc),
+        })
+    }
+
+    /// Makes a database of this description with one record, that it was made at this time, in milliseconds since 1970-01-01 00:00:00 UTC, on this branch; that is durable then. No log of this
+    /// number is there. Pages are kept in so many frames, at least one. A crash leaves no database, or this one, or this one without a record, which stands for no database that was made and is to be
+    /// removed. `NoMemory` may come after files were touched; it comes where two data files have one path.
+    pub fn create<D: Device>(
+        alloc: Global,
+        dev: &mut D,
+        db: u32,
+        spec: DatabaseSpec,
+        time: u64,
+        branch: Guid,
+        frames: usize,
+    ) -> Result<Store, StoreError>
+        requires some { 1 ≤ frames }
+        requires may { MayDescribe spec }
+        requires durable { D.tells → IsDurable (D.disk dev.old) (control_file db) }
+        requires none { D.tells → control_of ((D.disk dev.old).files (control_file db)) ≡ None }
+        ensures fit { IfOk result (λ s. s.paged.failed ≡ false) }
+        ensures stands { D.tells → IfOk result (λ s. IsStore (D.disk dev.new) s (founded spec time branch)) }
+        ensures crash { D.tells → Makes db (founded spec time branch) (D.disk dev.old) (D.disk dev.new) }
+        ensures cause { HasCause D.disk_faults D.tell_faults dev.old dev.new (IsErrOf result StoreError.Fault) }
+    {
+        let family = spec.family;
+        let mut store = Store::make(alloc, dev, db, spec, frames)?;
+        store.found(alloc, dev, time, family, branch)?;
+        Ok(store)
+    }
+
+    /// Removes the data files that the log of a database names, then the side file, and then the log. Where the log isn't whole, as after a crash in this call, what is left of it alone is removed;
+    /// where there is none, nothing is done. A crash leaves the log, which names the data files, or none of these, and the call may be repeated.
+    pub fn remove<D: Device>(alloc: Global, dev: &mut D, db: u32) -> Result<(), StoreError>
+        requires durable { D.tells → LogsAreDurable db (D.disk dev.old) }
+        ensures pages { D.tells → (files : List DataFiles) → NamesFiles db files (D.disk dev.old).files → OnOk result (AreAbsent (IsOfSide (side_file db) (names_of files)) (D.disk dev.new).files) }
+        ensures log { D.tells → OnOk result (HoldsNone db (D.disk dev.new).files) }
+        ensures crash { D.tells → (files : List DataFiles) → NamesFiles db files (D.disk dev.old).files → Effect (IsOwn db files) (Removes db files) (D.disk dev.old) (D.disk dev.new) }
+        ensures cause { HasCause D.disk_faults D.tell_faults dev.old dev.new (IsErrOf result StoreError.Fault) }
+    {
+        Paged::remove(alloc, dev, db)?;
+        Ok(())
+    }
+}

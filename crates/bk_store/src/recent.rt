@@ -1,0 +1,109 @@
+// What the end of a log says.
+ghost use Rattle.std.specs.Prelude.{◌≡◌, List, IfOk, OnOk};
+ghost use Rattle.bk_shown.specs.Steps.{model_behind, time_behind};
+ghost use Rattle.bk_record.specs.View.{body_of};
+ghost use Rattle.bk_world.specs.Records.{Logged};
+ghost use Rattle.bk_store.specs.Recent.{Says, SaysFront, Takes, tables_behind};
+
+use crate::error::StoreError;
+use bk_ids::{Name, NameError, RecoveryModel};
+use bk_record::{BodyRef, RecRef, cursor};
+use bk_world::TableSpec;
+use std::alloc::Global;
+
+/// Tables, recovery model and last time (milliseconds since 1970-01-01 00:00:00 UTC), as a log's records say.
+#[derive(Drop)]
+pub struct Recent {
+    pub tables: Vec<TableSpec>,
+    pub model: RecoveryModel,
+    pub time: u64,
+}
+
+// The name that a text spells.
+fn name_of(alloc: Global, text: &str) -> Result<Name, StoreError>
+    ensures { IfOk result (λ name. name ≡ text.now) }
+{
+    if text.is_empty() {
+        return Err(StoreError::NoMemory);
+    }
+    match Name::new(alloc, text) {
+        Ok(name) => Ok(name),
+        Err(NameError::TooLong { .. }) => Err(StoreError::NoMemory),
+        Err(NameError::NoMemory) => Err(StoreError::NoMemory),
+    }
+}
+
+// The last time behind a record.
+fn take_time(time: &mut u64, body: BodyRef<'_>)
+    ensures { time.new ≡ time_behind (body_of body.entry) time.old }
+{
+    match body {
+        BodyRef::Database { time: at, .. }
+        | BodyRef::Table { time: at, .. }
+        | BodyRef::Commit { time: at, .. }
+        | BodyRef::Checkpoint { time: at }
+        | BodyRef::Stamp { time: at, .. }
+        | BodyRef::Model { time: at, .. } => *time = at,
+        _ => {}
+    }
+}
+
+// The recovery model behind a record.
+fn take_model(model: &mut RecoveryModel, body: BodyRef<'_>)
+    ensures { model.new ≡ model_behind (body_of body.entry) model.old }
+{
+    match body {
+        BodyRef::Database { .. } => *model = RecoveryModel::Full,
+        BodyRef::Model { model: set, .. } => *model = set,
+        _ => {}
+    }
+}
+
+// The tables behind a record.
+fn take_tables(
+    alloc: Global,
+    tables: &mut Vec<TableSpec>,
+    body: BodyRef<'_>,
+) -> Result<(), StoreError>
+    ensures { OnOk result (tables.new.items ≡ tables_behind (body_of body.entry) tables.old.items) }
+{
+    if let BodyRef::Table {
+        number,
+        name,
+        group,
+        ..
+    } = body
+    {
+        let name = name_of(alloc, name)?;
+        tables.push(TableSpec {
+            number,
+            name,
+            group,
+        })?;
+    }
+    Ok(())
+}
+
+// What a record makes of them.
+fn take_record(alloc: Global, recent: &mut Recent, taken: RecRef<'_>) -> Result<(), StoreError>
+    ensures { OnOk result (Takes (body_of taken.entry.body) recent.old recent.new) }
+{
+    take_tables(alloc, &mut recent.tables, taken.body)?;
+    take_model(&mut recent.model, taken.body);
+    take_time(&mut recent.time, taken.body);
+    Ok(())
+}
+
+/// What all records of a log say, from what a front of them says, and the bytes of the others.
+pub fn told_behind(alloc: Global, first: Recent, log: &[u8]) -> Result<Recent, StoreError>
+    ensures { IfOk result (λ last. (rs : List Logged) → SaysFront rs log.now first → Says rs last) }
+{
+    let mut recent = first;
+    for record in cursor(log) {
+        let Ok(record) = record else {
+            return Err(StoreError::NoMemory);
+        };
+        take_record(alloc, &mut recent, record)?;
+    }
+    Ok(recent)
+}

@@ -1,0 +1,85 @@
+// A store of one database.
+ghost use Rattle.std.specs.Prelude.{◌≡◌, ◌≤◌, false, length, OnOk, IsErrOf};
+ghost use Rattle.bk_device.specs.Counts.{HasCause};
+ghost use Rattle.bk_known.specs.Known.{KeepsKnown};
+ghost use Rattle.bk_store.specs.Store.{Crashes, IsStore, Kept};
+ghost use Rattle.bk_store.specs.Told.{Told};
+
+use crate::error::StoreError;
+use bk_device::Device;
+use bk_ids::Lsn;
+use bk_known::Known;
+use bk_paged::Paged;
+use bk_shown::Shown;
+use std::alloc::Global;
+use std::marker::Model;
+
+/// One database over its files: its log and pages, what they show, what its note says of it, and a note for the layer above.
+///
+/// Once a call that took the value by `&mut` has answered an error it is no longer used.
+#[derive(Drop)]
+pub struct Store {
+    pub(crate) paged: Paged,
+    pub(crate) shown: Shown,
+    pub(crate) known: Known,
+    // of the layer above
+    pub(crate) note: Vec<u8>,
+}
+
+impl Model for Store {
+    ghost Value = { Kept };
+
+    ghost view = { λ s. record {
+      paged = s.paged;
+      shown = s.shown;
+      known = s.known;
+      note = s.note.items;
+    } };
+
+    ghost invariant = { λ s. KeepsKnown s.known × (length s.note.items ≤ 12288) };
+}
+
+impl Store {
+    /// The number of the next record.
+    pub fn end(&self) -> Lsn
+        ensures { result ≡ self.now.paged.log.end }
+    {
+        self.paged.end()
+    }
+
+    /// The number of the first record that the log holds.
+    pub fn kept(&self) -> Lsn
+        ensures { result ≡ self.now.paged.log.head.kept }
+    {
+        self.paged.kept()
+    }
+
+    /// The number behind that of the last durable record.
+    pub fn stored(&self) -> Lsn
+        ensures { result ≡ self.now.paged.log.stored }
+    {
+        self.paged.stored()
+    }
+
+    /// The note of the layer above.
+    pub fn note(&self) -> &[u8]
+        ensures { result.now ≡ self.now.note }
+    {
+        &self.note
+    }
+
+    /// Makes what was said durable. A crash leaves what was durable, or some more of what was said.
+    pub fn flush<D: Device>(&mut self, alloc: Global, dev: &mut D) -> Result<(), StoreError>
+        requires fit { self.old.paged.failed ≡ false }
+        requires stands { D.tells → (told : Told) × IsStore (D.disk dev.old) self.old told }
+        ensures fit { OnOk result (self.new.paged.failed ≡ false) }
+        ensures stands { D.tells → (told : Told) → IsStore (D.disk dev.old) self.old told → OnOk result (IsStore (D.disk dev.new) self.new told) }
+        ensures ends { OnOk result ((self.new.paged.log.db ≡ self.old.paged.log.db) × (self.new.paged.log.end ≡ self.old.paged.log.end) × (self.new.paged.log.stored ≡ self.old.paged.log.end) × (self.new.paged.log.head.kept ≡ self.old.paged.log.head.kept)) }
+        ensures same { OnOk result (self.new ≡ record self.old { paged = self.new.paged }) }
+        ensures crash { D.tells → (told : Told) → IsStore (D.disk dev.old) self.old told → Crashes self.old told (D.disk dev.old) (D.disk dev.new) }
+        ensures cause { HasCause D.disk_faults D.tell_faults dev.old dev.new (IsErrOf result StoreError.Fault) }
+    {
+        self.paged.flush(alloc, dev)?;
+        Ok(())
+    }
+}
