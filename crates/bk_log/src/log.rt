@@ -311,7 +311,8 @@ impl Log {
         requires number { r.now.lsn ≡ self.old.end }
         requires small { self.old.end < 2 ^ 64 - 1 }
         requires spare { length (spelling r.now) ≤ self.old.spare_bytes }
-        ensures { self.new ≡ record self.old { waiting = self.old.waiting ++ r.now ∷ []; end = self.old.end + 1; spare_bytes = self.old.spare_bytes - length (spelling r.now) } }
+        ensures more { self.new ≡ record self.old { waiting = self.old.waiting ++ r.now ∷ []; end = self.old.end + 1; spare_bytes = self.old.spare_bytes - length (spelling r.now) } }
+        ensures fits { IsRecord r.now }
     {
         let len = spelled_len(r);
         encode_reserved(r, &mut self.waiting);

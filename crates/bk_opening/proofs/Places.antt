@@ -182,6 +182,15 @@ put_more places n old new at is held inside are = record {
     lower : (i : ℕ) → i < n + 1 → (i ≡ n → ⊥) → i < n
     lower i below differs = elim (cases_lt i n) [ inl less ↦ less | inr least ↦ absurd (differs (omega (arith, below, least))) ]
 
+-- all pages of the data files are, each in a frame
+pub all_in : (files listed : List DataFile) (places one : List PageAt) (old new : List (Option (ℕ × ℕ))) → listed ≡ files → ArePlaces listed (length listed + 1) 0 places → one ≡ places → ArePut one (length one) old → new ≡ old
+    → (at : PageAt) → IsThere files at → (i : ℕ) × IsIn new i at.file at.page
+all_in files listed places one old new same are first put kept at there =
+    let held = places_all listed places at are (subst (λ (fs : List DataFile). IsThere fs at) (sym same) there) in
+    let below : held.0 < length places = slice_get_within places held.0 at held.1 in
+    let lies = (subst (λ (ps : List PageAt). ArePut ps (length ps) old) first put).here held.0 at below held.1 in
+    (held.0, subst (λ (ps : List (Option (ℕ × ℕ))). IsIn ps held.0 at.file at.page) (sym kept) lies)
+
 -- ---- pages that are read into frames
 
 pub read_more : (shown : ℕ × ℕ → List ℕ) (places : List PageAt) (n : ℕ) (old new : List (List ℕ)) (at : PageAt) (page was : List ℕ) → AreRead shown places n old → slice_get places n ≡ Some at → n < length old → new ≡ slice_set old n page

@@ -48,3 +48,7 @@ pub record Brings (facts : Facts) (shown : ℕ × ℕ → List ℕ) (log : List 
   pub ends : to ≡ end_of records
   pub held : IsLog log (kept_from kept records) None
   pub pages : (at : PageAt) → IsThere facts.files at → IsStored records facts.checkpoint at (shown (at.file, at.page))
+
+-- each page of the data files lies in a frame
+abbrev pub AreIn : List DataFile → Pool → Type 0
+AreIn files pool = (at : PageAt) → IsThere files at → (i : ℕ) × IsIn pool.pages i at.file at.page

@@ -11,6 +11,7 @@ ghost use Rattle.bk_log.specs.Log.{IsLog, value_of};
 ghost use Rattle.bk_segments.specs.Files.{AreDurable as LogsAreDurable};
 ghost use Rattle.bk_paged.specs.Holds.{HaveRoom, Holds, Leaves, Stood, recovered};
 ghost use Rattle.bk_paged.specs.Names.{AreDurable, IsOwn, names_of};
+ghost use Rattle.bk_opening.specs.Opening.{AreIn};
 ghost use Rattle.bk_paged.specs.Paged.{IsPaged, sealed_count};
 ghost use Rattle.bk_paths.specs.Paths.{numbered};
 ghost use Rattle.bk_record.specs.Log.{IsLog as AreRecords};
@@ -165,6 +166,7 @@ fn open<R: Threads + Sync, D: Device>(
     ensures db { IfOk result (λ p. p.log.db ≡ db) }
     ensures fit { IfOk result (λ p. (p.failed ≡ false) × (p.log.failed ≡ false)) }
     ensures logs { D.tells → IfOk result (λ p. IsLog (D.disk dev.new) p.log) }
+    ensures whole { IfOk result (λ p. AreIn p.facts.files p.pool) }
     ensures stands { D.tells → (stood : Stood) → AreDurable db stood.files (D.disk dev.old) → Holds db stood (D.disk dev.old).files → IfOk result (λ p. IsPaged (D.disk dev.new) p (recovered stood) × (sealed_count p ≡ length stood.records)) }
     ensures foreign { D.tells → IsErrOf result PagedError.Foreign → (stood : Stood) → AreDurable db stood.files (D.disk dev.old) → Holds db stood (D.disk dev.old).files → ⊥ }
     ensures crash { D.tells → (stood : Stood) → AreDurable db stood.files (D.disk dev.old) → Holds db stood (D.disk dev.old).files → Effect (IsOwn db stood.files) (Leaves db (length stood.records) (recovered stood)) (D.disk dev.old) (D.disk dev.new) }
@@ -180,7 +182,7 @@ fn open<R: Threads + Sync, D: Device>(
 }
 
 /// Opens a database: finishes a batch of pages that is sealed, brings the pages in memory to the end by the log from the latest checkpoint on, and undoes by durable records
-/// what is pending. A crash leaves the records that there were, and perhaps some of those.
+/// what is pending. Then each page lies in a frame. A crash leaves the records that there were, and perhaps some of those.
 ///
 /// `Foreign` is answered only where the files hold no database.
 pub fn load<R: Threads + Sync, D: Device>(
@@ -193,6 +195,8 @@ pub fn load<R: Threads + Sync, D: Device>(
     ensures db { IfOk result (λ p. p.log.db ≡ db) }
     ensures fit { IfOk result (λ p. p.failed ≡ false) }
     ensures sealed { IfOk result (λ p. p.log.stored ≡ p.log.end) }
+    ensures logs { D.tells → IfOk result (λ p. IsLog (D.disk dev.new) p.log) }
+    ensures whole { IfOk result (λ p. AreIn p.facts.files p.pool) }
     ensures stands { D.tells → (stood : Stood) → AreDurable db stood.files (D.disk dev.old) → Holds db stood (D.disk dev.old).files → IfOk result (λ p. IsPaged (D.disk dev.new) p (recovered stood)) }
     ensures foreign { D.tells → IsErrOf result PagedError.Foreign → (stood : Stood) → AreDurable db stood.files (D.disk dev.old) → Holds db stood (D.disk dev.old).files → ⊥ }
     ensures crash { D.tells → (stood : Stood) → AreDurable db stood.files (D.disk dev.old) → Holds db stood (D.disk dev.old).files → Effect (IsOwn db stood.files) (Leaves db (length stood.records) (recovered stood)) (D.disk dev.old) (D.disk dev.new) }

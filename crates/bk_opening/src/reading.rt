@@ -6,7 +6,7 @@ ghost use Rattle.bk_device.specs.Counts.{HasCause};
 ghost use Rattle.bk_ids.specs.declared.record.Rec.{Rec};
 ghost use Rattle.bk_page.specs.Page.{lsn_of};
 ghost use Rattle.bk_paged.specs.Names.{IsThere};
-ghost use Rattle.bk_opening.specs.Opening.{ArePlaces, AreRead, Brings, ArePut, Marks};
+ghost use Rattle.bk_opening.specs.Opening.{AreIn, ArePlaces, AreRead, Brings, ArePut, Marks};
 ghost use Rattle.bk_paged.specs.Paged.{IsDirty, IsLast};
 ghost use Rattle.bk_paged.specs.Pooled.{IsPool};
 ghost use Rattle.bk_paths.specs.Pages.{last_page};
@@ -188,6 +188,7 @@ pub fn open_pool<R: Threads + Sync, D: Device>(
 ) -> Result<Pool, PagedError>
     requires stands { D.tells → IsSide (D.disk dev.old) side.now }
     ensures pool { IfOk result IsPool }
+    ensures whole { IfOk result (AreIn facts.now.files) }
     ensures frames { D.tells → (records : List Rec) → Brings facts.now (pages_of side.now (D.disk dev.old).files) log.now end records
         → IfOk result (λ pool. (i : ℕ) (at : At) → IsIn pool.pages i at.file at.page → IsThere facts.now.files at × IsLast records at (slice_index_or pool.frames i [])) }
     ensures clean { D.tells → (records : List Rec) → Brings facts.now (pages_of side.now (D.disk dev.old).files) log.now end records

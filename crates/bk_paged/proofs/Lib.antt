@@ -12,3 +12,4 @@ mod Saying
 mod Standing
 mod Told
 mod Writing
+mod Rooming

@@ -53,7 +53,7 @@ sealed_page page whole =
     ap₂ (λ (n : ℕ) (cs : List (List ℕ)). let state : PageState = record { lsn = n; cells = cs } in state) seals.lsn (cells_agree page (sealed page) seals.cells)
 
 -- and is whole, its own, and as of the end
-sealed_last : (records : List Rec) (at : PageAt) (page : List ℕ) → IsLast records at page → IsStored records (end_of records) at (sealed page)
+pub sealed_last : (records : List Rec) (at : PageAt) (page : List ℕ) → IsLast records at page → IsStored records (end_of records) at (sealed page)
 sealed_last records at page is =
     let seals : Seals page (sealed page) = sealed-seals page is.whole in
     record {

@@ -22,10 +22,10 @@ use Rattle.bk_paged.specs.Names.{IsOwn, names_of}
 
 -- ---- the names differ
 
-abbrev letter : List ℕ → ℕ
+abbrev pub letter : List ℕ → ℕ
 letter name = get_or name 0 0
 
-side_letter : (db : ℕ) → letter (side_file db) ≡ 98
+pub side_letter : (db : ℕ) → letter (side_file db) ≡ 98
 unfolding side_file
 side_letter db = refl
 
@@ -38,17 +38,17 @@ named_letter [] i name is = absurd cc
 named_letter (path ∷ paths) zero name is = let same : data_file path ≡ name = cc in ap letter (sym same) ∙ data_letter path
 named_letter (path ∷ paths) (suc i) name is = named_letter paths i name is
 
-file_letter : (files : List DataFile) (file : ℕ) (name : List ℕ) → name_of (names_of files) file ≡ Some name → letter name ≡ 112
+pub file_letter : (files : List DataFile) (file : ℕ) (name : List ℕ) → name_of (names_of files) file ≡ Some name → letter name ≡ 112
 file_letter files zero name is = absurd cc
 file_letter files (suc i) name is = named_letter (map (λ (f : DataFile). f.path) files) i name is
 
-own_letter : (db : ℕ) (files : List DataFile) (name : List ℕ) → IsOfSide (side_file db) (names_of files) name → (letter name ≡ 98) ⊎ (letter name ≡ 112)
+pub own_letter : (db : ℕ) (files : List DataFile) (name : List ℕ) → IsOfSide (side_file db) (names_of files) name → (letter name ≡ 98) ⊎ (letter name ≡ 112)
 own_letter db files name own = elim own [
   | inl side ↦ inl (ap letter side ∙ side_letter db)
   | inr file ↦ inr (file_letter files file.0 name file.1)
 ]
 
-log_letter : (db : ℕ) (name : List ℕ) → IsOfLog db name → (letter name ≡ 99) ⊎ (letter name ≡ 103)
+pub log_letter : (db : ℕ) (name : List ℕ) → IsOfLog db name → (letter name ≡ 99) ⊎ (letter name ≡ 103)
 log_letter db name own = elim own [
   | inl control ↦ inl (ap letter control)
   | inr segment ↦ inr (ap letter segment.1)

@@ -6,3 +6,4 @@ pub mod Pooled
 pub mod Errors
 pub mod Making
 pub mod Laws
+pub mod Reserved

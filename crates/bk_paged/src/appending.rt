@@ -4,6 +4,7 @@ ghost use Rattle.std.specs.Option.{option_map};
 ghost use Rattle.bk_device.specs.Calls.{ChangesNothing};
 ghost use Rattle.bk_device.specs.Counts.{HasCause};
 ghost use Rattle.bk_device.specs.Effects.{Effect};
+ghost use Rattle.bk_log.specs.Log.{KeepsSpare};
 ghost use Rattle.bk_paged.specs.Appends.{MayAppend, with_waiting};
 ghost use Rattle.bk_paged.specs.Holds.{Leaves, Stood, with_one};
 ghost use Rattle.bk_paged.specs.Names.{IsOwn, IsThere};
@@ -26,7 +27,7 @@ use bk_undo::undoing_law;
 use std::alloc::Global;
 
 // Sets a cell of the page in a frame, and the page's number. The frame is dirty then.
-fn set_cell(pool: &mut Pool, i: usize, slot: Slot, cell: &CellImage, lsn: Lsn)
+pub(crate) fn set_cell(pool: &mut Pool, i: usize, slot: Slot, cell: &CellImage, lsn: Lsn)
     requires there { i < length pool.old.frames }
     requires holds { HoldsPage pool.old.pages i }
     ensures is { pool.new ≡ with_set pool.old i slot cell.now.bytes lsn }
@@ -39,7 +40,7 @@ fn set_cell(pool: &mut Pool, i: usize, slot: Slot, cell: &CellImage, lsn: Lsn)
 }
 
 // The cell that a record sets, if it does.
-fn cell_of(body: &Body) -> Option<(&Place, &CellImage)>
+pub(crate) fn cell_of(body: &Body) -> Option<(&Place, &CellImage)>
     ensures { option_map (λ x. (x.0.now, x.1.now.bytes)) result ≡ cell_set (effect_of body.now) }
 {
     match body {
@@ -84,6 +85,7 @@ impl Paged {
         ensures ends { OnOk result ((self.new.log.db ≡ self.old.log.db) × (self.new.log.end ≡ self.old.log.end) × (self.new.log.stored ≡ self.old.log.end) × (self.new.log.head.kept ≡ self.old.log.head.kept)) }
         ensures clean { OnOk result (AreClean self.new.pool) }
         ensures stands { D.tells → (stood : Stood) → IsPaged (D.disk dev.old) self.old stood → OnOk result (IsPaged (D.disk dev.new) self.new stood) }
+        ensures spare { OnOk result (KeepsSpare self.old.log self.new.log) }
         ensures foreign { IsErrOf result PagedError.Foreign → ⊥ }
         ensures crash { D.tells → (stood : Stood) → IsPaged (D.disk dev.old) self.old stood → Effect (IsOwn self.old.log.db stood.files) (Leaves self.old.log.db (sealed_count self.old) stood) (D.disk dev.old) (D.disk dev.new) }
         ensures cause { HasCause D.disk_faults D.tell_faults dev.old dev.new (IsErrOf result PagedError.Fault) }
@@ -94,7 +96,7 @@ impl Paged {
     }
 
     // The frame in which a page of a data file lies; it is read where it lies in none. Gives none only where a frame is dirty, and then changes nothing.
-    fn frame_of<D: Device>(
+    pub(crate) fn frame_of<D: Device>(
         &mut self,
         dev: &mut D,
         file: u16,
@@ -131,6 +133,7 @@ impl Paged {
         ensures same { OnOk result ((self.new.log.db ≡ self.old.log.db) × (self.new.log.end ≡ self.old.log.end) × (self.new.log.head.kept ≡ self.old.log.head.kept) × (self.new.facts ≡ self.old.facts)) }
         ensures stands { D.tells → (stood : Stood) → IsPaged (D.disk dev.old) self.old stood → OnOk result (IsPaged (D.disk dev.new) self.new stood) }
         ensures later { D.tells → (stood : Stood) → IsPaged (D.disk dev.old) self.old stood → OnOk result (self.old.log.stored ≤ self.new.log.stored) }
+        ensures spare { OnOk result (KeepsSpare self.old.log self.new.log) }
         ensures foreign { D.tells → IsErrOf result PagedError.Foreign → ⊥ }
         ensures crash { D.tells → (stood : Stood) → IsPaged (D.disk dev.old) self.old stood → Effect (IsOwn self.old.log.db stood.files) (Leaves self.old.log.db (sealed_count self.old) stood) (D.disk dev.old) (D.disk dev.new) }
         ensures cause { HasCause D.disk_faults D.tell_faults dev.old dev.new (IsErrOf result PagedError.Fault) }
@@ -154,6 +157,7 @@ impl Paged {
         ensures same { OnOk result ((self.new.log.db ≡ self.old.log.db) × (self.new.log.end ≡ self.old.log.end) × (self.new.log.head.kept ≡ self.old.log.head.kept) × (self.new.facts ≡ self.old.facts)) }
         ensures stands { D.tells → IsRecord r.now → (stood : Stood) → IsPaged (D.disk dev.old) self.old stood → OnOk result (IsPaged (D.disk dev.new) (with_waiting self.new r.now) (with_one stood r.now)) }
         ensures later { D.tells → (stood : Stood) → IsPaged (D.disk dev.old) self.old stood → OnOk result (self.old.log.stored ≤ self.new.log.stored) }
+        ensures spare { OnOk result (KeepsSpare self.old.log self.new.log) }
         ensures foreign { D.tells → IsErrOf result PagedError.Foreign → ⊥ }
         ensures crash { D.tells → (stood : Stood) → IsPaged (D.disk dev.old) self.old stood → Effect (IsOwn self.old.log.db stood.files) (Leaves self.old.log.db (sealed_count self.old) stood) (D.disk dev.old) (D.disk dev.new) }
         ensures cause { HasCause D.disk_faults D.tell_faults dev.old dev.new (IsErrOf result PagedError.Fault) }
@@ -182,6 +186,7 @@ impl Paged {
         ensures ends { OnOk result ((self.new.log.db ≡ self.old.log.db) × (self.new.log.end ≡ self.old.log.end + 1) × (self.new.log.head.kept ≡ self.old.log.head.kept) × (self.new.facts ≡ self.old.facts)) }
         ensures stands { D.tells → (stood : Stood) → IsPaged (D.disk dev.old) self.old stood → OnOk result (IsPaged (D.disk dev.new) self.new (with_one stood r.now)) }
         ensures later { D.tells → (stood : Stood) → IsPaged (D.disk dev.old) self.old stood → OnOk result (self.old.log.stored ≤ self.new.log.stored) }
+        ensures spare { OnOk result (KeepsSpare self.old.log self.new.log) }
         ensures foreign { D.tells → IsErrOf result PagedError.Foreign → ⊥ }
         ensures crash { D.tells → (stood : Stood) → IsPaged (D.disk dev.old) self.old stood → Effect (IsOwn self.old.log.db stood.files) (Leaves self.old.log.db (sealed_count self.old) stood) (D.disk dev.old) (D.disk dev.new) }
         ensures cause { HasCause D.disk_faults D.tell_faults dev.old dev.new (IsErrOf result PagedError.Fault) }

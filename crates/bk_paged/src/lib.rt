@@ -2,6 +2,7 @@
 #![tactic(auto)]
 
 mod appending;
+mod copying;
 mod error;
 mod fitting;
 mod looking;
@@ -10,6 +11,7 @@ mod paged;
 mod parts;
 mod placing;
 mod removing;
+mod reserved;
 
 pub use error::PagedError;
 pub use fitting::may_make;

@@ -1,11 +1,13 @@
 // Looking at the log, the data files and their pages.
-ghost use Rattle.std.specs.Prelude.{◌≡◌, ◌≤◌, IfOk, None, OnOk, IsErrOf, false};
+ghost use Rattle.std.specs.Prelude.{◌≡◌, ◌≤◌, [], ℕ, IfOk, MatchOption, None, OnOk, IsErrOf, false, slice_index_or};
 ghost use Rattle.bk_device.specs.Calls.{ChangesNothing};
 ghost use Rattle.bk_device.specs.Counts.{HasCause};
 ghost use Rattle.bk_device.specs.Effects.{Effect};
+ghost use Rattle.bk_log.specs.Log.{IsLog as IsStoredLog, KeepsSpare};
 ghost use Rattle.bk_paged.specs.Holds.{Leaves, Stood};
 ghost use Rattle.bk_paged.specs.Names.{IsOwn, IsThere, pages_in};
 ghost use Rattle.bk_paged.specs.Paged.{IsLast, IsPaged, from_to, sealed_count};
+ghost use Rattle.bk_pool.specs.Pool.{IsAbsent, IsIn};
 ghost use Rattle.bk_record.specs.Log.{IsLog};
 
 use crate::error::PagedError;
@@ -37,7 +39,16 @@ impl Paged {
         ensures crash { D.tells → (stood : Stood) → IsPaged (D.disk dev.old) self.now stood → Effect (IsOwn self.now.log.db stood.files) (Leaves self.now.log.db (sealed_count self.now) stood) (D.disk dev.old) (D.disk dev.new) }
     {}
 
-    /// The bytes of the durable records from the number `from` to below `to`, which are at least the kept point and at most the number behind that of the last durable record. Changes nothing.
+    /// The 8,192 bytes of a page, or `None` where it lies in no frame. No page is read.
+    pub fn peek(&self, file: u16, page: u32) -> Option<&[u8; 8192]>
+        ensures { MatchOption result (IsAbsent self.now.pool.pages file page) (λ bytes. (i : ℕ) × IsIn self.now.pool.pages i file page × (bytes.now ≡ slice_index_or self.now.pool.frames i [])) }
+    {
+        let i = self.pool.place(file, page)?;
+        Some(self.pool.frame(i))
+    }
+
+    /// The bytes of the durable records from the number `from` to below `to`, which are at least the kept point and at most the number behind that of the last durable record. The log stands on the
+    /// device, whatever else does. Changes nothing.
     pub fn log_bytes<D: Device>(
         &self,
         alloc: Global,
@@ -49,7 +60,7 @@ impl Paged {
         requires kept { self.now.log.head.kept ≤ from }
         requires order { from ≤ to }
         requires inside { to ≤ self.now.log.stored }
-        requires stands { D.tells → (stood : Stood) × IsPaged (D.disk dev.old) self.now stood }
+        requires stands { D.tells → IsStoredLog (D.disk dev.old) self.now.log }
         ensures stands { D.tells → (stood : Stood) → IsPaged (D.disk dev.old) self.now stood → IsPaged (D.disk dev.new) self.now stood }
         ensures bytes { D.tells → (stood : Stood) → IsPaged (D.disk dev.old) self.now stood → IfOk result (λ bytes. IsLog bytes.items (from_to from to stood.records) None) }
         ensures foreign { IsErrOf result PagedError.Foreign → ⊥ }
@@ -76,6 +87,7 @@ impl Paged {
         ensures same { OnOk result ((self.new.log.db ≡ self.old.log.db) × (self.new.log.end ≡ self.old.log.end) × (self.new.log.head.kept ≡ self.old.log.head.kept) × (self.new.facts ≡ self.old.facts)) }
         ensures stands { D.tells → (stood : Stood) → IsPaged (D.disk dev.old) self.old stood → OnOk result (IsPaged (D.disk dev.new) self.new stood) }
         ensures later { D.tells → (stood : Stood) → IsPaged (D.disk dev.old) self.old stood → OnOk result (self.old.log.stored ≤ self.new.log.stored) }
+        ensures spare { OnOk result (KeepsSpare self.old.log self.new.log) }
         ensures foreign { D.tells → IsErrOf result PagedError.Foreign → ⊥ }
         ensures page { D.tells → (stood : Stood) → IsPaged (D.disk dev.old) self.old stood → IfOk result (λ bytes. IsLast stood.records (record { file = file; page = page }) bytes) }
         ensures crash { D.tells → (stood : Stood) → IsPaged (D.disk dev.old) self.old stood → Effect (IsOwn self.old.log.db stood.files) (Leaves self.old.log.db (sealed_count self.old) stood) (D.disk dev.old) (D.disk dev.new) }

@@ -3,7 +3,7 @@ ghost use Rattle.std.specs.Prelude.{◌≡◌, ◌≤◌, ◌<◌, ◌⊎◌, �
 ghost use Rattle.bk_device.specs.Counts.{HasCause};
 ghost use Rattle.bk_device.specs.Effects.{Effect};
 ghost use Rattle.bk_facts.specs.Facts.{HasPath};
-ghost use Rattle.bk_log.specs.Log.{IsLog};
+ghost use Rattle.bk_log.specs.Log.{IsLog, KeepsSpare};
 ghost use Rattle.std.specs.List.{AllByRecursion};
 ghost use Rattle.bk_paged.specs.Appends.{with_waiting};
 ghost use Rattle.bk_paged.specs.Pooled.{IsPool};
@@ -116,9 +116,11 @@ impl Paged {
         requires stands { D.tells → IsLog (D.disk dev.old) self.old.log }
         ensures fit { OnOk result (self.new.failed ≡ false) }
         ensures stands { D.tells → (stood : Stood) → IsPaged (D.disk dev.old) self.old stood → OnOk result (IsPaged (D.disk dev.new) self.new stood) }
+        ensures logs { D.tells → OnOk result (IsLog (D.disk dev.new) self.new.log) }
         ensures same { OnOk result (self.new ≡ record self.old { log = self.new.log }) }
         ensures sealed { OnOk result ((self.new.log.db ≡ self.old.log.db) × (self.new.log.end ≡ self.old.log.end) × (self.new.log.stored ≡ self.old.log.end) × (self.new.log.waiting ≡ [])) }
         ensures kept { OnOk result (self.new.log.head.kept ≡ self.old.log.head.kept) }
+        ensures spare { OnOk result (KeepsSpare self.old.log self.new.log) }
         ensures foreign { IsErrOf result PagedError.Foreign → ⊥ }
         ensures crash { D.tells → (stood : Stood) → IsPaged (D.disk dev.old) self.old stood → Effect (IsOwn self.old.log.db stood.files) (Leaves self.old.log.db (sealed_count self.old) stood) (D.disk dev.old) (D.disk dev.new) }
         ensures cause { HasCause D.disk_faults D.tell_faults dev.old dev.new (IsErrOf result PagedError.Fault) }
@@ -142,6 +144,7 @@ impl Paged {
         ensures stands { D.tells → (stood : Stood) → IsPaged (D.disk dev.old) self.old stood → OnOk result (IsPaged (D.disk dev.new) self.new (with_one stood (checkpoint_record self.old now))) }
         ensures checkpoint { OnOk result ((self.new.facts.checkpoint ≡ self.new.log.end) × (self.new.log.stored ≡ self.new.log.end)) }
         ensures ends { OnOk result ((self.new.log.db ≡ self.old.log.db) × (self.new.log.end ≡ self.old.log.end + 1) × (self.new.log.head.kept ≡ self.old.log.head.kept) × (self.new.facts.files ≡ self.old.facts.files)) }
+        ensures spare { OnOk result (KeepsSpare self.old.log self.new.log) }
         ensures foreign { IsErrOf result PagedError.Foreign → ⊥ }
         ensures crash { D.tells → (stood : Stood) → IsPaged (D.disk dev.old) self.old stood → Effect (IsOwn self.old.log.db stood.files) (Leaves self.old.log.db (sealed_count self.old) (with_one stood (checkpoint_record self.old now))) (D.disk dev.old) (D.disk dev.new) }
         ensures cause { HasCause D.disk_faults D.tell_faults dev.old dev.new (IsErrOf result PagedError.Fault) }
@@ -178,6 +181,7 @@ impl Paged {
         ensures same { OnOk result ((self.new.log.db ≡ self.old.log.db) × (self.new.log.stored ≡ self.old.log.stored) × (self.new.log.end ≡ self.old.log.end) × (self.new.log.head.kept ≡ self.old.log.head.kept)) }
         ensures facts { OnOk result (self.new.facts ≡ record self.old.facts { checkpoint = self.old.since }) }
         ensures stands { D.tells → (stood : Stood) → IsPaged (D.disk dev.old) self.old stood → OnOk result (IsPaged (D.disk dev.new) self.new stood) }
+        ensures spare { OnOk result (KeepsSpare self.old.log self.new.log) }
         ensures foreign { IsErrOf result PagedError.Foreign → ⊥ }
         ensures crash { D.tells → (stood : Stood) → IsPaged (D.disk dev.old) self.old stood → Effect (IsOwn self.old.log.db stood.files) (Leaves self.old.log.db (sealed_count self.old) stood) (D.disk dev.old) (D.disk dev.new) }
         ensures cause { HasCause D.disk_faults D.tell_faults dev.old dev.new (IsErrOf result PagedError.Fault) }
@@ -202,6 +206,7 @@ impl Paged {
         ensures same { OnOk result ((self.new.log.db ≡ self.old.log.db) × (self.new.log.stored ≡ self.old.log.stored) × (self.new.log.end ≡ self.old.log.end) × (self.new.log.head.kept ≡ self.old.log.head.kept)) }
         ensures facts { OnOk result (self.new.facts ≡ self.old.facts) }
         ensures stands { D.tells → (stood : Stood) → IsPaged (D.disk dev.old) self.old stood → OnOk result (IsPaged (D.disk dev.new) self.new (record stood { note = bytes.now })) }
+        ensures spare { OnOk result (KeepsSpare self.old.log self.new.log) }
         ensures foreign { IsErrOf result PagedError.Foreign → ⊥ }
         ensures crash { D.tells → (stood : Stood) → IsPaged (D.disk dev.old) self.old stood → Effect (IsOwn self.old.log.db stood.files) (λ image. Leaves self.old.log.db (sealed_count self.old) stood image ⊎ Leaves self.old.log.db (sealed_count self.old) (record stood { note = bytes.now }) image) (D.disk dev.old) (D.disk dev.new) }
         ensures cause { HasCause D.disk_faults D.tell_faults dev.old dev.new (IsErrOf result PagedError.Fault) }
@@ -225,6 +230,7 @@ impl Paged {
         ensures stands { D.tells → (stood : Stood) → IsPaged (D.disk dev.old) self.old stood → KeepsOpen to stood.records → to ≤ stood.needed → OnOk result (IsPaged (D.disk dev.new) self.new stood) }
         ensures same { OnOk result (self.new ≡ record self.old { log = self.new.log }) }
         ensures ends { OnOk result ((self.new.log.db ≡ self.old.log.db) × (self.new.log.stored ≡ self.old.log.stored) × (self.new.log.end ≡ self.old.log.end) × (self.new.log.head.kept ≡ to)) }
+        ensures spare { OnOk result (KeepsSpare self.old.log self.new.log) }
         ensures foreign { IsErrOf result PagedError.Foreign → ⊥ }
         ensures crash { D.tells → (stood : Stood) → IsPaged (D.disk dev.old) self.old stood → KeepsOpen to stood.records → to ≤ stood.needed → Effect (IsOwn self.old.log.db stood.files) (Leaves self.old.log.db (sealed_count self.old) stood) (D.disk dev.old) (D.disk dev.new) }
         ensures cause { HasCause D.disk_faults D.tell_faults dev.old dev.new (IsErrOf result PagedError.Fault) }

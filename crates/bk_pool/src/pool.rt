@@ -78,9 +78,9 @@ impl Pool {
         Some(i)
     }
 
-    // The frame in which a page lies, and in no other.
+    /// The frame in which a page lies, and in no other, or `None` where it lies in none. It doesn't count as used.
     #[tactic(auto, using(crate::proofs::Sounds::found_alone))]
-    fn place(&self, file: u16, page: u32) -> Option<usize>
+    pub fn place(&self, file: u16, page: u32) -> Option<usize>
         ensures found { MatchOption result (IsAbsent self.now.pages file page) (IsFound self.now.pages file page) }
     {
         if self.is_whole {

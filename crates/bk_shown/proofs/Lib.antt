@@ -1,9 +1,12 @@
 mod MapKeys
+mod Entries
 mod Cells
 mod Lists
 mod Agree
 mod Tables
 mod Mirrors
+mod Moves
+mod Waiting
 mod Keeps
 mod Places
 mod Taken

@@ -14,8 +14,9 @@ use Rattle.bk_world.specs.Records.{RowId, is_row}
 use Rattle.bk_world.specs.RowLaws.{RowsRise, at_is}
 use Rattle.bk_world.specs.Rows.{Rows}
 use Rattle.bk_world.specs.Telling.{row_at}
-use Rattle.bk_shown.specs.Rows.{RowValues, rows_in, value_among}
+use Rattle.bk_shown.specs.Rows.{RowValues, rows_in}
 use Rattle.bk_shown.proofs.Agree.{some-none}
+use Rattle.bk_shown.proofs.Entries.{value_in}
 use Rattle.bk_shown.proofs.MapKeys.{key_is}
 
 -- ---- rows that rise are told by their values
@@ -99,18 +100,18 @@ listed-rise table (e ∷ es) sorted = by (e.0.0 == table) refl (listed-rise tabl
     by true its rest = (listed-below table e.0 es its sorted.0, rest)
     by false isnt rest = rest
 
-pub listed-values : (table : ℕ) (es : RowValues) (key : ℕ) → row_at (rows_in table es) key ≡ value_among es (table, key)
+pub listed-values : (table : ℕ) (es : RowValues) (key : ℕ) → row_at (rows_in table es) key ≡ value_in es (table, key)
 listed-values table [] key = refl
 listed-values table (e ∷ es) key =
     by (e.0.0 == table) refl (listed-values table es key)
-    ∙ ap (λ t. cond t (Some e.1) (value_among es (table, key))) (sym (key_is (table, key) e.0))
+    ∙ ap (λ t. cond t (Some e.1) (value_in es (table, key))) (sym (key_is (table, key) e.0))
   where
-    by : (t : Bool) → (e.0.0 == table) ≡ t → row_at (rows_in table es) key ≡ value_among es (table, key)
+    by : (t : Bool) → (e.0.0 == table) ≡ t → row_at (rows_in table es) key ≡ value_in es (table, key)
         → row_at (map (λ (e : RowId × List ℕ). (e.0.1, e.1)) (cond t (e ∷ filter (λ (e : RowId × List ℕ). e.0.0 == table) es) (filter (λ (e : RowId × List ℕ). e.0.0 == table) es))) key
-        ≡ cond (is_row (table, key) e.0) (Some e.1) (value_among es (table, key))
+        ≡ cond (is_row (table, key) e.0) (Some e.1) (value_in es (table, key))
     by true its rest =
         let same : is_row (table, key) e.0 ≡ eqb e.0.1 key = grind (arith, nat_tests, its) in
-        first (e.0.1, e.1) (rows_in table es) key ∙ ap (λ (r : Option (List ℕ)). cond (eqb e.0.1 key) (Some e.1) r) rest ∙ ap (λ t. cond t (Some e.1) (value_among es (table, key))) (sym same)
+        first (e.0.1, e.1) (rows_in table es) key ∙ ap (λ (r : Option (List ℕ)). cond (eqb e.0.1 key) (Some e.1) r) rest ∙ ap (λ t. cond t (Some e.1) (value_in es (table, key))) (sym same)
     by false isnt rest =
         let other : is_row (table, key) e.0 ≡ false = grind (arith, nat_tests, isnt) in
-        rest ∙ ap (λ t. cond t (Some e.1) (value_among es (table, key))) (sym other)
+        rest ∙ ap (λ t. cond t (Some e.1) (value_in es (table, key))) (sym other)

@@ -1,5 +1,5 @@
 -- Plain facts on lists.
-use Rattle.std.proofs.Common.{◌≡◌, ◌<◌, Bool, true, false, cond, List, [], ◌∷◌, ◌++◌, map, refl, ◌∙◌, ap, subst, arith}
+use Rattle.std.proofs.Common.{◌≡◌, ◌<◌, ℕ, zero, suc, ◌+◌, Bool, true, false, cond, List, [], ◌∷◌, ◌++◌, length, map, take, get_or, refl, ◌∙◌, ap, subst, arith, add-one}
 use Rattle.std.specs.List.{filter, AllByRecursion}
 use Rattle.std.proofs.lemmas.Bool.Decides.{nat_tests}
 use Rattle.bk_lemmas.specs.Lists.{all_mapped}
@@ -53,3 +53,20 @@ one-numbered (v ∷ ws) (f ∷ front) w back rise e =
     middle : (front : List Pending) → AllByRecursion (λ u. v.lsn < u.lsn) (front ++ w ∷ back) → v.lsn < w.lsn
     middle [] all = all.0
     middle (f ∷ front) all = middle front all.1
+
+-- a part of a list
+take-suc : {X : Type 0} (xs : List X) (i : ℕ) (d : X) → i < length xs → take (suc i) xs ≡ take i xs ++ get_or xs i d ∷ []
+take-suc [] i d lt = absurd (omega (arith, lt))
+take-suc (x ∷ xs) zero d lt = refl
+take-suc {X} (x ∷ xs) (suc i) d lt = let less : i < length xs = omega (arith, lt) in ap (λ (ys : List X). x ∷ ys) (take-suc xs i d less)
+
+pub take-next : {X : Type 0} (xs : List X) (i : ℕ) (d : X) → i < length xs → take (i + 1) xs ≡ take i xs ++ get_or xs i d ∷ []
+take-next {X} xs i d lt = ap (λ (k : ℕ). take k xs) (add-one i) ∙ take-suc xs i d lt
+
+pub filter-joined : {X : Type 0} (p : X → Bool) (xs ys : List X) → filter p (xs ++ ys) ≡ filter p xs ++ filter p ys
+filter-joined p [] ys = refl
+filter-joined {X} p (x ∷ xs) ys = ap (λ (rest : List X). cond (p x) (x ∷ rest) rest) (filter-joined p xs ys) ∙ by (p x)
+  where
+    by : (t : Bool) → cond t (x ∷ (filter p xs ++ filter p ys)) (filter p xs ++ filter p ys) ≡ cond t (x ∷ filter p xs) (filter p xs) ++ filter p ys
+    by true = refl
+    by false = refl

@@ -1,5 +1,5 @@
 -- What is shown of a log, by its tables, its committed rows and its pending writes.
-use Rattle.std.proofs.Common.{◌≡◌, ◌<◌, ◌≤◌, ℕ, zero, suc, ◌+◌, Bool, true, false, cond, List, [], ◌∷◌, ◌++◌, length, map, take, get_or, Option, Some, None, inl, inr, refl, sym, ◌∙◌, ap, subst, arith, add-one}
+use Rattle.std.proofs.Common.{◌≡◌, ◌<◌, ◌≤◌, ℕ, zero, suc, ◌+◌, Bool, true, false, cond, List, [], ◌∷◌, ◌++◌, length, map, take, get_or, Option, Some, None, inl, inr, refl, sym, ◌∙◌, ap, subst, arith}
 use Rattle.std.specs.Prelude.{◌==◌, ◌&&◌, option_map}
 use Rattle.std.specs.List.{find, AllByRecursion}
 use Rattle.std.specs.Ordering.{nat_cmp}
@@ -24,12 +24,15 @@ use Rattle.bk_world.specs.RowLaws.{row-same}
 use Rattle.bk_shown.specs.Rows.{value_among}
 use Rattle.bk_shown.specs.Shown.{AreNumbered, IsOf, LogKeeps, Shows, group_among, lies_at, pending_of}
 use Rattle.bk_shown.specs.Steps.{AddsRow, HasRows, HasWrites, MakesTable, MayAdd, MayHold, MayLie, MayMake, MayPend, WritesRow, home_among}
-use Rattle.bk_shown.specs.Writes.{row_of}
+use Rattle.bk_shown.specs.Writes.{HaveEntries, row_of}
 use Rattle.bk_shown.specs.declared.shown.Shown.{Shown}
 use Rattle.bk_shown.specs.declared.shown.Written.{Written}
 use Rattle.bk_shown.proofs.Agree.{last-place, lies-write, some-none}
 use Rattle.bk_shown.proofs.Committed.{Holds, find-kept, holds-all}
+use Rattle.bk_shown.proofs.Entries.{value-set}
+use Rattle.bk_shown.proofs.Waiting.{entries-more}
 use Rattle.bk_shown.proofs.Keeps.{keeps-along}
+use Rattle.bk_shown.proofs.Lists.{take-next}
 use Rattle.bk_shown.proofs.Places.{cell-of}
 use Rattle.bk_shown.proofs.Starts.{keeps-none}
 use Rattle.bk_shown.proofs.Tables.{find-more, first_or, group-more, none-numbered}
@@ -72,15 +75,6 @@ has-table files made t old new has m = record {
       m.groups.tables number ∙ ap (λ group. cond (number == t.number) (Some t.group) group) (has.groups (numbered-front 1 made t numbers).0 number)
       ∙ sym (group-more made t (none-before made t numbers) number);
 }
-
--- a part of a list
-take-suc : {X : Type 0} (xs : List X) (i : ℕ) (d : X) → i < length xs → take (suc i) xs ≡ take i xs ++ get_or xs i d ∷ []
-take-suc [] i d lt = absurd (omega (arith, lt))
-take-suc (x ∷ xs) zero d lt = refl
-take-suc {X} (x ∷ xs) (suc i) d lt = let less : i < length xs = omega (arith, lt) in ap (λ (ys : List X). x ∷ ys) (take-suc xs i d less)
-
-pub take-next : {X : Type 0} (xs : List X) (i : ℕ) (d : X) → i < length xs → take (i + 1) xs ≡ take i xs ++ get_or xs i d ∷ []
-take-next {X} xs i d lt = ap (λ (k : ℕ). take k xs) (add-one i) ∙ take-suc xs i d lt
 
 numbered-take : (n : ℕ) (made : List TableSpec) (i : ℕ) → AreNumbered n made → AreNumbered n (take i made)
 numbered-take n [] zero all = tt
@@ -125,7 +119,7 @@ behind f listed row id none = ap (option_map f) (find-more (λ (r : PlacedRow). 
 pub has-row : (files : List FileSpec) (made : List TableSpec) (listed : List PlacedRow) (row : PlacedRow) (old new : Shown) → HasRows files made listed old → AddsRow row old new → HasRows files made (listed ++ row ∷ []) new
 has-row files made listed row old new has adds = record {
   tables = adds.tables ∙ has.tables;
-  rows = λ id. adds.rows id ∙ ap (λ v. cond (is_row (row_id row) id) (Some row.value) v) (has.rows id) ∙ sym (behind (λ (r : PlacedRow). r.value) listed row id none);
+  rows = λ id. value-set old.rows new.rows (row_id row) (Some (Some row.value)) adds.rows id ∙ ap (λ v. cond (is_row (row_id row) id) (Some row.value) v) (has.rows id) ∙ sym (behind (λ (r : PlacedRow). r.value) listed row id none);
   written = adds.written ∙ has.written;
   places = λ id. adds.groups.places id.0 id.1 ∙ ap (λ b. cond b (Some row.place) (space_place old.groups id.0 id.1)) (flipped row.table row.key id)
       ∙ ap (λ p. cond (is_row (row_id row) id) (Some row.place) p) (has.places id) ∙ sym (behind (λ (r : PlacedRow). r.place) listed row id none);
@@ -189,18 +183,19 @@ may-add files made listed i d s lt holds has = record {
 
 -- no write is pending yet
 pub has-no-writes : (files : List FileSpec) (made : List TableSpec) (listed : List PlacedRow) (s : Shown) → HasRows files made listed s → HasWrites files made listed [] s
-has-no-writes files made listed s has = record { tables = has.tables; rows = has.rows; written = has.written; places = has.places; rooms = has.rooms; groups = has.groups }
+has-no-writes files made listed s has = record { tables = has.tables; rows = has.rows; written = has.written; places = has.places; rooms = has.rooms; groups = has.groups; entries = tt }
 
 pub has-write : (files : List FileSpec) (made : List TableSpec) (listed : List PlacedRow) (ws : List Written) (w : Written) (old new : Shown)
     → HasWrites files made listed ws old → WritesRow w old new → HasWrites files made listed (ws ++ w ∷ []) new
 has-write files made listed ws w old new has n = record {
   tables = n.same.tables ∙ has.tables;
-  rows = λ id. ap (λ rows. value_among rows id) n.rows ∙ has.rows id;
+  rows = λ id. n.rows.values id ∙ has.rows id;
   written = n.written ∙ ap (λ (xs : List Written). xs ++ w ∷ []) has.written;
   places = λ id. n.groups.places id ∙ ap (λ p. cond (is_row (row_of w) id) (Some w.place) p) (has.places id)
       ∙ sym (lies-write (map pending_of ws) (pending_of w) (home_among listed) id) ∙ ap (λ xs. lies_at xs (home_among listed) id) (sym (map-append pending_of ws (w ∷ [])));
   rooms = n.groups.rooms ∙ has.rooms;
   groups = λ numbers number. ap (λ entries. lookup (is_at (nat_cmp number)) entries) n.groups.tables ∙ has.groups numbers number;
+  entries = entries-more old.rows new.rows ws w n.rows.entries has.entries;
 }
 
 module _ (files : List FileSpec) (home : RowId → Option Place) (ws : List Pending) (may : MayPend files home ws) where
@@ -291,6 +286,7 @@ module _ (files : List FileSpec) (rs : List Logged) (made : List TableSpec) (lis
       tables = has.tables ∙ sym is.tables;
       rows = λ id. has.rows id ∙ sym (is.committed.values id);
       pending = ap (map pending_of) has.written ∙ pend;
+      entries = subst (HaveEntries s.rows) (sym has.written) has.entries;
       places = λ id. has.places id ∙ ap (λ us. lies_at us (home_among listed) id) pend ∙ by-homes id ∙ sym (place-is rs id);
       rooms = has.rooms;
       groups = λ number. has.groups numbers-of number ∙ ap (λ ts. group_among ts number) (sym is.tables);

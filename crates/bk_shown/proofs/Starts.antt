@@ -1,5 +1,5 @@
 -- What is shown of a log without records.
-use Rattle.std.proofs.Common.{◌≡◌, ℕ, List, [], map, None, refl, ap, ◌∙◌}
+use Rattle.std.proofs.Common.{◌≡◌, ℕ, List, [], map, None, refl, sym, ap, ◌∙◌, subst}
 use Rattle.bk_groups.specs.Groups.{AreFiles, Space, group_of, new_space, place_of as space_place}
 use Rattle.bk_ids.specs.declared.record.RecoveryModel.TheVariants.{Full}
 use Rattle.bk_world.specs.Pending as log
@@ -8,6 +8,7 @@ use Rattle.bk_world.specs.Telling as telling
 use Rattle.bk_world.specs.declared.database.FileSpec.{FileSpec}
 use Rattle.bk_shown.specs.Rows.{value_among}
 use Rattle.bk_shown.specs.Shown.{LogKeeps, Shows, ShowsRows, pending_of}
+use Rattle.bk_shown.specs.Writes.{HaveEntries}
 use Rattle.bk_shown.specs.declared.shown.Shown.{Shown}
 
 pub keeps-none : LogKeeps [] 1
@@ -27,6 +28,7 @@ rows-none files s tables rows written groups = record {
   tables = tables;
   rows = λ id. ap (λ values. value_among values id) rows;
   pending = ap (map pending_of) written;
+  entries = subst (HaveEntries s.rows) (sym written) tt;
   places = λ id. ap (λ (g : Space). space_place g id.0 id.1) groups;
   rooms = ap (λ (g : Space). g.rooms) groups;
   groups = λ number. ap (λ (g : Space). group_of g number) groups;

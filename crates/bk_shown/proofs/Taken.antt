@@ -27,10 +27,10 @@ use Rattle.bk_world.specs.Telling as telling
 use Rattle.bk_world.specs.Telling.{row_at, seen}
 use Rattle.bk_world.specs.declared.database.FileSpec.{FileSpec}
 use Rattle.bk_world.specs.declared.database.TableSpec.{TableSpec}
-use Rattle.bk_shown.specs.Rows.{value_among}
-use Rattle.bk_shown.specs.Shown.{IsNext, IsPlaced, LogKeeps, Shows, ShowsRows, group_among, lies_at, pending_of}
+use Rattle.bk_shown.specs.Rows.{KeepsRows, value_among}
+use Rattle.bk_shown.specs.Shown.{IsNext, IsPlaced, LogKeeps, OneWriter, Shows, ShowsRows, group_among, lies_at, pending_of}
 use Rattle.bk_shown.specs.Steps.{Commits, MakesTable, TakesBody, Undoes, WritesRow, is_it, model_behind, row_numbered, time_behind}
-use Rattle.bk_shown.specs.Writes.{has_write, own_of, row_of}
+use Rattle.bk_shown.specs.Writes.{HaveEntries, has_write, own_of, row_of}
 use Rattle.bk_shown.specs.declared.shown.Shown.{Shown}
 use Rattle.bk_shown.specs.declared.shown.Written.{Written}
 use Rattle.bk_shown.proofs.Agree.{lies-commit, lies-undone, lies-write}
@@ -40,6 +40,7 @@ use Rattle.bk_shown.proofs.Mirrors.{found-mirror, has-mirror, others-mirror, own
 use Rattle.bk_shown.specs.Readings as reading
 use Rattle.bk_shown.specs.Readings.{made_by, model-with, pending-with, place-with, placed-more, rows-with, tables-with, time-with, with}
 use Rattle.bk_shown.proofs.Tables.{group-more, none-numbered}
+use Rattle.bk_shown.proofs.Waiting.{entries-left, entries-more, entries-others}
 
 -- where nothing passes a test, all fail it
 filter-all : {X : Type 0} (p : X → Bool) (xs : List X) → filter p xs ≡ [] → filter (λ x. not (p x)) xs ≡ xs
@@ -67,8 +68,8 @@ module _ (files : List FileSpec) (rs : List Logged) (n begin : ℕ) (old new : S
   same-groups d none tables number =
       ap (λ entries. lookup (is_at (nat_cmp number)) entries) tables ∙ kept.groups number ∙ ap (λ made. group_among made number) (same-tables d none)
 
-  same-rows : (d : Deed) → (reading.Commits rs n begin d → ⊥) → new.rows ≡ old.rows → (id : RowId) → value_among new.rows id ≡ row_at (telling.rows (with rs n begin d) id.0) id.1
-  same-rows d silent rows id = ap (λ values. value_among values id) rows ∙ kept.rows id ∙ ap (λ es. row_at es id.1) (sym (rows-with rs n begin d silent id.0))
+  same-rows : (d : Deed) → (reading.Commits rs n begin d → ⊥) → ((id : RowId) → value_among new.rows id ≡ value_among old.rows id) → (id : RowId) → value_among new.rows id ≡ row_at (telling.rows (with rs n begin d) id.0) id.1
+  same-rows d silent rows id = rows id ∙ kept.rows id ∙ ap (λ es. row_at es id.1) (sym (rows-with rs n begin d silent id.0))
 
   old-place : (id : RowId) → space_place old.groups id.0 id.1 ≡ lies_at (log.pending rs) (homes rs) id
   old-place id = kept.places id ∙ place-is rs id
@@ -78,8 +79,9 @@ module _ (files : List FileSpec) (rs : List Logged) (n begin : ℕ) (old new : S
       → (reading.Commits rs n begin d → ⊥) → new ≡ old → ShowsRows files (with rs n begin d) new
   quiet d same_pending same_homes none silent is = record {
     tables = ap (λ (s : Shown). s.tables.items) is ∙ kept.tables ∙ same-tables d none;
-    rows = same-rows d silent (ap (λ (s : Shown). s.rows) is);
+    rows = same-rows d silent (λ id. ap (λ (s : Shown). value_among s.rows id) is);
     pending = ap (λ (s : Shown). map pending_of s.written.items) is ∙ kept.pending ∙ sym (pending-with rs n begin d ∙ same_pending);
+    entries = subst (λ (s : Shown). HaveEntries s.rows s.written.items) (sym is) kept.entries;
     places = λ id. ap (λ (s : Shown). space_place s.groups id.0 id.1) is ∙ old-place id
         ∙ sym (place-with rs n begin d id ∙ ap (λ ws. lies_at ws (homes_after (log.pending rs) (homes rs) begin d) id) same_pending
         ∙ ap (λ home. Rattle.bk_world.specs.Places.place_behind (last_of id (log.pending rs)) home) (same_homes id));
@@ -91,8 +93,9 @@ module _ (files : List FileSpec) (rs : List Logged) (n begin : ℕ) (old new : S
       → WritesRow (record { lsn = n; begin = begin; place = at; table = c.table; key = c.key; before = before; value = c.value }) old new → ShowsRows files (with rs n begin (written at before c)) new
   shows-write at before c w = record {
     tables = w.same.tables ∙ kept.tables ∙ same-tables (written at before c) refl;
-    rows = same-rows (written at before c) (λ never. never) w.rows;
+    rows = same-rows (written at before c) (λ never. never) w.rows.values;
     pending = ap (map pending_of) w.written ∙ map-append pending_of old.written.items (its ∷ []) ∙ ap (λ ws. ws ++ pending_of its ∷ []) kept.pending ∙ sym (pending-with rs n begin (written at before c));
+    entries = subst (HaveEntries new.rows) (sym w.written) (entries-more old.rows new.rows old.written.items its w.rows.entries kept.entries);
     places = λ id. w.groups.places id ∙ ap (λ place. cond (is_row (row_of its) id) (Some at) place) (old-place id)
         ∙ sym (place-with rs n begin (written at before c) id ∙ lies-write (log.pending rs) (pending_of its) (homes rs) id);
     rooms = w.groups.rooms ∙ kept.rooms;
@@ -107,6 +110,7 @@ module _ (files : List FileSpec) (rs : List Logged) (n begin : ℕ) (old new : S
     tables = c.same.tables ∙ kept.tables ∙ same-tables (committed time mark) refl;
     rows = rows_are;
     pending = ap (map pending_of) c.written ∙ others-mirror begin old.written.items ∙ ap (of_others begin) kept.pending ∙ sym (pending-with rs n begin (committed time mark));
+    entries = subst (HaveEntries new.rows) (sym c.written) (entries-others begin old.rows new.rows old.written.items single c.entries kept.entries);
     places = λ id. c.groups.places id ∙ place_at id;
     rooms = c.groups.rooms ∙ kept.rooms;
     groups = same-groups (committed time mark) refl c.groups.tables;
@@ -114,6 +118,9 @@ module _ (files : List FileSpec) (rs : List Logged) (n begin : ℕ) (old new : S
     where
       own : List Pending
       own = of_transaction begin (log.pending rs)
+
+      single : (id : RowId) → OneWriter (map pending_of old.written.items) id
+      single id = subst (λ (ws : List Pending). OneWriter ws id) (sym kept.pending) (keeps.places.single id)
 
       mine : map pending_of (own_of begin old.written.items) ≡ of_transaction begin (log.pending rs)
       mine = own-mirror begin old.written.items ∙ ap (of_transaction begin) kept.pending
@@ -148,8 +155,10 @@ module _ (files : List FileSpec) (rs : List Logged) (n begin : ℕ) (old new : S
   shows-undone : (at : Place) (c : RowChange) (k : ℕ) → LogKeeps rs n → MayCome rs n begin (undone at c k) → Undoes k old new → ShowsRows files (with rs n begin (undone at c k)) new
   shows-undone at c k keeps may u = record {
     tables = u.same.tables ∙ kept.tables ∙ same-tables (undone at c k) refl;
-    rows = same-rows (undone at c k) (λ never. never) u.rows;
+    rows = same-rows (undone at c k) (λ never. never) u.rows.values;
     pending = are_pending ∙ sym (pending-with rs n begin (undone at c k));
+    entries = subst (HaveEntries new.rows) (sym u.written)
+        (entries-left old.rows new.rows (λ (v : Written). not (v.lsn == k)) old.written.items (subst (λ (ws : List Written). KeepsRows (λ id. not (has_write ws id)) old.rows new.rows) u.written u.rows) kept.entries);
     places = λ id. u.groups.places id ∙ place_at id;
     rooms = u.groups.rooms ∙ kept.rooms;
     groups = same-groups (undone at c k) refl u.groups.tables;
@@ -197,7 +206,7 @@ module _ (files : List FileSpec) (rs : List Logged) (n begin : ℕ) (old new : S
       place_at id =
           ap (λ o. cond ((is_it o id && not (has_write new.written.items id)) && not (is_some (value_among new.rows id))) None (space_place old.groups id.0 id.1)) found
           ∙ ap (λ b. cond ((is_its id may.write && not b) && not (is_some (value_among new.rows id))) None (space_place old.groups id.0 id.1)) (has-mirror id new.written.items ∙ ap (λ ws. is_some (last_of id ws)) are_pending)
-          ∙ ap (λ v. cond ((is_its id may.write && not (is_some (last_of id (less k)))) && not (is_some v)) None (space_place old.groups id.0 id.1)) (ap (λ values. value_among values id) u.rows ∙ kept.rows id)
+          ∙ ap (λ v. cond ((is_its id may.write && not (is_some (last_of id (less k)))) && not (is_some v)) None (space_place old.groups id.0 id.1)) (u.rows.values id ∙ kept.rows id)
           ∙ ap (λ place. cond ((is_its id may.write && not (is_some (last_of id (less k)))) && not (is_some (row_at (telling.rows rs id.0) id.1))) None place) (old-place id)
           ∙ sym (place-with rs n begin (undone at c k) id
           ∙ lies-undone begin k (log.pending rs) may.write (homes rs) keeps.places each id (row_at (telling.rows rs id.0) id.1) (homed rs id))
@@ -205,8 +214,9 @@ module _ (files : List FileSpec) (rs : List Logged) (n begin : ℕ) (old new : S
   shows-table : (time : ℕ) (spec : TableSpec) → LogKeeps rs n → spec.number ≡ length (telling.tables rs) + 1 → MakesTable spec old new → ShowsRows files (with rs n begin (table_made time spec)) new
   shows-table time spec keeps number m = record {
     tables = m.tables ∙ ap (λ made. made ++ spec ∷ []) kept.tables ∙ sym (tables-with rs n begin (table_made time spec));
-    rows = same-rows (table_made time spec) (λ never. never) m.rows;
+    rows = same-rows (table_made time spec) (λ never. never) (λ id. ap (λ values. value_among values id) m.rows);
     pending = ap (map pending_of) m.written ∙ kept.pending ∙ sym (pending-with rs n begin (table_made time spec));
+    entries = subst (λ rows. HaveEntries rows new.written.items) (sym m.rows) (subst (HaveEntries old.rows) (sym m.written) kept.entries);
     places = λ id. ap (λ places. lookup (is_at (Rattle.bk_groups.specs.Groups.row_cmp id)) places) m.groups.places ∙ old-place id ∙ sym (place-with rs n begin (table_made time spec) id);
     rooms = m.groups.rooms ∙ kept.rooms;
     groups = λ t. m.groups.tables t ∙ ap (λ group. cond (t == spec.number) (Some spec.group) group) (kept.groups t)
@@ -273,7 +283,7 @@ taken files rs r given old mid shows next is takes =
       files_are = shows.files_are;
       log = subst (LogKeeps (rs ++ r ∷ [])) (ap (λ (k : ℕ). k + 1) number) (keeps-more files rs r.lsn r.begin r.deed next.placed next.may keeps);
       placed = placed-more files [] rs r shows.placed next.placed;
-      kept = record { tables = kept.tables; rows = kept.rows; pending = kept.pending; places = kept.places; rooms = kept.rooms; groups = kept.groups };
+      kept = record { tables = kept.tables; rows = kept.rows; pending = kept.pending; entries = kept.entries; places = kept.places; rooms = kept.rooms; groups = kept.groups };
       model = ap (model_behind (body_of r.deed)) (times.model ∙ shows.model) ∙ sym (model-with rs r.lsn r.begin r.deed);
       time = ap (time_behind (body_of r.deed)) (times.time ∙ shows.time) ∙ sym (time-with rs r.lsn r.begin r.deed);
     })

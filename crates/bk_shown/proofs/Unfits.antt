@@ -10,11 +10,14 @@ use Rattle.bk_world.specs.SoundLogs.{MayCome}
 use Rattle.bk_world.specs.Telling as telling
 use Rattle.bk_world.specs.declared.database.FileSpec.{FileSpec}
 use Rattle.bk_world.specs.declared.database.TableSpec.{TableSpec}
-use Rattle.bk_shown.specs.Shown.{IsPlaced, Shows}
-use Rattle.bk_shown.specs.Steps.{IsUnfit, MayLie}
+use Rattle.bk_shown.specs.Shown.{IsPlaced, NeedsMemory, Shows}
+use Rattle.bk_shown.specs.Steps.{IsUnfit, IsUnfitReserved, MayLie}
+use Rattle.bk_shown.specs.Writes.{lacks_entry}
 use Rattle.bk_shown.specs.declared.shown.Shown.{Shown}
+use Rattle.bk_lemmas.specs.Tests.{clash}
 use Rattle.bk_shown.proofs.Places.{cell-of}
 use Rattle.bk_shown.proofs.Tables.{none-numbered}
+use Rattle.bk_shown.proofs.Waiting.{none-lacks}
 
 module _ (files : List FileSpec) (rs : List Logged) (n begin : ℕ) (s : Shown) (shows : Shows files rs s) where
   may-lie : (id : RowId) (at : Place) (group : ℕ) → Rattle.bk_world.specs.Places.IsCellOf files group at → (place_of rs id ≡ Rattle.std.proofs.Common.Some at) ⊎ ((place_of rs id ≡ None) × IsFreePlace rs at) → MayLie s.groups id at
@@ -22,14 +25,14 @@ module _ (files : List FileSpec) (rs : List Logged) (n begin : ℕ) (s : Shown) 
   may-lie id at group cell (inr free) =
       inr (shows.kept.places id ∙ free.0, (subst (λ rooms. IsCell rooms at) (sym shows.kept.rooms) (cell-of files shows.files_are group at cell), (λ table key e. free.1 (table, key) (sym (shows.kept.places (table, key)) ∙ e))))
 
-  pub fits : (d : Deed) → MayCome rs n begin d → IsPlaced files (telling.tables rs) d → IsUnfit (body_of d) s → ⊥
+  pub fits : (d : Deed) → MayCome rs n begin d → IsPlaced files (telling.tables rs) d → IsUnfit begin (body_of d) s → ⊥
   fits (table_made time spec) may placed unfit =
       let above : length (telling.tables rs) + 1 ≤ spec.number = omega (arith, placed.0) in
       unfit (shows.kept.groups spec.number ∙ ap (option_map (λ (t : TableSpec). t.group)) (none-numbered 1 (telling.tables rs) spec.number shows.log.numbers above), placed.1)
   fits (written at before c) may placed unfit =
       unfit c.table c.key before c.value (record { fits = placed.0; old_is = refl; new_is = refl }) (may-lie (id_of c) at placed.1.0.group placed.1.1.1 may.place) placed.1.1.1.slot
   fits (loaded load) may placed unfit = absurd placed
-  fits (committed time mark) may placed unfit = unfit
+  fits (committed time mark) may placed unfit = clash (lacks_entry begin s.rows s.written.items) unfit (none-lacks begin s.rows s.written.items shows.kept.entries)
   fits rolled_back may placed unfit = unfit
   fits (undone at c k) may placed unfit = unfit
   fits (database_made time family branch) may placed unfit = unfit
@@ -38,3 +41,19 @@ module _ (files : List FileSpec) (rs : List Logged) (n begin : ℕ) (s : Shown) 
   fits (stamped time set) may placed unfit = unfit
   fits (model_set time model) may placed unfit = unfit
   fits (recovered branch) may placed unfit = unfit
+
+  -- one that isn't taken without memory is of a kind that needs it
+  pub grows : (d : Deed) → MayCome rs n begin d → IsPlaced files (telling.tables rs) d → IsUnfitReserved begin (body_of d) s → NeedsMemory d
+  grows d may placed (inr unfit) = absurd (fits d may placed unfit)
+  grows (table_made time spec) may placed (inl grown) = tt
+  grows (written at before c) may placed (inl grown) = tt
+  grows (loaded load) may placed (inl grown) = tt
+  grows (committed time mark) may placed (inl grown) = grown
+  grows rolled_back may placed (inl grown) = grown
+  grows (undone at c k) may placed (inl grown) = grown
+  grows (database_made time family branch) may placed (inl grown) = grown
+  grows begun may placed (inl grown) = grown
+  grows (checkpointed time) may placed (inl grown) = grown
+  grows (stamped time set) may placed (inl grown) = grown
+  grows (model_set time model) may placed (inl grown) = grown
+  grows (recovered branch) may placed (inl grown) = grown

@@ -20,10 +20,11 @@ use Rattle.bk_world.specs.declared.database.FileSpec.{FileSpec}
 use Rattle.bk_world.specs.declared.database.TableSpec.{TableSpec}
 use Rattle.bk_world.specs.declared.row.PlacedRow.{PlacedRow}
 use Rattle.bk_world.specs.RowLaws.{row-same, row-itself}
-use Rattle.bk_shown.specs.Rows.{RowValues, placed_in, value_among, with_place}
+use Rattle.bk_shown.specs.Rows.{ListsPlaced, RowEntries, RowValues, committed_of, placed_in, value_among, with_place}
 use Rattle.bk_shown.specs.Shown.{IsFit, Shows}
 use Rattle.bk_shown.specs.declared.shown.Shown.{Shown}
 use Rattle.bk_shown.proofs.Committed.{Holds, ValueFits, holds-all}
+use Rattle.bk_shown.proofs.Entries.{committed-values, value_in}
 use Rattle.bk_shown.proofs.MapKeys.{key_is}
 use Rattle.bk_shown.proofs.Starts.{keeps-none}
 use Rattle.bk_shown.proofs.Taken.{place-is}
@@ -102,8 +103,8 @@ swapped a b = by (eqb a.0 b.0) refl (eqb b.0 a.0) refl (eqb a.1 b.1) refl (eqb b
     by : (p : Bool) → eqb a.0 b.0 ≡ p → (q : Bool) → eqb b.0 a.0 ≡ q → (s : Bool) → eqb a.1 b.1 ≡ s → (t : Bool) → eqb b.1 a.1 ≡ t → is_row a b ≡ is_row b a
     by p is q isq s iss t ist = grind (arith, nat_tests)
 
-first-is : (e : RowId × List ℕ) (es : RowValues) (id : RowId) → value_among (e ∷ es) id ≡ cond (is_row e.0 id) (Some e.1) (value_among es id)
-first-is e es id = ap (λ t. cond t (Some e.1) (value_among es id)) (key_is id e.0 ∙ swapped id e.0)
+first-is : (e : RowId × List ℕ) (es : RowValues) (id : RowId) → value_in (e ∷ es) id ≡ cond (is_row e.0 id) (Some e.1) (value_in es id)
+first-is e es id = ap (λ t. cond t (Some e.1) (value_in es id)) (key_is id e.0 ∙ swapped id e.0)
 
 module _ (space : Space) (id : RowId) where
   abbrev here : Option Place
@@ -112,7 +113,7 @@ module _ (space : Space) (id : RowId) where
   none-here : {X : Type 0} (x : X) (o : Option X) → here ≡ None → (cond (is_some here) o None) ≡ None
   none-here x o e = ap (λ (h : Option Place). cond (is_some h) o None) e
 
-  pub placed-values : (es : RowValues) → option_map (λ (row : PlacedRow). row.value) (among (placed_in space es) id) ≡ cond (is_some here) (value_among es id) None
+  pub placed-values : (es : RowValues) → option_map (λ (row : PlacedRow). row.value) (among (placed_in space es) id) ≡ cond (is_some here) (value_in es id) None
   placed-values [] = by here
     where
       by : (h : Option Place) → let none : Option (List ℕ) = None in none ≡ cond (is_some h) none None
@@ -122,18 +123,18 @@ module _ (space : Space) (id : RowId) where
       by (space_place space e.0.0 e.0.1) refl (is_row e.0 id) refl (placed-values es) ∙ ap (λ (v : Option (List ℕ)). cond (is_some here) v None) (sym (first-is e es id))
     where
       by : (o : Option Place) → space_place space e.0.0 e.0.1 ≡ o → (t : Bool) → is_row e.0 id ≡ t
-          → option_map (λ (row : PlacedRow). row.value) (among (placed_in space es) id) ≡ cond (is_some here) (value_among es id) None
-          → option_map (λ (row : PlacedRow). row.value) (among (with_place e o (placed_in space es)) id) ≡ cond (is_some here) (cond (is_row e.0 id) (Some e.1) (value_among es id)) None
+          → option_map (λ (row : PlacedRow). row.value) (among (placed_in space es) id) ≡ cond (is_some here) (value_in es id) None
+          → option_map (λ (row : PlacedRow). row.value) (among (with_place e o (placed_in space es)) id) ≡ cond (is_some here) (cond (is_row e.0 id) (Some e.1) (value_in es id)) None
       by (Some at) at_is true is rest =
           let its : here ≡ Some at = ap (λ (i : RowId). space_place space i.0 i.1) (sym (row-same e.0 id is)) ∙ at_is in
           rw is (ap (λ (h : Option Place). cond (is_some h) (Some e.1) None) (sym its))
       by (Some at) at_is false isnt rest = rw isnt rest
       by None none true is rest =
           let its : here ≡ None = ap (λ (i : RowId). space_place space i.0 i.1) (sym (row-same e.0 id is)) ∙ none in
-          rest ∙ ap (λ (h : Option Place). cond (is_some h) (value_among es id) None) its ∙ ap (λ (h : Option Place). cond (is_some h) (cond (is_row e.0 id) (Some e.1) (value_among es id)) None) (sym its)
+          rest ∙ ap (λ (h : Option Place). cond (is_some h) (value_in es id) None) its ∙ ap (λ (h : Option Place). cond (is_some h) (cond (is_row e.0 id) (Some e.1) (value_in es id)) None) (sym its)
       by None none false isnt rest = rw isnt rest
 
-  pub placed-places : (es : RowValues) → option_map (λ (row : PlacedRow). row.place) (among (placed_in space es) id) ≡ cond (is_some (value_among es id)) here None
+  pub placed-places : (es : RowValues) → option_map (λ (row : PlacedRow). row.place) (among (placed_in space es) id) ≡ cond (is_some (value_in es id)) here None
   placed-places [] = refl
   placed-places (e ∷ es) =
       by (space_place space e.0.0 e.0.1) refl (is_row e.0 id) refl (placed-places es) ∙ ap (λ (v : Option (List ℕ)). cond (is_some v) here None) (sym (first-is e es id))
@@ -143,16 +144,24 @@ module _ (space : Space) (id : RowId) where
       either false e = sym e
 
       by : (o : Option Place) → space_place space e.0.0 e.0.1 ≡ o → (t : Bool) → is_row e.0 id ≡ t
-          → option_map (λ (row : PlacedRow). row.place) (among (placed_in space es) id) ≡ cond (is_some (value_among es id)) here None
-          → option_map (λ (row : PlacedRow). row.place) (among (with_place e o (placed_in space es)) id) ≡ cond (is_some (cond (is_row e.0 id) (Some e.1) (value_among es id))) here None
+          → option_map (λ (row : PlacedRow). row.place) (among (placed_in space es) id) ≡ cond (is_some (value_in es id)) here None
+          → option_map (λ (row : PlacedRow). row.place) (among (with_place e o (placed_in space es)) id) ≡ cond (is_some (cond (is_row e.0 id) (Some e.1) (value_in es id))) here None
       by (Some at) at_is true is rest =
           let its : here ≡ Some at = ap (λ (i : RowId). space_place space i.0 i.1) (sym (row-same e.0 id is)) ∙ at_is in
           rw is (sym its)
       by (Some at) at_is false isnt rest = rw isnt rest
       by None none true is rest =
           let its : here ≡ None = ap (λ (i : RowId). space_place space i.0 i.1) (sym (row-same e.0 id is)) ∙ none in
-          rest ∙ either (is_some (value_among es id)) its ∙ sym (ap (λ t. cond (is_some (cond t (Some e.1) (value_among es id))) here None) is)
+          rest ∙ either (is_some (value_in es id)) its ∙ sym (ap (λ t. cond (is_some (cond t (Some e.1) (value_in es id))) here None) is)
       by None none false isnt rest = rw isnt rest
+
+pub lists-placed : (space : Space) (es : RowEntries) (listed : List PlacedRow) → IsStrictlySortedBy row_cmp (keys_of es) → listed ≡ placed_in space (committed_of es) → ListsPlaced space es listed
+lists-placed space es listed sorted is = record {
+  values = λ id. ap (λ rows. option_map (λ (row : PlacedRow). row.value) (among rows id)) is ∙ placed-values space id (committed_of es)
+      ∙ ap (λ (v : Option (List ℕ)). cond (is_some (space_place space id.0 id.1)) v None) (committed-values es sorted id);
+  places = λ id. ap (λ rows. option_map (λ (row : PlacedRow). row.place) (among rows id)) is ∙ placed-places space id (committed_of es)
+      ∙ ap (λ (v : Option (List ℕ)). cond (is_some v) (space_place space id.0 id.1) None) (committed-values es sorted id);
+}
 
 -- ---- of a log that is shown
 
@@ -178,10 +187,10 @@ module _ (files : List FileSpec) (rs : List Logged) (s : Shown) (shows : Shows f
   place-there id None none = ap (λ b. cond b (space_place s.groups id.0 id.1) None) (committed id ∙ ap is_some none) ∙ sym none
   place-there id (Some at) is = ap (λ b. cond b (space_place s.groups id.0 id.1) None) (committed id ∙ ap is_some is) ∙ at-home id at is ∙ sym is
 
-  pub are-rows : AreRowsOf rs (placed_in s.groups s.rows)
-  are-rows = record {
-    values = λ id. sym (shows.kept.rows id) ∙ sym (placed-values s.groups id s.rows ∙ value-there id (homes rs id) refl);
-    places = λ id. sym (placed-places s.groups id s.rows ∙ place-there id (homes rs id) refl);
+  pub are-rows : (listed : List PlacedRow) → ListsPlaced s.groups s.rows listed → AreRowsOf rs listed
+  are-rows listed lists = record {
+    values = λ id. sym (shows.kept.rows id) ∙ sym (lists.values id ∙ value-there id (homes rs id) refl);
+    places = λ id. sym (lists.places id ∙ place-there id (homes rs id) refl);
   }
 
 pub holds-shown : (files : List FileSpec) (rs : List Logged) (s : Shown) → Shows files rs s → Holds files rs
@@ -195,8 +204,8 @@ any-found {X} p (y ∷ xs) x e = by (p y) e (any-found p xs x)
     by true e rest = refl
     by false e rest = rest e
 
-pub rows-fit : (files : List FileSpec) (rs : List Logged) (s : Shown) → Shows files rs s → (listed : List PlacedRow) → RowsRise listed → listed ≡ placed_in s.groups s.rows → AllByRecursion (IsFit (telling.tables rs)) listed
-rows-fit files rs s shows listed rise is = all_mapped (λ (row : PlacedRow). among listed (row_id row) ≡ Some row) (IsFit (telling.tables rs)) fit listed (among-itself listed rise)
+pub rows-fit : (files : List FileSpec) (rs : List Logged) (s : Shown) → Shows files rs s → (listed : List PlacedRow) → RowsRise listed → ListsPlaced s.groups s.rows listed → AllByRecursion (IsFit (telling.tables rs)) listed
+rows-fit files rs s shows listed rise lists = all_mapped (λ (row : PlacedRow). among listed (row_id row) ≡ Some row) (IsFit (telling.tables rs)) fit listed (among-itself listed rise)
   where
     there : {X : Type 0} (b : Bool) (o : Option X) (x : X) → cond b o None ≡ Some x → o ≡ Some x
     there true o x e = e
@@ -206,11 +215,10 @@ rows-fit files rs s shows listed rise is = all_mapped (λ (row : PlacedRow). amo
     fit row its =
         let id : RowId = row_id row in
         let holds = holds-shown files rs s shows in
-        let found : among (placed_in s.groups s.rows) (row_id row) ≡ Some row = ap (λ rows. among rows (row_id row)) (sym is) ∙ its in
         let value : value_among s.rows (row_id row) ≡ Some row.value =
-        there (is_some (space_place s.groups row.table row.key)) (value_among s.rows (row_id row)) row.value (sym (placed-values s.groups (row_id row) s.rows) ∙ ap (option_map (λ (r : PlacedRow). r.value)) found) in
+        there (is_some (space_place s.groups row.table row.key)) (value_among s.rows (row_id row)) row.value (sym (lists.values (row_id row)) ∙ ap (option_map (λ (r : PlacedRow). r.value)) its) in
         let place : space_place s.groups row.table row.key ≡ Some row.place =
-        there (is_some (value_among s.rows (row_id row))) (space_place s.groups row.table row.key) row.place (sym (placed-places s.groups (row_id row) s.rows) ∙ ap (option_map (λ (r : PlacedRow). r.place)) found) in
+        there (is_some (value_among s.rows (row_id row))) (space_place s.groups row.table row.key) row.place (sym (lists.places (row_id row)) ∙ ap (option_map (λ (r : PlacedRow). r.place)) its) in
         let fits = subst (ValueFits (row_id row)) (sym (shows.kept.rows (row_id row)) ∙ value) (holds.values (row_id row)) in
         let cell = holds.cells (row_id row) row.place (sym (shows.kept.places (row_id row)) ∙ place) in
         record { of_table = any-found (λ (t : TableSpec). t.number == row.table) (telling.tables rs) cell.0 cell.1; low_key = fits.0; short = fits.1 }

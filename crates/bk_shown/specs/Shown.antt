@@ -20,6 +20,7 @@ use Rattle.bk_world.specs.Telling.{row_at}
 use Rattle.bk_shown.specs.Ends.{HoldsPending}
 use Rattle.bk_shown.specs.Rows.{value_among}
 use Rattle.bk_shown.specs.Values.{FitsRow}
+use Rattle.bk_shown.specs.Writes.{HaveEntries}
 use Rattle.bk_shown.specs.declared.shown.Shown.{Shown}
 use Rattle.bk_shown.specs.declared.shown.Written.{Written}
 
@@ -72,11 +73,12 @@ abbrev pub ArePlaced : List FileSpec → List Logged → List Logged → Type 0
 ArePlaced files before [] = Unit {0}
 ArePlaced files before (r ∷ rs) = IsPlaced files (telling.tables before) r.deed × ArePlaced files (before ++ r ∷ []) rs
 
--- tables, committed rows, pending writes and places are the log's
+-- tables, committed rows, pending writes and places are the log's, and each row with a pending write has an entry
 pub record ShowsRows (files : List FileSpec) (rs : List Logged) (s : Shown) : Type 0 where
   pub tables : s.tables.items ≡ telling.tables rs
   pub rows : (id : RowId) → value_among s.rows id ≡ row_at (telling.rows rs id.0) id.1
   pub pending : map pending_of s.written.items ≡ log.pending rs
+  pub entries : HaveEntries s.rows s.written.items
   pub places : (id : RowId) → space_place s.groups id.0 id.1 ≡ place_of rs id
   pub rooms : s.groups.rooms ≡ (new_space files).rooms
   pub groups : (number : ℕ) → group_of s.groups number ≡ group_among (telling.tables rs) number
@@ -96,6 +98,13 @@ pub record IsNext (files : List FileSpec) (rs : List Logged) (r : Logged) : Type
   pub low : r.lsn < 2 ^ 62
   pub may : MayCome rs r.lsn r.begin r.deed
   pub placed : IsPlaced files (telling.tables rs) r.deed
+
+-- a record of this kind may need memory to be taken in
+abbrev pub NeedsMemory : Deed → Type 0
+NeedsMemory (table_made time spec) = Unit {0}
+NeedsMemory (written at before c) = Unit {0}
+NeedsMemory (loaded load) = Unit {0}
+NeedsMemory _ = ⊥
 
 -- some records may come next, one behind the other
 abbrev pub AreNext : List FileSpec → List Logged → List Logged → Type 0

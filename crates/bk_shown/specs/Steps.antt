@@ -1,5 +1,5 @@
 -- What each kind of record makes of what is kept.
-use Rattle.std.specs.Prelude.{◌≡◌, ◌<◌, ◌≤◌, ◌⊎◌, ℕ, ◌==◌, ◌&&◌, not, Bool, false, List, [], ◌∷◌, ◌++◌, filter, length, map, Option, Some, None, if◌then◌else◌, option_map}
+use Rattle.std.specs.Prelude.{◌≡◌, ◌<◌, ◌≤◌, ◌⊎◌, ℕ, ◌==◌, ◌&&◌, not, Bool, true, false, List, [], ◌∷◌, ◌++◌, filter, length, map, Option, Some, None, if◌then◌else◌, option_map}
 use Rattle.std.specs.List.{AllByRecursion, find}
 use Rattle.bk_groups.specs.Changes.{AddsTable, SetsPlace}
 use Rattle.bk_groups.specs.Groups.{Space, IsCell, IsFreeCell, group_of, new_space, place_of as space_place}
@@ -14,10 +14,10 @@ use Rattle.bk_world.specs.Records.{RowId, id_of, is_row}
 use Rattle.bk_world.specs.declared.database.FileSpec.{FileSpec}
 use Rattle.bk_world.specs.declared.database.TableSpec.{TableSpec}
 use Rattle.bk_world.specs.declared.row.PlacedRow.{PlacedRow}
-use Rattle.bk_shown.specs.Rows.{SetsRow, value_among}
+use Rattle.bk_shown.specs.Rows.{KeepsRows, Reserves, SetsEntry, has_entry, value_among}
 use Rattle.bk_shown.specs.Shown.{AreNumbered, group_among, lies_at, pending_of}
 use Rattle.bk_shown.specs.Values.{Spells}
-use Rattle.bk_shown.specs.Writes.{own_of, others_of, row_of, value_after, has_write, LetsGo}
+use Rattle.bk_shown.specs.Writes.{HaveEntries, LetsGo, has_write, lacks_entry, others_of, own_of, row_of, value_after}
 use Rattle.bk_shown.specs.declared.shown.Shown.{Shown}
 use Rattle.bk_shown.specs.declared.shown.Written.{Written}
 
@@ -33,6 +33,7 @@ pub record Commits (begin : ℕ) (old new : Shown) : Type 0 where
   pub same : SamePoints old new
   pub written : new.written.items ≡ others_of begin old.written.items
   pub rows : (id : RowId) → value_among new.rows id ≡ value_after id (own_of begin old.written.items) (value_among old.rows id)
+  pub entries : (id : RowId) → has_write (own_of begin old.written.items) id ≡ false → has_entry new.rows id ≡ has_entry old.rows id
   pub groups : LetsGo (λ id. has_write (own_of begin old.written.items) id) new.rows old.groups new.groups
 
 -- the row of the write of this number, where there is one
@@ -48,7 +49,7 @@ is_it (Some row) id = is_row row id
 pub record Undoes (undone : ℕ) (old new : Shown) : Type 0 where
   pub same : SamePoints old new
   pub written : new.written.items ≡ filter (λ (w : Written). not (w.lsn == undone)) old.written.items
-  pub rows : new.rows ≡ old.rows
+  pub rows : KeepsRows (λ id. not (has_write new.written.items id)) old.rows new.rows
   pub groups : LetsGo (λ id. is_it (row_numbered old.written.items undone) id && not (has_write new.written.items id)) new.rows old.groups new.groups
 
 -- a row may lie here: it does, or it has no place and the cell is free
@@ -61,11 +62,11 @@ pub record KeepsPlace (id : RowId) (at : Place) (old new : Space) : Type 0 where
   pub tables : new.tables ≡ old.tables
   pub places : (other : RowId) → space_place new other.0 other.1 ≡ (if is_row id other then Some at else space_place old other.0 other.1)
 
--- a write is pending, and its row lies in its cell
+-- a write is pending, and its row lies in its cell and has an entry
 pub record WritesRow (write : Written) (old new : Shown) : Type 0 where
   pub same : SamePoints old new
   pub written : new.written.items ≡ old.written.items ++ write ∷ []
-  pub rows : new.rows ≡ old.rows
+  pub rows : Reserves (row_of write) old.rows new.rows
   pub groups : KeepsPlace (row_of write) write.place old.groups new.groups
 
 -- a table may be made under a number and a name
@@ -94,11 +95,23 @@ TakesBody lsn begin (Bulk table first count value extents) old new = ⊥
 TakesBody lsn begin _ old new = new ≡ old
 
 -- where a body isn't taken
-abbrev pub IsUnfit : Body → Shown → Type 0
-IsUnfit (Table time number name group) old = MayMake old.groups number name → ⊥
-IsUnfit (Write at before after) old = (table key : ℕ) (b v : Option (List ℕ)) → Spells before.bytes after.bytes table key b v → MayLie old.groups (table, key) at → at.slot < 63 → ⊥
-IsUnfit (Bulk table first count value extents) old = Unit {0}
-IsUnfit _ old = ⊥
+abbrev pub IsUnfit : ℕ → Body → Shown → Type 0
+IsUnfit begin (Table time number name group) old = MayMake old.groups number name → ⊥
+IsUnfit begin (Write at before after) old = (table key : ℕ) (b v : Option (List ℕ)) → Spells before.bytes after.bytes table key b v → MayLie old.groups (table, key) at → at.slot < 63 → ⊥
+IsUnfit begin (Commit time mark) old = lacks_entry begin old.rows old.written.items ≡ true
+IsUnfit begin (Bulk table first count value extents) old = Unit {0}
+IsUnfit begin _ old = ⊥
+
+-- a body that isn't taken without memory
+abbrev pub Grows : Body → Type 0
+Grows (Table time number name group) = Unit {0}
+Grows (Write at before after) = Unit {0}
+Grows (Bulk table first count value extents) = Unit {0}
+Grows _ = ⊥
+
+-- where a body isn't taken without memory
+abbrev pub IsUnfitReserved : ℕ → Body → Shown → Type 0
+IsUnfitReserved begin body old = Grows body ⊎ IsUnfit begin body old
 
 -- the recovery model behind a record
 abbrev pub model_behind : Body → RecoveryModel → RecoveryModel
@@ -157,7 +170,7 @@ pub record AddsRow (row : PlacedRow) (old new : Shown) : Type 0 where
   pub none : space_place old.groups row.table row.key ≡ None
   pub tables : new.tables.items ≡ old.tables.items
   pub written : new.written.items ≡ old.written.items
-  pub rows : SetsRow old.rows new.rows (row_id row) (Some row.value)
+  pub rows : SetsEntry old.rows new.rows (row_id row) (Some (Some row.value))
   pub groups : SetsPlace old.groups new.groups row.table row.key (Some row.place)
 
 -- rows that rise, each in a cell of the files, no two in one
@@ -178,6 +191,7 @@ pub record HasWrites (files : List FileSpec) (made : List TableSpec) (listed : L
   pub places : (id : RowId) → space_place s.groups id.0 id.1 ≡ lies_at (map pending_of ws) (home_among listed) id
   pub rooms : s.groups.rooms ≡ (new_space files).rooms
   pub groups : AreNumbered 1 made → (number : ℕ) → group_of s.groups number ≡ group_among made number
+  pub entries : HaveEntries s.rows ws
 
 -- writes that are pending over committed rows: each row has one place, in a cell of the files, no two in one
 pub record MayPend (files : List FileSpec) (home : RowId → Option Place) (ws : List Pending) : Type 0 where

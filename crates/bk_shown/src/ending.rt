@@ -1,82 +1,93 @@
 //! Transactions end, and writes are undone.
 
-ghost use Rattle.std.specs.Prelude.{◌≡◌, ◌==◌, not, filter, IfOk, OnOk, IsErrOf};
+ghost use Rattle.std.specs.Prelude.{◌≡◌, ◌==◌, ◌∷◌, [], not, false, true, filter, map, IsTrue, OnErr, OnOk};
+ghost use Rattle.bk_shown.specs.Rows.{KeepsRows};
 ghost use Rattle.bk_shown.specs.Steps.{row_numbered};
-ghost use Rattle.bk_world.specs.Records.{RowId, is_row};
-ghost use Rattle.bk_shown.specs.Rows.{SetsRow, value_among};
-ghost use Rattle.bk_shown.specs.Writes.{own_of, others_of, row_of, value_after, has_write, LetsGo};
+ghost use Rattle.bk_shown.specs.Writes.{LetsGo, Settles, has_write, lacks_entry, others_of, own_of, spent};
+ghost use Rattle.bk_world.specs.Records.{is_row};
 
-use crate::error::TakeError;
+use crate::error::NotNext;
 use crate::rows::Rows;
 use crate::shown::{Shown, Written};
 use bk_groups::Groups;
 use bk_ids::Lsn;
-use std::alloc::{AllocError, Global};
-use std::mem;
 
-// Writes of one transaction, and those of all others, in their order.
-#[derive(Drop)]
-struct Parted {
-    own: Vec<Written>,
-    others: Vec<Written>,
+// The value of a write, if it is one of this transaction, moves into the entry of its row; false where the row has none.
+fn move_value(rows: &mut Rows, write: &mut Written, begin: Lsn) -> bool
+    ensures spent { IsTrue result → write.new ≡ spent begin write.old }
+    ensures moved { IsTrue result → Settles (own_of begin (write.old ∷ [])) rows.old rows.new }
+    ensures lacks { result ≡ false → lacks_entry begin rows.old (write.old ∷ []) ≡ true }
+{
+    if write.begin != begin {
+        return true;
+    }
+    let value = write.value.take();
+    rows.set(write.table, write.key, value)
 }
 
-// Parts the writes of one transaction from those of all others.
-fn part(alloc: Global, written: Vec<Written>, begin: Lsn) -> Result<Parted, AllocError>
-    ensures own { IfOk result (λ p. p.own.items ≡ own_of begin written.items) }
-    ensures others { IfOk result (λ p. p.others.items ≡ others_of begin written.items) }
+// The values of a transaction's writes move into the entries of their rows, one after the other; false where a row has
+// none.
+fn move_values(rows: &mut Rows, written: &mut [Written], begin: Lsn) -> bool
+    ensures spent { IsTrue result → written.new ≡ map (spent begin) written.old }
+    ensures moved { IsTrue result → Settles (own_of begin written.old) rows.old rows.new }
+    ensures lacks { result ≡ false → lacks_entry begin rows.old written.old ≡ true }
 {
-    let mut own = Vec::with_capacity(alloc, written.len())?;
-    let mut others = Vec::with_capacity(alloc, written.len())?;
-    for write in written {
-        if write.begin == begin {
-            own.push(write)?;
-        } else {
-            others.push(write)?;
+    for write in written.iter_mut() {
+        if !move_value(rows, write, begin) {
+            return false;
         }
     }
-    Ok(Parted { own, others })
+    true
 }
 
-// A row becomes committed as a write leaves it.
-fn set_row(alloc: Global, rows: &mut Rows, write: &Written) -> Result<(), AllocError>
-    ensures { OnOk result (SetsRow rows.old rows.new (row_of write.now) write.now.value) }
+// And so do those of a vector's.
+fn move_all(rows: &mut Rows, written: &mut Vec<Written>, begin: Lsn) -> bool
+    ensures spent { IsTrue result → written.new.items ≡ map (spent begin) written.old.items }
+    ensures moved { IsTrue result → Settles (own_of begin written.old.items) rows.old rows.new }
+    ensures lacks { result ≡ false → lacks_entry begin rows.old written.old.items ≡ true }
 {
-    match &write.value {
-        Some(value) => rows.put(write.table, write.key, value.copy(alloc)?),
-        None => {
-            rows.leave_out(write.table, write.key);
-            Ok(())
-        }
+    move_values(rows, written.as_mut_slice(), begin)
+}
+
+// The place and the entry of a row end, if it isn't committed.
+fn let_go(groups: &mut Groups, rows: &mut Rows, table: u32, key: u64)
+    ensures groups { LetsGo (λ id. is_row (table, key) id) rows.new groups.old groups.new }
+    ensures rows { KeepsRows (λ id. is_row (table, key) id) rows.old rows.new }
+{
+    if rows.has(table, key) {
+        return;
     }
-}
-
-// Rows become committed as some writes leave them, one after the other.
-fn set_rows(alloc: Global, rows: &mut Rows, writes: &[Written]) -> Result<(), AllocError>
-    ensures { OnOk result ((id : RowId) → value_among rows.new id ≡ value_after id writes.now (value_among rows.old id)) }
-{
-    for write in writes {
-        set_row(alloc, rows, write)?;
-    }
-    Ok(())
-}
-
-// The place of a row ends, if it has one and isn't committed.
-fn let_go(groups: &mut Groups, rows: &Rows, table: u32, key: u64)
-    ensures { LetsGo (λ id. is_row (table, key) id) rows.now groups.old groups.new }
-{
-    if !rows.has(table, key) && groups.find(table, key).is_some() {
+    rows.leave_out(table, key);
+    if groups.find(table, key).is_some() {
         groups.free(table, key);
     }
 }
 
-// And so do those of the rows of some writes.
-fn let_all_go(groups: &mut Groups, rows: &Rows, writes: &[Written])
-    ensures { LetsGo (λ id. has_write writes.now id) rows.now groups.old groups.new }
+// And so do those of the row of a write, if it is one of this transaction.
+fn let_own_go(groups: &mut Groups, rows: &mut Rows, write: &Written, begin: Lsn)
+    ensures groups { LetsGo (λ id. has_write (own_of begin (write.now ∷ [])) id) rows.new groups.old groups.new }
+    ensures rows { KeepsRows (λ id. has_write (own_of begin (write.now ∷ [])) id) rows.old rows.new }
 {
-    for write in writes {
+    if write.begin == begin {
         let_go(groups, rows, write.table, write.key);
     }
+}
+
+// And so do those of the rows of a transaction's writes.
+fn let_all_go(groups: &mut Groups, rows: &mut Rows, written: &[Written], begin: Lsn)
+    ensures groups { LetsGo (λ id. has_write (own_of begin written.now) id) rows.new groups.old groups.new }
+    ensures rows { KeepsRows (λ id. has_write (own_of begin written.now) id) rows.old rows.new }
+{
+    for write in written {
+        let_own_go(groups, rows, write, begin);
+    }
+}
+
+// Leaves the writes of a transaction out.
+fn drop_own(written: &mut Vec<Written>, begin: Lsn)
+    ensures { written.new.items ≡ others_of begin written.old.items }
+{
+    written.retain(|write| write.begin != begin);
 }
 
 // The row of the first write of a number.
@@ -100,18 +111,17 @@ fn drop_write(written: &mut Vec<Written>, number: Lsn)
 
 impl Shown {
     ghost use Rattle.bk_shown.specs.Steps.{Commits, Undoes};
-    ghost use Rattle.bk_shown.specs.declared.error.TakeError.TheVariants.{Unfit};
 
-    // The pending writes of a transaction are committed.
-    pub(crate) fn commit(&mut self, begin: Lsn) -> Result<(), TakeError>
+    // The pending writes of a transaction are committed. It takes no memory.
+    pub(crate) fn commit(&mut self, begin: Lsn) -> Result<(), NotNext>
         ensures ok { OnOk result (Commits begin self.old self.new) }
-        ensures fits { IsErrOf result Unfit → ⊥ }
+        ensures unfit { OnErr result (lacks_entry begin self.old.rows self.old.written.items ≡ true) }
     {
-        let written = mem::replace(&mut self.written, Vec::new(self.alloc));
-        let Parted { own, others } = part(self.alloc, written, begin)?;
-        self.written = others;
-        set_rows(self.alloc, &mut self.rows, &own)?;
-        let_all_go(&mut self.groups, &self.rows, &own);
+        if !move_all(&mut self.rows, &mut self.written, begin) {
+            return Err(NotNext);
+        }
+        let_all_go(&mut self.groups, &mut self.rows, &self.written, begin);
+        drop_own(&mut self.written, begin);
         Ok(())
     }
 
@@ -132,7 +142,7 @@ impl Shown {
         drop_write(&mut self.written, undone);
         if let Some((table, key)) = row {
             if !self.is_written(table, key) {
-                let_go(&mut self.groups, &self.rows, table, key);
+                let_go(&mut self.groups, &mut self.rows, table, key);
             }
         }
     }

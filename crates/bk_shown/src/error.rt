@@ -16,6 +16,19 @@ pub enum TakeError {
     NoMemory,
 }
 
+/// A record can't come behind the records that were taken in.
+#[derive(Clone, Copy, Debug, PartialEq, Eq, Error)]
+#[error("the record can't come next")]
+pub struct NotNext;
+
+impl From<NotNext> for TakeError {
+    ghost from_gives = { λ _ e. e ≡ Unfit };
+
+    fn from(_: NotNext) -> TakeError {
+        TakeError::Unfit
+    }
+}
+
 impl From<AllocError> for TakeError {
     ghost from_gives = { λ _ e. e ≡ NoMemory };
 

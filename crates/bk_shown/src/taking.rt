@@ -1,15 +1,15 @@
 //! One log record more.
 
-ghost use Rattle.std.specs.Prelude.{◌≡◌, ◌<◌, ◌≤◌, ◌∷◌, ◌++◌, [], List, length, IfOk, OnOk, IsErrOf};
+ghost use Rattle.std.specs.Prelude.{◌≡◌, ◌<◌, ◌≤◌, ◌∷◌, ◌++◌, [], List, length, IfOk, OnErr, OnOk, IsErrOf};
 ghost use Rattle.bk_record.specs.View.{record_of, body_of};
 ghost use Rattle.bk_undo.specs.Spelled.{spelled};
 ghost use Rattle.bk_world.specs.declared.database.FileSpec.{FileSpec};
 ghost use Rattle.bk_world.specs.Records.{Logged};
-ghost use Rattle.bk_shown.specs.Shown.{Shows, IsNext};
-ghost use Rattle.bk_shown.specs.Steps.{IsUnfit, MakesTable, MayMake, TakesBody, model_behind, time_behind};
+ghost use Rattle.bk_shown.specs.Shown.{Shows, IsNext, NeedsMemory};
+ghost use Rattle.bk_shown.specs.Steps.{IsUnfit, IsUnfitReserved, MakesTable, MayMake, TakesBody, model_behind, time_behind};
 ghost use Rattle.bk_shown.specs.declared.error.TakeError.TheVariants.{Unfit};
 
-use crate::error::TakeError;
+use crate::error::{NotNext, TakeError};
 use crate::shown::Shown;
 use bk_ids::{Name, NameError, RecoveryModel};
 use bk_record::{BodyRef, RecRef};
@@ -62,10 +62,26 @@ impl Shown {
         Ok(())
     }
 
+    // What the body of a record that takes no memory makes of what is kept.
+    fn take_body_reserved(&mut self, taken: RecRef<'_>) -> Result<(), NotNext>
+        ensures ok { OnOk result (TakesBody taken.entry.lsn taken.entry.begin (body_of taken.entry.body) self.old self.new) }
+        ensures unfit { OnErr result (IsUnfitReserved taken.entry.begin (body_of taken.entry.body) self.old) }
+    {
+        match taken.body {
+            BodyRef::Commit { .. } => self.commit(taken.begin),
+            BodyRef::Compensation { undone, .. } => {
+                self.undo(undone);
+                Ok(())
+            }
+            BodyRef::Table { .. } | BodyRef::Write { .. } | BodyRef::Bulk { .. } => Err(NotNext),
+            _ => Ok(()),
+        }
+    }
+
     // What the body of a record makes of what is kept.
     fn take_body(&mut self, taken: RecRef<'_>) -> Result<(), TakeError>
         ensures ok { OnOk result (TakesBody taken.entry.lsn taken.entry.begin (body_of taken.entry.body) self.old self.new) }
-        ensures unfit { IsErrOf result Unfit → IsUnfit (body_of taken.entry.body) self.old }
+        ensures unfit { IsErrOf result Unfit → IsUnfit taken.entry.begin (body_of taken.entry.body) self.old }
     {
         match taken.body {
             BodyRef::Table {
@@ -79,13 +95,10 @@ impl Shown {
                 before,
                 after,
             } => self.take_write(taken.lsn, taken.begin, place, before, after),
-            BodyRef::Commit { .. } => self.commit(taken.begin),
-            BodyRef::Compensation { undone, .. } => {
-                self.undo(undone);
+            _ => {
+                self.take_body_reserved(taken)?;
                 Ok(())
             }
-            BodyRef::Bulk { .. } => Err(TakeError::Unfit),
-            _ => Ok(()),
         }
     }
 
@@ -113,6 +126,24 @@ impl Shown {
             | BodyRef::Model { time, .. } => self.time = time,
             _ => {}
         }
+    }
+
+    /// Takes one log record more in, and takes no memory: a record of any kind but that of a table made, a write or a
+    /// minimal load. The error comes only where the record can't come behind those that were taken in, or is of these
+    /// three kinds; after it nothing is promised of what is kept.
+    pub fn take_reserved(&mut self, taken: RecRef<'_>) -> Result<(), NotNext>
+        ensures next { OnOk result ((files : List FileSpec) (rs : List Logged) (r : Logged) → Shows files rs self.old → IsNext files rs r → record_of taken.entry ≡ spelled r → Shows files (rs ++ r ∷ []) self.new) }
+        ensures unfit { OnErr result ((files : List FileSpec) (rs : List Logged) (r : Logged) → Shows files rs self.old → IsNext files rs r → record_of taken.entry ≡ spelled r → NeedsMemory r.deed) }
+    {
+        if taken.lsn != self.end || self.end >= LAST_NUMBER {
+            return Err(NotNext);
+        }
+        let end = self.end + 1;
+        self.take_body_reserved(taken)?;
+        self.take_model(taken.body);
+        self.take_time(taken.body);
+        self.end = end;
+        Ok(())
     }
 
     /// Takes one log record more in. `Unfit` comes only where the record can't come behind those that were taken in, or is

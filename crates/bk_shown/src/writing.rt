@@ -100,12 +100,13 @@ fn keep_place(groups: &mut Groups, table: u32, key: u64, at: &Place) -> Result<(
 }
 
 impl Shown {
-    // A write is pending, and its row lies in its cell.
+    // A write is pending, and its row lies in its cell and has an entry.
     pub(crate) fn add_write(&mut self, write: Written) -> Result<(), TakeError>
         ensures ok { OnOk result (WritesRow write self.old self.new) }
         ensures unfit { IsErrOf result Unfit → MayLie self.old.groups (row_of write) write.place → ⊥ }
     {
         keep_place(&mut self.groups, write.table, write.key, &write.place)?;
+        self.rows.reserve(write.table, write.key)?;
         push(&mut self.written, write)?;
         Ok(())
     }

@@ -7,7 +7,6 @@ use Rattle.bk_device.specs.Disk.{Disk, Files, IsDurable}
 use Rattle.bk_device.specs.Effects.{Effect}
 use Rattle.bk_facts.specs.declared.facts.DataFile.{DataFile}
 use Rattle.bk_ids.specs.declared.guid.Guid.{Guid}
-use Rattle.bk_ids.specs.declared.record.RecoveryModel.TheVariants.{Full}
 use Rattle.bk_known.specs.declared.known.DatabaseSpec.{DatabaseSpec}
 use Rattle.bk_known.specs.declared.known.Known.{Known}
 use Rattle.bk_known.specs.Known.{IsKnown, KeepsKnown, known_bytes}
@@ -22,18 +21,14 @@ use Rattle.bk_shown.specs.declared.shown.Shown.{Shown}
 use Rattle.bk_world.specs.Records.{Logged, database_made}
 use Rattle.bk_world.specs.Telling as telling
 use Rattle.bk_world.specs.Telling.{entries}
-use Rattle.bk_store.specs.Making.{Makes, MayDescribe, founding}
+use Rattle.bk_store.specs.Making.{Makes, MayDescribe, first_known, founding}
 use Rattle.bk_store.specs.Store.{Crashes, IsStore, Kept, at_end}
 use Rattle.bk_store.specs.Told.{IsAsOf, IsLogIn, IsNoted, Told, data_file, said, stood_of, unsaid}
-use Rattle.bk_store.proofs.Lifting.{more-leaves}
+use Rattle.bk_store.specs.LiftLaws.{more-leaves}
 
--- what is known of a database without a record
-abbrev pub first-known : DatabaseSpec → Known
-first-known spec = record { spec = spec; as_of = record { from = 1; tables = []; model = Full; time = 0 } }
-
-as_of-first : IsAsOf (record { from = 1; tables = []; model = Full; time = 0 }) []
+as_of-first : (spec : DatabaseSpec) → IsAsOf (first_known spec).as_of []
 unfolding telling.tables telling.model telling.time entries
-as_of-first = record {
+as_of-first spec = record {
   some = omega arith;
   inside = omega arith;
   tables = refl;
@@ -41,23 +36,23 @@ as_of-first = record {
   time = refl;
 }
 
-keeps-first : (spec : DatabaseSpec) → MayDescribe spec → KeepsKnown (first-known spec)
+keeps-first : (spec : DatabaseSpec) → MayDescribe spec → KeepsKnown (first_known spec)
 keeps-first spec may = record { path = may.path; storage = may.storage; tables = omega arith }
 
-noted-first : (spec : DatabaseSpec) → MayDescribe spec → IsKnown (first-known spec) → IsNoted (first-known spec) (unsaid spec [])
+noted-first : (spec : DatabaseSpec) → MayDescribe spec → IsKnown (first_known spec) → IsNoted (first_known spec) (unsaid spec [])
 noted-first spec may is = record {
   spec = refl;
   spelled = is;
   keeps = keeps-first spec may;
   short = omega arith;
-  as_of = as_of-first;
+  as_of = as_of-first spec;
 }
 
 log-first : (spec : DatabaseSpec) → MayDescribe spec → IsLogIn spec.storage.files []
 log-first spec may = record { files_are = may.files; counts = refl; sound = tt; placed = tt }
 
 -- the database is what the layer below made
-same-stood : (spec : DatabaseSpec) (files : List DataFile) (bytes : List ℕ) → files ≡ map data_file spec.storage.files → bytes ≡ known_bytes (first-known spec) ++ [] → unwritten files bytes ≡ stood_of (first-known spec) (unsaid spec [])
+same-stood : (spec : DatabaseSpec) (files : List DataFile) (bytes : List ℕ) → files ≡ map data_file spec.storage.files → bytes ≡ known_bytes (first_known spec) ++ [] → unwritten files bytes ≡ stood_of (first_known spec) (unsaid spec [])
 same-stood spec files bytes files_are bytes_are =
     ap (λ (fs : List DataFile). unwritten fs bytes) files_are ∙ ap (λ (bs : List ℕ). unwritten (map data_file spec.storage.files) bs) bytes_are
 
@@ -71,7 +66,7 @@ none-image db a image durable none may stood holds =
 pub none-crash : (db : ℕ) (spec : DatabaseSpec) (a : Disk) → IsDurable a (control_file db) → control_of (a.files (control_file db)) ≡ None → Makes db (unsaid spec []) a a
 none-crash db spec a durable none = effect_none a (λ image mine. inl (none-image db a image durable none (mine (control_file db) (inl (inl refl)))))
 
-pub made-crash : (db : ℕ) (spec : DatabaseSpec) (files : List DataFile) (bytes : List ℕ) (a b : Disk) → MayDescribe spec → IsKnown (first-known spec) → files ≡ map data_file spec.storage.files → bytes ≡ known_bytes (first-known spec) ++ []
+pub made-crash : (db : ℕ) (spec : DatabaseSpec) (files : List DataFile) (bytes : List ℕ) (a b : Disk) → MayDescribe spec → IsKnown (first_known spec) → files ≡ map data_file spec.storage.files → bytes ≡ known_bytes (first_known spec) ++ []
     → Effect (IsOwn db files) (λ image. HoldsNone db image ⊎ Holds db (unwritten files bytes) image) a b → Makes db (unsaid spec []) a b
 made-crash db spec files bytes a b may is files_are bytes_are effect =
     let Own : List DataFile → Type 0 = λ fs. Effect (IsOwn db fs) (λ image. HoldsNone db image ⊎ Holds db (unwritten files bytes) image) a b in
@@ -81,7 +76,7 @@ made-crash db spec files bytes a b may is files_are bytes_are effect =
         0,
         omega arith,
         record {
-          known = first-known spec;
+          known = first_known spec;
           noted = noted-first spec may is;
           log = log-first spec may;
           holds = subst (λ (stood : Stood). Holds db stood image) (same-stood spec files bytes files_are bytes_are) holds;
@@ -89,8 +84,8 @@ made-crash db spec files bytes a b may is files_are bytes_are effect =
       )
     ]) (subst Own files_are effect)
 
-pub made-stands : (spec : DatabaseSpec) (files : List DataFile) (bytes : List ℕ) (paged : KeptPaged) (shown : Shown) (b : Disk) → MayDescribe spec → IsKnown (first-known spec) → files ≡ map data_file spec.storage.files → bytes ≡ known_bytes (first-known spec) ++ []
-    → IsPaged b paged (unwritten files bytes) → paged.log.stored ≡ 1 → Shows spec.storage.files [] shown → IsStore b (record { paged = paged; shown = shown; known = first-known spec; note = [] }) (unsaid spec [])
+pub made-stands : (spec : DatabaseSpec) (files : List DataFile) (bytes : List ℕ) (paged : KeptPaged) (shown : Shown) (b : Disk) → MayDescribe spec → IsKnown (first_known spec) → files ≡ map data_file spec.storage.files → bytes ≡ known_bytes (first_known spec) ++ []
+    → IsPaged b paged (unwritten files bytes) → paged.log.stored ≡ 1 → Shows spec.storage.files [] shown → IsStore b (record { paged = paged; shown = shown; known = first_known spec; note = [] }) (unsaid spec [])
 made-stands spec files bytes paged shown b may is files_are bytes_are stands stored shows = record {
   paged = subst (λ (stood : Stood). IsPaged b paged stood) (same-stood spec files bytes files_are bytes_are) stands;
   shows = shows;

@@ -1,8 +1,5 @@
 mod Behind
-mod Cutting
 mod Founded
-mod Fronts
-mod Lifting
 mod More
 mod Renoted
 mod Undone

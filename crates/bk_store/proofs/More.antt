@@ -16,8 +16,8 @@ use Rattle.bk_world.specs.Cut.{end_behind}
 use Rattle.bk_world.specs.Records.{Counts, Logged, checkpointed}
 use Rattle.bk_store.specs.Store.{Crashes, IsStore, Kept, at_end}
 use Rattle.bk_store.specs.Told.{IsLogIn, IsNoted, Told, data_files, files_of, said, stood_of}
-use Rattle.bk_store.proofs.Fronts.{as_of-more, shown-log}
-use Rattle.bk_store.proofs.Lifting.{leaves-lift}
+use Rattle.bk_store.specs.FrontLaws.{as_of-more, shown-log}
+use Rattle.bk_store.specs.LiftLaws.{leaves-lift}
 
 pub log-more : (files : List FileSpec) (rs : List Logged) (r : Logged) → IsLogIn files rs → IsNext files rs r → IsLogIn files (rs ++ r ∷ [])
 log-more files rs r is next =

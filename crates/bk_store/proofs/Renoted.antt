@@ -21,8 +21,8 @@ use Rattle.bk_world.specs.Records.{Logged}
 use Rattle.bk_world.specs.Telling as telling
 use Rattle.bk_store.specs.Store.{Crashes, IsStore, Kept, NotesOr}
 use Rattle.bk_store.specs.Told.{IsAsOf, IsNoted, Told, below, data_files, files_of, stood_of}
-use Rattle.bk_store.proofs.Fronts.{shown-end, shown-log}
-use Rattle.bk_store.proofs.Lifting.{leaves-lift}
+use Rattle.bk_store.specs.FrontLaws.{shown-end, shown-log}
+use Rattle.bk_store.specs.LiftLaws.{leaves-lift}
 
 -- ---- a log that is needed from a later number on
 

@@ -1,6 +1,9 @@
-pub mod Told
-pub mod Store
-pub mod Making
-pub mod Writing
-pub mod Recent
+pub mod CutLaws
 pub mod Errors
+pub mod FrontLaws
+pub mod LiftLaws
+pub mod Making
+pub mod Recent
+pub mod Store
+pub mod Told
+pub mod Writing

@@ -4,7 +4,9 @@ use Rattle.bk_device.specs.Disk.{Disk}
 use Rattle.bk_device.specs.Effects.{Effect}
 use Rattle.bk_groups.specs.Groups.{AreFiles}
 use Rattle.bk_ids.specs.declared.guid.Guid.{Guid}
+use Rattle.bk_ids.specs.declared.record.RecoveryModel.TheVariants.{Full}
 use Rattle.bk_known.specs.declared.known.DatabaseSpec.{DatabaseSpec}
+use Rattle.bk_known.specs.declared.known.Known.{Known}
 use Rattle.bk_known.specs.Known.{FitsNote}
 use Rattle.bk_paged.specs.Making.{HoldsNone}
 use Rattle.bk_paged.specs.Names.{IsOwn}
@@ -16,6 +18,10 @@ pub record MayDescribe (spec : DatabaseSpec) : Type 0 where
   pub path : length spec.path ≤ 64
   pub storage : FitsNote spec.storage
   pub files : AreFiles spec.storage.files
+
+-- what is known of a database without a record
+abbrev pub first_known : DatabaseSpec → Known
+first_known spec = record { spec = spec; as_of = record { from = 1; tables = []; model = Full; time = 0 } }
 
 -- its first record
 abbrev pub founding : ℕ → Guid → Guid → Logged

@@ -14,5 +14,6 @@ mod view;
 mod writing;
 
 pub use error::StoreError;
+pub use noting::copy_tables;
 pub use recent::{Recent, told_behind};
 pub use store::Store;

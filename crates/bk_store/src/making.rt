@@ -10,7 +10,9 @@ ghost use Rattle.bk_facts.specs.declared.facts.DataFile.{DataFile as DataFiles};
 ghost use Rattle.bk_paged.specs.Making.{AreAbsent, HoldsNone, NamesFiles, Removes};
 ghost use Rattle.bk_paged.specs.Names.{IsOwn, names_of};
 ghost use Rattle.bk_side.specs.Names.{side_file, IsOwn as IsOfSide};
-ghost use Rattle.bk_store.specs.Making.{Makes, MayDescribe, founded};
+ghost use Rattle.bk_shown.specs.Shown.{Shows};
+ghost use Rattle.bk_shown.specs.declared.shown.Shown.{Shown as KeptShown};
+ghost use Rattle.bk_store.specs.Making.{Makes, MayDescribe, first_known, founded};
 ghost use Rattle.bk_store.specs.Store.{IsStore};
 ghost use Rattle.bk_store.specs.Told.{data_file, unsaid};
 
@@ -51,7 +53,7 @@ fn files_of(alloc: Global, files: &[FileSpec]) -> Result<Vec<DataFile>, AllocErr
 
 // What is known of a database without a record.
 fn known_first(alloc: Global, spec: DatabaseSpec) -> Known
-    ensures { result ≡ record { spec = spec; as_of = record { from = 1; tables = []; model = RecoveryModel.Full; time = 0 } } }
+    ensures { result ≡ first_known spec }
 {
     let as_of = AsOf {
         from: 1,
@@ -60,6 +62,34 @@ fn known_first(alloc: Global, spec: DatabaseSpec) -> Known
         time: 0,
     };
     Known { spec, as_of }
+}
+
+// Makes log and pages of a database without a record, of which this is known.
+fn make_paged<D: Device>(
+    alloc: Global,
+    dev: &mut D,
+    db: u32,
+    known: &Known,
+    frames: usize,
+) -> Result<Paged, StoreError>
+    requires some { 1 ≤ frames }
+    requires first { known.now ≡ first_known known.now.spec }
+    requires may { MayDescribe known.now.spec }
+    requires durable { D.tells → IsDurable (D.disk dev.old) (control_file db) }
+    requires none { D.tells → control_of ((D.disk dev.old).files (control_file db)) ≡ None }
+    ensures fit { IfOk result (λ p. p.failed ≡ false) }
+    ensures ends { IfOk result (λ p. (p.log.db ≡ db) × (p.log.stored ≡ 1) × (p.log.end ≡ 1)) }
+    ensures stands { D.tells → (shown : KeptShown) → Shows known.now.spec.storage.files [] shown → IfOk result (λ p. IsStore (D.disk dev.new) (record { paged = p; shown = shown; known = known.now; note = [] }) (unsaid known.now.spec [])) }
+    ensures crash { D.tells → Makes db (unsaid known.now.spec []) (D.disk dev.old) (D.disk dev.new) }
+    ensures cause { HasCause D.disk_faults D.tell_faults dev.old dev.new (IsErrOf result StoreError.Fault) }
+{
+    let files = files_of(alloc, known.spec.storage.files.as_slice())?;
+    let bytes = spell_known(alloc, known, &[])?;
+    if !may_make(alloc, &files, &bytes)? {
+        return Err(StoreError::NoMemory);
+    }
+    let paged = Paged::make(alloc, dev, db, files, &bytes, frames)?;
+    Ok(paged)
 }
 
 impl Store {
@@ -82,13 +112,8 @@ impl Store {
         ensures cause { HasCause D.disk_faults D.tell_faults dev.old dev.new (IsErrOf result StoreError.Fault) }
     {
         let shown = Shown::new(alloc, spec.storage.files.as_slice())?;
-        let files = files_of(alloc, spec.storage.files.as_slice())?;
         let known = known_first(alloc, spec);
-        let bytes = spell_known(alloc, &known, &[])?;
-        if !may_make(alloc, &files, &bytes)? {
-            return Err(StoreError::NoMemory);
-        }
-        let paged = Paged::make(alloc, dev, db, files, &bytes, frames)?;
+        let paged = make_paged(alloc, dev, db, &known, frames)?;
         Ok(Store {
             paged,
             shown,

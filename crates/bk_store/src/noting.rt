@@ -34,8 +34,8 @@ fn copy_table(alloc: Global, table: &TableSpec) -> Result<TableSpec, AllocError>
     })
 }
 
-// Tables of their own.
-fn copy_tables(alloc: Global, tables: &[TableSpec]) -> Result<Sequence<TableSpec>, AllocError>
+/// Tables of their own.
+pub fn copy_tables(alloc: Global, tables: &[TableSpec]) -> Result<Sequence<TableSpec>, AllocError>
     ensures { IfOk result (λ copy. copy ≡ tables.now) }
 {
     let mut copy = Vec::new(alloc);

@@ -1,12 +1,13 @@
 // What the end of a log says.
-ghost use Rattle.std.specs.Prelude.{◌≡◌, List, IfOk, OnOk};
+ghost use Rattle.std.specs.Prelude.{◌≡◌, ◌≤◌, List, length, IfOk, OnOk, IsErrOf};
 ghost use Rattle.bk_shown.specs.Steps.{model_behind, time_behind};
+ghost use Rattle.bk_record.specs.Spelling.{IsBody};
 ghost use Rattle.bk_record.specs.View.{body_of};
 ghost use Rattle.bk_world.specs.Records.{Logged};
 ghost use Rattle.bk_store.specs.Recent.{Says, SaysFront, Takes, tables_behind};
 
-use crate::error::StoreError;
 use bk_ids::{Name, NameError, RecoveryModel};
+use bk_paged::PagedError;
 use bk_record::{BodyRef, RecRef, cursor};
 use bk_world::TableSpec;
 use std::alloc::Global;
@@ -19,17 +20,19 @@ pub struct Recent {
     pub time: u64,
 }
 
-// The name that a text spells.
-fn name_of(alloc: Global, text: &str) -> Result<Name, StoreError>
-    ensures { IfOk result (λ name. name ≡ text.now) }
+// The name that a text spells. `Foreign` is answered where it has not 1 to 64 bytes.
+fn name_of(alloc: Global, text: &str) -> Result<Name, PagedError>
+    ensures name { IfOk result (λ name. name ≡ text.now) }
+    ensures foreign { IsErrOf result PagedError.Foreign → 1 ≤ length text.now → length text.now ≤ 64 → ⊥ }
+    ensures fault { IsErrOf result PagedError.Fault → ⊥ }
 {
     if text.is_empty() {
-        return Err(StoreError::NoMemory);
+        return Err(PagedError::Foreign);
     }
     match Name::new(alloc, text) {
         Ok(name) => Ok(name),
-        Err(NameError::TooLong { .. }) => Err(StoreError::NoMemory),
-        Err(NameError::NoMemory) => Err(StoreError::NoMemory),
+        Err(NameError::TooLong { .. }) => Err(PagedError::Foreign),
+        Err(NameError::NoMemory) => Err(PagedError::NoMemory),
     }
 }
 
@@ -64,8 +67,10 @@ fn take_tables(
     alloc: Global,
     tables: &mut Vec<TableSpec>,
     body: BodyRef<'_>,
-) -> Result<(), StoreError>
-    ensures { OnOk result (tables.new.items ≡ tables_behind (body_of body.entry) tables.old.items) }
+) -> Result<(), PagedError>
+    ensures tables { OnOk result (tables.new.items ≡ tables_behind (body_of body.entry) tables.old.items) }
+    ensures foreign { IsErrOf result PagedError.Foreign → IsBody (body_of body.entry) → ⊥ }
+    ensures fault { IsErrOf result PagedError.Fault → ⊥ }
 {
     if let BodyRef::Table {
         number,
@@ -85,8 +90,10 @@ fn take_tables(
 }
 
 // What a record makes of them.
-fn take_record(alloc: Global, recent: &mut Recent, taken: RecRef<'_>) -> Result<(), StoreError>
-    ensures { OnOk result (Takes (body_of taken.entry.body) recent.old recent.new) }
+fn take_record(alloc: Global, recent: &mut Recent, taken: RecRef<'_>) -> Result<(), PagedError>
+    ensures takes { OnOk result (Takes (body_of taken.entry.body) recent.old recent.new) }
+    ensures foreign { IsErrOf result PagedError.Foreign → IsBody (body_of taken.entry.body) → ⊥ }
+    ensures fault { IsErrOf result PagedError.Fault → ⊥ }
 {
     take_tables(alloc, &mut recent.tables, taken.body)?;
     take_model(&mut recent.model, taken.body);
@@ -94,14 +101,16 @@ fn take_record(alloc: Global, recent: &mut Recent, taken: RecRef<'_>) -> Result<
     Ok(())
 }
 
-/// What all records of a log say, from what a front of them says, and the bytes of the others.
-pub fn told_behind(alloc: Global, first: Recent, log: &[u8]) -> Result<Recent, StoreError>
-    ensures { IfOk result (λ last. (rs : List Logged) → SaysFront rs log.now first → Says rs last) }
+/// What all records of a log say, from what a front of them says, and the bytes of the others. `Foreign` is answered only where these are no log.
+pub fn told_behind(alloc: Global, first: Recent, log: &[u8]) -> Result<Recent, PagedError>
+    ensures says { IfOk result (λ last. (rs : List Logged) → SaysFront rs log.now first → Says rs last) }
+    ensures foreign { IsErrOf result PagedError.Foreign → (rs : List Logged) → SaysFront rs log.now first → ⊥ }
+    ensures fault { IsErrOf result PagedError.Fault → ⊥ }
 {
     let mut recent = first;
     for record in cursor(log) {
         let Ok(record) = record else {
-            return Err(StoreError::NoMemory);
+            return Err(PagedError::Foreign);
         };
         take_record(alloc, &mut recent, record)?;
     }

@@ -40,6 +40,20 @@ impl Model for Store {
 }
 
 impl Store {
+    /// The value of its parts, as they are opened: log and pages, what the log shows, what its note says, and the note of the layer above.
+    pub fn from_parts(paged: Paged, shown: Shown, known: Known, note: Vec<u8>) -> Store
+        requires keeps { KeepsKnown known }
+        requires short { length note.items ≤ 12288 }
+        ensures { result ≡ record { paged = paged; shown = shown; known = known; note = note.items } }
+    {
+        Store {
+            paged,
+            shown,
+            known,
+            note,
+        }
+    }
+
     /// The number of the next record.
     pub fn end(&self) -> Lsn
         ensures { result ≡ self.now.paged.log.end }

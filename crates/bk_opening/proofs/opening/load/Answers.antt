@@ -1,11 +1,12 @@
-use Rattle.std.proofs.Common.{arith}
+use Rattle.std.proofs.Common.{arith, sym, subst}
 use Rattle.std.proofs.lemmas.Result.{err_from_is_err_and}
 use Rattle.bk_device.specs.Compose.{effect_then}
 use Rattle.bk_lemmas.specs.Tests.{same_error}
 use Rattle.bk_paged.specs.declared.error.PagedError.TheVariants.{Foreign}
 use Rattle.bk_paged.specs.Holds.{recovered}
 use Rattle.bk_paged.specs.Laws.{crash_as}
-use Rattle.bk_paged.specs.Paged.{sealed_count}
+use Rattle.bk_paged.specs.Paged.{Kept, sealed_count}
+use Rattle.bk_opening.specs.Opening.{AreIn}
 use Rattle.bk_opening.proofs.opening.load.Goals as goal
 
 pub returns-in_err-flush-clause-crash : goal.returns-in_err-flush-clause-crash
@@ -33,3 +34,6 @@ returns-in_err-paged-clause-foreign g c t =
 
 pub returns-clause-stands : goal.returns-clause-stands
 returns-clause-stands g c t stood durable holds = c.in_ok-flush.ensures.stands t (recovered stood) (c.in_ok-paged.ensures.stands t stood durable holds).0
+
+pub returns-clause-whole : goal.returns-clause-whole
+returns-clause-whole g c = subst (λ (k : Kept). AreIn k.facts.files k.pool) (sym c.in_ok-flush.ensures.same) c.in_ok-paged.ensures.whole

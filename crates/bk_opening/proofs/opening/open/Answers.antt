@@ -12,7 +12,7 @@ use Rattle.bk_side.specs.Side.{pages_of}
 use Rattle.bk_paged.specs.declared.error.PagedError.TheVariants.{Foreign}
 use Rattle.bk_paged.specs.Holds.{recovered}
 use Rattle.bk_paged.specs.Names.{names_of}
-use Rattle.bk_opening.specs.Opening.{Brings}
+use Rattle.bk_opening.specs.Opening.{AreIn, Brings}
 use Rattle.bk_paged.specs.Paged.{IsPaged, Kept, sealed_count}
 use Rattle.bk_opening.proofs.Causes.{as_error, foreign_log, same_cause}
 use Rattle.bk_opening.proofs.Loading.{SideOpened, brings, bytes_then, grown_bytes, grown_is, held_bytes, log_crash, log_read, noted_then, opened_count, opened_logs, opened_stands, room, side_crash}
@@ -207,3 +207,6 @@ returns-clause-stands g c t stood durable holds =
       subst (λ (k : Kept). IsPaged e k (recovered stood)) (sym c.from_parts.ensures) made,
       ap sealed_count c.from_parts.ensures ∙ opened_count laws c.args.db stood a m log facts note is_read last d side opened new grown,
     )
+
+pub returns-clause-whole : goal.returns-clause-whole
+returns-clause-whole g c = subst (λ (k : Kept). AreIn k.facts.files k.pool) (sym c.from_parts.ensures) c.in_ok-pool.ensures.whole

@@ -4,6 +4,7 @@ use Rattle.bk_paths.specs.Paths.{kept_from}
 use Rattle.bk_side.specs.Side.{pages_of}
 use Rattle.bk_paged.specs.declared.error.PagedError.TheVariants.{Foreign}
 use Rattle.bk_opening.proofs.Bringing.{brought_clean, brought_frames, is_brought}
+use Rattle.bk_opening.proofs.Places.{all_in}
 use Rattle.bk_opening.proofs.reading.open_pool.Goals as goal
 
 pub returns-in_err-redo_frames-clause-foreign : goal.returns-in_err-redo_frames-clause-foreign
@@ -24,3 +25,8 @@ returns-clause-clean g c t records brings at there clean =
     (is_brought c.as_slice.result.now c.in_ok-places.places.items c.deref.result.now c.deref-2.result.now c.deref-3.result.now c.read_frames.new.frames c.frames-2.result.now c.mark_pages.ensures.marks c.as_slice.ensures
     c.in_ok-places.ensures.places c.deref.ensures.value c.in_ok-pool.ensures.put c.deref-2.ensures.value (c.in_ok-read_frames.ensures.read t) c.frames-2.ensures.value c.deref-3.ensures.value c.in_ok-redo_frames.ensures.redone)
     brings at there clean
+
+pub returns-clause-whole : goal.returns-clause-whole
+returns-clause-whole g c =
+    all_in c.args.facts.now.files c.as_slice.result.now c.in_ok-places.places.items c.deref.result.now _ c.mark_pages.new.pool.pages c.as_slice.ensures c.in_ok-places.ensures.places c.deref.ensures.value c.in_ok-pool.ensures.put
+    c.mark_pages.ensures.marks.pages

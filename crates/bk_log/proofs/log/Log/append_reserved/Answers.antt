@@ -25,8 +25,8 @@ invariant_of-self c =
     let more = part_more c.self.inside.stored c.self.inside.end c.self.inside.waiting.items c.args.r.now inv.4 c.encode_reserved.ensures.fits (c.requires.number ∙ sym ends) in
     (inv.0, inv.1, inv.2, inv.3, subst (λ (bs : List ℕ). IsPart c.self.inside.stored bs (c.self.inside.end + 1)) (sym c.encode_reserved.ensures.items) more, omega (arith, c.requires.small, ends), inv.6, inv.7, omega (arith, inv.8, enough, c.spelled_len-len.ensures.len, c.encode_reserved.ensures.len, c.encode_reserved.ensures.room), inv.9)
 
-pub returns : goal.returns
-returns c =
+pub returns-clause-more : goal.returns-clause-more
+returns-clause-more c =
     let inv = c.self.invariant in
     let grown : records_in c.encode_reserved.new.out.items ≡ records_in c.self.inside.waiting.items ++ c.args.r.now ∷ [] =
     ap records_in c.encode_reserved.ensures.items ∙ records_more c.self.inside.waiting.items c.args.r.now inv.4.batch c.encode_reserved.ensures.fits in

@@ -1,6 +1,6 @@
 use Rattle.std.proofs.Common.{cond, Some, ap, ◌∙◌}
 use Rattle.bk_world.specs.Records.{RowId, is_row}
-use Rattle.bk_shown.specs.Rows.{value_among}
+use Rattle.bk_shown.specs.Rows.{entry_among}
 use Rattle.bk_shown.proofs.MapKeys.{key_is}
 use Rattle.bk_shown.proofs.rows.Rows.put.Goals as goal
 
@@ -8,5 +8,5 @@ pub returns : goal.returns
 returns c =
     let id : RowId = (c.args.table, c.args.key) in
     let values = c.self.inside.values.entries in
-    λ other. c.in_ok-insert.ensures.updates.0 other ∙ ap (λ b. cond b (Some c.args.value) (value_among values other)) (key_is id other)
-    ∙ ap (λ vs. cond (is_row id other) (Some c.args.value) (value_among vs other)) c.self.view_is
+    λ other. c.in_ok-insert.ensures.updates.0 other ∙ ap (λ b. cond b (Some (Some c.args.value)) (entry_among values other)) (key_is id other)
+    ∙ ap (λ vs. cond (is_row id other) (Some (Some c.args.value)) (entry_among vs other)) c.self.view_is

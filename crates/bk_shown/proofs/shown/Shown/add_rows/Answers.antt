@@ -4,7 +4,8 @@ use Rattle.std.proofs.lemmas.List.{take_all}
 use Rattle.bk_world.specs.declared.row.PlacedRow.{PlacedRow}
 use Rattle.bk_shown.specs.Steps.{HasRows, MayAdd}
 use Rattle.bk_shown.specs.declared.error.TakeError.TheVariants.{Unfit}
-use Rattle.bk_shown.proofs.Restored.{has-row, may-add, take-next}
+use Rattle.bk_shown.proofs.Lists.{take-next}
+use Rattle.bk_shown.proofs.Restored.{has-row, may-add}
 use Rattle.bk_shown.proofs.shown.Shown.add_rows.Goals as goal
 
 unfit : (c : goal.After-from_residual) → IsErrOf c.from_residual.result Unfit → MayAdd c.loop-row.self.groups c.row-item.result → ⊥

@@ -3,7 +3,8 @@ use Rattle.std.specs.Prelude.{IsErrOf}
 use Rattle.bk_world.specs.declared.database.TableSpec.{TableSpec}
 use Rattle.bk_shown.specs.Steps.{HasRows, MakesTable, MayMake}
 use Rattle.bk_shown.specs.declared.error.TakeError.TheVariants.{Unfit}
-use Rattle.bk_shown.proofs.Restored.{has-table, may-make, take-next}
+use Rattle.bk_shown.proofs.Lists.{take-next}
+use Rattle.bk_shown.proofs.Restored.{has-table, may-make}
 use Rattle.bk_shown.proofs.shown.Shown.add_tables.Goals as goal
 
 unfit : (c : goal.After-from_residual) → IsErrOf c.from_residual.result Unfit → MayMake c.loop-table.self.groups c.table-item.result.number c.as_str.result.now → ⊥

@@ -21,13 +21,13 @@ returns-then-taken-self-clause-unfit c = λ e files rs r shows next is.
       | then-taken-self-via-else-taken-self+then-self-ge-LAST_NUMBER w ↦ absurd (omega (arith, number, next.low, w.if-self-ge-LAST_NUMBER.true))
     ]
 
-unfit : (c : goal.After-from_residual) → IsErrOf c.from_residual.result Unfit → IsUnfit (body_of c.args.taken.body) c.args.self.now
+unfit : (c : goal.After-from_residual) → IsErrOf c.from_residual.result Unfit → IsUnfit c.args.taken.begin (body_of c.args.taken.body) c.args.self.now
 unfit c e = search rules
 
 pub returns-in_err-take_body-clause-unfit : goal.returns-in_err-take_body-clause-unfit
 returns-in_err-take_body-clause-unfit c = λ e files rs r shows next is.
     fits files rs r.lsn r.begin c.args.self.now shows r.deed next.may next.placed
-    (subst (λ (b : Body). IsUnfit b c.args.self.now) (ap (λ (g : Rec). g.body) is) (unfit c e))
+    (subst (λ (g : Rec). IsUnfit g.begin g.body c.args.self.now) is (unfit c e))
 
 pub returns-clause-next : goal.returns-clause-next
 returns-clause-next c = λ files rs r shows next is.

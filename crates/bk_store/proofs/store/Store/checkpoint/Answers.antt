@@ -3,7 +3,7 @@ use Rattle.bk_device.specs.Compose.{effect_then}
 use Rattle.bk_world.specs.Records.{checkpointed}
 use Rattle.bk_store.specs.Store.{at_end}
 use Rattle.bk_store.specs.Told.{said}
-use Rattle.bk_store.proofs.Cutting.{crash-later}
+use Rattle.bk_store.specs.CutLaws.{crash-later}
 use Rattle.bk_store.proofs.store.Store.checkpoint.Goals as goal
 
 pub note_end-requires-clause-stands : goal.note_end-requires-clause-stands

@@ -5,8 +5,8 @@ use Rattle.bk_shown.specs.declared.shown.Written.{Written}
 use Rattle.bk_undo.specs.Spelled.{spelled}
 use Rattle.bk_store.specs.Store.{Crashes, IsStore, Kept}
 use Rattle.bk_store.specs.Told.{stood_of}
-use Rattle.bk_store.proofs.Cutting.{keeps-open}
-use Rattle.bk_store.proofs.Lifting.{crash-lift, moved-crash, moved-stands, paged-stands}
+use Rattle.bk_store.specs.CutLaws.{keeps-open}
+use Rattle.bk_store.specs.LiftLaws.{crash-lift, moved-crash, moved-stands, paged-stands}
 use Rattle.bk_store.proofs.store.Store.cut.Goals as goal
 
 pub returns-then-not-may_cut-clause-crash : goal.returns-then-not-may_cut-clause-crash

@@ -1,7 +1,7 @@
 use Rattle.std.proofs.Common.{sym, subst, arith}
 use Rattle.bk_store.specs.Store.{Crashes, IsStore, Kept}
 use Rattle.bk_store.specs.Told.{stood_of}
-use Rattle.bk_store.proofs.Lifting.{crash-lift, paged-stands}
+use Rattle.bk_store.specs.LiftLaws.{crash-lift, paged-stands}
 use Rattle.bk_store.proofs.store.Store.flush.Goals as goal
 
 pub returns-in_err-flush-clause-crash : goal.returns-in_err-flush-clause-crash

@@ -5,7 +5,7 @@ use Rattle.bk_paged.specs.Paged.{checkpoint_record}
 use Rattle.bk_world.specs.Records.{checkpointed}
 use Rattle.bk_store.specs.Store.{Crashes, IsStore, Kept, at_end}
 use Rattle.bk_store.specs.Told.{files_of, said, stood_of}
-use Rattle.bk_store.proofs.Lifting.{said-stands}
+use Rattle.bk_store.specs.LiftLaws.{said-stands}
 use Rattle.bk_store.proofs.More.{checkpoint-next, crash-said}
 use Rattle.bk_store.proofs.store.Store.mark_checkpoint.Goals as goal
 

@@ -3,7 +3,7 @@ use Rattle.bk_known.specs.declared.known.Known.{Known}
 use Rattle.bk_known.specs.Known.{KeepsKnown, known_bytes}
 use Rattle.bk_store.specs.Store.{Crashes, IsStore, Kept}
 use Rattle.bk_store.specs.Told.{files_of, stood_of}
-use Rattle.bk_store.proofs.Lifting.{crash-lift, moved-crash, moved-stands}
+use Rattle.bk_store.specs.LiftLaws.{crash-lift, moved-crash, moved-stands}
 use Rattle.bk_store.proofs.Renoted.{noted-crash, noted-stands, one-note, renotes-end}
 use Rattle.bk_store.proofs.store.Store.note_end.Goals as goal
 

@@ -1,7 +1,7 @@
 use Rattle.std.proofs.Common.{◌≤◌, ◌∙◌, sym, subst}
 use Rattle.bk_store.specs.Store.{Crashes, IsStore, Kept}
 use Rattle.bk_store.specs.Told.{files_of, stood_of}
-use Rattle.bk_store.proofs.Lifting.{crash-lift, moved-crash, moved-stands, said-stands}
+use Rattle.bk_store.specs.LiftLaws.{crash-lift, moved-crash, moved-stands, said-stands}
 use Rattle.bk_store.proofs.store.Store.say.Goals as goal
 
 pub returns-then-not-may_append-clause-crash : goal.returns-then-not-may_append-clause-crash

@@ -1,5 +1,5 @@
 use Rattle.bk_store.specs.Told.{said}
-use Rattle.bk_store.proofs.Lifting.{crash-more, crash-then, sealed-few}
+use Rattle.bk_store.specs.LiftLaws.{crash-more, crash-then, sealed-few}
 use Rattle.bk_store.proofs.store.Store.say_durably.Goals as goal
 
 pub returns-in_err-say-clause-crash : goal.returns-in_err-say-clause-crash

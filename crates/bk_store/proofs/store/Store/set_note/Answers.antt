@@ -3,7 +3,7 @@ use Rattle.bk_device.specs.Compose.{effect_weaken}
 use Rattle.bk_known.specs.Known.{known_bytes}
 use Rattle.bk_store.specs.Store.{IsStore, Kept, NotesOr}
 use Rattle.bk_store.specs.Told.{stood_of}
-use Rattle.bk_store.proofs.Lifting.{crash-lift, moved-noting, moved-stands}
+use Rattle.bk_store.specs.LiftLaws.{crash-lift, moved-noting, moved-stands}
 use Rattle.bk_store.proofs.Renoted.{noted-crash, noted-stands, renotes}
 use Rattle.bk_store.proofs.store.Store.set_note.Goals as goal
 

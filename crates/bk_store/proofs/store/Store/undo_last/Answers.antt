@@ -5,7 +5,7 @@ use Rattle.bk_store.specs.Store.{Crashes, IsStore, Kept, at_end}
 use Rattle.bk_store.specs.Told.{files_of, stood_of}
 use Rattle.bk_shown.specs.Shown.{IsNext, pending_of}
 use Rattle.bk_store.specs.Writing.{SaysUndoing, undo_of}
-use Rattle.bk_store.proofs.Lifting.{crash-lift, moved-stands}
+use Rattle.bk_store.specs.LiftLaws.{crash-lift, moved-stands}
 use Rattle.bk_store.proofs.Undone.{own-ends, own-of, undo-next}
 use Rattle.bk_store.proofs.store.Store.undo_last.Goals as goal
 

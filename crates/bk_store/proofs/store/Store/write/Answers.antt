@@ -5,7 +5,7 @@ use Rattle.bk_world.specs.Entry.{RowChange}
 use Rattle.bk_store.specs.Store.{Crashes, IsStore, Kept, at_end}
 use Rattle.bk_store.specs.Told.{files_of, stood_of}
 use Rattle.bk_store.specs.Writing.{write_of}
-use Rattle.bk_store.proofs.Lifting.{crash-lift, moved-stands}
+use Rattle.bk_store.specs.LiftLaws.{crash-lift, moved-stands}
 use Rattle.bk_store.proofs.Written.{write-next}
 use Rattle.bk_store.proofs.store.Store.write.Goals as goal
 

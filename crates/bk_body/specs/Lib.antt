@@ -1,0 +1,9 @@
+pub mod Body
+pub mod Spelling
+pub mod Conditions
+pub mod Reading
+pub mod Slots
+pub mod TestLaws
+pub mod FormLaws
+pub mod Laws
+pub mod SlotLaws

@@ -1,0 +1,15 @@
+use Rattle.std.proofs.Common.{ℕ, subst}
+use Rattle.bk_device.specs.Compose.{effect_then}
+use Rattle.bk_device.specs.Effects.{Effect}
+use Rattle.bk_segments.specs.Files.{IsOwn}
+use Rattle.bk_filling.proofs.records.Records.push.Goals as goal
+
+pub returns-in_err-add-clause-crash : goal.returns-in_err-add-clause-crash
+returns-in_err-add-clause-crash g c t =
+    let At : ℕ → Type 0 = λ db. Effect (IsOwn db) (λ _. Unit {0}) (g.D.Device.disk c.make_room.new.dev) (g.D.Device.disk c.add.new.dev) in
+    effect_then (c.make_room.ensures.crash t) (subst At c.in_ok-make_room.ensures.same.0 (c.add.ensures.crash t))
+
+pub returns-clause-crash : goal.returns-clause-crash
+returns-clause-crash g c t =
+    let At : ℕ → Type 0 = λ db. Effect (IsOwn db) (λ _. Unit {0}) (g.D.Device.disk c.make_room.new.dev) (g.D.Device.disk c.add.new.dev) in
+    effect_then (c.make_room.ensures.crash t) (subst At c.in_ok-make_room.ensures.same.0 (c.add.ensures.crash t))

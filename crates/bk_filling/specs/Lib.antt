@@ -1,0 +1,5 @@
+pub mod Filling
+pub mod Records
+pub mod Removing
+pub mod Errors
+pub mod Laws

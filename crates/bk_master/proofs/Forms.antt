@@ -1,0 +1,156 @@
+-- A record that is spelled is read back, and its bytes fit a control.
+use Rattle.std.proofs.Common.{◌≡◌, ◌≤◌, ◌<◌, ◌^◌, ◌+◌, ◌*◌, ℕ, zero, suc, Bool, true, false, List, [], ◌∷◌, ◌++◌, length, Option, Some, None, refl, sym, ap, subst, ◌∙◌, arith, lit<, length-append}
+use Rattle.std.specs.List.{AllByRecursion, flat_map}
+use Rattle.std.proofs.lemmas.List.{append-nil}
+use Rattle.std.proofs.lemmas.Str.{IsUtf8-nil}
+use Rattle.std.proofs.lemmas.Option.{same_Some}
+use Rattle.bk_bytes.specs.Field.{bytes_of}
+use Rattle.bk_bytes.specs.FieldLaws.{length-bytes_of}
+use Rattle.bk_bytes.specs.Codec.{IsCodec, IsString, number, converted}
+use Rattle.bk_bytes.specs.CodecLaws.{number-IsCodec, string-IsCodec, followed-IsCodec, converted-IsCodec, counted-IsCodec}
+use Rattle.bk_master.specs.declared.record.Entry.{Entry}
+use Rattle.bk_master.specs.declared.record.Record.{Record}
+use Rattle.bk_master.specs.declared.record.Unfinished.{Unfinished}
+use Rattle.bk_master.specs.Spelling.{HasPath, IsEntry, IsRecord, IsShort, IsShortPath, IsSmall, IsUnfinished, KeepsRecord, entry_bytes, entry_form, flag, flag_in, path_bytes, path_in, path_form, paths_bytes, read_record, record_bytes, record_form, text_bytes, unfinished_bytes, unfinished_form}
+
+path_takes : (text : List ℕ) → IsString 0 100 text → (path_bytes (path_in text) ≡ text) × HasPath (path_in text)
+path_takes [] fits = (refl, tt)
+path_takes (byte ∷ text) fits = (refl, record { least_bytes = omega arith; most_bytes = fits.most_bytes; utf8 = fits.utf8 })
+
+path_gives : (making : Option (List ℕ)) → HasPath making → (path_in (path_bytes making) ≡ making) × IsString 0 100 (path_bytes making)
+path_gives None h = (refl, record { least_bytes = omega arith; most_bytes = omega arith; utf8 = IsUtf8-nil })
+path_gives (Some []) h = absurd (omega (arith, h.least_bytes))
+path_gives (Some (byte ∷ text)) h = (refl, record { least_bytes = omega arith; most_bytes = h.most_bytes; utf8 = h.utf8 })
+
+path_form-IsCodec : IsCodec (Option (List ℕ)) path_form
+unfolding path_form
+path_form-IsCodec = converted-IsCodec _ _ _ HasPath (string-IsCodec 0 100 (lit< tt)) (record {
+  takes = λ text making fits e.
+      subst (λ (m : Option (List ℕ)). (path_bytes m ≡ text) × HasPath m) (same_Some (path_in text) making e) (path_takes text fits);
+  gives = λ making h. let is = path_gives making h in (ap (λ (m : Option (List ℕ)). Some m) is.0, is.1);
+})
+
+flag_takes : (n : ℕ) (b : Bool) → flag_in n ≡ Some b → (flag b ≡ n) × Unit {0}
+flag_takes zero b e = (ap flag (sym (same_Some false b e)), tt)
+flag_takes (suc zero) b e = (ap flag (sym (same_Some true b e)), tt)
+flag_takes (suc (suc n)) b e = absurd cc
+
+flag_gives : (b : Bool) → (flag_in (flag b) ≡ Some b) × (flag b < 256 ^ 1)
+flag_gives true = (refl, lit< tt)
+flag_gives false = (refl, lit< tt)
+
+flag_form-IsCodec : IsCodec Bool (converted (number 1) flag_in flag (λ _. Unit {0}))
+flag_form-IsCodec = converted-IsCodec _ _ _ (λ _. Unit {0}) (number-IsCodec 1) (record { takes = λ n b fits e. flag_takes n b e; gives = λ b h. flag_gives b })
+
+entry_form-IsCodec : IsCodec Entry entry_form
+unfolding entry_form
+entry_form-IsCodec = converted-IsCodec _ _ _ IsEntry (followed-IsCodec _ _ (number-IsCodec 4) (λ _. flag_form-IsCodec)) (record {
+  takes = λ x e fits is.
+      subst (λ (y : Entry). ((y.store, y.is_stored) ≡ x) × IsEntry y) (same_Some (record { store = x.0; is_stored = x.1 }) e is) (refl, fits.0);
+  gives = λ e h. (refl, (h, tt));
+})
+
+unfinished_form-IsCodec : IsCodec Unfinished unfinished_form
+unfolding unfinished_form
+unfinished_form-IsCodec = converted-IsCodec _ _ _ IsUnfinished (followed-IsCodec _ _ (number-IsCodec 4) (λ _. counted-IsCodec 2 _ (string-IsCodec 1 100 (lit< tt)))) (record {
+  takes = λ x u fits is.
+      subst (λ (y : Unfinished). ((y.store, y.paths) ≡ x) × IsUnfinished y) (same_Some (record { store = x.0; paths = x.1 }) u is) (refl, record { store = fits.0; paths = fits.1 });
+  gives = λ u h. (refl, (h.store, h.paths));
+})
+
+record_form-IsCodec : IsCodec Record record_form
+unfolding record_form path_form entry_form unfinished_form
+record_form-IsCodec =
+    converted-IsCodec _ _ _ IsRecord
+    (followed-IsCodec _ _ (number-IsCodec 8) (λ _. followed-IsCodec _ _ (number-IsCodec 8) (λ _. followed-IsCodec _ _ path_form-IsCodec (λ _. followed-IsCodec _ _ (number-IsCodec 4) (λ _.
+    followed-IsCodec _ _ (counted-IsCodec 2 _ entry_form-IsCodec) (λ _. counted-IsCodec 2 _ unfinished_form-IsCodec)))))) (record {
+      takes = λ x r fits e.
+          subst (λ (y : Record). ((y.number, (y.counter, (y.making, (y.next, (y.databases, y.unfinished))))) ≡ x) × IsRecord y)
+          (same_Some (record { number = x.0; counter = x.1.0; making = x.1.1.0; next = x.1.1.1.0; databases = x.1.1.1.1.0; unfinished = x.1.1.1.1.1 }) r e)
+          (refl, record { number = fits.0; counter = fits.1.0; path = fits.1.1.0; next = fits.1.1.1.0; databases = fits.1.1.1.1.0; unfinished = fits.1.1.1.1.1 });
+      gives = λ r h. (refl, (h.number, (h.counter, (h.path, (h.next, (h.databases, h.unfinished))))));
+    })
+
+spelled : (r : Record) → record_form.spelling r ≡ record_bytes r
+unfolding record_form path_form entry_form unfinished_form record_bytes
+spelled r = refl
+
+-- what is spelled is read back
+pub record_read : (r : Record) → IsRecord r → read_record (record_bytes r) ≡ Some r
+unfolding read_record record_form
+record_read r is =
+    let again : record_form.reading (record_bytes r) ≡ Some (r, []) =
+    ap record_form.reading (sym (append-nil (record_bytes r)) ∙ ap (λ (bytes : List ℕ). bytes ++ []) (sym (spelled r))) ∙ record_form-IsCodec.gives r [] is in
+    rw again refl
+
+-- ---- its length
+
+-- so many values of at most so many bytes each
+most_bytes : {A : Type 0} (f : A → List ℕ) (P : A → Type 0) (k : ℕ) (xs : List A) → ((x : A) → P x → length (f x) ≤ k) → AllByRecursion P xs → length (flat_map f xs) ≤ k * length xs
+most_bytes f P k [] short all = omega arith
+most_bytes f P k (x ∷ xs) short all =
+    let rest = most_bytes f P k xs short all.1 in
+    let first = short x all.0 in
+    omega (arith, length-append (f x) (flat_map f xs), rest, first, step k (length xs))
+  where
+    step : (k n : ℕ) → k * suc n ≡ k + k * n
+    step k n = omega arith
+
+text_short : (text : List ℕ) → IsShortPath text → length (text_bytes text) ≤ 102
+text_short text short = omega (arith, length-append (bytes_of 2 (length text)) text, length-bytes_of 2 (length text), short.1)
+
+any : {A : Type 0} (xs : List A) → AllByRecursion (λ (x : A). Unit {0}) xs
+any [] = tt
+any (x ∷ xs) = (tt, any xs)
+
+entry_short : (e : Entry) → length (entry_bytes e) ≤ 5
+entry_short e = omega (arith, length-append (bytes_of 4 e.store) (bytes_of 1 (flag e.is_stored)), length-bytes_of 4 e.store, length-bytes_of 1 (flag e.is_stored))
+
+unfinished_short : (u : Unfinished) → IsSmall u → length (unfinished_bytes u) ≤ 1638
+unfinished_short u small =
+    let paths = most_bytes text_bytes IsShortPath 102 u.paths text_short small.1 in
+    omega (arith, length-append (bytes_of 4 u.store) (paths_bytes u.paths), length-bytes_of 4 u.store, length-append (bytes_of 2 (length u.paths)) (flat_map text_bytes u.paths), length-bytes_of 2 (length u.paths), paths, small.0)
+
+path_short : (making : Option (List ℕ)) → IsShort making → length (path_bytes making) ≤ 100
+path_short None short = omega arith
+path_short (Some path) short = short.1
+
+-- the bytes of a record fit a control
+pub record_fits : (r : Record) → KeepsRecord r → length (record_bytes r) ≤ 65536
+unfolding record_bytes
+record_fits r keeps =
+    let path : List ℕ = path_bytes r.making in
+    let entries : List ℕ = flat_map entry_bytes r.databases in
+    let stores : List ℕ = flat_map unfinished_bytes r.unfinished in
+    let few = most_bytes entry_bytes (λ e. Unit {0}) 5 r.databases (λ e _. entry_short e) (any r.databases) in
+    let small = most_bytes unfinished_bytes IsSmall 1638 r.unfinished unfinished_short keeps.small in
+    let last = length-append (bytes_of 2 (length r.unfinished)) stores in
+    let fifth = length-append (bytes_of 2 (length r.databases)) entries in
+    let both = length-append (bytes_of 2 (length r.databases) ++ entries) (bytes_of 2 (length r.unfinished) ++ stores) in
+    let fourth = length-append (bytes_of 4 r.next) ((bytes_of 2 (length r.databases) ++ entries) ++ (bytes_of 2 (length r.unfinished) ++ stores)) in
+    let text = length-append (bytes_of 2 (length path)) path in
+    let third = length-append (bytes_of 2 (length path) ++ path) (bytes_of 4 r.next ++ ((bytes_of 2 (length r.databases) ++ entries) ++ (bytes_of 2 (length r.unfinished) ++ stores))) in
+    let second = length-append (bytes_of 8 r.counter) ((bytes_of 2 (length path) ++ path) ++ (bytes_of 4 r.next ++ ((bytes_of 2 (length r.databases) ++ entries) ++ (bytes_of 2 (length r.unfinished) ++ stores)))) in
+    let first = length-append (bytes_of 8 r.number) (bytes_of 8 r.counter ++ ((bytes_of 2 (length path) ++ path) ++ (bytes_of 4 r.next ++ ((bytes_of 2 (length r.databases) ++ entries) ++ (bytes_of 2 (length r.unfinished) ++ stores))))) in
+    omega (
+      arith,
+      first,
+      second,
+      third,
+      text,
+      fourth,
+      both,
+      fifth,
+      last,
+      few,
+      small,
+      keeps.few,
+      keeps.one,
+      path_short r.making keeps.path,
+      length-bytes_of 8 r.number,
+      length-bytes_of 8 r.counter,
+      length-bytes_of 4 r.next,
+      length-bytes_of 2 (length path),
+      length-bytes_of 2 (length r.databases),
+      length-bytes_of 2 (length r.unfinished),
+    )

@@ -1,0 +1,17 @@
+use Rattle.std.proofs.lemmas.Result.{err_from_is_err_and}
+use Rattle.bk_bytes.specs.Codec.{string, times_at}
+use Rattle.bk_bytes.specs.LoopLaws.{goes_on, is_done}
+use Rattle.bk_reading.specs.Laws.{refuses_list}
+use Rattle.bk_master.proofs.reading.read_so_many_paths.Goals as goal
+
+pub returns-in_err-path : goal.returns-in_err-path
+returns-in_err-path c =
+    let p = err_from_is_err_and c.from_residual.result c.from_residual.ensures.1 in
+    rw (p.1, p.2) (refuses_list (string 1 100).reading c.loop.paths.items c.args.count c.loop.counter c.loop.rest.now (times_at (string 1 100).reading c.args.count c.args.bytes.now) c.in_err-path.field-0.0 c.loop-test.true c.in_err-path.ensures c.loop.invariant)
+
+pub loop-preserved : goal.loop-preserved
+loop-preserved c =
+    rw c.in_ok-push.ensures.items (goes_on (string 1 100).reading c.loop.paths.items c.args.count c.loop.counter c.loop.rest.now c.in_ok-path.path c.in_ok-path.after.now (times_at (string 1 100).reading c.args.count c.args.bytes.now) c.loop-test.true c.in_ok-path.ensures c.loop.invariant)
+
+pub returns : goal.returns
+returns c = is_done (string 1 100).reading c.loop.paths.items c.args.count c.loop.counter c.loop.rest.now (times_at (string 1 100).reading c.args.count c.args.bytes.now) c.loop-test.false c.loop.invariant

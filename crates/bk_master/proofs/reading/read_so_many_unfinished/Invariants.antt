@@ -1,0 +1,8 @@
+use Rattle.std.proofs.Common.{◌≡◌, ◌-◌}
+use Rattle.bk_bytes.specs.Codec.{times_at}
+use Rattle.bk_bytes.specs.LoopLaws.{with_front}
+use Rattle.bk_master.specs.Spelling.{unfinished_form}
+use Rattle.bk_master.proofs.reading.read_so_many_unfinished.Given as goal
+
+abbrev pub invariant-loop : goal.invariant-loop
+invariant-loop l = with_front l.stores.items (times_at unfinished_form.reading (l.count - l.counter) l.rest) ≡ times_at unfinished_form.reading l.count l.bytes

@@ -1,0 +1,104 @@
+// Writing a record.
+ghost use Rattle.std.specs.Prelude.{◌≡◌, ◌≤◌, ◌<◌, ◌^◌, ◌+◌, ◌*◌, ◌++◌, Some, length, vec_len, IfOk, OnOk};
+ghost use Rattle.std.specs.List.{AllByRecursion, flat_map};
+ghost use Rattle.bk_bytes.specs.Codec.{IsString};
+ghost use Rattle.bk_bytes.specs.Field.{bytes_of};
+ghost use Rattle.bk_master.specs.Spelling.{HasPath, IsEntry, IsRecord, IsShort, IsShortPath, IsSmall, IsUnfinished, KeepsRecord, entry_bytes, path_bytes, paths_bytes, read_record, record_bytes, text_bytes, unfinished_bytes};
+
+use crate::record::{Entry, Record, Unfinished};
+use bk_bytes::{append_text, append_u8, append_u16, append_u32, append_u64};
+use bk_ids::Text;
+use std::alloc::{AllocError, Global};
+
+fn append_path(out: &mut Vec<u8>, making: &Option<Text>) -> Result<(), AllocError>
+    requires { IsShort making.now }
+    ensures ok { OnOk result (out.new.items ≡ out.old.items ++ text_bytes (path_bytes making.now)) }
+    ensures path { OnOk result (HasPath making.now) }
+{
+    match making {
+        Some(path) => append_text(out, path.as_str().as_bytes()),
+        None => append_text(out, &[]),
+    }
+}
+
+fn append_entry(out: &mut Vec<u8>, entry: &Entry) -> Result<(), AllocError>
+    ensures ok { OnOk result (out.new.items ≡ out.old.items ++ entry_bytes entry.now) }
+    ensures fits { OnOk result (IsEntry entry.now) }
+{
+    append_u32(out, entry.store)?;
+    append_u8(out, u8::from(entry.is_stored))?;
+    Ok(())
+}
+
+fn append_entries(out: &mut Vec<u8>, entries: &[Entry]) -> Result<(), AllocError>
+    requires few { length entries.now ≤ 16 }
+    ensures ok { OnOk result (out.new.items ≡ out.old.items ++ (bytes_of 2 (length entries.now) ++ flat_map entry_bytes entries.now)) }
+    ensures fits { OnOk result (AllByRecursion IsEntry entries.now) }
+{
+    append_u16(out, entries.len() as u16)?;
+    for entry in entries {
+        append_entry(out, entry)?;
+    }
+    Ok(())
+}
+
+fn append_short(out: &mut Vec<u8>, path: &Text) -> Result<(), AllocError>
+    requires { IsShortPath path.now }
+    ensures ok { OnOk result (out.new.items ≡ out.old.items ++ text_bytes path.now) }
+    ensures fits { OnOk result (IsString 1 100 path.now) }
+{
+    append_text(out, path.as_str().as_bytes())
+}
+
+fn append_paths(out: &mut Vec<u8>, paths: &[Text]) -> Result<(), AllocError>
+    requires few { length paths.now ≤ 16 }
+    requires short { AllByRecursion IsShortPath paths.now }
+    ensures ok { OnOk result (out.new.items ≡ out.old.items ++ paths_bytes paths.now) }
+    ensures fits { OnOk result (AllByRecursion (IsString 1 100) paths.now) }
+{
+    append_u16(out, paths.len() as u16)?;
+    for path in paths {
+        append_short(out, path)?;
+    }
+    Ok(())
+}
+
+fn append_unfinished(out: &mut Vec<u8>, store: &Unfinished) -> Result<(), AllocError>
+    requires { IsSmall store.now }
+    ensures ok { OnOk result (out.new.items ≡ out.old.items ++ unfinished_bytes store.now) }
+    ensures fits { OnOk result (IsUnfinished store.now) }
+{
+    append_u32(out, store.store)?;
+    append_paths(out, store.paths.as_slice())?;
+    Ok(())
+}
+
+fn append_all_unfinished(out: &mut Vec<u8>, stores: &[Unfinished]) -> Result<(), AllocError>
+    requires few { length stores.now ≤ 2 }
+    requires small { AllByRecursion IsSmall stores.now }
+    ensures ok { OnOk result (out.new.items ≡ out.old.items ++ (bytes_of 2 (length stores.now) ++ flat_map unfinished_bytes stores.now)) }
+    ensures fits { OnOk result (AllByRecursion IsUnfinished stores.now) }
+{
+    append_u16(out, stores.len() as u16)?;
+    for store in stores {
+        append_unfinished(out, store)?;
+    }
+    Ok(())
+}
+
+/// The bytes of a record.
+#[tactic(auto, unfolding(crate::specs::Spelling::record_bytes))]
+pub fn spell_record(alloc: Global, kept: &Record) -> Result<Vec<u8>, AllocError>
+    requires { KeepsRecord kept.now }
+    ensures read { IfOk result (λ bytes. read_record bytes.items ≡ Some kept.now) }
+    ensures short { IfOk result (λ bytes. vec_len bytes ≤ 65536) }
+{
+    let mut bytes = Vec::new(alloc);
+    append_u64(&mut bytes, kept.number)?;
+    append_u64(&mut bytes, kept.counter)?;
+    append_path(&mut bytes, &kept.making)?;
+    append_u32(&mut bytes, kept.next)?;
+    append_entries(&mut bytes, kept.databases.as_slice())?;
+    append_all_unfinished(&mut bytes, kept.unfinished.as_slice())?;
+    Ok(bytes)
+}

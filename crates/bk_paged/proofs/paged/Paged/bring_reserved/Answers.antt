@@ -1,0 +1,31 @@
+use Rattle.bk_paged.proofs.Fetching.{brought_crash, nothing_crash, read_crash}
+use Rattle.bk_paged.proofs.paged.Paged.bring_reserved.Goals as goal
+
+pub returns-in_err-i-clause-crash : goal.returns-in_err-i-clause-crash
+returns-in_err-i-clause-crash g c t stood is = nothing_crash c.args.self.now stood (g.D.Device.disk c.args.dev.now) (g.D.Device.disk c.frame_of.new.dev) is (c.frame_of.ensures.effect t)
+
+pub returns-in-Some-clause-crash : goal.returns-in-Some-clause-crash
+returns-in-Some-clause-crash g c t stood is = nothing_crash c.args.self.now stood (g.D.Device.disk c.args.dev.now) (g.D.Device.disk c.frame_of.new.dev) is (c.frame_of.ensures.effect t)
+
+pub returns-in_err-write_all_reserved-clause-crash : goal.returns-in_err-write_all_reserved-clause-crash
+returns-in_err-write_all_reserved-clause-crash g c t stood is =
+    brought_crash c.args.self.now c.frame_of.new.self stood (g.D.Device.disk c.args.dev.now) (g.D.Device.disk c.frame_of.new.dev) (g.D.Device.disk c.write_all_reserved.new.dev) is (c.frame_of.ensures.effect t) c.frame_of.ensures.same
+    (c.write_all_reserved.ensures.crash t stood (c.in_ok-i.ensures.stands t stood is))
+
+pub returns-in_err-i-2-clause-crash : goal.returns-in_err-i-2-clause-crash
+returns-in_err-i-2-clause-crash g c t stood is =
+    let d = g.D.Device.disk c.write_all_reserved.new.dev in
+    let found = c.in_ok-i.ensures.stands t stood is in
+    let ends = c.in_ok-write_all_reserved.ensures.ends in
+    let same = c.frame_of.ensures.same in
+    let first = brought_crash c.args.self.now c.frame_of.new.self stood (g.D.Device.disk c.args.dev.now) (g.D.Device.disk c.frame_of.new.dev) d is (c.frame_of.ensures.effect t) same (c.write_all_reserved.ensures.crash t stood found) in
+    read_crash c.args.self.now c.frame_of.new.self c.write_all_reserved.new.self stood (g.D.Device.disk c.args.dev.now) d (g.D.Device.disk c.frame_of-2.new.dev) is same ends.0 ends.2 first (c.in_ok-write_all_reserved.ensures.stands t stood found) (c.frame_of-2.ensures.effect t)
+
+pub returns-clause-crash : goal.returns-clause-crash
+returns-clause-crash g c t stood is =
+    let d = g.D.Device.disk c.write_all_reserved.new.dev in
+    let found = c.in_ok-i.ensures.stands t stood is in
+    let ends = c.in_ok-write_all_reserved.ensures.ends in
+    let same = c.frame_of.ensures.same in
+    let first = brought_crash c.args.self.now c.frame_of.new.self stood (g.D.Device.disk c.args.dev.now) (g.D.Device.disk c.frame_of.new.dev) d is (c.frame_of.ensures.effect t) same (c.write_all_reserved.ensures.crash t stood found) in
+    read_crash c.args.self.now c.frame_of.new.self c.write_all_reserved.new.self stood (g.D.Device.disk c.args.dev.now) d (g.D.Device.disk c.frame_of-2.new.dev) is same ends.0 ends.2 first (c.in_ok-write_all_reserved.ensures.stands t stood found) (c.frame_of-2.ensures.effect t)

@@ -1,0 +1,30 @@
+use Rattle.std.proofs.Common.{sym, subst}
+use Rattle.bk_device.specs.Effects.{Effect}
+use Rattle.bk_segments.specs.Files.{IsOwn}
+use Rattle.bk_paged.specs.Paged.{IsPaged, Kept}
+use Rattle.bk_paged.proofs.Leaving.{Flushed, flush_crash}
+use Rattle.bk_paged.proofs.Standing.{flush_stands}
+use Rattle.bk_paged.proofs.paged.Paged.flush_reserved.Goals as goal
+
+pub returns-in_err-flush_reserved-clause-crash : goal.returns-in_err-flush_reserved-clause-crash
+returns-in_err-flush_reserved-clause-crash g c t stood is =
+    let a = g.D.Device.disk c.args.dev.now in
+    let b = g.D.Device.disk c.flush_reserved.new.dev in
+    let At : Kept → Type 0 = λ k. Effect (IsOwn k.log.db) (Flushed k.log a) a b in
+    flush_crash c.args.self.now stood a b is (subst At c.self.view_is (c.flush_reserved.ensures.crash t))
+
+pub returns-clause-crash : goal.returns-clause-crash
+returns-clause-crash g c t stood is =
+    let a = g.D.Device.disk c.args.dev.now in
+    let b = g.D.Device.disk c.flush_reserved.new.dev in
+    let At : Kept → Type 0 = λ k. Effect (IsOwn k.log.db) (Flushed k.log a) a b in
+    flush_crash c.args.self.now stood a b is (subst At c.self.view_is (c.flush_reserved.ensures.crash t))
+
+pub returns-clause-stands : goal.returns-clause-stands
+returns-clause-stands g c t stood is =
+    let a = g.D.Device.disk c.args.dev.now in
+    let b = g.D.Device.disk c.flush_reserved.new.dev in
+    let At : Kept → Type 0 = λ k. IsPaged a k stood in
+    let here = subst At (sym c.self.view_is) is in
+    flush_stands _ stood c.flush_reserved.new.self _ a b here (c.flush_reserved.ensures.crash t) (c.in_ok-flush_reserved.ensures.stands t) (c.in_ok-flush_reserved.ensures.value t) c.in_ok-flush_reserved.ensures.same.0 c.in_ok-flush_reserved.ensures.same.1
+    c.in_ok-flush_reserved.ensures.none.0 c.in_ok-flush_reserved.ensures.none.1

@@ -1,0 +1,30 @@
+use Rattle.std.proofs.Common.{◌∙◌, sym, arith}
+use Rattle.bk_device.specs.Compose.{effect_then}
+use Rattle.bk_paged.specs.Laws.{crash_as}
+use Rattle.bk_paged.specs.Paged.{sealed_count}
+use Rattle.bk_paged.proofs.Saying.{all_same}
+use Rattle.bk_paged.proofs.paged.Paged.write_all_reserved.Goals as goal
+
+pub write_pages-requires-clause-stands : goal.write_pages-requires-clause-stands
+write_pages-requires-clause-stands g c t = let stood = (c.requires.stands t).0 in (stood, c.in_ok-flush_reserved.ensures.stands t stood (c.requires.stands t).1)
+
+pub write_pages-requires-clause-sealed : goal.write_pages-requires-clause-sealed
+write_pages-requires-clause-sealed g c = let sealed = c.in_ok-flush_reserved.ensures.sealed in sealed.2 ∙ sym sealed.1
+
+pub returns-in_err-write_pages-clause-crash : goal.returns-in_err-write_pages-clause-crash
+returns-in_err-write_pages-clause-crash g c t stood is =
+    let sealed = c.in_ok-flush_reserved.ensures.sealed in
+    effect_then (c.flush_reserved.ensures.crash t stood is)
+    (crash_as c.args.self.now.log.db _ (sealed_count c.args.self.now) _ stood _ _ sealed.0 (omega (arith, sealed.2, is.sealed)) (c.write_pages.ensures.crash t stood (c.in_ok-flush_reserved.ensures.stands t stood is)))
+
+pub returns-clause-crash : goal.returns-clause-crash
+returns-clause-crash g c t stood is =
+    let sealed = c.in_ok-flush_reserved.ensures.sealed in
+    effect_then (c.flush_reserved.ensures.crash t stood is)
+    (crash_as c.args.self.now.log.db _ (sealed_count c.args.self.now) _ stood _ _ sealed.0 (omega (arith, sealed.2, is.sealed)) (c.write_pages.ensures.crash t stood (c.in_ok-flush_reserved.ensures.stands t stood is)))
+
+pub returns-clause-stands : goal.returns-clause-stands
+returns-clause-stands g c t stood is = c.in_ok-write_pages.ensures.stands t stood (c.in_ok-flush_reserved.ensures.stands t stood is)
+
+pub returns-clause-same : goal.returns-clause-same
+returns-clause-same g c = all_same c.args.self.now c.flush_reserved.new.self c.write_pages.new.self c.in_ok-flush_reserved.ensures.same c.in_ok-write_pages.ensures.same c.in_ok-flush_reserved.ensures.sealed.1

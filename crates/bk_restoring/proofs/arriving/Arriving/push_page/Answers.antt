@@ -1,0 +1,33 @@
+use Rattle.std.proofs.Common.{◌≡◌, sym, subst}
+use Rattle.bk_device.specs.Effects.{Effect}
+use Rattle.bk_filling.specs.Filling.{place_of}
+use Rattle.bk_paged.specs.Names.{IsOwn}
+use Rattle.bk_restoring.specs.contracts.arriving.Arriving.{the_view}
+use Rattle.bk_restoring.specs.Arriving.{IsArriving, IsBegun, Kept}
+use Rattle.bk_restoring.proofs.Arrived.{data_effect, page_arrives, page_begun}
+use Rattle.bk_restoring.proofs.arriving.Arriving.push_page.Goals as goal
+
+pub returns-in_err-push-clause-crash : goal.returns-in_err-push-clause-crash
+returns-in_err-push-clause-crash g c t =
+    let W : Kept → Type 0 = λ k. Effect (IsOwn k.log.db k.filling.files) (λ _. Unit {0}) (g.D.Device.disk c.args.dev.now) (g.D.Device.disk c.push.new.dev) in
+    subst W c.self.view_is (data_effect c.self.inside.log.db c.self.inside.filling.files (g.D.Device.disk c.args.dev.now) (g.D.Device.disk c.push.new.dev) (c.push.ensures.crash t))
+
+pub returns-clause-stands : goal.returns-clause-stands
+returns-clause-stands g c t =
+    let a = g.D.Device.disk c.args.dev.now in
+    let b = g.D.Device.disk c.push.new.dev in
+    let is = subst (IsBegun a) (sym c.self.view_is) (c.requires.stands t) in
+    page_begun (the_view c.self.inside) c.push.new.self a b (c.push.ensures.crash t) (c.in_ok-push.ensures.stands t) is
+
+pub returns-clause-arrives : goal.returns-clause-arrives
+returns-clause-arrives g c t given records arrives here =
+    let a = g.D.Device.disk c.args.dev.now in
+    let b = g.D.Device.disk c.push.new.dev in
+    let is = subst (λ (k : Kept). IsArriving a.files k given records) (sym c.self.view_is) arrives in
+    let mine = subst (λ (k : Kept). given (place_of k.filling) ≡ c.args.bytes.now) (sym c.self.view_is) here in
+    page_arrives (the_view c.self.inside) c.push.new.self given records a b (c.push.ensures.crash t) (c.in_ok-push.ensures.shows t given is.pages mine) is
+
+pub returns-clause-crash : goal.returns-clause-crash
+returns-clause-crash g c t =
+    let W : Kept → Type 0 = λ k. Effect (IsOwn k.log.db k.filling.files) (λ _. Unit {0}) (g.D.Device.disk c.args.dev.now) (g.D.Device.disk c.push.new.dev) in
+    subst W c.self.view_is (data_effect c.self.inside.log.db c.self.inside.filling.files (g.D.Device.disk c.args.dev.now) (g.D.Device.disk c.push.new.dev) (c.push.ensures.crash t))

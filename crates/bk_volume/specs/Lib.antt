@@ -1,0 +1,5 @@
+pub mod Names
+pub mod Media
+pub mod Staging
+pub mod Writing
+pub mod Laws
