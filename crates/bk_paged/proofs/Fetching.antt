@@ -25,7 +25,7 @@ use Rattle.bk_paged.specs.Holds.{Leaves, Stood}
 use Rattle.bk_paged.specs.Names.{IsOwn, IsThere, names_of, shown_at}
 use Rattle.bk_paged.specs.Paged.{IsDirty, IsLast, IsPaged, Kept, Standing, sealed_count}
 use Rattle.bk_paged.specs.Pooled.{AreClean, Fetches, IsPool, ReadsPage}
-use Rattle.bk_paged.proofs.Leaving.{still_holds}
+use Rattle.bk_paged.specs.Leaving.{still_holds}
 
 -- ---- calls that change nothing
 

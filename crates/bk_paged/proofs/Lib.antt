@@ -2,9 +2,7 @@ mod Adding
 mod Batching
 mod Changing
 mod Fetching
-mod Leaving
 mod Made
-mod Named
 mod Noting
 mod Removed
 mod Roomy

@@ -35,7 +35,7 @@ use Rattle.bk_paged.specs.Making.{AreFirst, HoldsNone, IsFirstPage}
 use Rattle.bk_paged.specs.Names.{IsOwn, IsThere, names_of, pages_in, shown_at}
 use Rattle.bk_paged.specs.Paged.{IsPaged}
 use Rattle.bk_paged.proofs.Adding.{named}
-use Rattle.bk_paged.proofs.Named.{own_keeps, shown_left, shown_stays, side_keeps}
+use Rattle.bk_paged.specs.Named.{own_keeps, shown_left, shown_stays, side_keeps}
 
 -- ---- one data file
 

@@ -15,7 +15,7 @@ use Rattle.bk_paged.specs.Laws.{stored_length}
 use Rattle.bk_paged.specs.Holds.{Leaves, Stood}
 use Rattle.bk_paged.specs.Names.{IsOwn}
 use Rattle.bk_paged.specs.Paged.{IsPaged, Kept, sealed_count}
-use Rattle.bk_paged.proofs.Leaving.{front_holds, log_front, log_wide, note_short, same_facts, stored_front}
+use Rattle.bk_paged.specs.Leaving.{front_holds, log_front, log_wide, note_short, same_facts, stored_front}
 use Rattle.bk_paged.proofs.Standing.{log_stands}
 
 -- ---- the note

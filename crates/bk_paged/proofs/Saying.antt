@@ -30,7 +30,7 @@ use Rattle.bk_paged.specs.Appends.{with_waiting}
 use Rattle.bk_paged.specs.Holds.{Holds, Leaves, Recovers, Stood, with_one}
 use Rattle.bk_paged.specs.Names.{IsOwn, IsThere, shown_at}
 use Rattle.bk_paged.specs.Paged.{IsDirty, IsLast, IsPaged, Kept, checkpoint_record, sealed_count}
-use Rattle.bk_paged.proofs.Leaving.{still_holds}
+use Rattle.bk_paged.specs.Leaving.{still_holds}
 
 -- ---- what is pending behind one record more
 

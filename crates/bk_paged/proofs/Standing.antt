@@ -16,8 +16,8 @@ use Rattle.bk_paged.specs.Laws.{recovers_as}
 use Rattle.bk_paged.specs.Holds.{HaveRoom, Stood}
 use Rattle.bk_paged.specs.Names.{names_of, shown_at}
 use Rattle.bk_paged.specs.Paged.{IsPaged, Kept, sealed_count}
-use Rattle.bk_paged.proofs.Leaving.{Flushed, with_note}
-use Rattle.bk_paged.proofs.Named.{own_keeps, shown_stays, side_keeps}
+use Rattle.bk_paged.specs.Leaving.{Flushed, with_note}
+use Rattle.bk_paged.specs.Named.{own_keeps, shown_stays, side_keeps}
 
 -- The log is another one, with no fewer durable records; facts and note are those in its note.
 pub log_stands : {P : Files → Type 0} (p : Kept) (stood : Stood) (log : KeptLog) (facts : Facts) (note : List ℕ) (failed : Bool) (a b : Disk) → IsPaged a p stood → Effect (IsOfLog p.log.db) P a b → IsLog b log

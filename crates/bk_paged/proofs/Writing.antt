@@ -33,7 +33,7 @@ use Rattle.bk_paged.specs.Names.{IsOwn, IsThere, names_of, shown_at}
 use Rattle.bk_paged.specs.Paged.{IsLast, IsPaged, Kept, sealed_count}
 use Rattle.bk_paged.specs.Pooled.{AreClean, Batches, IsDirtyBelow}
 use Rattle.bk_paged.proofs.Adding.{ShowsEither, batched_pages, named}
-use Rattle.bk_paged.proofs.Leaving.{log_front, same_facts, stored_front}
+use Rattle.bk_paged.specs.Leaving.{log_front, same_facts, stored_front}
 
 -- ---- one page
 

@@ -7,3 +7,5 @@ pub mod Errors
 pub mod Making
 pub mod Laws
 pub mod Reserved
+pub mod Named
+pub mod Leaving

@@ -1,9 +1,11 @@
+pub mod Copying
 pub mod CutLaws
 pub mod Errors
 pub mod FrontLaws
 pub mod LiftLaws
 pub mod Making
 pub mod Recent
+pub mod Rolling
 pub mod Store
 pub mod Told
 pub mod Writing

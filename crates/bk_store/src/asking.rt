@@ -1,5 +1,6 @@
 // What a store says of its database.
 ghost use Rattle.std.specs.Prelude.{◌≡◌};
+ghost use Rattle.bk_paged.specs.Names.{pages_in};
 
 use crate::store::Store;
 use bk_known::DatabaseSpec;
@@ -18,5 +19,12 @@ impl Store {
         ensures { result.now ≡ self.now.known.spec }
     {
         &self.known.spec
+    }
+
+    /// How many pages the data file of a number has: the 8 of its header, and 8 an extent; 0 where there is none of this number.
+    pub fn pages(&self, file: u16) -> u32
+        ensures { result ≡ pages_in self.now.paged.facts.files file }
+    {
+        self.paged.pages(file)
     }
 }

@@ -3,10 +3,12 @@
 
 mod asking;
 mod calls;
+mod copying;
 mod error;
 mod making;
 mod noting;
 mod recent;
+mod rolling;
 mod saying;
 mod store;
 mod undoing;

@@ -139,6 +139,7 @@ impl Store {
         requires durable { D.tells → IsDurable (D.disk dev.old) (control_file db) }
         requires none { D.tells → control_of ((D.disk dev.old).files (control_file db)) ≡ None }
         ensures fit { IfOk result (λ s. s.paged.failed ≡ false) }
+        ensures ends { IfOk result (λ s. (s.paged.log.db ≡ db) × (s.paged.log.stored ≡ s.paged.log.«end»)) }
         ensures stands { D.tells → IfOk result (λ s. IsStore (D.disk dev.new) s (founded spec time branch)) }
         ensures crash { D.tells → Makes db (founded spec time branch) (D.disk dev.old) (D.disk dev.new) }
         ensures cause { HasCause D.disk_faults D.tell_faults dev.old dev.new (IsErrOf result StoreError.Fault) }

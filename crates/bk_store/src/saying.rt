@@ -19,7 +19,7 @@ use bk_paged::Paged;
 use std::alloc::Global;
 
 // Numbers from here on, 2^62, are never given.
-const LAST_NUMBER: u64 = 1 << 62;
+pub(crate) const LAST_NUMBER: u64 = 1 << 62;
 
 // Whether the page of a cell is one of a data file.
 fn is_there(paged: &Paged, place: Place) -> bool

@@ -82,6 +82,14 @@ impl Store {
         &self.note
     }
 
+    // What a crash may leave between two calls. Does nothing.
+    pub(crate) fn at_rest<D: Device>(&self, dev: &mut D)
+        ensures same { dev.new ≡ dev.old }
+        ensures crash { D.tells → (told : Told) → IsStore (D.disk dev.old) self.now told → Crashes self.now told (D.disk dev.old) (D.disk dev.new) }
+    {
+        self.paged.at_rest(dev);
+    }
+
     /// Makes what was said durable. A crash leaves what was durable, or some more of what was said.
     pub fn flush<D: Device>(&mut self, alloc: Global, dev: &mut D) -> Result<(), StoreError>
         requires fit { self.old.paged.failed ≡ false }

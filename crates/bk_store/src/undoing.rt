@@ -55,7 +55,7 @@ fn undo_body(shown: &Shown, begin: Lsn) -> Option<Body>
 
 impl Store {
     /// Says that the last pending write of the transaction with this first record is undone, and gives whether it had one; where it has none, nothing is said. It isn't durable yet. The end is
-    /// below 2^62. A transaction is rolled back by this call, as often as it gives true, and then by `end_rollback`. A crash leaves what was durable, or some more of what was said before.
+    /// below 2^62. `rollback` undoes all of them. A crash leaves what was durable, or some more of what was said before.
     pub fn undo_last<D: Device>(
         &mut self,
         alloc: Global,
@@ -68,6 +68,7 @@ impl Store {
         ensures fit { OnOk result (self.new.paged.failed ≡ false) }
         ensures stands { D.tells → (told : Told) → IsStore (D.disk dev.old) self.old told → IfOk result (UndoesLast (IsStore (D.disk dev.new) self.new) self.old told begin) }
         ensures ends { OnOk result ((self.new.paged.log.db ≡ self.old.paged.log.db) × (self.new.paged.log.head.kept ≡ self.old.paged.log.head.kept) × (self.new.paged.log.end ≤ self.old.paged.log.end + 1)) }
+        ensures later { D.tells → (told : Told) → IsStore (D.disk dev.old) self.old told → OnOk result (self.old.paged.log.stored ≤ self.new.paged.log.stored) }
         ensures same { OnOk result ((self.new.known ≡ self.old.known) × (self.new.note ≡ self.old.note)) }
         ensures crash { D.tells → (told : Told) → IsStore (D.disk dev.old) self.old told → Crashes self.old told (D.disk dev.old) (D.disk dev.new) }
         ensures cause { HasCause D.disk_faults D.tell_faults dev.old dev.new (IsErrOf result StoreError.Fault) }

@@ -1,10 +1,10 @@
 -- Parts of a file that are added to a blob one after the other.
-use Rattle.std.proofs.Common.{◌≡◌, ◌≢◌, ◌≤◌, ℕ, ◌+◌, Bool, true, List, [], ◌++◌, length, take, drop, Option, refl, sym, ap, subst, ◌∙◌, arith, append-nil, append_assoc}
+use Rattle.std.proofs.Common.{◌≡◌, ◌≢◌, ◌≤◌, ℕ, ◌+◌, Bool, true, List, ◌++◌, length, take, drop, Option, refl, sym, ap, subst, ◌∙◌, arith, append-nil, append_assoc}
 use Rattle.std.specs.Prelude.{unwrap_or}
 use Rattle.std.proofs.lemmas.List.{take-append-drop, take-take, drop-take, drop-drop}
 use Rattle.bk_device.specs.Calls.{contents, read_at, filled, ChangesNothing}
 use Rattle.bk_device.specs.Compose.{effect_none, effect_of_nothing, effect_then, effect_weaken}
-use Rattle.bk_device.specs.Disk.{Files, Disk}
+use Rattle.bk_device.specs.Disk.{Disk}
 use Rattle.bk_device.specs.Effects.{Effect, IsName}
 use Rattle.bk_device.specs.Laws.{filled_whole}
 use Rattle.bk_gate.specs.Blobs.{sealed}

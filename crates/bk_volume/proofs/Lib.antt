@@ -3,3 +3,7 @@ pub mod Blobs
 pub mod Sets
 pub mod Steps
 pub mod Sealed
+pub mod Fronts
+pub mod Behind
+pub mod Digests
+pub mod Opened

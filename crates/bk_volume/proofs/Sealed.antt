@@ -1,5 +1,5 @@
 -- The set whose parts were sealed.
-use Rattle.std.proofs.Common.{◌≡◌, ◌⊎◌, ℕ, ◌+◌, ◌*◌, List, [], ◌∷◌, ◌++◌, length, take, drop, Option, refl, inl, inr, sym, ap, subst, ◌∙◌, arith, length-append, append-nil}
+use Rattle.std.proofs.Common.{◌≡◌, ℕ, ◌*◌, List, [], ◌∷◌, ◌++◌, length, take, drop, Option, refl, inl, inr, sym, ap, subst, ◌∙◌, arith, length-append}
 use Rattle.std.specs.List.{flat_map, AllByRecursion}
 use Rattle.std.proofs.Math.Seq.{take-append_seam, drop-append_seam}
 use Rattle.std.proofs.lemmas.List.{take_all}
@@ -9,24 +9,24 @@ use Rattle.bk_body.specs.Laws.{body_is}
 use Rattle.bk_body.specs.Spelling.{front_bytes, extent_bytes, body_bytes, set_bytes}
 use Rattle.bk_bytes.specs.Field.{bytes_of}
 use Rattle.bk_bytes.specs.FieldLaws.{length-bytes_of}
-use Rattle.bk_device.specs.Calls.{contents, read_at}
+use Rattle.bk_device.specs.Calls.{read_at}
 use Rattle.bk_device.specs.Compose.{effect_weaken}
-use Rattle.bk_device.specs.Disk.{Files, Disk}
+use Rattle.bk_device.specs.Disk.{Disk}
 use Rattle.bk_device.specs.Effects.{Effect, IsName}
-use Rattle.bk_gate.specs.Blobs.{sealed}
 use Rattle.bk_gate.specs.Gate.{Kept, IsGate}
 use Rattle.bk_header.specs.Conditions.{IsHeader}
 use Rattle.bk_set.specs.Conditions.{IsTable}
 use Rattle.bk_world.specs.declared.database.TableSpec.{TableSpec}
 use Rattle.bk_world.specs.declared.header.Header.{Header}
 use Rattle.bk_world.specs.declared.header.HeaderFile.{HeaderFile}
-use Rattle.bk_volume.specs.Media.{medium_letters, HasSets, HasAdded, LeavesAdded, sets_of, IsMedium}
+use Rattle.bk_volume.specs.Media.{HasSets, HasAdded, LeavesAdded, sets_of, IsMedium}
 use Rattle.bk_volume.specs.Laws.{sets_are}
-use Rattle.bk_volume.specs.Staging.{Staging, staged, HoldsParts, IsSetOf}
+use Rattle.bk_volume.specs.Staging.{Staging, staged, IsSetOf}
 use Rattle.bk_volume.specs.Writing.{parts_of, with_digest, HasSealed, LeavesGrown}
 use Rattle.bk_volume.proofs.Steps.{has_added}
 
-length-extents : (files : List HeaderFile) (extents : List Extent) → AllByRecursion (KeepsExtent files) extents → length (flat_map extent_bytes extents) ≡ 65542 * length extents
+-- the bytes of so many extents
+pub length-extents : (files : List HeaderFile) (extents : List Extent) → AllByRecursion (KeepsExtent files) extents → length (flat_map extent_bytes extents) ≡ 65542 * length extents
 length-extents files [] keep = refl
 length-extents files (extent ∷ extents) keep =
     let one : length (extent_bytes extent) ≡ 65542 = simp (length-append, length-bytes_of) (omega (arith, keep.0.size)) in
@@ -82,3 +82,17 @@ medium_grown name blob a b old new was is has grown gate =
     let Has : List (List ℕ) → Type 0 = λ sets. HasSets sets (b.files name) in
     let At : List ℕ → Type 0 = λ n. HasSets (sets_of (b.files n)) (b.files n) in
     record { gate = gate; sets = subst At (sym (is ∙ was)) (subst Has (sym are) all) }
+
+-- the same, where the gate tells its name
+pub set_added_at : (name kept : List ℕ) (set : Staging) (h : Header) (tables : List TableSpec) (body : Body) (front size : List ℕ) {a : Disk} (b : Disk) → kept ≡ name → IsSetOf a set h tables body → IsHeader h → AllByRecursion IsTable tables → front ≡ front_bytes h tables set.extents → size ≡ bytes_of 8 set.log
+    → HasSets (sets_of (a.files name)) (a.files name) → HasSealed kept (with_digest (parts_of front (staged a set) (65542 * set.extents) size set.log)) a (b.files kept) → HasAdded (sets_of (a.files name)) body (b.files name)
+set_added_at name kept set h tables body front size {a} b named is header are is_front is_size has sealed_is =
+    let At : List ℕ → Type 0 = λ n. HasSealed n (with_digest (parts_of front (staged a set) (65542 * set.extents) size set.log)) a (b.files n) in
+    set_added name set h tables body front size (b.files name) is header are is_front is_size has (subst At named sealed_is)
+
+pub set_crash_at : (name kept : List ℕ) (set : Staging) (h : Header) (tables : List TableSpec) (body : Body) (front size : List ℕ) {a b : Disk} → kept ≡ name → IsSetOf a set h tables body → IsHeader h → AllByRecursion IsTable tables → front ≡ front_bytes h tables set.extents → size ≡ bytes_of 8 set.log
+    → HasSets (sets_of (a.files name)) (a.files name) → Effect (IsName kept) (LeavesGrown kept (with_digest (parts_of front (staged a set) (65542 * set.extents) size set.log)) a) a b
+    → Effect (IsName name) (λ image. LeavesAdded (sets_of (a.files name)) body (image name)) a b
+set_crash_at name kept set h tables body front size {a} {b} named is header are is_front is_size has effect =
+    let At : List ℕ → Type 0 = λ n. Effect (IsName n) (LeavesGrown n (with_digest (parts_of front (staged a set) (65542 * set.extents) size set.log)) a) a b in
+    set_crash name set h tables body front size is header are is_front is_size has (subst At named effect)

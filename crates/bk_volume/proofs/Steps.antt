@@ -17,22 +17,29 @@ use Rattle.bk_volume.specs.Media.{medium_letters, sets_in, read_medium, HasSets,
 use Rattle.bk_volume.specs.Laws.{sets_are, medium_left}
 use Rattle.bk_volume.proofs.Sets.{ill_read, foreign_ill}
 
--- a file with no blob was made
-pub made_first : (name : List ℕ) (a b : Disk) → Effect (IsName name) (λ image. a.may name (image name) ⊎ (sealed (image name) ≡ [])) a b → Effect (IsName name) (λ image. LeavesMade (a.may name) (image name)) a b
-made_first name a b effect = effect_weaken (λ image either. elim either [ inl before ↦ inl before | inr none ↦ inr (inl none) ]) effect
+-- a file with no blob was made, or its blobs were removed
+pub made_first : (P : Option (List ℕ) → Type 0) (name : List ℕ) (a b : Disk) → Effect (IsName name) (λ image. P (image name) ⊎ (sealed (image name) ≡ [])) a b → Effect (IsName name) (λ image. LeavesMade P (image name)) a b
+made_first P name a b effect = effect_weaken (λ image either. elim either [ inl before ↦ inl before | inr none ↦ inr (inl none) ]) effect
 
 -- and then its first blob was sealed
-pub made_crash : (name kept : List ℕ) (a b c : Disk) → kept ≡ name → sealed (b.files name) ≡ []
-    → Effect (IsName name) (λ image. a.may name (image name) ⊎ (sealed (image name) ≡ [])) a b
+pub made_crash : (P : Option (List ℕ) → Type 0) (name kept : List ℕ) (a b c : Disk) → kept ≡ name → sealed (b.files name) ≡ []
+    → Effect (IsName name) (λ image. P (image name) ⊎ (sealed (image name) ≡ [])) a b
     → Effect (IsName kept) (λ image. (sealed (image kept) ≡ sealed (b.files kept)) ⊎ (sealed (image kept) ≡ sealed (b.files kept) ++ medium_letters ∷ [])) b c
-    → Effect (IsName name) (λ image. LeavesMade (a.may name) (image name)) a c
-made_crash name kept a b c is none first second =
+    → Effect (IsName name) (λ image. LeavesMade P (image name)) a c
+made_crash P name kept a b c is none first second =
     let Second : List ℕ → Type 0 = λ n. Effect (IsName n) (λ image. (sealed (image n) ≡ sealed (b.files n)) ⊎ (sealed (image n) ≡ sealed (b.files n) ++ medium_letters ∷ [])) b c in
-    effect_then (made_first name a b first)
+    effect_then (made_first P name a b first)
     (effect_weaken (λ image either. elim either [
       | inl same ↦ inr (inl (same ∙ none))
       | inr one ↦ inr (inr (one ∙ ap (λ (blobs : List (List ℕ)). blobs ++ medium_letters ∷ []) none))
     ]) (subst Second is second))
+
+-- a medium's sets are its blobs behind the first
+pub emptied_crash : (name kept : List ℕ) (a b : Disk) → kept ≡ name → HasSets (sets_of (a.files name)) (a.files name) → Effect (IsName kept) (λ image. LeavesMade (λ file. sealed file ≡ sealed (a.files kept)) (image kept)) a b
+    → Effect (IsName name) (λ image. LeavesMade (HasSets (sets_of (a.files name))) (image name)) a b
+emptied_crash name kept a b is has effect =
+    let At : List ℕ → Type 0 = λ n. Effect (IsName n) (λ image. LeavesMade (λ file. sealed file ≡ sealed (a.files n)) (image n)) a b in
+    effect_weaken (λ image either. elim either [ inl same ↦ inl (same ∙ has) | inr other ↦ inr other ]) (subst At is effect)
 
 pub none_sealed : {a : Disk} {kept : Kept} → IsGate a kept → kept.spans ≡ [] → sealed (a.files kept.name) ≡ []
 none_sealed {a = a} {kept = kept} is none = gate_sealed is ∙ ap (map (part_of (contents (a.files kept.name)))) none
@@ -140,3 +147,16 @@ foreign_read name given a b is call there foreign =
     let same : b.files given ≡ a.files name = ap b.files is ∙ call.files name in
     let Gate : Option (List ℕ) → Type 0 = λ file. IsGateFile (contents file) in
     ill_read (a.files name) there (foreign_ill (contents (a.files name)) (λ gate. foreign (subst Gate (sym same) gate)))
+
+-- the sets, where the gate tells its name
+pub sets_at : {name kept : List ℕ} (b : Disk) → kept ≡ name → HasSets [] (b.files kept) → HasSets [] (b.files name)
+sets_at b is has = let At : List ℕ → Type 0 = λ n. HasSets [] (b.files n) in subst At is has
+
+-- ---- the flag of a medium
+
+-- it is no part of what its gate keeps
+pub medium_flag : {a : Disk} {kept : Kept} (failed : Bool) → IsMedium a kept → IsMedium a (record kept { failed = failed })
+medium_flag failed is = record { gate = record { at = is.gate.at; room = is.gate.room }; sets = is.sets }
+
+pub shows_flag : {a : Disk} {kept : Kept} (failed : Bool) → ShowsMedium a kept → ShowsMedium a (record kept { failed = failed })
+shows_flag failed is = record { gate_file = is.gate_file; spans = is.spans; sets = is.sets }

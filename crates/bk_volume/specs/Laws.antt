@@ -1,10 +1,11 @@
 -- What the layers above may take of a medium.
-use Rattle.std.proofs.Common.{◌≡◌, ◌⊎◌, ◌≤◌, ◌<◌, ◌+◌, ℕ, zero, suc, Bool, List, [], ◌∷◌, ◌++◌, length, map, Option, Some, None, refl, inl, inr, sym, ap, subst, ◌∙◌, arith, add-one}
+use Rattle.std.proofs.Common.{◌≡◌, ◌≢◌, ◌⊎◌, ◌≤◌, ◌<◌, ◌+◌, ℕ, zero, suc, Bool, List, [], ◌∷◌, ◌++◌, length, map, Option, Some, None, refl, inl, inr, sym, ap, subst, ◌∙◌, arith, add-one}
 use Rattle.std.specs.Prelude.{if◌then◌else◌, slice_get, unwrap_or, option_map}
 use Rattle.std.proofs.lemmas.List.{map-append, length-map}
 use Rattle.std.proofs.lemmas.Slice.Eq.{bytes_eq-Decides}
 use Rattle.hex.specs.Hex.{encode_lower, decode_of}
 use Rattle.hex.proofs.HexLemmas.{decode_of-encode_lower}
+use Rattle.bk_ids.specs.declared.guid.Guid.{Guid}
 use Rattle.bk_bytes.specs.Field.{AreBytes}
 use Rattle.bk_world.specs.Medium.{Slot, readable, not_media, medium}
 use Rattle.bk_device.specs.Calls.{contents}
@@ -18,7 +19,7 @@ use Rattle.bk_body.specs.Body.{Body}
 use Rattle.bk_body.specs.Spelling.{set_bytes}
 use Rattle.bk_body.specs.Slots.{holds, slot_of, shown_of}
 use Rattle.bk_body.specs.SlotLaws.{slot_spelled}
-use Rattle.bk_volume.specs.Names.{medium_file}
+use Rattle.bk_volume.specs.Names.{medium_file, staging_file, letter}
 use Rattle.bk_volume.specs.Media.{medium_letters, sets_in, HasSets, HasAdded, sets_of, slot_in, reading_of, read_medium, slot_at, IsMedium, ShowsMedium, count_of}
 
 letters_first : (sets : List (List ℕ)) → sets_in (medium_letters ∷ sets) ≡ Some sets
@@ -125,3 +126,25 @@ names_differ path other bytes other_bytes same =
     let one = decode_of-encode_lower path bytes in
     let two = decode_of-encode_lower other other_bytes in
     cc
+
+-- the letters of the names
+
+pub medium_letter : (path : List ℕ) → letter (medium_file path) ≡ 109
+unfolding medium_file
+medium_letter path = refl
+
+pub staging_letter : (set : Guid) → letter (staging_file set) ≡ 116
+unfolding staging_file
+staging_letter set = refl
+
+-- a name with another letter is no medium's
+pub no_medium : (path name : List ℕ) → letter name ≢ 109 → name ≢ medium_file path
+no_medium path name other same = other (ap letter same ∙ medium_letter path)
+
+-- nor that of a set that is being written
+pub no_staging : (set : Guid) (name : List ℕ) → letter name ≢ 116 → name ≢ staging_file set
+no_staging set name other same = other (ap letter same ∙ staging_letter set)
+
+-- and no such set lies in a medium's file
+pub staging_apart : (path : List ℕ) (set : Guid) → staging_file set ≢ medium_file path
+staging_apart path set = no_medium path (staging_file set) (λ is. let both : 116 ≡ 109 = sym (staging_letter set) ∙ is in absurd (omega (arith, both)))

@@ -58,7 +58,7 @@ pub record ShowsMedium (disk : Disk) (kept : Kept) : Type 0 where
   pub spans : kept.spans ≡ spans_of (contents (disk.files kept.name))
   pub sets : HasSets (sets_of (disk.files kept.name)) (disk.files kept.name)
 
--- a medium was made: a crash leaves what it might have left before, or a file with no sealed blob, or a medium without sets
+-- a medium was made, or emptied: a crash leaves what was there before, or a file with no sealed blob, or a medium without sets
 abbrev pub LeavesMade : (Option (List ℕ) → Type 0) → Option (List ℕ) → Type 0
 LeavesMade before file = before file ⊎ ((sealed file ≡ []) ⊎ HasSets [] file)
 

@@ -93,3 +93,24 @@ pub fn make_empty<D: Device>(alloc: Global, dev: &mut D, name: &str) -> Result<G
     gate.append_reserved(dev, &LETTERS)?;
     Ok(gate)
 }
+
+// Takes all blobs from the gate file of a medium, and begins it again as one without sets. Takes no memory.
+pub fn start_again<D: Device>(dev: &mut D, gate: &mut Gate) -> Result<(), Failed>
+    requires fit { gate.old.failed ≡ false }
+    requires none { gate.old.begun ≡ None }
+    requires some { 1 ≤ length gate.old.spans }
+    requires stands { D.tells → IsGate (D.disk dev.old) gate.old }
+    ensures stands { D.tells → OnOk result (IsGate (D.disk dev.new) gate.new) }
+    ensures sets { D.tells → OnOk result (HasSets [] ((D.disk dev.new).files gate.old.name)) }
+    ensures count { OnOk result (length gate.new.spans ≡ 1) }
+    ensures none { OnOk result (gate.new.begun ≡ None) }
+    ensures name { gate.new.name ≡ gate.old.name }
+    ensures fit { OnOk result (gate.new.failed ≡ false) }
+    ensures durable { D.tells → OnOk result (IsDurable (D.disk dev.new) gate.old.name) }
+    ensures crash { D.tells → Effect (IsName gate.old.name) (λ image. LeavesMade (λ file. sealed file ≡ sealed ((D.disk dev.old).files gate.old.name)) (image gate.old.name)) (D.disk dev.old) (D.disk dev.new) }
+    ensures cause { HasCause D.disk_faults D.tell_faults dev.old dev.new (IsErr result) }
+{
+    gate.clear(dev)?;
+    gate.append_reserved(dev, &LETTERS)?;
+    Ok(())
+}

@@ -1,19 +1,27 @@
 //! A medium: a gate file, whose first blob says so and whose further blobs are backup sets.
-ghost use Rattle.std.specs.Prelude.{◌≡◌, ◌≢◌, ◌≤◌, ◌<◌, ◌⊎◌, ◌+◌, ◌-◌, ◌^◌, [], Some, None, length, false, true, IfOk, OnOk, IsErrOf};
+ghost use Rattle.std.specs.Prelude.{◌≡◌, ◌≢◌, ◌≤◌, ◌<◌, ◌⊎◌, ◌+◌, ◌-◌, ◌^◌, [], Some, None, length, false, true, is_err, IfOk, OnOk, IsErr, IsErrOf};
+ghost use Rattle.bk_body.specs.Body.{Body};
 ghost use Rattle.bk_device.specs.Calls.{ChangesNothing};
 ghost use Rattle.bk_device.specs.Counts.{HasCause};
 ghost use Rattle.bk_device.specs.Disk.{IsDurable};
 ghost use Rattle.bk_device.specs.Effects.{Effect, IsName};
 ghost use Rattle.bk_gate.specs.Gate.{Kept};
+ghost use Rattle.bk_header.specs.Conditions.{KeepsConditions};
 ghost use Rattle.bk_world.specs.Medium.{not_media};
 ghost use Rattle.bk_volume.specs.Names.{medium_file};
-ghost use Rattle.bk_volume.specs.Media.{HasSets, LeavesMade, IsMedium, ShowsMedium, sets_of, read_medium, count_of};
+ghost use Rattle.bk_volume.specs.Media.{HasSets, LeavesMade, HasAdded, LeavesAdded, IsMedium, ShowsMedium, sets_of, read_medium, count_of};
+ghost use Rattle.bk_volume.specs.Staging.{IsStaged, IsSetOf};
 
+mod reading;
+
+use crate::around::{seal_around, take_around};
 use crate::error::{LoadError, WriteError};
-use crate::first::{begins_well, load_gate, make_empty};
+use crate::first::{begins_well, load_gate, make_empty, start_again};
 use crate::name::medium_file;
-use bk_device::Device;
+use crate::staging::Staged;
+use bk_device::{Device, Failed};
 use bk_gate::Gate;
+use bk_world::{Header, TableSpec};
 use std::alloc::Global;
 use std::marker::Model;
 
@@ -23,14 +31,15 @@ use std::marker::Model;
 #[derive(Drop)]
 pub struct Medium {
     gate: Gate,
+    failed: bool,
 }
 
 impl Model for Medium {
     ghost Value = { Kept };
 
-    ghost view = { λ m. m.gate };
+    ghost view = { λ m. record m.gate { failed = m.failed } };
 
-    ghost invariant = { λ m. m.gate.failed ≡ false → (1 ≤ length m.gate.spans) × (m.gate.begun ≡ None) };
+    ghost invariant = { λ m. m.failed ≡ false → (m.gate.failed ≡ false) × (1 ≤ length m.gate.spans) × (m.gate.begun ≡ None) };
 }
 
 impl Medium {
@@ -56,7 +65,10 @@ impl Medium {
         }
         let gate = load_gate(alloc, dev, &name)?;
         if begins_well(dev, &gate)? {
-            Ok(Medium { gate })
+            Ok(Medium {
+                gate,
+                failed: false,
+            })
         } else {
             Err(LoadError::NotMedia)
         }
@@ -76,7 +88,10 @@ impl Medium {
     {
         let name = medium_file(alloc, path)?;
         let gate = make_empty(alloc, dev, &name)?;
-        Ok(Medium { gate })
+        Ok(Medium {
+            gate,
+            failed: false,
+        })
     }
 
     /// How many slots there are, one for each set.
@@ -85,5 +100,61 @@ impl Medium {
         ensures { result ≡ count_of self.now }
     {
         self.gate.count() - 1
+    }
+
+    /// Seals the set whose extents and log were added, behind the others, with this header and these tables. It is written
+    /// in pieces of at most 1 MiB. A crash leaves the sets that there were, or this one too. Takes the memory first.
+    pub fn seal_set<D: Device>(
+        &mut self,
+        alloc: Global,
+        dev: &mut D,
+        set: &Staged,
+        header: &Header,
+        tables: &[TableSpec],
+    ) -> Result<(), WriteError>
+        requires fit { self.old.failed ≡ false }
+        requires whole { set.now.failed ≡ false }
+        requires apart { set.now.name ≢ self.old.name }
+        requires keeps { KeepsConditions header.now }
+        requires few { length tables.now ≤ 64 }
+        requires stands { D.tells → IsMedium (D.disk dev.old) self.old }
+        requires staged { D.tells → IsStaged (D.disk dev.old) set.now }
+        ensures stands { D.tells → OnOk result (IsMedium (D.disk dev.new) self.new) }
+        ensures sets { D.tells → OnOk result ((body : Body) → IsSetOf (D.disk dev.old) set.now header.now tables.now body → HasAdded (sets_of ((D.disk dev.old).files self.old.name)) body ((D.disk dev.new).files self.old.name)) }
+        ensures count { OnOk result (count_of self.new ≡ count_of self.old + 1) }
+        ensures durable { D.tells → OnOk result (IsDurable (D.disk dev.new) self.old.name) }
+        ensures name { OnOk result (self.new.name ≡ self.old.name) }
+        ensures failed { IsErrOf result WriteError.Fault → self.new.failed ≡ true }
+        ensures fit { OnOk result (self.new.failed ≡ false) }
+        ensures no_memory { IsErrOf result WriteError.NoMemory → (self.new ≡ self.old) × (dev.new ≡ dev.old) }
+        ensures crash { D.tells → (body : Body) → IsSetOf (D.disk dev.old) set.now header.now tables.now body → Effect (IsName self.old.name) (λ image. LeavesAdded (sets_of ((D.disk dev.old).files self.old.name)) body (image self.old.name)) (D.disk dev.old) (D.disk dev.new) }
+        ensures cause { HasCause D.disk_faults D.tell_faults dev.old dev.new (IsErrOf result WriteError.Fault) }
+    {
+        let mut around = take_around(alloc, set, header, tables)?;
+        self.gate.reserve(1)?;
+        self.failed = true;
+        seal_around(dev, &mut self.gate, set, &mut around)?;
+        self.failed = false;
+        Ok(())
+    }
+
+    /// Makes it a medium without sets, and takes no memory. A crash leaves the sets that there were, or a file with no sealed
+    /// blob, or a medium without sets: until the call has ended it is a medium that is being emptied.
+    pub fn empty<D: Device>(&mut self, dev: &mut D) -> Result<(), Failed>
+        requires fit { self.old.failed ≡ false }
+        requires stands { D.tells → IsMedium (D.disk dev.old) self.old }
+        ensures stands { D.tells → OnOk result (IsMedium (D.disk dev.new) self.new) }
+        ensures sets { D.tells → OnOk result (HasSets [] ((D.disk dev.new).files self.old.name)) }
+        ensures none { OnOk result (count_of self.new ≡ 0) }
+        ensures durable { D.tells → OnOk result (IsDurable (D.disk dev.new) self.old.name) }
+        ensures name { OnOk result (self.new.name ≡ self.old.name) }
+        ensures failed { self.new.failed ≡ is_err result }
+        ensures crash { D.tells → Effect (IsName self.old.name) (λ image. LeavesMade (HasSets (sets_of ((D.disk dev.old).files self.old.name))) (image self.old.name)) (D.disk dev.old) (D.disk dev.new) }
+        ensures cause { HasCause D.disk_faults D.tell_faults dev.old dev.new (IsErr result) }
+    {
+        self.failed = true;
+        start_again(dev, &mut self.gate)?;
+        self.failed = false;
+        Ok(())
     }
 }

@@ -1,9 +1,10 @@
 //! A set that is being written.
-ghost use Rattle.std.specs.Prelude.{◌≡◌, ◌≤◌, ◌<◌, ◌+◌, ◌*◌, ◌++◌, ◌^◌, None, false, length, is_err, string_bytes, IfOk, OnOk, IsErr, IsErrOf};
+ghost use Rattle.std.specs.Prelude.{◌≡◌, ◌≤◌, ◌<◌, ◌⊎◌, ◌+◌, ◌*◌, ◌++◌, ◌^◌, None, false, length, is_err, string_bytes, IfOk, OnOk, IsErr, IsErrOf};
 ghost use Rattle.bk_body.specs.Spelling.{extent_bytes};
 ghost use Rattle.bk_bytes.specs.Field.{bytes_of};
 ghost use Rattle.bk_device.specs.Calls.{contents};
 ghost use Rattle.bk_device.specs.Counts.{HasCause};
+ghost use Rattle.bk_device.specs.Disk.{IsDurable};
 ghost use Rattle.bk_device.specs.Effects.{Effect, IsName};
 ghost use Rattle.bk_volume.specs.Names.{staging_file};
 ghost use Rattle.bk_volume.specs.Staging.{Staging, IsStaged, staged};
@@ -11,7 +12,7 @@ ghost use Rattle.bk_volume.specs.Staging.{Staging, IsStaged, staged};
 use crate::error::WriteError;
 use crate::name::staging_file;
 use bk_bytes::{put_u16, put_u32};
-use bk_device::{Device, Failed};
+use bk_device::{Device, Failed, remove_durably};
 use bk_ids::Guid;
 use std::alloc::Global;
 use std::marker::Model;
@@ -145,6 +146,30 @@ impl Staged {
             }
         }
     }
+
+    /// Removes its file durably, and takes no memory. A crash leaves what it might have left before, or no file.
+    pub fn remove<D: Device>(self, dev: &mut D) -> Result<(), Failed>
+        ensures removed { D.tells → OnOk result ((D.disk dev.new).files self.name ≡ None) }
+        ensures durable { D.tells → OnOk result (IsDurable (D.disk dev.new) self.name) }
+        ensures crash { D.tells → Effect (IsName self.name) (λ image. (D.disk dev.old).may self.name (image self.name) ⊎ (image self.name ≡ None)) (D.disk dev.old) (D.disk dev.new) }
+        ensures cause { HasCause D.disk_faults D.tell_faults dev.old dev.new (IsErr result) }
+    {
+        remove_durably(dev, &self.name)
+    }
+}
+
+/// Removes the file of a set that is being written or was, if there is one, durably. A crash leaves what it might have left
+/// before, or no file.
+pub fn remove_staged<D: Device>(alloc: Global, dev: &mut D, set: Guid) -> Result<(), WriteError>
+    ensures removed { D.tells → OnOk result ((D.disk dev.new).files (staging_file set) ≡ None) }
+    ensures durable { D.tells → OnOk result (IsDurable (D.disk dev.new) (staging_file set)) }
+    ensures crash { D.tells → Effect (IsName (staging_file set)) (λ image. (D.disk dev.old).may (staging_file set) (image (staging_file set)) ⊎ (image (staging_file set) ≡ None)) (D.disk dev.old) (D.disk dev.new) }
+    ensures cause { HasCause D.disk_faults D.tell_faults dev.old dev.new (IsErrOf result WriteError.Fault) }
+    ensures no_memory { IsErrOf result WriteError.NoMemory → dev.new ≡ dev.old }
+{
+    let name = staging_file(alloc, set)?;
+    remove_durably(dev, &name)?;
+    Ok(())
 }
 
 // Writes bytes behind all that a file has.

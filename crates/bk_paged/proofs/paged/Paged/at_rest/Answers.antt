@@ -1,4 +1,4 @@
-use Rattle.bk_paged.proofs.Leaving.{paged_none}
+use Rattle.bk_paged.specs.Leaving.{paged_none}
 use Rattle.bk_paged.proofs.paged.Paged.at_rest.Goals as goal
 
 pub returns-clause-crash : goal.returns-clause-crash

@@ -2,7 +2,7 @@ use Rattle.std.proofs.Common.{sym, subst}
 use Rattle.bk_device.specs.Effects.{Effect}
 use Rattle.bk_segments.specs.Files.{IsOwn}
 use Rattle.bk_paged.specs.Paged.{IsPaged, Kept}
-use Rattle.bk_paged.proofs.Leaving.{Flushed, flush_crash}
+use Rattle.bk_paged.specs.Leaving.{Flushed, flush_crash}
 use Rattle.bk_paged.proofs.Standing.{flush_stands}
 use Rattle.bk_paged.proofs.paged.Paged.flush.Goals as goal
 

@@ -12,7 +12,7 @@ use Rattle.bk_paged.specs.Holds.{HaveRoom, unwritten}
 use Rattle.bk_paged.specs.Making.{AreFirst}
 use Rattle.bk_paged.specs.Names.{names_of}
 use Rattle.bk_paged.specs.Paged.{IsPaged}
-use Rattle.bk_paged.proofs.Leaving.{room_short}
+use Rattle.bk_paged.specs.Leaving.{room_short}
 use Rattle.bk_paged.proofs.Made.{control_durable, control_none, log_last, made_stands, side_first}
 use Rattle.bk_paged.proofs.Noting.{spelled}
 use Rattle.bk_paged.proofs.Roomy.{have_room}

@@ -5,7 +5,7 @@ use Rattle.bk_facts.specs.Facts.{facts_bytes}
 use Rattle.bk_paged.specs.Holds.{Leaves}
 use Rattle.bk_paged.specs.Names.{IsOwn as IsOurs}
 use Rattle.bk_paged.specs.Paged.{IsPaged, Kept, sealed_count}
-use Rattle.bk_paged.proofs.Leaving.{paged_none, room_short}
+use Rattle.bk_paged.specs.Leaving.{paged_none, room_short}
 use Rattle.bk_paged.proofs.Noting.{checkpoint_crash, checkpoint_stands, spelled, spelled_now}
 use Rattle.bk_paged.proofs.paged.Paged.note_checkpoint.Goals as goal
 

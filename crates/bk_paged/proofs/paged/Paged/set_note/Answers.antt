@@ -3,7 +3,7 @@ use Rattle.bk_device.specs.Compose.{effect_weaken}
 use Rattle.bk_device.specs.Effects.{Effect}
 use Rattle.bk_paged.specs.Names.{IsOwn as IsOurs}
 use Rattle.bk_paged.specs.Paged.{IsPaged, Kept}
-use Rattle.bk_paged.proofs.Leaving.{paged_none, room_short, with_note}
+use Rattle.bk_paged.specs.Leaving.{paged_none, room_short, with_note}
 use Rattle.bk_paged.proofs.Noting.{Either, note_crash, note_stands_as, spelled, spelled_new}
 use Rattle.bk_paged.proofs.paged.Paged.set_note.Goals as goal
 

@@ -7,7 +7,7 @@ use Rattle.bk_paged.specs.Appends.{with_waiting}
 use Rattle.bk_paged.specs.Holds.{with_one}
 use Rattle.bk_paged.specs.Paged.{IsPaged, Kept}
 use Rattle.bk_paged.proofs.Changing.{cell_said, may_fit, may_next, plain_said}
-use Rattle.bk_paged.proofs.Leaving.{paged_none}
+use Rattle.bk_paged.specs.Leaving.{paged_none}
 use Rattle.bk_paged.proofs.Saying.{Next}
 use Rattle.bk_paged.proofs.paged.Paged.set_page.Goals as goal
 

@@ -52,3 +52,9 @@ returns-clause-stands g c t told is =
     let r = at_end c.args.self.now c.args.begin (undo_of (pending_of write)) in
     let As : ℕ → Body → Rec = λ n b. record { lsn = n; begin = c.args.begin; body = b } in
     (map pending_of says.0, pending_of write, own-ends s told c.args.begin says.0 write a own says.2, c.in_ok-done.ensures.stands t told r here next (sym (ap₂ As (c.end.ensures ∙ ap End c.self.view_is) says.3)))
+
+pub returns-clause-later : goal.returns-clause-later
+returns-clause-later g c t told is =
+    let disk = g.D.Device.disk in
+    let here = moved-stands disk c.args.dev.now c.at_rest.new.dev c.args.self.now told c.at_rest.ensures.same is in
+    c.in_ok-done.ensures.later t told here

@@ -1,10 +1,10 @@
-use Rattle.std.proofs.Common.{sym, ap, ◌∙◌}
+use Rattle.std.proofs.Common.{false, sym, ap, ◌∙◌}
 use Rattle.std.specs.Prelude.{not}
 use Rattle.std.proofs.lemmas.Result.{err_from_is_err_and}
 use Rattle.bk_volume.specs.Names.{medium_file}
 use Rattle.bk_volume.proofs.Sets.{well_has, count_is, ill_read}
 use Rattle.bk_device.specs.Laws.{nothing_then}
-use Rattle.bk_volume.proofs.Steps.{opened, opened_medium, shown_medium, is_there, foreign_read}
+use Rattle.bk_volume.proofs.Steps.{opened, opened_medium, shown_medium, medium_flag, shows_flag, is_there, foreign_read}
 use Rattle.bk_volume.proofs.medium.Medium.load.Goals as goal
 
 pub returns-in_err-gate-clause-not_media : goal.returns-in_err-gate-clause-not_media
@@ -41,18 +41,18 @@ returns-then-branch-clause-shows g c t =
     let a = g.D.Device.disk c.args.dev.now in
     let is = opened (medium_file c.args.path.now) c.deref-2.result.now a (g.D.Device.disk c.len.new.self) (g.D.Device.disk c.load_gate.new.dev) c.in_ok-gate.gate c.in_ok-begins_well.field-0
     (c.deref-2.ensures ∙ c.in_ok-name.ensures) c.in_ok-gate.ensures.name (c.len.ensures.effect t) (c.load_gate.ensures.effect t) (c.in_ok-gate.ensures.gate_file t) (c.in_ok-gate.ensures.spans t) (c.in_ok-begins_well.ensures.value t) in
-    shown_medium (medium_file c.args.path.now) c.deref-2.result.now a (g.D.Device.disk c.len.new.self) (g.D.Device.disk c.load_gate.new.dev) (g.D.Device.disk c.begins_well.new.dev) c.in_ok-gate.gate c.in_ok-begins_well.field-0
+    shows_flag false (shown_medium (medium_file c.args.path.now) c.deref-2.result.now a (g.D.Device.disk c.len.new.self) (g.D.Device.disk c.load_gate.new.dev) (g.D.Device.disk c.begins_well.new.dev) c.in_ok-gate.gate c.in_ok-begins_well.field-0
     (c.deref-2.ensures ∙ c.in_ok-name.ensures) c.in_ok-gate.ensures.name (c.len.ensures.effect t) (c.load_gate.ensures.effect t) (c.begins_well.ensures.effect t)
-    is (well_has (a.files (medium_file c.args.path.now)) (sym is.begins ∙ c.if-branch.true))
+    is (well_has (a.files (medium_file c.args.path.now)) (sym is.begins ∙ c.if-branch.true)))
 
 pub returns-then-branch-clause-stands : goal.returns-then-branch-clause-stands
 returns-then-branch-clause-stands g c t durable =
     let a = g.D.Device.disk c.args.dev.now in
     let is = opened (medium_file c.args.path.now) c.deref-2.result.now a (g.D.Device.disk c.len.new.self) (g.D.Device.disk c.load_gate.new.dev) c.in_ok-gate.gate c.in_ok-begins_well.field-0
     (c.deref-2.ensures ∙ c.in_ok-name.ensures) c.in_ok-gate.ensures.name (c.len.ensures.effect t) (c.load_gate.ensures.effect t) (c.in_ok-gate.ensures.gate_file t) (c.in_ok-gate.ensures.spans t) (c.in_ok-begins_well.ensures.value t) in
-    opened_medium (medium_file c.args.path.now) c.deref-2.result.now a (g.D.Device.disk c.len.new.self) (g.D.Device.disk c.load_gate.new.dev) (g.D.Device.disk c.begins_well.new.dev) c.in_ok-gate.gate
+    medium_flag false (opened_medium (medium_file c.args.path.now) c.deref-2.result.now a (g.D.Device.disk c.len.new.self) (g.D.Device.disk c.load_gate.new.dev) (g.D.Device.disk c.begins_well.new.dev) c.in_ok-gate.gate
     (c.deref-2.ensures ∙ c.in_ok-name.ensures) c.in_ok-gate.ensures.name (c.len.ensures.effect t) (c.load_gate.ensures.effect t) (c.begins_well.ensures.effect t)
-    durable (c.in_ok-gate.ensures.stands t) (well_has (a.files (medium_file c.args.path.now)) (sym is.begins ∙ c.if-branch.true))
+    durable (c.in_ok-gate.ensures.stands t) (well_has (a.files (medium_file c.args.path.now)) (sym is.begins ∙ c.if-branch.true)))
 
 pub returns-clause-not_media : goal.returns-clause-not_media
 returns-clause-not_media g c t _ =

@@ -22,7 +22,7 @@ use Rattle.bk_paged.specs.Laws.{apart, recovers_as, stored_length}
 use Rattle.bk_paged.specs.Holds.{HaveRoom, Holds, Leaves, Stood, front_of}
 use Rattle.bk_paged.specs.Names.{IsOwn, names_of, shown_at}
 use Rattle.bk_paged.specs.Paged.{IsPaged, Kept, sealed_count}
-use Rattle.bk_paged.proofs.Named.{shown_left}
+use Rattle.bk_paged.specs.Named.{shown_left}
 
 -- ---- the records of the log
 

@@ -1,0 +1,8 @@
+use Rattle.std.proofs.Common.{◌≡◌, ◌-◌}
+use Rattle.bk_bytes.specs.Codec.{times_at}
+use Rattle.bk_bytes.specs.LoopLaws.{with_front}
+use Rattle.bk_points.specs.Points.{unit_form}
+use Rattle.bk_points.proofs.reading.read_so_many.Given as goal
+
+abbrev pub invariant-loop : goal.invariant-loop
+invariant-loop l = with_front l.units.items (times_at unit_form.reading (l.count - l.counter) l.rest) ≡ times_at unit_form.reading l.count l.bytes

@@ -1,0 +1,38 @@
+use Rattle.bk_device.specs.Compose.{effect_then}
+use Rattle.std.proofs.Common.{subst, rules}
+use Rattle.bk_store.specs.Store.{IsStore}
+use Rattle.bk_store.specs.Told.{Told}
+use Rattle.bk_store.proofs.Rolled.{crash-same, rollback-ends, rollback-next}
+use Rattle.bk_store.proofs.store.Store.rollback.Goals as goal
+
+pub end_rollback-requires-clause-stands : goal.end_rollback-requires-clause-stands
+end_rollback-requires-clause-stands g c t =
+    let start = c.requires.stands t in
+    let u = c.in_ok-undo_all.ensures.undone t start.0 start.1 in
+    (u.0, (u.1, rollback-next c.undo_all.new.self u.0 c.args.begin (g.D.Device.disk c.undo_all.new.dev) u.1 (search rules) u.3))
+
+pub returns-in_err-end_rollback-clause-crash : goal.returns-in_err-end_rollback-clause-crash
+returns-in_err-end_rollback-clause-crash g c t told is =
+    let s = c.undo_all.new.self in
+    let b = g.D.Device.disk c.undo_all.new.dev in
+    let u = c.in_ok-undo_all.ensures.undone t told is in
+    let next = rollback-next s u.0 c.args.begin b u.1 (search rules) u.3 in
+    effect_then (c.undo_all.ensures.crash t told is)
+    (crash-same c.args.self.now s _ _ b (g.D.Device.disk c.end_rollback.new.dev) (rollback-ends s told u.0 c.args.begin b u.1 u.2 u.3) c.in_ok-undo_all.ensures.ends.0 (c.in_ok-undo_all.ensures.later t told is) (c.end_rollback.ensures.crash t u.0 u.1 next))
+
+pub returns-clause-crash : goal.returns-clause-crash
+returns-clause-crash g c t told is =
+    let s = c.undo_all.new.self in
+    let b = g.D.Device.disk c.undo_all.new.dev in
+    let u = c.in_ok-undo_all.ensures.undone t told is in
+    let next = rollback-next s u.0 c.args.begin b u.1 (search rules) u.3 in
+    effect_then (c.undo_all.ensures.crash t told is)
+    (crash-same c.args.self.now s _ _ b (g.D.Device.disk c.end_rollback.new.dev) (rollback-ends s told u.0 c.args.begin b u.1 u.2 u.3) c.in_ok-undo_all.ensures.ends.0 (c.in_ok-undo_all.ensures.later t told is) (c.end_rollback.ensures.crash t u.0 u.1 next))
+
+pub returns-clause-stands : goal.returns-clause-stands
+returns-clause-stands g c t told is =
+    let s = c.undo_all.new.self in
+    let b = g.D.Device.disk c.undo_all.new.dev in
+    let u = c.in_ok-undo_all.ensures.undone t told is in
+    let next = rollback-next s u.0 c.args.begin b u.1 (search rules) u.3 in
+    subst (λ (t : Told). IsStore (g.D.Device.disk c.end_rollback.new.dev) c.end_rollback.new.self t) (rollback-ends s told u.0 c.args.begin b u.1 u.2 u.3) (c.in_ok-end_rollback.ensures.stands t u.0 u.1 next)

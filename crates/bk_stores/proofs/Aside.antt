@@ -1,0 +1,75 @@
+-- What is there of a store is removed that is named as one that is being made or removed.
+use Rattle.std.proofs.Common.{◌≡◌, ◌≤◌, ◌<◌, ◌+◌, ◌⊎◌, ℕ, List, [], ◌∷◌, length, map, set, Option, Some, None, refl, inl, inr, sym, ap, subst, ◌∙◌, arith}
+use Rattle.std.proofs.lemmas.List.{length-set}
+use Rattle.std.specs.Prelude.{remove, slice_get}
+use Rattle.bk_device.specs.Compose.{effect_then, effect_weaken}
+use Rattle.bk_device.specs.Disk.{Disk, Files}
+use Rattle.bk_device.specs.Effects.{Effect}
+use Rattle.bk_filling.specs.Removing.{IsPart}
+use Rattle.bk_master.specs.declared.record.Entry.{Entry}
+use Rattle.bk_master.specs.declared.record.Record.{Record}
+use Rattle.bk_master.specs.declared.record.Unfinished.{Unfinished}
+use Rattle.bk_master.specs.Spelling.{KeepsRecord}
+use Rattle.bk_side.specs.Names.{data_file as data_name}
+use Rattle.bk_store.specs.Store.{Kept as KeptStore}
+use Rattle.bk_store.specs.Told.{Told}
+use Rattle.bk_stores.specs.LessLaws.{length-less}
+use Rattle.bk_stores.specs.Making.{Drops, MaySwap, Swaps}
+use Rattle.bk_stores.specs.Records.{AreSmall, IsApart, left_out, swapped, unfinished_at}
+use Rattle.bk_stores.specs.StandLaws.{own-crash, own-stands}
+use Rattle.bk_stores.specs.Stores.{AreEntries, AreStores, IsOurs, Kept, LeavesEntry, LeavesStores, at_paths, sealed_at, sealed_of}
+use Rattle.bk_stores.proofs.Created.{parts-named}
+use Rattle.bk_stores.proofs.Swapped.{sealed-set}
+
+-- it shares no name with the databases
+aside-apart : (r : Record) (tolds : List Told) (n : ℕ) (paths : List (List ℕ)) → r.unfinished ≡ unfinished_at n paths ∷ [] → AreEntries r tolds → IsApart r.databases tolds n (at_paths paths)
+aside-apart r tolds n paths same is = λ i e t at. is.aside i 0 e t (unfinished_at n paths) at (subst (λ (us : List Unfinished). slice_get us 0 ≡ Some (unfinished_at n paths)) (sym same) refl)
+
+pub aside-stands : (s : Kept) (tolds : List Told) (n : ℕ) (paths : List (List ℕ)) {P : Files → Type 0} {a b : Disk} → s.master.record.unfinished ≡ unfinished_at n paths ∷ [] → n < s.master.record.next → AreStores a s tolds → Effect (IsPart n (map data_name paths)) P a b → AreStores b s tolds
+aside-stands s tolds n paths same below is effect = own-stands s tolds n (at_paths paths) is (aside-apart s.master.record tolds n paths same is.standing.entries) below (parts-named n paths effect)
+
+pub aside-crash : (s : Kept) (tolds : List Told) (n : ℕ) (paths : List (List ℕ)) {P : Files → Type 0} {a b : Disk} → s.master.record.unfinished ≡ unfinished_at n paths ∷ [] → AreStores a s tolds → Effect (IsPart n (map data_name paths)) P a b → Effect IsOurs (LeavesStores (sealed_at s tolds) tolds) a b
+aside-crash s tolds n paths same is effect = own-crash s tolds n (at_paths paths) is (aside-apart s.master.record tolds n paths same is.standing.entries) (parts-named n paths effect)
+
+-- ---- the records behind a removal
+
+pub left-keeps : (r : Record) (at store : ℕ) (paths : List (List ℕ)) → AreSmall paths → at < length r.databases → KeepsRecord r → KeepsRecord (left_out r at store paths)
+left-keeps r at store paths small inside is = record {
+  path = is.path;
+  few = let size = length-less r.databases at inside in let few = is.few in omega (arith, size, few);
+  one = omega arith;
+  small = ((small.few, small.short), tt);
+}
+
+pub swapped-keeps : (r : Record) (at : ℕ) (x : Entry) (store : ℕ) (paths : List (List ℕ)) → AreSmall paths → KeepsRecord r → KeepsRecord (swapped r at x store paths)
+swapped-keeps r at x store paths small is = record {
+  path = is.path;
+  few = let size = length-set r.databases at x in let few = is.few in omega (arith, size, few);
+  one = omega arith;
+  small = ((small.few, small.short), tt);
+}
+
+pub left-count : {X Y : Type 0} (xs : List X) (ys : List Y) (at : ℕ) → at < length xs → length xs ≡ length ys → length (remove xs at) ≡ length (remove ys at)
+left-count xs ys at inside same = let one = length-less xs at inside in let other = length-less ys at (omega (arith, inside, same)) in omega (arith, one, other, same)
+
+-- what follows a removal leaves the databases that are left
+pub drops-then : (s then : Kept) (tolds : List Told) (at : ℕ) (a b c : Disk) → then.slots ≡ remove s.slots at → Drops s tolds at a b → Effect IsOurs (LeavesStores (sealed_at then (remove tolds at)) (remove tolds at)) b c → Drops s tolds at a c
+drops-then s then tolds at a b c slots first second =
+    let rest : List Told = remove tolds at in
+    let same : Effect IsOurs (LeavesStores (λ i. sealed_of (slice_get (remove s.slots at) i) (slice_get rest i)) rest) b c =
+    subst (λ (sl : List (Option KeptStore)). Effect IsOurs (LeavesStores (λ i. sealed_of (slice_get sl i) (slice_get rest i)) rest) b c) slots second in
+    effect_then first (effect_weaken (λ image here. inr here) same)
+
+-- what follows a swap leaves the databases with the new one
+pub swaps-then : (s then : Kept) (tolds : List Told) (at : ℕ) (told new : Told) (x : Entry) (slot : Option KeptStore) (paths : List (List ℕ)) (a b c : Disk) → then.slots ≡ set s.slots at slot → AreStores a s tolds → MaySwap a s tolds at told x slot new paths → Swaps s tolds at new a b
+    → Effect IsOurs (LeavesStores (sealed_at then (set tolds at new)) (set tolds at new)) b c → Swaps s tolds at new a c
+swaps-then s then tolds at told new x slot paths a b c slots is may first second =
+    let all : List Told = set tolds at new in
+    let same : Effect IsOurs (LeavesStores (λ i. sealed_of (slice_get (set s.slots at slot) i) (slice_get all i)) all) b c =
+    subst (λ (sl : List (Option KeptStore)). Effect IsOurs (LeavesStores (λ i. sealed_of (slice_get sl i) (slice_get all i)) all) b c) slots second in
+    effect_then first (effect_weaken (λ image here. inr (record {
+      «record» = here.«record»;
+      is_record = here.is_record;
+      entries = here.entries;
+      each = λ i f u it. subst (λ (n : ℕ). LeavesEntry f n u image) (sealed-set s.slots tolds at slot new i may.sealed) (here.each i f u it);
+    })) same)

@@ -1,0 +1,24 @@
+-- The record that names a store as one that is being made is put.
+use Rattle.std.proofs.Common.{◌≡◌, ◌≤◌, ◌<◌, ◌^◌, ◌⊎◌, ℕ, List, refl, sym, ap, subst, arith}
+use Rattle.bk_device.specs.Disk.{Disk, Files}
+use Rattle.bk_device.specs.Effects.{Effect}
+use Rattle.bk_master.specs.declared.record.Record.{Record}
+use Rattle.bk_master.specs.Master.{HoldsRecord, IsMaster, IsOwn as IsOfMaster, Kept as KeptMaster}
+use Rattle.bk_store.specs.Told.{Told}
+use Rattle.bk_stores.specs.AddLaws.{begun-entries}
+use Rattle.bk_stores.specs.Records.{AreSmall, SharesNone, begun}
+use Rattle.bk_stores.specs.StandLaws.{put-crash, put-stands}
+use Rattle.bk_stores.specs.Stores.{AreEntries, AreStores, IsOurs, Kept, LeavesStores, at_paths, sealed_at}
+
+pub begun-crash : (s : Kept) (tolds : List Told) (paths : List (List ℕ)) (next : Record) {a b : Disk} → s.master.record.next < 2 ^ 32 → AreSmall paths → next ≡ begun s.master.record paths → AreStores a s tolds → SharesNone s.master.record.databases tolds (at_paths paths)
+    → Effect IsOfMaster (λ image. HoldsRecord image s.master.record ⊎ HoldsRecord image next) a b → Effect IsOurs (LeavesStores (sealed_at s tolds) tolds) a b
+begun-crash s tolds paths next {a} {b} small short same is shares effect =
+    let r : Record = s.master.record in
+    put-crash s tolds (begun r paths) is refl (begun-entries r tolds paths small short is.standing.entries shares) (subst (λ (n : Record). Effect IsOfMaster (λ image. HoldsRecord image r ⊎ HoldsRecord image n) a b) same effect)
+
+pub begun-stands : (s : Kept) (tolds : List Told) (paths : List (List ℕ)) (m : KeptMaster) {P : Files → Type 0} {a b : Disk} → s.master.record.next < 2 ^ 32 → AreSmall paths → m.record ≡ begun s.master.record paths → AreStores a s tolds
+    → SharesNone s.master.record.databases tolds (at_paths paths) → IsMaster b m → Effect IsOfMaster P a b → AreStores b (record s { master = m }) tolds
+begun-stands s tolds paths m small short same is shares master effect =
+    let r : Record = s.master.record in
+    put-stands s tolds m is master effect (ap (λ (n : Record). n.databases) same) (subst (λ (n : Record). r.next ≤ n.next) (sym same) (omega arith))
+    (subst (λ (n : Record). AreEntries n tolds) (sym same) (begun-entries r tolds paths small short is.standing.entries shares))

@@ -1,0 +1,10 @@
+mod Added
+mod Any
+mod Aside
+mod Begun
+mod Created
+mod LeftOut
+mod Loaded
+mod Opened
+mod Rested
+mod Swapped

@@ -1,0 +1,51 @@
+use Rattle.std.proofs.Common.{rules, ◌≡◌, ◌≤◌, ◌∙◌, ◌∷◌, ◌++◌, [], List, Option, inl, sym, subst}
+use Rattle.bk_device.specs.Compose.{effect_weaken}
+use Rattle.bk_device.specs.Effects.{Effect}
+use Rattle.bk_store.specs.Store.{Kept as KeptStore}
+use Rattle.bk_stores.specs.Making.{Adds, Creates, MayAdd}
+use Rattle.bk_stores.specs.Records.{rested}
+use Rattle.bk_stores.specs.StandLaws.{rest-crash}
+use Rattle.bk_stores.specs.Stores.{AreStores, Kept}
+use Rattle.bk_stores.proofs.Added.{added-crash, added-stands}
+use Rattle.bk_stores.proofs.stores.Stores.add.Goals as goal
+
+pub returns-in_err-push-clause-crash : goal.returns-in_err-push-clause-crash
+returns-in_err-push-clause-crash g c t tolds new is may = effect_weaken (λ image here. inl here) (rest-crash (g.D.Device.disk c.args.dev.now) c.args.self.now tolds is)
+
+pub returns-in_err-next-clause-crash : goal.returns-in_err-next-clause-crash
+returns-in_err-next-clause-crash g c t tolds new is may = effect_weaken (λ image here. inl here) (rest-crash (g.D.Device.disk c.args.dev.now) c.args.self.now tolds is)
+
+pub returns-in_err-put-clause-crash : goal.returns-in_err-put-clause-crash
+returns-in_err-put-clause-crash g c t tolds new is may =
+    let a = g.D.Device.disk c.args.dev.now in
+    let b = g.D.Device.disk c.put.new.dev in
+    let s : Kept = record { master = c.self.inside.master; slots = c.self.inside.slots.items } in
+    let here = subst (λ (k : Kept). AreStores a k tolds) (sym c.self.view_is) is in
+    let its = subst (λ (k : Kept). MayAdd a k tolds c.args.entry c.args.slot new) (sym c.self.view_is) may in
+    let adds = subst (λ (k : Kept). Adds k c.args.entry.store) (sym c.self.view_is) c.requires.adds in
+    let next_is : c.in_ok-next.next ≡ rested c.self.inside.master.record (c.self.inside.master.record.databases ++ c.args.entry ∷ []) = search rules in
+    subst (λ (k : Kept). Creates k tolds new a b) c.self.view_is (added-crash s tolds c.args.entry c.args.slot new c.in_ok-next.next adds next_is here its (c.put.ensures.crash t))
+
+pub returns-clause-stands : goal.returns-clause-stands
+returns-clause-stands g c t tolds new is may =
+    let a = g.D.Device.disk c.args.dev.now in
+    let b = g.D.Device.disk c.put.new.dev in
+    let s : Kept = record { master = c.self.inside.master; slots = c.self.inside.slots.items } in
+    let here = subst (λ (k : Kept). AreStores a k tolds) (sym c.self.view_is) is in
+    let its = subst (λ (k : Kept). MayAdd a k tolds c.args.entry c.args.slot new) (sym c.self.view_is) may in
+    let adds = subst (λ (k : Kept). Adds k c.args.entry.store) (sym c.self.view_is) c.requires.adds in
+    let next_is : c.in_ok-next.next ≡ rested c.self.inside.master.record (c.self.inside.master.record.databases ++ c.args.entry ∷ []) = search rules in
+    let slots_are : c.push.new.self.items ≡ c.self.inside.slots.items ++ c.args.slot ∷ [] = search rules in
+    subst (λ (slots : List (Option KeptStore)). AreStores b (record { master = c.put.new.self; slots = slots }) (tolds ++ new ∷ [])) (sym slots_are)
+    (added-stands s tolds c.args.entry c.args.slot new c.put.new.self adds (c.in_ok-put.ensures.put ∙ next_is) here its (c.in_ok-put.ensures.stands t) (c.put.ensures.crash t))
+
+pub returns-clause-crash : goal.returns-clause-crash
+returns-clause-crash g c t tolds new is may =
+    let a = g.D.Device.disk c.args.dev.now in
+    let b = g.D.Device.disk c.put.new.dev in
+    let s : Kept = record { master = c.self.inside.master; slots = c.self.inside.slots.items } in
+    let here = subst (λ (k : Kept). AreStores a k tolds) (sym c.self.view_is) is in
+    let its = subst (λ (k : Kept). MayAdd a k tolds c.args.entry c.args.slot new) (sym c.self.view_is) may in
+    let adds = subst (λ (k : Kept). Adds k c.args.entry.store) (sym c.self.view_is) c.requires.adds in
+    let next_is : c.in_ok-next.next ≡ rested c.self.inside.master.record (c.self.inside.master.record.databases ++ c.args.entry ∷ []) = search rules in
+    subst (λ (k : Kept). Creates k tolds new a b) c.self.view_is (added-crash s tolds c.args.entry c.args.slot new c.in_ok-next.next adds next_is here its (c.put.ensures.crash t))

@@ -1,0 +1,36 @@
+use Rattle.std.proofs.Common.{rules, ◌≡◌, ◌∙◌, List, sym, subst}
+use Rattle.std.specs.Prelude.{IsErrOf}
+use Rattle.bk_device.specs.Compose.{effect_then, effect_weaken}
+use Rattle.bk_stores.specs.Loading.{HoldsInstance, Opens, shut}
+use Rattle.bk_stores.specs.Stores.{AreStores}
+use Rattle.bk_stores.specs.declared.error.StoresError.TheVariants.{Broken}
+use Rattle.bk_stores.proofs.Loaded.{shut-leaves}
+use Rattle.bk_stores.proofs.stores.Stores.load.Goals as goal
+
+pub returns-in_err-master-clause-broken : goal.returns-in_err-master-clause-broken
+returns-in_err-master-clause-broken g c t broken settled tolds is =
+    let its : IsErrOf c.open_master.result Broken = search rules in
+    c.open_master.ensures.broken t its tolds is
+
+pub returns-in_err-settle_in-clause-broken : goal.returns-in_err-settle_in-clause-broken
+returns-in_err-settle_in-clause-broken g c t broken settled tolds is =
+    let its : IsErrOf c.settle_in.result Broken = search rules in
+    let here : AreStores (g.D.Device.disk c.open_master.new.dev) (shut c.in_ok-master.master) tolds = c.in_ok-master.ensures.stands t settled tolds is in
+    c.settle_in.ensures.broken its here.standing.entries.keeps
+
+pub returns-in_err-settle_in-clause-crash : goal.returns-in_err-settle_in-clause-crash
+returns-in_err-settle_in-clause-crash g c t settled tolds is =
+    let here : AreStores (g.D.Device.disk c.open_master.new.dev) (shut c.in_ok-master.master) tolds = c.in_ok-master.ensures.stands t settled tolds is in
+    effect_then (c.open_master.ensures.crash t settled tolds is)
+    (effect_weaken (λ image left. shut-leaves c.in_ok-master.master tolds image here.standing.entries.count left) (c.settle_in.ensures.crash t tolds here))
+
+pub returns-clause-stands : goal.returns-clause-stands
+returns-clause-stands g c t settled tolds is =
+    let here : AreStores (g.D.Device.disk c.open_master.new.dev) (shut c.in_ok-master.master) tolds = c.in_ok-master.ensures.stands t settled tolds is in
+    c.in_ok-settle_in.ensures.stands t tolds here
+
+pub returns-clause-crash : goal.returns-clause-crash
+returns-clause-crash g c t settled tolds is =
+    let here : AreStores (g.D.Device.disk c.open_master.new.dev) (shut c.in_ok-master.master) tolds = c.in_ok-master.ensures.stands t settled tolds is in
+    effect_then (c.open_master.ensures.crash t settled tolds is)
+    (effect_weaken (λ image left. shut-leaves c.in_ok-master.master tolds image here.standing.entries.count left) (c.settle_in.ensures.crash t tolds here))

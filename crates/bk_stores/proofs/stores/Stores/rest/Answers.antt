@@ -1,0 +1,36 @@
+use Rattle.std.proofs.Common.{rules, ◌≡◌, ◌∙◌, sym, subst}
+use Rattle.bk_device.specs.Effects.{Effect}
+use Rattle.bk_stores.specs.Records.{rested}
+use Rattle.bk_stores.specs.StandLaws.{rest-crash}
+use Rattle.bk_stores.specs.Stores.{AreStores, IsOurs, Kept, LeavesStores, sealed_at}
+use Rattle.bk_stores.proofs.Rested.{rested-crash, rested-stands}
+use Rattle.bk_stores.proofs.stores.Stores.rest.Goals as goal
+
+pub returns-in_err-next-clause-crash : goal.returns-in_err-next-clause-crash
+returns-in_err-next-clause-crash g c t tolds is = rest-crash (g.D.Device.disk c.args.dev.now) c.args.self.now tolds is
+
+pub returns-in_err-put-clause-crash : goal.returns-in_err-put-clause-crash
+returns-in_err-put-clause-crash g c t tolds is =
+    let a = g.D.Device.disk c.args.dev.now in
+    let b = g.D.Device.disk c.put.new.dev in
+    let s : Kept = record { master = c.self.inside.master; slots = c.self.inside.slots.items } in
+    let here = subst (λ (k : Kept). AreStores a k tolds) (sym c.self.view_is) is in
+    let next_is : c.in_ok-next.next ≡ rested c.self.inside.master.record c.self.inside.master.record.databases = search rules in
+    subst (λ (k : Kept). Effect IsOurs (LeavesStores (sealed_at k tolds) tolds) a b) c.self.view_is (rested-crash s tolds c.in_ok-next.next next_is here (c.put.ensures.crash t))
+
+pub returns-clause-stands : goal.returns-clause-stands
+returns-clause-stands g c t tolds is =
+    let a = g.D.Device.disk c.args.dev.now in
+    let s : Kept = record { master = c.self.inside.master; slots = c.self.inside.slots.items } in
+    let here = subst (λ (k : Kept). AreStores a k tolds) (sym c.self.view_is) is in
+    let next_is : c.in_ok-next.next ≡ rested c.self.inside.master.record c.self.inside.master.record.databases = search rules in
+    rested-stands s tolds c.put.new.self (c.in_ok-put.ensures.put ∙ next_is) here (c.in_ok-put.ensures.stands t) (c.put.ensures.crash t)
+
+pub returns-clause-crash : goal.returns-clause-crash
+returns-clause-crash g c t tolds is =
+    let a = g.D.Device.disk c.args.dev.now in
+    let b = g.D.Device.disk c.put.new.dev in
+    let s : Kept = record { master = c.self.inside.master; slots = c.self.inside.slots.items } in
+    let here = subst (λ (k : Kept). AreStores a k tolds) (sym c.self.view_is) is in
+    let next_is : c.in_ok-next.next ≡ rested c.self.inside.master.record c.self.inside.master.record.databases = search rules in
+    subst (λ (k : Kept). Effect IsOurs (LeavesStores (sealed_at k tolds) tolds) a b) c.self.view_is (rested-crash s tolds c.in_ok-next.next next_is here (c.put.ensures.crash t))

@@ -1,0 +1,15 @@
+pub mod Beside
+pub mod Errors
+pub mod ListLaws
+pub mod NameLaws
+pub mod Stores
+pub mod Records
+pub mod StoreLaws
+pub mod SlotLaws
+pub mod StandLaws
+pub mod AddLaws
+pub mod Making
+pub mod LessLaws
+pub mod ChangeLaws
+pub mod SwapLaws
+pub mod Loading

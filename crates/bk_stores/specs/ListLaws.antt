@@ -1,0 +1,50 @@
+-- Elements of lists by their places.
+use Rattle.std.proofs.Common.{◌≡◌, ◌≢◌, ◌<◌, ◌≤◌, ◌+◌, ◌⊎◌, ℕ, zero, suc, List, [], ◌∷◌, ◌++◌, length, set, Some, None, refl, inl, inr, sym, ap, ◌∙◌, arith}
+use Rattle.std.specs.Prelude.{slice_get}
+
+-- a place of an element is inside
+pub got-inside : {X : Type 0} (xs : List X) (i : ℕ) (x : X) → slice_get xs i ≡ Some x → i < length xs
+got-inside [] i x is = absurd cc
+got-inside (y ∷ xs) zero x is = omega arith
+got-inside (y ∷ xs) (suc i) x is = let less = got-inside xs i x is in omega (arith, less)
+
+-- each place inside has one
+pub got : {X : Type 0} (xs : List X) (i : ℕ) → i < length xs → (x : X) × (slice_get xs i ≡ Some x)
+got [] i less = absurd (omega (arith, less))
+got (x ∷ xs) zero less = (x, refl)
+got (x ∷ xs) (suc i) less = got xs i (omega (arith, less))
+
+pub got-set : {X : Type 0} (xs : List X) (i : ℕ) (x : X) → i < length xs → slice_get (set xs i x) i ≡ Some x
+got-set [] i x less = absurd (omega (arith, less))
+got-set (y ∷ xs) zero x less = refl
+got-set (y ∷ xs) (suc i) x less = got-set xs i x (omega (arith, less))
+
+pub got-other : {X : Type 0} (xs : List X) (i j : ℕ) (x : X) → (i ≡ j → ⊥) → slice_get (set xs i x) j ≡ slice_get xs j
+got-other [] i j x differ = refl
+got-other (y ∷ xs) zero zero x differ = absurd (differ refl)
+got-other (y ∷ xs) zero (suc j) x differ = refl
+got-other (y ∷ xs) (suc i) zero x differ = refl
+got-other (y ∷ xs) (suc i) (suc j) x differ = got-other xs i j x (λ same. differ (ap suc same))
+
+pub got-before : {X : Type 0} (xs ys : List X) (i : ℕ) (x : X) → slice_get xs i ≡ Some x → slice_get (xs ++ ys) i ≡ Some x
+got-before [] ys i x is = absurd cc
+got-before (y ∷ xs) ys zero x is = is
+got-before (y ∷ xs) ys (suc i) x is = got-before xs ys i x is
+
+-- an element of a list with one more is one of the list, or that one
+pub got-more : {X : Type 0} (xs : List X) (x y : X) (i : ℕ) → slice_get (xs ++ x ∷ []) i ≡ Some y → (slice_get xs i ≡ Some y) ⊎ ((i ≡ length xs) × (x ≡ y))
+got-more [] x y zero is = inr (refl, cc)
+got-more [] x y (suc i) is = absurd cc
+got-more (z ∷ xs) x y zero is = inl is
+got-more (z ∷ xs) x y (suc i) is = elim (got-more xs x y i is) [ inl there ↦ inl there | inr last ↦ inr (ap suc last.0, last.1) ]
+
+-- one element at a place
+pub got-one : {X : Type 0} (xs : List X) (i : ℕ) (x y : X) → slice_get xs i ≡ Some x → slice_get xs i ≡ Some y → x ≡ y
+got-one xs i x y first second = let same : Some x ≡ Some y = sym first ∙ second in cc
+
+-- two places are one or differ
+pub same-place : (i j : ℕ) → (i ≡ j) ⊎ (i ≡ j → ⊥)
+same-place zero zero = inl refl
+same-place zero (suc j) = inr (λ same. omega (arith, same))
+same-place (suc i) zero = inr (λ same. omega (arith, same))
+same-place (suc i) (suc j) = elim (same-place i j) [ inl same ↦ inl (ap suc same) | inr differ ↦ inr (λ same. differ (omega (arith, same))) ]

@@ -1,0 +1,176 @@
+// The records that are put while stores are made and removed.
+ghost use Rattle.std.specs.Prelude.{◌≡◌, ◌<◌, ◌∷◌, ◌++◌, ◌+◌, ◌^◌, [], Some, length, map, slice_get, IfErr, IfOk, IsErrOf};
+ghost use Rattle.bk_master.specs.declared.record.Entry.{Entry as Entries};
+ghost use Rattle.bk_stores.specs.Errors.{IsTrouble};
+ghost use Rattle.bk_stores.specs.Records.{begun, left_out, rested, swapped, unfinished_at};
+ghost use Rattle.bk_stores.specs.declared.error.StoresError.TheVariants.{Fault};
+
+use crate::error::StoresError;
+use bk_ids::{Sequence, Text};
+use bk_master::{Entry, Record, Unfinished};
+use bk_world::FileSpec;
+use std::alloc::{AllocError, Global};
+
+/// The paths of data files.
+pub(crate) fn paths_of(alloc: Global, files: &[FileSpec]) -> Result<Vec<Text>, AllocError>
+    ensures { IfOk result (λ paths. paths.items ≡ map (λ f. f.path) files.now) }
+{
+    let mut paths = Vec::new(alloc);
+    for file in files {
+        paths.push(file.path.copy(alloc)?)?;
+    }
+    Ok(paths)
+}
+
+// Paths of their own.
+fn copy_paths(alloc: Global, paths: &[Text]) -> Result<Vec<Text>, AllocError>
+    ensures { IfOk result (λ copy. copy.items ≡ paths.now) }
+{
+    let mut copy = Vec::new(alloc);
+    for path in paths {
+        copy.push(path.copy(alloc)?)?;
+    }
+    Ok(copy)
+}
+
+// The path of the medium that is being made, of its own.
+fn copy_making(alloc: Global, making: &Option<Text>) -> Result<Option<Text>, AllocError>
+    ensures { IfOk result (λ copy. copy ≡ making.now) }
+{
+    match making {
+        Some(path) => Ok(Some(path.copy(alloc)?)),
+        None => Ok(None),
+    }
+}
+
+// One store that is being made or removed.
+fn one_unfinished(
+    alloc: Global,
+    store: u32,
+    paths: &[Text],
+) -> Result<Sequence<Unfinished>, AllocError>
+    ensures { IfOk result (λ us. us ≡ unfinished_at store paths.now ∷ []) }
+{
+    let paths = Sequence::new(copy_paths(alloc, paths)?);
+    let mut unfinished = Vec::new(alloc);
+    unfinished.push(Unfinished { store, paths })?;
+    Ok(Sequence::new(unfinished))
+}
+
+// Entries of their own.
+fn copy_entries(alloc: Global, entries: &[Entry]) -> Result<Vec<Entry>, AllocError>
+    ensures { IfOk result (λ copy. copy.items ≡ entries.now) }
+{
+    entries.to_vec(alloc)
+}
+
+/// The number of the store of the database at this place.
+pub(crate) fn store_at(old: &Record, at: usize) -> u32
+    requires { at < length old.now.databases }
+    ensures { (e : Entries) × (slice_get old.now.databases at ≡ Some e) × (e.store ≡ result) }
+{
+    old.databases.as_slice()[at].store
+}
+
+/// The record that names the store of the next number as one that is being made, with data files at these paths.
+pub(crate) fn begin_record(
+    alloc: Global,
+    old: &Record,
+    paths: &[Text],
+) -> Result<Record, StoresError>
+    ensures begun { IfOk result (λ r. r ≡ begun old.now paths.now) }
+    ensures few { IfOk result (λ r. old.now.next < 2 ^ 32) }
+    ensures trouble { IfErr result IsTrouble }
+    ensures no_fault { IsErrOf result Fault → ⊥ }
+{
+    let Some(next) = old.next.checked_add(1) else {
+        return Err(StoresError::NoMemory);
+    };
+    let databases = copy_entries(alloc, old.databases.as_slice())?;
+    Ok(Record {
+        number: old.number,
+        counter: old.counter,
+        making: copy_making(alloc, &old.making)?,
+        next,
+        databases: Sequence::new(databases),
+        unfinished: one_unfinished(alloc, old.next, paths)?,
+    })
+}
+
+/// The record with one entry more, under which nothing is being made or removed.
+pub(crate) fn added_record(alloc: Global, old: &Record, entry: Entry) -> Result<Record, AllocError>
+    ensures { IfOk result (λ r. r ≡ rested old.now (old.now.databases ++ entry ∷ [])) }
+{
+    let mut databases = copy_entries(alloc, old.databases.as_slice())?;
+    databases.push(entry)?;
+    Ok(Record {
+        number: old.number,
+        counter: old.counter,
+        making: copy_making(alloc, &old.making)?,
+        next: old.next,
+        databases: Sequence::new(databases),
+        unfinished: Sequence::new(Vec::new(alloc)),
+    })
+}
+
+/// The record without the entry at a place, which names its store as one that is being removed, with data files at these paths.
+pub(crate) fn left_record(
+    alloc: Global,
+    old: &Record,
+    at: usize,
+    store: u32,
+    paths: &[Text],
+) -> Result<Record, AllocError>
+    requires { at < length old.now.databases }
+    ensures { IfOk result (λ r. r ≡ left_out old.now at store paths.now) }
+{
+    let mut databases = copy_entries(alloc, old.databases.as_slice())?;
+    databases.remove(at);
+    Ok(Record {
+        number: old.number,
+        counter: old.counter,
+        making: copy_making(alloc, &old.making)?,
+        next: old.next,
+        databases: Sequence::new(databases),
+        unfinished: one_unfinished(alloc, store, paths)?,
+    })
+}
+
+/// The record under which nothing is being made or removed.
+pub(crate) fn rested_record(alloc: Global, old: &Record) -> Result<Record, AllocError>
+    ensures { IfOk result (λ r. r ≡ rested old.now old.now.databases) }
+{
+    let databases = copy_entries(alloc, old.databases.as_slice())?;
+    Ok(Record {
+        number: old.number,
+        counter: old.counter,
+        making: copy_making(alloc, &old.making)?,
+        next: old.next,
+        databases: Sequence::new(databases),
+        unfinished: Sequence::new(Vec::new(alloc)),
+    })
+}
+
+/// The record in which another store is that of the database at a place, and the one that was is named as one that is being removed, with data files at these paths.
+pub(crate) fn swapped_record(
+    alloc: Global,
+    old: &Record,
+    at: usize,
+    entry: Entry,
+    store: u32,
+    paths: &[Text],
+) -> Result<Record, AllocError>
+    requires { at < length old.now.databases }
+    ensures { IfOk result (λ r. r ≡ swapped old.now at entry store paths.now) }
+{
+    let mut databases = copy_entries(alloc, old.databases.as_slice())?;
+    databases[at] = entry;
+    Ok(Record {
+        number: old.number,
+        counter: old.counter,
+        making: copy_making(alloc, &old.making)?,
+        next: old.next,
+        databases: Sequence::new(databases),
+        unfinished: one_unfinished(alloc, store, paths)?,
+    })
+}

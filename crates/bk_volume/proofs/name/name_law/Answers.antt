@@ -1,0 +1,5 @@
+use Rattle.bk_volume.specs.Laws.{names_differ, medium_letter, staging_letter, staging_apart, no_medium, no_staging}
+use Rattle.bk_volume.proofs.name.name_law.Goals as goal
+
+pub returns : goal.returns
+returns c = record { different = names_differ; media = medium_letter; staging = staging_letter; apart = staging_apart; no_medium = no_medium; no_staging = no_staging }
