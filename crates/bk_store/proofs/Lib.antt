@@ -1,5 +1,6 @@
 mod Behind
 mod Copied
+mod Floors
 mod Founded
 mod More
 mod Renoted

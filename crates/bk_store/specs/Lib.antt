@@ -1,5 +1,6 @@
 pub mod Copying
 pub mod CutLaws
+pub mod Cutting
 pub mod Errors
 pub mod FrontLaws
 pub mod LiftLaws
@@ -8,4 +9,5 @@ pub mod Recent
 pub mod Rolling
 pub mod Store
 pub mod Told
+pub mod Viewing
 pub mod Writing

@@ -1,10 +1,11 @@
 // What a store's note says.
-ghost use Rattle.std.specs.Prelude.{◌≡◌, ◌≤◌, ◌^◌, ◌<◌, ◌+◌, List, false, true, length, IfOk, OnOk, IsErrOf};
+ghost use Rattle.std.specs.Prelude.{◌≡◌, ◌≤◌, ◌^◌, ◌<◌, ◌+◌, ◌⊎◌, List, false, true, length, IfOk, OnOk, IsErrOf};
 ghost use Rattle.bk_device.specs.Counts.{HasCause};
 ghost use Rattle.bk_shown.specs.Shown.{Shows};
 ghost use Rattle.std.specs.List.{AllByRecursion};
 ghost use Rattle.bk_world.specs.declared.database.FileSpec.{FileSpec};
 ghost use Rattle.bk_world.specs.Records.{Logged, checkpointed};
+ghost use Rattle.bk_store.specs.Cutting.{IsFloor, MayBeCut};
 ghost use Rattle.bk_store.specs.Store.{Crashes, IsStore, NotesOr, at_end};
 ghost use Rattle.bk_store.specs.Told.{IsAsOf, Told, said};
 
@@ -65,13 +66,15 @@ fn may_cut(paged: &Paged, needed: Lsn, to: Lsn) -> bool
     ensures early { result ≡ true → to ≤ paged.now.facts.checkpoint }
     ensures inside { result ≡ true → to ≤ paged.now.log.stored }
     ensures needed { result ≡ true → to ≤ needed }
+    ensures no { result ≡ false → paged.now.log.head.kept ≤ to → to ≤ paged.now.facts.checkpoint → to ≤ paged.now.log.stored → to ≤ needed → ⊥ }
 {
     paged.kept() <= to && to <= paged.checkpointed() && to <= paged.stored() && to <= needed
 }
 
 // Whether each transaction with a pending write began at this number or later.
 fn are_open_from(shown: &Shown, to: Lsn) -> bool
-    ensures { result ≡ true → AllByRecursion (λ w. to ≤ w.begin) shown.now.written.items }
+    ensures yes { result ≡ true → AllByRecursion (λ w. to ≤ w.begin) shown.now.written.items }
+    ensures no { result ≡ false → AllByRecursion (λ w. to ≤ w.begin) shown.now.written.items → ⊥ }
 {
     shown.written().iter().all(|write| to <= write.begin)
 }
@@ -161,6 +164,8 @@ impl Store {
         ensures stands { D.tells → (told : Told) → IsStore (D.disk dev.old) self.old told → OnOk result (IsStore (D.disk dev.new) self.new told) }
         ensures ends { OnOk result ((self.new.paged.log.db ≡ self.old.paged.log.db) × (self.new.paged.log.end ≡ self.old.paged.log.end) × (self.new.paged.log.stored ≡ self.old.paged.log.stored)) }
         ensures kept { OnOk result (self.old.paged.log.head.kept ≤ self.new.paged.log.head.kept) }
+        ensures left { OnOk result ((self.new.paged.log.head.kept ≡ self.old.paged.log.head.kept) ⊎ (self.new.paged.log.head.kept ≡ to)) }
+        ensures cut { MayBeCut self.old to → OnOk result (self.new.paged.log.head.kept ≡ to) }
         ensures crash { D.tells → (told : Told) → IsStore (D.disk dev.old) self.old told → Crashes self.old told (D.disk dev.old) (D.disk dev.new) }
         ensures cause { HasCause D.disk_faults D.tell_faults dev.old dev.new (IsErrOf result StoreError.Fault) }
     {
@@ -174,9 +179,9 @@ impl Store {
     }
 
     /// Makes a checkpoint at this moment, in milliseconds since 1970-01-01 00:00:00 UTC: its record and all that was said before are made durable, then each page that was changed, and then
-    /// what the note says of the database. The end is below 2^62. Then the log is cut, so that it holds the records from `floor` on, where that is no less than the kept point, and each
-    /// transaction with a pending write began there or later; else it is left. `floor` is at most the first record of each transaction that is still to write, since one without a pending
-    /// write isn't looked at. A crash leaves what was durable, or some more of what was said, up to the checkpoint's record.
+    /// what the note says of the database. The end is below 2^62. Then the log is cut, so that it holds the records from `floor` on, where that is no less than the kept point and at most the
+    /// number behind the checkpoint's record, and each transaction with a pending write began there or later; else it is left. `floor` is at most the first record of each transaction that is
+    /// still to write, since one without a pending write isn't looked at. A crash leaves what was durable, or some more of what was said, up to the checkpoint's record.
     pub fn checkpoint<D: Device>(
         &mut self,
         alloc: Global,
@@ -191,6 +196,8 @@ impl Store {
         ensures stands { D.tells → (told : Told) → IsStore (D.disk dev.old) self.old told → OnOk result (IsStore (D.disk dev.new) self.new (said told (at_end self.old 0 (checkpointed now)))) }
         ensures ends { OnOk result ((self.new.paged.log.db ≡ self.old.paged.log.db) × (self.new.paged.log.end ≡ self.old.paged.log.end + 1) × (self.new.paged.log.stored ≡ self.new.paged.log.end)) }
         ensures kept { OnOk result (self.old.paged.log.head.kept ≤ self.new.paged.log.head.kept) }
+        ensures left { OnOk result ((self.new.paged.log.head.kept ≡ self.old.paged.log.head.kept) ⊎ (self.new.paged.log.head.kept ≡ floor)) }
+        ensures cut { D.tells → (told : Told) → IsStore (D.disk dev.old) self.old told → IsFloor self.old told floor → OnOk result (self.new.paged.log.head.kept ≡ floor) }
         ensures crash { D.tells → (told : Told) → IsStore (D.disk dev.old) self.old told → Crashes self.old (said told (at_end self.old 0 (checkpointed now))) (D.disk dev.old) (D.disk dev.new) }
         ensures cause { HasCause D.disk_faults D.tell_faults dev.old dev.new (IsErrOf result StoreError.Fault) }
     {

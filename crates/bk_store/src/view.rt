@@ -1,6 +1,7 @@
 // Records as they are taken in.
-ghost use Rattle.std.specs.Prelude.{◌≡◌, IfSome, Some};
+ghost use Rattle.std.specs.Prelude.{◌≡◌, IfSome, IsNone, Some};
 ghost use Rattle.bk_record.specs.View.{body_of, mark_of, place_of, record_of};
+ghost use Rattle.bk_store.specs.Viewing.{IsLoad};
 
 use bk_ids::{Body, Mark, Place, Rec};
 use bk_record::{BodyRef, MarkRef, PlaceRef, RecRef};
@@ -40,9 +41,10 @@ fn place_view(place: &Place) -> PlaceRef
     }
 }
 
-// What a record says, over its own bytes; that of a minimal load isn't shown.
+// What a record says, over its own bytes; that of a minimal load alone isn't shown.
 fn body_view(body: &Body) -> Option<BodyRef<'_>>
-    ensures { IfSome result (λ view. body_of view ≡ body.now) }
+    ensures some { IfSome result (λ view. body_of view ≡ body.now) }
+    ensures none { IsNone result → IsLoad body.now }
 {
     let view = match body {
         Body::Database {
@@ -104,9 +106,10 @@ fn body_view(body: &Body) -> Option<BodyRef<'_>>
     Some(view)
 }
 
-/// A record over its own bytes; that of a minimal load isn't shown.
+/// A record over its own bytes; that of a minimal load alone isn't shown.
 pub fn view(r: &Rec) -> Option<RecRef<'_>>
-    ensures { IfSome result (λ view. record_of view ≡ r.now) }
+    ensures some { IfSome result (λ view. record_of view ≡ r.now) }
+    ensures none { IsNone result → IsLoad r.now.body }
 {
     let body = body_view(&r.body)?;
     Some(RecRef {

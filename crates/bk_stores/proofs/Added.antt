@@ -1,5 +1,5 @@
 -- The record with one database more is put.
-use Rattle.std.proofs.Common.{◌≡◌, ◌≤◌, ◌<◌, ◌⊎◌, ℕ, zero, suc, List, [], ◌∷◌, ◌++◌, length, Option, Some, None, refl, inl, inr, sym, ap, subst, ◌∙◌, arith}
+use Rattle.std.proofs.Common.{◌≡◌, ◌<◌, ◌⊎◌, ℕ, zero, suc, List, [], ◌∷◌, ◌++◌, length, Option, None, refl, inl, inr, sym, subst, arith}
 use Rattle.std.proofs.lemmas.List.{length-append}
 use Rattle.std.specs.Prelude.{slice_get}
 use Rattle.bk_device.specs.Compose.{effect_weaken}
@@ -16,7 +16,7 @@ use Rattle.bk_stores.specs.AddLaws.{added-entries, added-slots}
 use Rattle.bk_stores.specs.Making.{Adds, Creates, MayAdd, sealed_more}
 use Rattle.bk_stores.specs.Records.{rested}
 use Rattle.bk_stores.specs.StandLaws.{master-keeps, master-wide, slots-left, standing-kept}
-use Rattle.bk_stores.specs.Stores.{AreStores, IsAt, IsOfEntry, IsOurs, IsSlot, Kept, LeavesEntry, LeavesStores, SlotsStand, Standing, its_files, sealed_at, sealed_by, sealed_of}
+use Rattle.bk_stores.specs.Stores.{AreStores, IsAt, Kept, LeavesEntry, SlotsStand, Standing, its_files, sealed_by, sealed_of}
 
 -- all of the new one's records count as durable
 sealed-same : (slots : List (Option KeptStore)) (tolds : List Told) (slot : Option KeptStore) (new : Told) (i : ℕ) → length slots ≡ length tolds → sealed_by slot new ≡ length new.records

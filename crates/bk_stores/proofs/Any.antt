@@ -1,10 +1,9 @@
 -- What is there of stores is removed that a record names as being made or removed.
-use Rattle.std.proofs.Common.{◌≡◌, ◌≤◌, ◌<◌, ◌^◌, ◌⊎◌, ℕ, List, [], length, map, Some, refl, inl, inr, sym, ap, subst, ◌∙◌, arith}
+use Rattle.std.proofs.Common.{◌≡◌, ◌⊎◌, ℕ, List, map, Some, inl, inr, sym, subst}
 use Rattle.std.specs.Prelude.{slice_get}
 use Rattle.bk_device.specs.Compose.{durable_kept, effect_follow, effect_widen, keeps_by_effect}
 use Rattle.bk_device.specs.Disk.{Disk, Files}
 use Rattle.bk_device.specs.Effects.{Effect}
-use Rattle.bk_facts.specs.declared.facts.DataFile.{DataFile}
 use Rattle.bk_filling.specs.Removing.{IsPart}
 use Rattle.bk_master.specs.declared.record.Entry.{Entry}
 use Rattle.bk_master.specs.declared.record.Record.{Record}
@@ -14,7 +13,6 @@ use Rattle.bk_master.specs.Master.{IsMaster, IsOwn as IsOfMaster, Kept as KeptMa
 use Rattle.bk_paged.specs.Names.{IsOwn}
 use Rattle.bk_segments.specs.Files.{IsOwn as IsOfLog}
 use Rattle.bk_side.specs.Names.{data_file as data_name, side_file, IsOwn as IsOfSide}
-use Rattle.bk_store.specs.Store.{Kept as KeptStore}
 use Rattle.bk_store.specs.Told.{Told}
 use Rattle.bk_stores.specs.AddLaws.{named-at}
 use Rattle.bk_stores.specs.Loading.{IsOfAny}

@@ -1,6 +1,5 @@
 -- What is there of a store is removed that is named as one that is being made or removed.
-use Rattle.std.proofs.Common.{◌≡◌, ◌≤◌, ◌<◌, ◌+◌, ◌⊎◌, ℕ, List, [], ◌∷◌, length, map, set, Option, Some, None, refl, inl, inr, sym, ap, subst, ◌∙◌, arith}
-use Rattle.std.proofs.lemmas.List.{length-set}
+use Rattle.std.proofs.Common.{◌≡◌, ◌<◌, ℕ, List, [], ◌∷◌, map, set, Option, Some, refl, inr, sym, subst}
 use Rattle.std.specs.Prelude.{remove, slice_get}
 use Rattle.bk_device.specs.Compose.{effect_then, effect_weaken}
 use Rattle.bk_device.specs.Disk.{Disk, Files}
@@ -9,13 +8,11 @@ use Rattle.bk_filling.specs.Removing.{IsPart}
 use Rattle.bk_master.specs.declared.record.Entry.{Entry}
 use Rattle.bk_master.specs.declared.record.Record.{Record}
 use Rattle.bk_master.specs.declared.record.Unfinished.{Unfinished}
-use Rattle.bk_master.specs.Spelling.{KeepsRecord}
 use Rattle.bk_side.specs.Names.{data_file as data_name}
 use Rattle.bk_store.specs.Store.{Kept as KeptStore}
 use Rattle.bk_store.specs.Told.{Told}
-use Rattle.bk_stores.specs.LessLaws.{length-less}
 use Rattle.bk_stores.specs.Making.{Drops, MaySwap, Swaps}
-use Rattle.bk_stores.specs.Records.{AreSmall, IsApart, left_out, swapped, unfinished_at}
+use Rattle.bk_stores.specs.Records.{IsApart, unfinished_at}
 use Rattle.bk_stores.specs.StandLaws.{own-crash, own-stands}
 use Rattle.bk_stores.specs.Stores.{AreEntries, AreStores, IsOurs, Kept, LeavesEntry, LeavesStores, at_paths, sealed_at, sealed_of}
 use Rattle.bk_stores.proofs.Created.{parts-named}
@@ -31,26 +28,7 @@ aside-stands s tolds n paths same below is effect = own-stands s tolds n (at_pat
 pub aside-crash : (s : Kept) (tolds : List Told) (n : ℕ) (paths : List (List ℕ)) {P : Files → Type 0} {a b : Disk} → s.master.record.unfinished ≡ unfinished_at n paths ∷ [] → AreStores a s tolds → Effect (IsPart n (map data_name paths)) P a b → Effect IsOurs (LeavesStores (sealed_at s tolds) tolds) a b
 aside-crash s tolds n paths same is effect = own-crash s tolds n (at_paths paths) is (aside-apart s.master.record tolds n paths same is.standing.entries) (parts-named n paths effect)
 
--- ---- the records behind a removal
-
-pub left-keeps : (r : Record) (at store : ℕ) (paths : List (List ℕ)) → AreSmall paths → at < length r.databases → KeepsRecord r → KeepsRecord (left_out r at store paths)
-left-keeps r at store paths small inside is = record {
-  path = is.path;
-  few = let size = length-less r.databases at inside in let few = is.few in omega (arith, size, few);
-  one = omega arith;
-  small = ((small.few, small.short), tt);
-}
-
-pub swapped-keeps : (r : Record) (at : ℕ) (x : Entry) (store : ℕ) (paths : List (List ℕ)) → AreSmall paths → KeepsRecord r → KeepsRecord (swapped r at x store paths)
-swapped-keeps r at x store paths small is = record {
-  path = is.path;
-  few = let size = length-set r.databases at x in let few = is.few in omega (arith, size, few);
-  one = omega arith;
-  small = ((small.few, small.short), tt);
-}
-
-pub left-count : {X Y : Type 0} (xs : List X) (ys : List Y) (at : ℕ) → at < length xs → length xs ≡ length ys → length (remove xs at) ≡ length (remove ys at)
-left-count xs ys at inside same = let one = length-less xs at inside in let other = length-less ys at (omega (arith, inside, same)) in omega (arith, one, other, same)
+-- ---- what follows
 
 -- what follows a removal leaves the databases that are left
 pub drops-then : (s then : Kept) (tolds : List Told) (at : ℕ) (a b c : Disk) → then.slots ≡ remove s.slots at → Drops s tolds at a b → Effect IsOurs (LeavesStores (sealed_at then (remove tolds at)) (remove tolds at)) b c → Drops s tolds at a c

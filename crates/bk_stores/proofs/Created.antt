@@ -19,13 +19,13 @@ use Rattle.bk_segments.specs.Files.{IsOwn as IsOfLog}
 use Rattle.bk_side.specs.Names.{IsData, data_file as data_name, side_file, IsOwn as IsOfSide}
 use Rattle.bk_store.specs.Making.{MayDescribe, founded}
 use Rattle.bk_store.specs.Store.{IsStore, Kept as KeptStore}
-use Rattle.bk_store.specs.Told.{Told, data_file, data_files}
+use Rattle.bk_store.specs.Told.{Told, data_file}
 use Rattle.bk_storage.specs.Storage.{HasPath}
 use Rattle.bk_stores.specs.AddLaws.{fresh-apart, named-at}
-use Rattle.bk_stores.specs.Making.{Creates, MayAdd, sealed_more}
+use Rattle.bk_stores.specs.Making.{Creates, MayAdd}
 use Rattle.bk_stores.specs.Records.{AreSmall, IsApart, SharesNone, begun, stored_entry}
 use Rattle.bk_stores.specs.StandLaws.{own-crash, own-stands}
-use Rattle.bk_stores.specs.Stores.{AreEntries, AreStores, IsOurs, IsSlot, Kept, LeavesStores, at_paths, its_files, sealed_at, sealed_by, sealed_of}
+use Rattle.bk_stores.specs.Stores.{AreEntries, AreStores, IsOurs, Kept, LeavesStores, at_paths, sealed_at, sealed_of}
 use Rattle.bk_world.specs.declared.database.FileSpec.{FileSpec}
 
 -- an absent file holds no control

@@ -1,5 +1,5 @@
 -- The record without one of the databases is put.
-use Rattle.std.proofs.Common.{◌≡◌, ◌≤◌, ◌<◌, ◌⊎◌, ℕ, List, length, Option, Some, None, refl, inl, inr, sym, ap, subst, ◌∙◌, arith}
+use Rattle.std.proofs.Common.{◌≡◌, ◌<◌, ◌⊎◌, ℕ, List, length, Option, Some, inl, inr, sym, subst, arith}
 use Rattle.std.specs.Prelude.{remove, slice_get}
 use Rattle.bk_device.specs.Compose.{effect_weaken}
 use Rattle.bk_device.specs.Disk.{Disk, Files}
@@ -9,15 +9,12 @@ use Rattle.bk_master.specs.declared.record.Record.{Record}
 use Rattle.bk_master.specs.Master.{HoldsRecord, IsMaster, IsOwn as IsOfMaster, Kept as KeptMaster}
 use Rattle.bk_store.specs.Store.{Kept as KeptStore}
 use Rattle.bk_store.specs.Told.{Told}
-use Rattle.bk_stores.specs.LessLaws.{length-less, less-entries, less-slots}
-use Rattle.bk_stores.specs.ListLaws.{got, got-inside}
+use Rattle.bk_stores.specs.LessLaws.{length-less-same, less-entries, less-slots}
+use Rattle.bk_stores.specs.ListLaws.{got-inside}
 use Rattle.bk_stores.specs.Making.{Drops, MayRemove}
 use Rattle.bk_stores.specs.Records.{AreSmall, left_out}
 use Rattle.bk_stores.specs.StandLaws.{master-keeps, master-wide, slots-left, standing-kept}
-use Rattle.bk_stores.specs.Stores.{AreStores, IsOurs, Kept, LeavesStores, SlotsStand, Standing, its_files, sealed_at}
-
-less-count : {X Y : Type 0} (xs : List X) (ys : List Y) (at : ℕ) → at < length xs → length xs ≡ length ys → length (remove xs at) ≡ length (remove ys at)
-less-count xs ys at inside same = let one = length-less xs at inside in let other = length-less ys at (omega (arith, inside, same)) in omega (arith, one, other, same)
+use Rattle.bk_stores.specs.Stores.{AreStores, Kept, Standing, its_files}
 
 left-standing : (a : Disk) (s : Kept) (tolds : List Told) (at : ℕ) (told : Told) (e : Entry) (paths : List (List ℕ)) → AreSmall paths → MayRemove s tolds at told paths → slice_get s.master.record.databases at ≡ Some e → AreStores a s tolds
     → Standing a (left_out s.master.record at e.store paths) (remove s.slots at) (remove tolds at)
@@ -28,7 +25,7 @@ left-standing a s tolds at told e paths small may there is =
     let filled : at < length s.slots = omega (arith, within, is.standing.count) in
     record {
       entries = less-entries r tolds at e told paths small (may.names e there) (there, may.there) is.standing.entries;
-      count = less-count s.slots tolds at filled is.standing.count;
+      count = length-less-same s.slots tolds at filled is.standing.count;
       stand = less-slots a r.databases s.slots tolds at inside filled within is.standing.stand;
       free = is.standing.free;
     }

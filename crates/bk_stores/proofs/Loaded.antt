@@ -1,24 +1,22 @@
 -- An instance whose record is opened.
-use Rattle.std.proofs.Common.{◌≡◌, ◌≤◌, ◌<◌, ◌⊎◌, ℕ, zero, suc, List, [], ◌∷◌, length, replicate, take, Option, Some, None, refl, inl, inr, sym, ap, subst, ◌∙◌, arith}
+use Rattle.std.proofs.Common.{◌≡◌, ◌<◌, ℕ, zero, suc, List, [], length, replicate, Option, Some, None, refl, inl, inr, sym, ap, subst, ◌∙◌, arith}
 use Rattle.std.proofs.lemmas.List.{length-replicate, take_all}
 use Rattle.std.specs.Prelude.{slice_get}
 use Rattle.bk_device.specs.Calls.{ChangesNothing}
-use Rattle.bk_device.specs.Compose.{durable_kept, effect_of_nothing, effect_then, effect_weaken, effect_widen, keeps_by_effect}
+use Rattle.bk_device.specs.Compose.{durable_kept, effect_of_nothing, effect_widen}
 use Rattle.bk_device.specs.Disk.{Disk, Files, IsDurable, IsSettled}
 use Rattle.bk_device.specs.Effects.{Effect, MayLeaveOwn}
 use Rattle.bk_device.specs.Laws.{durable_by_nothing}
-use Rattle.bk_master.specs.declared.record.Entry.{Entry}
 use Rattle.bk_master.specs.declared.record.Record.{Record}
 use Rattle.bk_master.specs.Laws.{holds_same, one_record, own_made}
-use Rattle.bk_master.specs.Master.{AreDurable, HoldsRecord, IsMade, IsMaster, IsNotMade, IsOwn as IsOfMaster, Kept as KeptMaster, Makes, fresh, made_file, control_file}
-use Rattle.bk_master.specs.Spelling.{KeepsRecord}
+use Rattle.bk_master.specs.Master.{AreDurable, HoldsRecord, IsMaster, IsOwn as IsOfMaster, Kept as KeptMaster, Makes, fresh, made_file, control_file}
 use Rattle.bk_store.specs.Store.{Kept as KeptStore}
-use Rattle.bk_store.specs.Told.{Told, front_of}
-use Rattle.bk_stores.specs.ListLaws.{got-inside}
+use Rattle.bk_store.specs.Told.{Told}
+use Rattle.bk_stores.specs.ListLaws.{got-inside, got-none}
 use Rattle.bk_stores.specs.Loading.{HoldsInstance, Opens, shut}
 use Rattle.bk_stores.specs.SlotLaws.{entry-same}
 use Rattle.bk_stores.specs.StandLaws.{master-apart, master-keeps}
-use Rattle.bk_stores.specs.Stores.{AreEntries, AreStores, HoldsEntry, HoldsStores, IsAt, IsFree, IsOurs, IsSlot, Kept, LeavesStores, its_files, sealed_at, sealed_of}
+use Rattle.bk_stores.specs.Stores.{AreEntries, AreStores, HoldsEntry, HoldsStores, IsOurs, IsSlot, LeavesStores, its_files, sealed_at, sealed_of}
 
 -- ---- files that hold an instance
 
@@ -63,20 +61,14 @@ pub fresh-entries : (number : ℕ) → AreEntries (fresh number) []
 fresh-entries number = record {
   keeps = record { path = tt; few = omega arith; one = omega arith; small = tt };
   count = refl;
-  below = λ i e there. absurd (none i e there);
-  under = λ k u there. absurd (none k u there);
-  apart = λ i j e f t u differ at other. absurd (none i e at.0);
-  aside = λ i k e t u at there. absurd (none i e at.0);
+  below = λ i e there. absurd (got-none i e there);
+  under = λ k u there. absurd (got-none k u there);
+  apart = λ i j e f t u differ at other. absurd (got-none i e at.0);
+  aside = λ i k e t u at there. absurd (got-none i e at.0);
 }
-  where
-    none : {X : Type 0} (i : ℕ) (x : X) → slice_get [] i ≡ Some x → ⊥
-    none i x there = absurd cc
 
 fresh-stores : (image : Files) (number : ℕ) → HoldsRecord image (fresh number) → HoldsStores image (fresh number) []
-fresh-stores image number is = record { is_record = is; entries = fresh-entries number; each = λ i e t at. absurd (none i e at.0) }
-  where
-    none : {X : Type 0} (i : ℕ) (x : X) → slice_get [] i ≡ Some x → ⊥
-    none i x there = absurd cc
+fresh-stores image number is = record { is_record = is; entries = fresh-entries number; each = λ i e t at. absurd (got-none i e at.0) }
 
 pub opens-made : {a b : Disk} (tolds : List Told) (number : ℕ) → tolds ≡ [] → Effect IsOfMaster (Makes number) a b → Opens tolds a b
 opens-made tolds number none effect =
@@ -150,10 +142,7 @@ made-stands {b} {c} m tolds number settled none effect same master = subst (λ (
   standing = record {
     entries = subst (λ (x : Record). AreEntries x []) (sym same) (fresh-entries number);
     count = length-replicate (length m.record.databases) None ∙ ap (λ (x : Record). length x.databases) same;
-    stand = λ i e slot t at there. absurd (nothing-at i t at.1);
+    stand = λ i e slot t at there. absurd (got-none i t at.1);
     free = λ n above small name own. durable_kept name (inl own) (master-keeps effect n []) (settled name);
   };
 })
-  where
-    nothing-at : (i : ℕ) (t : Told) → slice_get [] i ≡ Some t → ⊥
-    nothing-at i t there = absurd cc

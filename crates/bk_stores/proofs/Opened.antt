@@ -1,5 +1,5 @@
 -- A store that is opened.
-use Rattle.std.proofs.Common.{◌≡◌, ◌≤◌, ◌<◌, ℕ, Bool, true, false, List, length, set, Option, Some, None, refl, inl, sym, ap, subst, ◌∙◌, arith}
+use Rattle.std.proofs.Common.{◌≡◌, ℕ, Bool, true, false, List, length, set, Some, None, refl, sym, ap, subst}
 use Rattle.std.specs.Prelude.{slice_get}
 use Rattle.bk_device.specs.Disk.{Disk, Files}
 use Rattle.bk_device.specs.Effects.{Effect}
@@ -8,7 +8,7 @@ use Rattle.bk_master.specs.declared.record.Entry.{Entry}
 use Rattle.bk_paged.specs.Names.{AreDurable, IsOwn}
 use Rattle.bk_reopening.specs.Reopening.{IsClosed, Recovers, settled}
 use Rattle.bk_store.specs.Store.{IsStore, Kept as KeptStore}
-use Rattle.bk_store.specs.Told.{LeavesRecords, Told, data_files}
+use Rattle.bk_store.specs.Told.{Told, data_files}
 use Rattle.bk_stores.specs.ChangeLaws.{changed-crash, changed-stands}
 use Rattle.bk_stores.specs.SlotLaws.{entry-stored}
 use Rattle.bk_stores.specs.Stores.{AreStores, HoldsBy, IsAt, IsOfEntry, IsOurs, IsShut, Kept, LeavesStores, files_by, its_files, sealed_at}

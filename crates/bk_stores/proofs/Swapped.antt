@@ -1,5 +1,5 @@
 -- The record in which another store is that of a database is put.
-use Rattle.std.proofs.Common.{◌≡◌, ◌≤◌, ◌<◌, ◌⊎◌, ℕ, zero, suc, List, [], ◌∷◌, length, set, Option, Some, None, refl, inl, inr, sym, ap, subst, ◌∙◌, arith}
+use Rattle.std.proofs.Common.{◌≡◌, ◌⊎◌, ℕ, zero, suc, List, [], ◌∷◌, length, set, Option, Some, None, refl, inl, inr, sym, subst, ◌∙◌}
 use Rattle.std.proofs.lemmas.List.{length-set}
 use Rattle.std.specs.Prelude.{slice_get}
 use Rattle.bk_device.specs.Compose.{effect_weaken}
@@ -10,11 +10,10 @@ use Rattle.bk_master.specs.declared.record.Record.{Record}
 use Rattle.bk_master.specs.Master.{HoldsRecord, IsMaster, IsOwn as IsOfMaster, Kept as KeptMaster}
 use Rattle.bk_store.specs.Store.{Kept as KeptStore}
 use Rattle.bk_store.specs.Told.{Told}
-use Rattle.bk_stores.specs.ListLaws.{got-inside}
 use Rattle.bk_stores.specs.Making.{MaySwap, Swaps}
 use Rattle.bk_stores.specs.Records.{AreSmall, swapped}
 use Rattle.bk_stores.specs.StandLaws.{master-keeps, master-wide, slots-left, standing-kept}
-use Rattle.bk_stores.specs.Stores.{AreStores, IsOurs, Kept, LeavesEntry, LeavesStores, SlotsStand, Standing, its_files, sealed_at, sealed_by, sealed_of}
+use Rattle.bk_stores.specs.Stores.{AreStores, Kept, LeavesEntry, Standing, its_files, sealed_by, sealed_of}
 use Rattle.bk_stores.specs.SwapLaws.{swapped-entries, swapped-slots}
 
 -- all of the new one's records count as durable

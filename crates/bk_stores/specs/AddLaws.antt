@@ -1,7 +1,6 @@
 -- One database more, and one less.
-use Rattle.std.proofs.Common.{◌≡◌, ◌≤◌, ◌<◌, ◌^◌, ◌+◌, ◌⊎◌, ℕ, zero, suc, List, [], ◌∷◌, ◌++◌, length, map, Option, Some, None, refl, inl, inr, sym, ap, subst, ◌∙◌, arith}
-use Rattle.std.proofs.lemmas.List.{length-append, length-map}
-use Rattle.std.specs.Prelude.{slice_get}
+use Rattle.std.proofs.Common.{◌≡◌, ◌<◌, ◌^◌, ◌+◌, ◌⊎◌, ℕ, List, [], ◌∷◌, ◌++◌, length, map, Option, refl, inl, inr, sym, ap, subst, ◌∙◌, arith}
+use Rattle.std.proofs.lemmas.List.{length-append}
 use Rattle.bk_device.specs.Disk.{Disk}
 use Rattle.bk_facts.specs.declared.facts.DataFile.{DataFile}
 use Rattle.bk_master.specs.declared.record.Entry.{Entry}
@@ -12,8 +11,8 @@ use Rattle.bk_paged.specs.Names.{names_of}
 use Rattle.bk_side.specs.Names.{IsData, data_file}
 use Rattle.bk_store.specs.Store.{Kept as KeptStore}
 use Rattle.bk_store.specs.Told.{Told}
-use Rattle.bk_stores.specs.Beside.{AreApart, ShareNoFile}
-use Rattle.bk_stores.specs.ListLaws.{got-inside, got-more}
+use Rattle.bk_stores.specs.Beside.{AreApart}
+use Rattle.bk_stores.specs.ListLaws.{got-inside, got-more, got-none, got-only}
 use Rattle.bk_stores.specs.Records.{AreSmall, IsApart, SharesNone, begun, rested, unfinished_at}
 use Rattle.bk_stores.specs.Stores.{AreEntries, IsAt, IsSlot, SlotsStand, at_paths, its_files}
 
@@ -46,14 +45,10 @@ begun-entries r tolds paths small short is shares = record {
   keeps = begun-keeps r paths short is.keeps;
   count = is.count;
   below = λ i e there. let less = is.below i e there in omega (arith, less);
-  under = λ k u there. subst (λ (v : Unfinished). v.store < r.next + 1) (only k u there) (omega arith);
+  under = λ k u there. subst (λ (v : Unfinished). v.store < r.next + 1) (got-only (unfinished_at r.next paths) k u there) (omega arith);
   apart = is.apart;
-  aside = λ i k e t u at there. subst (λ (v : Unfinished). AreApart v.store (at_paths v.paths) e.store (its_files e t)) (only k u there) (fresh-apart r tolds (at_paths paths) small is shares i e t at);
+  aside = λ i k e t u at there. subst (λ (v : Unfinished). AreApart v.store (at_paths v.paths) e.store (its_files e t)) (got-only (unfinished_at r.next paths) k u there) (fresh-apart r tolds (at_paths paths) small is shares i e t at);
 }
-  where
-    only : (k : ℕ) (u : Unfinished) → slice_get (unfinished_at r.next paths ∷ []) k ≡ Some u → unfinished_at r.next paths ≡ u
-    only zero u there = cc
-    only (suc k) u there = absurd cc
 
 -- ---- a database more
 
@@ -82,7 +77,7 @@ added-entries r tolds x new below few is apart = record {
     | inl old ↦ is.below i e old
     | inr last ↦ subst (λ (f : Entry). f.store < r.next) last.1 below
   ];
-  under = λ k u there. absurd (none k u there);
+  under = λ k u there. absurd (got-none k u there);
   apart = λ i j e f t u differ first second. elim (at-more r.databases tolds x new i e t is.count first) [
     | inl one ↦ elim (at-more r.databases tolds x new j f u is.count second) [
       | inl two ↦ is.apart i j e f t u differ one two
@@ -97,11 +92,8 @@ added-entries r tolds x new below few is apart = record {
       | inr other ↦ absurd (differ (last.0 ∙ sym other.0))
     ]
   ];
-  aside = λ i k e t u at there. absurd (none k u there);
+  aside = λ i k e t u at there. absurd (got-none k u there);
 }
-  where
-    none : {X : Type 0} (k : ℕ) (u : X) → slice_get [] k ≡ Some u → ⊥
-    none k u there = absurd cc
 
 pub added-slots : (a : Disk) (entries : List Entry) (slots : List (Option KeptStore)) (tolds : List Told) (x : Entry) (slot : Option KeptStore) (new : Told) → length tolds ≡ length entries → length slots ≡ length tolds → SlotsStand a entries slots tolds → IsSlot a x slot new
     → SlotsStand a (entries ++ x ∷ []) (slots ++ slot ∷ []) (tolds ++ new ∷ [])

@@ -1,7 +1,7 @@
 -- Several databases on one device: what is done to one leaves the others.
 use Rattle.std.specs.Prelude.{◌≡◌, ◌<◌, ◌^◌, ℕ, List}
 use Rattle.bk_facts.specs.declared.facts.DataFile.{DataFile}
-use Rattle.bk_paged.specs.Names.{IsOwn, names_of}
+use Rattle.bk_paged.specs.Names.{names_of}
 use Rattle.bk_side.specs.Names.{IsData}
 
 -- no data file of one has the name of one of the other

@@ -1,14 +1,12 @@
 -- Something is done to the store of one database.
-use Rattle.std.proofs.Common.{◌≡◌, ◌≤◌, ◌<◌, ◌⊎◌, ℕ, List, length, set, Option, Some, None, refl, inl, inr, sym, ap, subst, ◌∙◌, arith}
+use Rattle.std.proofs.Common.{◌≡◌, ◌<◌, ◌⊎◌, ℕ, List, length, set, Option, Some, inl, inr, sym, ap, subst, ◌∙◌, arith}
 use Rattle.std.proofs.lemmas.List.{length-set}
 use Rattle.std.specs.Prelude.{slice_get}
 use Rattle.bk_device.specs.Compose.{effect_weaken}
 use Rattle.bk_device.specs.Disk.{Disk, Files}
 use Rattle.bk_device.specs.Effects.{Effect}
-use Rattle.bk_facts.specs.declared.facts.DataFile.{DataFile}
 use Rattle.bk_master.specs.declared.record.Entry.{Entry}
 use Rattle.bk_master.specs.Laws.{master_left}
-use Rattle.bk_paged.specs.Names.{IsOwn}
 use Rattle.bk_store.specs.Store.{Kept as KeptStore}
 use Rattle.bk_store.specs.Told.{Told, data_files}
 use Rattle.bk_stores.specs.ListLaws.{got-inside, got-one, got-other, got-set, same-place}

@@ -1,5 +1,5 @@
 -- Elements of lists by their places.
-use Rattle.std.proofs.Common.{◌≡◌, ◌≢◌, ◌<◌, ◌≤◌, ◌+◌, ◌⊎◌, ℕ, zero, suc, List, [], ◌∷◌, ◌++◌, length, set, Some, None, refl, inl, inr, sym, ap, ◌∙◌, arith}
+use Rattle.std.proofs.Common.{◌≡◌, ◌<◌, ◌+◌, ◌⊎◌, ℕ, zero, suc, List, [], ◌∷◌, ◌++◌, length, set, Some, refl, inl, inr, sym, ap, ◌∙◌, arith}
 use Rattle.std.specs.Prelude.{slice_get}
 
 -- a place of an element is inside
@@ -7,6 +7,15 @@ pub got-inside : {X : Type 0} (xs : List X) (i : ℕ) (x : X) → slice_get xs i
 got-inside [] i x is = absurd cc
 got-inside (y ∷ xs) zero x is = omega arith
 got-inside (y ∷ xs) (suc i) x is = let less = got-inside xs i x is in omega (arith, less)
+
+-- an empty list has none
+pub got-none : {X : Type 0} (i : ℕ) (x : X) → slice_get [] i ≡ Some x → ⊥
+got-none i x is = absurd cc
+
+-- a list of one has that one
+pub got-only : {X : Type 0} (x : X) (i : ℕ) (y : X) → slice_get (x ∷ []) i ≡ Some y → x ≡ y
+got-only x zero y is = cc
+got-only x (suc i) y is = absurd cc
 
 -- each place inside has one
 pub got : {X : Type 0} (xs : List X) (i : ℕ) → i < length xs → (x : X) × (slice_get xs i ≡ Some x)

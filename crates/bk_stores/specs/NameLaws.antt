@@ -1,8 +1,8 @@
 -- Files of different databases have different names.
-use Rattle.std.proofs.Common.{◌≡◌, ◌≢◌, ◌<◌, ◌≤◌, ◌^◌, ◌⊎◌, ℕ, List, [], ◌∷◌, ◌++◌, drop, get_or, refl, sym, ap, ◌∙◌, inl, inr, arith}
+use Rattle.std.proofs.Common.{◌≡◌, ◌≢◌, ◌<◌, ◌^◌, ℕ, List, [], ◌∷◌, ◌++◌, drop, get_or, refl, sym, ap, ◌∙◌, inl, inr, arith}
 use Rattle.std.specs.Fmt.{decimal}
 use Rattle.std.specs.List.{AllByRecursion}
-use Rattle.std.specs.Prelude.{Option, Some, codes}
+use Rattle.std.specs.Prelude.{Option, Some}
 use Rattle.std.specs.Str.Parse.{AllDigits}
 use Rattle.std.proofs.lemmas.Fmt.{decimal_injective, decimal_is_IsNumeral}
 use Rattle.std.proofs.lemmas.Str.Parse.{tells_digits}
@@ -10,7 +10,7 @@ use Rattle.bk_facts.specs.declared.facts.DataFile.{DataFile}
 use Rattle.bk_paged.specs.Laws.{file_letter, letter, log_letter, own_letter, side_letter}
 use Rattle.bk_paged.specs.Names.{IsOwn, names_of}
 use Rattle.bk_segments.specs.Files.{control_file, segment_file, IsOwn as IsOfLog}
-use Rattle.bk_side.specs.Names.{IsData, data_file, side_file, IsOwn as IsOfSide}
+use Rattle.bk_side.specs.Names.{IsData, side_file, IsOwn as IsOfSide}
 use Rattle.bk_stores.specs.Beside.{AreApart}
 
 -- ---- numbers in names

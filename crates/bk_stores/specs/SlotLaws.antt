@@ -1,15 +1,15 @@
 -- What is done to other files leaves the store of an entry, and what a crash leaves of it.
-use Rattle.std.proofs.Common.{◌≡◌, ◌≤◌, ℕ, ◌-◌, Bool, true, false, List, [], ◌++◌, length, take, Option, Some, None, refl, inl, inr, sym, ap, subst, ◌∙◌, arith}
+use Rattle.std.proofs.Common.{◌≡◌, ℕ, ◌-◌, Bool, true, false, List, [], length, Option, Some, None, refl, inl, inr, sym, ap, subst, arith}
 use Rattle.std.proofs.lemmas.List.{take_all}
 use Rattle.bk_control.specs.Slots.{control_of}
 use Rattle.bk_device.specs.Compose.{durable_kept}
-use Rattle.bk_device.specs.Disk.{Disk, Files, IsDurable}
+use Rattle.bk_device.specs.Disk.{Disk, Files}
 use Rattle.bk_device.specs.Effects.{KeepsFiles, MayLeaveOwn}
 use Rattle.bk_facts.specs.declared.facts.DataFile.{DataFile}
 use Rattle.bk_gate.specs.Blobs.{sealed}
 use Rattle.bk_master.specs.declared.record.Entry.{Entry}
 use Rattle.bk_paged.specs.Leaving.{still_holds}
-use Rattle.bk_paged.specs.Names.{AreDurable, IsOwn}
+use Rattle.bk_paged.specs.Names.{IsOwn}
 use Rattle.bk_paged.specs.Paged.{sealed_count}
 use Rattle.bk_segments.specs.FileLaws.{log_same}
 use Rattle.bk_segments.specs.Files.{control_file, segment_file}
@@ -18,7 +18,7 @@ use Rattle.bk_store.specs.FrontLaws.{shown-log}
 use Rattle.bk_store.specs.Store.{IsStore, sealed_in, Kept as KeptStore}
 use Rattle.bk_store.specs.Told.{HoldsRecords, LeavesRecords, Told, data_files, files_of, front_of, stood_of}
 use Rattle.bk_stores.specs.StoreLaws.{records-same, store-kept}
-use Rattle.bk_stores.specs.Stores.{HoldsBy, HoldsEntry, HoldsNote, IsOfEntry, IsOpen, IsShut, IsSlot, LeavesEntry, files_by, its_files, sealed_by}
+use Rattle.bk_stores.specs.Stores.{HoldsBy, HoldsEntry, HoldsNote, IsOfEntry, IsOpen, IsSlot, LeavesEntry, files_by, its_files, sealed_by}
 
 -- ---- what files hold
 

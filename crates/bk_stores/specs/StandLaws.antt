@@ -1,5 +1,5 @@
 -- The stores of an instance when something is done to one of them, or to the instance's record.
-use Rattle.std.proofs.Common.{◌≡◌, ◌≢◌, ◌≤◌, ◌<◌, ◌^◌, ◌⊎◌, ℕ, zero, suc, Bool, true, false, List, [], ◌∷◌, ◌++◌, length, set, Option, Some, None, get_or, refl, inl, inr, sym, ap, subst, ◌∙◌, arith}
+use Rattle.std.proofs.Common.{◌≡◌, ◌≤◌, ◌<◌, ◌^◌, ◌⊎◌, ℕ, zero, suc, Bool, true, false, List, [], length, set, Option, Some, refl, inl, inr, sym, ap, subst, ◌∙◌, arith}
 use Rattle.std.proofs.lemmas.List.{length-set}
 use Rattle.std.specs.Prelude.{slice_get}
 use Rattle.bk_device.specs.Compose.{durable_kept, effect_none, effect_weaken, effect_widen, keeps_by_effect}
@@ -14,15 +14,15 @@ use Rattle.bk_master.specs.Spelling.{KeepsRecord}
 use Rattle.bk_paged.specs.Laws.{letter, log_letter, own_letter}
 use Rattle.bk_paged.specs.Names.{IsOwn, names_of}
 use Rattle.bk_segments.specs.Files.{IsOwn as IsOfLog}
-use Rattle.bk_side.specs.Names.{name_of, side_file, IsData, IsOwn as IsOfSide}
+use Rattle.bk_side.specs.Names.{name_of, IsData}
 use Rattle.bk_store.specs.Store.{Kept as KeptStore}
 use Rattle.bk_store.specs.Told.{Told, data_files}
 use Rattle.bk_stores.specs.Beside.{AreApart}
 use Rattle.bk_stores.specs.Records.{IsApart}
-use Rattle.bk_stores.specs.ListLaws.{got, got-inside, got-one, got-other, got-set, same-place}
+use Rattle.bk_stores.specs.ListLaws.{got, got-inside, got-none, got-one, got-other, got-set, same-place}
 use Rattle.bk_stores.specs.NameLaws.{own-apart}
 use Rattle.bk_stores.specs.SlotLaws.{slot-kept, slot-left}
-use Rattle.bk_stores.specs.Stores.{AreEntries, AreStores, at_paths, IsAt, IsFree, IsOfEntry, IsOurs, IsSlot, files_by, its_files, Kept, LeavesEntry, LeavesStores, SlotsStand, Standing, sealed_at, sealed_by, sealed_of}
+use Rattle.bk_stores.specs.Stores.{AreEntries, AreStores, at_paths, IsAt, IsFree, IsOfEntry, IsOurs, files_by, its_files, Kept, LeavesEntry, LeavesStores, SlotsStand, Standing, sealed_at, sealed_by, sealed_of}
 
 -- ---- names
 
@@ -95,9 +95,6 @@ entries-rest r s tolds keeps same later none is =
       apart = λ i j e f t u differ at other. is.apart i j e f t u differ (subst (λ (es : List Entry). At es i e t) same at) (subst (λ (es : List Entry). At es j f u) same other);
       aside = λ i k e t u at there. absurd (got-none k u (ap (λ (us : List _). slice_get us k) (sym none) ∙ there));
     }
-  where
-    got-none : {X : Type 0} (k : ℕ) (u : X) → slice_get [] k ≡ Some u → ⊥
-    got-none k u is = absurd cc
 
 its-same : (b : Bool) (t u : Told) → data_files t ≡ data_files u → files_by b t ≡ files_by b u
 its-same true t u same = same

@@ -1,5 +1,5 @@
 -- What is done to other files leaves a store, and what its files hold.
-use Rattle.std.proofs.Common.{◌≡◌, ◌≤◌, ℕ, List, ◌++◌, take, refl, inl, inr, sym, ap, subst, ◌∙◌}
+use Rattle.std.proofs.Common.{◌≡◌, ℕ, List, ◌++◌, take, refl, inl, inr, sym, ap, subst, ◌∙◌}
 use Rattle.bk_control.specs.Slots.{control_of}
 use Rattle.bk_device.specs.Disk.{Disk, Files}
 use Rattle.bk_device.specs.Effects.{KeepsFiles}
@@ -9,11 +9,9 @@ use Rattle.bk_gate.specs.Blobs.{sealed}
 use Rattle.bk_facts.specs.declared.facts.DataFile.{DataFile}
 use Rattle.bk_ids.specs.declared.record.Rec.{Rec}
 use Rattle.bk_log.specs.Laws.{log_kept, value_kept}
-use Rattle.bk_log.specs.Log.{value_of}
-use Rattle.bk_paths.specs.Pages.{last_page}
 use Rattle.bk_redo.specs.PageStates.{page_of}
 use Rattle.bk_paged.specs.Holds.{Holds, IsStored, Recovers, Stood, point_of}
-use Rattle.bk_paged.specs.Names.{IsOwn, IsThere, names_of, shown_at}
+use Rattle.bk_paged.specs.Names.{IsOwn, names_of, shown_at}
 use Rattle.bk_paged.specs.Paged.{IsPaged, Kept as KeptPaged}
 use Rattle.bk_redo.specs.declared.place.PageAt.{PageAt}
 use Rattle.bk_segments.specs.FileLaws.{log_same}

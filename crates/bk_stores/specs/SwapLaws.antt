@@ -1,17 +1,18 @@
 -- Another store is put in the place of a database's.
-use Rattle.std.proofs.Common.{◌≡◌, ◌≤◌, ◌<◌, ◌⊎◌, ℕ, zero, suc, List, [], ◌∷◌, length, set, Option, Some, None, refl, inl, inr, sym, ap, subst, ◌∙◌, arith}
+use Rattle.std.proofs.Common.{◌≡◌, ◌<◌, ◌⊎◌, ℕ, List, length, set, Option, Some, inl, inr, sym, ap, subst, ◌∙◌, arith}
 use Rattle.std.proofs.lemmas.List.{length-set}
 use Rattle.std.specs.Prelude.{slice_get}
 use Rattle.bk_device.specs.Disk.{Disk}
 use Rattle.bk_master.specs.declared.record.Entry.{Entry}
 use Rattle.bk_master.specs.declared.record.Record.{Record}
 use Rattle.bk_master.specs.declared.record.Unfinished.{Unfinished}
+use Rattle.bk_master.specs.Spelling.{KeepsRecord}
 use Rattle.bk_paged.specs.Names.{names_of}
 use Rattle.bk_store.specs.Store.{Kept as KeptStore}
 use Rattle.bk_store.specs.Told.{Told}
 use Rattle.bk_stores.specs.AddLaws.{apart-named, apart-swap}
 use Rattle.bk_stores.specs.Beside.{AreApart}
-use Rattle.bk_stores.specs.ListLaws.{got-inside, got-one, got-other, got-set, same-place}
+use Rattle.bk_stores.specs.ListLaws.{got-inside, got-one, got-only, got-other, got-set, same-place}
 use Rattle.bk_stores.specs.Records.{AreSmall, IsApartBut, swapped, unfinished_at}
 use Rattle.bk_stores.specs.Stores.{AreEntries, IsAt, IsSlot, SlotsStand, at_paths, its_files}
 
@@ -30,15 +31,18 @@ at-swapped entries tolds at e x t new here i f u is = elim (same-place at i) [
   | inr differ ↦ inr (differ, (sym (got-other entries at i x differ) ∙ is.0, sym (got-other tolds at i new differ) ∙ is.1))
 ]
 
+pub swapped-keeps : (r : Record) (at : ℕ) (x : Entry) (store : ℕ) (paths : List (List ℕ)) → AreSmall paths → KeepsRecord r → KeepsRecord (swapped r at x store paths)
+swapped-keeps r at x store paths short is = record {
+  path = is.path;
+  few = let size = length-set r.databases at x in let few = is.few in omega (arith, size, few);
+  one = omega arith;
+  small = ((short.few, short.short), tt);
+}
+
 pub swapped-entries : (r : Record) (tolds : List Told) (at : ℕ) (e x : Entry) (t new : Told) (paths : List (List ℕ)) → AreSmall paths → names_of (at_paths paths) ≡ names_of (its_files e t) → IsAt r.databases tolds at e t → x.store < r.next
     → IsApartBut r.databases tolds at x.store (its_files x new) → AreApart e.store (its_files e t) x.store (its_files x new) → AreEntries r tolds → AreEntries (swapped r at x e.store paths) (set tolds at new)
 swapped-entries r tolds at e x t new paths short names here below apart aside is = record {
-  keeps = record {
-    path = is.keeps.path;
-    few = let size = length-set r.databases at x in let few = is.keeps.few in omega (arith, size, few);
-    one = omega arith;
-    small = ((short.few, short.short), tt);
-  };
+  keeps = swapped-keeps r at x e.store paths short is.keeps;
   count = length-set tolds at new ∙ is.count ∙ sym (length-set r.databases at x);
   below = λ i f there. elim (same-place at i) [
     | inl same ↦
@@ -46,7 +50,7 @@ swapped-entries r tolds at e x t new paths short names here below apart aside is
         subst (λ (g : Entry). g.store < r.next) (got-one (set r.databases at x) at x f entry (ap (λ (n : ℕ). slice_get (set r.databases at x) n) same ∙ there)) below
     | inr differ ↦ is.below i f (sym (got-other r.databases at i x differ) ∙ there)
   ];
-  under = λ k u there. subst (λ (v : Unfinished). v.store < r.next) (only e.store paths k u there) (is.below at e here.0);
+  under = λ k u there. subst (λ (v : Unfinished). v.store < r.next) (got-only (unfinished_at e.store paths) k u there) (is.below at e here.0);
   apart = λ i j f g u v differ first second. elim (at-swapped r.databases tolds at e x t new here i f u first) [
     | inl one ↦ elim (at-swapped r.databases tolds at e x t new here j g v second) [
       | inl two ↦ absurd (differ (sym one.0 ∙ two.0))
@@ -68,12 +72,8 @@ swapped-entries r tolds at e x t new paths short names here below apart aside is
             subst (λ (w : Told). AreApart e.store (at_paths paths) f.store (its_files f w)) one.2 (subst (λ (h : Entry). AreApart e.store (at_paths paths) h.store (its_files h new)) one.1 its)
         | inr one ↦ apart-named e.store (its_files e t) (at_paths paths) f.store (its_files f u) names (is.apart at i e f t u one.0 here one.1)
       ] in
-      subst (λ (w : Unfinished). AreApart w.store (at_paths w.paths) f.store (its_files f u)) (only e.store paths k v there) base;
+      subst (λ (w : Unfinished). AreApart w.store (at_paths w.paths) f.store (its_files f u)) (got-only (unfinished_at e.store paths) k v there) base;
 }
-  where
-    only : (store : ℕ) (paths : List (List ℕ)) (k : ℕ) (u : Unfinished) → slice_get (unfinished_at store paths ∷ []) k ≡ Some u → unfinished_at store paths ≡ u
-    only store paths zero u there = cc
-    only store paths (suc k) u there = absurd cc
 
 pub swapped-slots : (a : Disk) (entries : List Entry) (slots : List (Option KeptStore)) (tolds : List Told) (at : ℕ) (e x : Entry) (t new : Told) (slot : Option KeptStore) → IsAt entries tolds at e t → length slots ≡ length tolds → SlotsStand a entries slots tolds → IsSlot a x slot new
     → SlotsStand a (set entries at x) (set slots at slot) (set tolds at new)

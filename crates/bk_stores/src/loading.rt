@@ -158,7 +158,8 @@ impl Stores {
     /// Opens what an instance keeps of its stores, or makes an instance with this number where none is made; what was being made or removed is removed. No store is open then. A crash leaves the databases
     /// that there were.
     ///
-    /// `NotAnInstance` is answered only where an instance is made and its control file holds no control, and `Broken` only where it is made and holds no record. `NoMemory` may come after files were touched.
+    /// `NotAnInstance` is answered only where an instance is made and its control file holds no control, and `Broken` only where it is made and its control holds no record, or one that doesn't keep its limits:
+    /// 16 databases, and two stores that are being made or removed, each with 16 data files at paths of 1 to 100 bytes. `NoMemory` may come after files were touched.
     pub fn load<D: Device>(alloc: Global, dev: &mut D, number: u64) -> Result<Stores, StoresError>
         ensures ready { IfOk result IsReady }
         ensures shut { IfOk result (λ s. s.slots ≡ replicate (length s.slots) None) }

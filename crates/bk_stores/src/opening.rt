@@ -28,7 +28,6 @@ impl Stores {
         at: usize,
     ) -> Result<(), StoresError>
         requires ready { IsReady self.old }
-        requires inside { at < length self.old.slots }
         requires shut { slice_get self.old.slots at ≡ Some None }
         requires stored { (e : Entries) × (slice_get self.old.master.record.databases at ≡ Some e) × (e.is_stored ≡ true) }
         requires stands { D.tells → (tolds : List Told) × AreStores (D.disk dev.old) self.old tolds }

@@ -72,6 +72,26 @@ pub(crate) fn store_at(old: &Record, at: usize) -> u32
     old.databases.as_slice()[at].store
 }
 
+// The record of the same instance with these parts.
+fn with_parts(
+    alloc: Global,
+    old: &Record,
+    next: u32,
+    databases: Vec<Entry>,
+    unfinished: Sequence<Unfinished>,
+) -> Result<Record, AllocError>
+    ensures { IfOk result (λ r. r ≡ record old.now { next = next; databases = databases.items; unfinished = unfinished }) }
+{
+    Ok(Record {
+        number: old.number,
+        counter: old.counter,
+        making: copy_making(alloc, &old.making)?,
+        next,
+        databases: Sequence::new(databases),
+        unfinished,
+    })
+}
+
 /// The record that names the store of the next number as one that is being made, with data files at these paths.
 pub(crate) fn begin_record(
     alloc: Global,
@@ -86,15 +106,10 @@ pub(crate) fn begin_record(
     let Some(next) = old.next.checked_add(1) else {
         return Err(StoresError::NoMemory);
     };
+    let unfinished = one_unfinished(alloc, old.next, paths)?;
     let databases = copy_entries(alloc, old.databases.as_slice())?;
-    Ok(Record {
-        number: old.number,
-        counter: old.counter,
-        making: copy_making(alloc, &old.making)?,
-        next,
-        databases: Sequence::new(databases),
-        unfinished: one_unfinished(alloc, old.next, paths)?,
-    })
+    let r = with_parts(alloc, old, next, databases, unfinished)?;
+    Ok(r)
 }
 
 /// The record with one entry more, under which nothing is being made or removed.
@@ -103,14 +118,13 @@ pub(crate) fn added_record(alloc: Global, old: &Record, entry: Entry) -> Result<
 {
     let mut databases = copy_entries(alloc, old.databases.as_slice())?;
     databases.push(entry)?;
-    Ok(Record {
-        number: old.number,
-        counter: old.counter,
-        making: copy_making(alloc, &old.making)?,
-        next: old.next,
-        databases: Sequence::new(databases),
-        unfinished: Sequence::new(Vec::new(alloc)),
-    })
+    with_parts(
+        alloc,
+        old,
+        old.next,
+        databases,
+        Sequence::new(Vec::new(alloc)),
+    )
 }
 
 /// The record without the entry at a place, which names its store as one that is being removed, with data files at these paths.
@@ -124,16 +138,10 @@ pub(crate) fn left_record(
     requires { at < length old.now.databases }
     ensures { IfOk result (λ r. r ≡ left_out old.now at store paths.now) }
 {
+    let unfinished = one_unfinished(alloc, store, paths)?;
     let mut databases = copy_entries(alloc, old.databases.as_slice())?;
     databases.remove(at);
-    Ok(Record {
-        number: old.number,
-        counter: old.counter,
-        making: copy_making(alloc, &old.making)?,
-        next: old.next,
-        databases: Sequence::new(databases),
-        unfinished: one_unfinished(alloc, store, paths)?,
-    })
+    with_parts(alloc, old, old.next, databases, unfinished)
 }
 
 /// The record under which nothing is being made or removed.
@@ -141,14 +149,13 @@ pub(crate) fn rested_record(alloc: Global, old: &Record) -> Result<Record, Alloc
     ensures { IfOk result (λ r. r ≡ rested old.now old.now.databases) }
 {
     let databases = copy_entries(alloc, old.databases.as_slice())?;
-    Ok(Record {
-        number: old.number,
-        counter: old.counter,
-        making: copy_making(alloc, &old.making)?,
-        next: old.next,
-        databases: Sequence::new(databases),
-        unfinished: Sequence::new(Vec::new(alloc)),
-    })
+    with_parts(
+        alloc,
+        old,
+        old.next,
+        databases,
+        Sequence::new(Vec::new(alloc)),
+    )
 }
 
 /// The record in which another store is that of the database at a place, and the one that was is named as one that is being removed, with data files at these paths.
@@ -163,14 +170,8 @@ pub(crate) fn swapped_record(
     requires { at < length old.now.databases }
     ensures { IfOk result (λ r. r ≡ swapped old.now at entry store paths.now) }
 {
+    let unfinished = one_unfinished(alloc, store, paths)?;
     let mut databases = copy_entries(alloc, old.databases.as_slice())?;
     databases[at] = entry;
-    Ok(Record {
-        number: old.number,
-        counter: old.counter,
-        making: copy_making(alloc, &old.making)?,
-        next: old.next,
-        databases: Sequence::new(databases),
-        unfinished: one_unfinished(alloc, store, paths)?,
-    })
+    with_parts(alloc, old, old.next, databases, unfinished)
 }

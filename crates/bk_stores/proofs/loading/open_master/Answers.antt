@@ -1,9 +1,8 @@
-use Rattle.std.proofs.Common.{rules, ◌≡◌, ◌∙◌, inl, inr, List, None, sym, subst}
+use Rattle.std.proofs.Common.{inl, inr}
 use Rattle.bk_device.specs.Calls.{ChangesNothing}
 use Rattle.bk_device.specs.Compose.{effect_then}
 use Rattle.bk_device.specs.Disk.{IsSettled}
-use Rattle.bk_store.specs.Told.{Told}
-use Rattle.bk_master.specs.Master.{HoldsRecord, IsMade, IsMaster, IsNotMade, made_file}
+use Rattle.bk_master.specs.Master.{IsMaster, made_file}
 use Rattle.bk_stores.specs.Loading.{HoldsInstance, Opens}
 use Rattle.bk_stores.proofs.Loaded.{found-stands, instance-moved, made-stands, opens-made, opens-nothing, opens-synced, settled-moved}
 use Rattle.bk_stores.proofs.loading.open_master.Goals as goal

@@ -1,4 +1,4 @@
-use Rattle.std.proofs.Common.{◌≡◌, map, take}
+use Rattle.std.proofs.Common.{◌≡◌, take}
 use Rattle.bk_stores.proofs.records.copy_paths.Given as goal
 
 abbrev pub invariant-loop-path : goal.invariant-loop-path

@@ -1,9 +1,14 @@
-use Rattle.std.proofs.Common.{◌∙◌, arith}
+use Rattle.std.proofs.Common.{◌∙◌, ap, arith}
+use Rattle.std.proofs.lemmas.List.{length-map}
 use Rattle.bk_device.specs.Compose.{effect_then}
+use Rattle.bk_facts.specs.declared.facts.Facts.{Facts}
+use Rattle.bk_undo.specs.Spelled.{spelled}
 use Rattle.bk_world.specs.Records.{checkpointed}
 use Rattle.bk_store.specs.Store.{at_end}
-use Rattle.bk_store.specs.Told.{said}
+use Rattle.bk_store.specs.Told.{files_of, said}
 use Rattle.bk_store.specs.CutLaws.{crash-later}
+use Rattle.bk_store.specs.FrontLaws.{shown-end}
+use Rattle.bk_store.proofs.Floors.{open-behind}
 use Rattle.bk_store.proofs.store.Store.checkpoint.Goals as goal
 
 pub note_end-requires-clause-stands : goal.note_end-requires-clause-stands
@@ -56,3 +61,20 @@ pub returns-clause-stands : goal.returns-clause-stands
 returns-clause-stands g c t told is =
     let then = said told (at_end c.args.self.now 0 (checkpointed c.args.now)) in
     c.in_ok-cut.ensures.stands t then (c.in_ok-note_end.ensures.stands t then (c.in_ok-mark_checkpoint.ensures.stands t told is))
+
+pub returns-clause-cut : goal.returns-clause-cut
+returns-clause-cut g c t told is floor =
+    let then = said told (at_end c.args.self.now 0 (checkpointed c.args.now)) in
+    let first = c.in_ok-mark_checkpoint.ensures.stands t told is in
+    let marked = c.in_ok-mark_checkpoint.ensures in
+    let second = c.in_ok-note_end.ensures.stands t then first in
+    let noted = c.in_ok-note_end.ensures in
+    let ends = shown-end (files_of then) then.records c.mark_checkpoint.new.self.shown first.shows in
+    let mark = ap (λ (f : Facts). f.checkpoint) noted.facts in
+    c.in_ok-cut.ensures.cut (record {
+      from = omega (arith, floor.from, noted.ends.3, marked.ends.3);
+      early = omega (arith, floor.inside, mark, marked.checkpoint, marked.ends.1);
+      inside = omega (arith, floor.inside, noted.ends.2, marked.ends.2, marked.ends.1);
+      needed = omega (arith, floor.inside, noted.from, ends, first.paged.ends, marked.ends.1, length-map then.records spelled);
+      opened = open-behind (g.D.Device.disk c.note_end.new.dev) c.note_end.new.self c.args.self.now told c.args.now c.args.floor second floor.opened;
+    })

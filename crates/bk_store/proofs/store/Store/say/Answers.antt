@@ -65,7 +65,7 @@ returns-clause-stands g c t told r is next spells =
     let here = moved-stands disk c.args.dev.now c.at_rest.new.dev s told c.at_rest.ensures.same (subst At (sym c.self.view_is) is) in
     let stood = stood_of c.self.inside.known told in
     said-stands s told r c.args.r.now c.append.new.self c.take.new.self (disk c.at_rest.new.dev) b here spells (c.in_ok-append.ensures.stands t stood here.paged)
-    (c.in_ok-take.ensures.next (files_of told) told.records r here.shows next (c.in-Some.ensures ∙ sym spells)) (c.in_ok-append.ensures.later t stood here.paged)
+    (c.in_ok-take.ensures.next (files_of told) told.records r here.shows next (c.in-Some.ensures.some ∙ sym spells)) (c.in_ok-append.ensures.later t stood here.paged)
 
 pub returns-clause-later : goal.returns-clause-later
 returns-clause-later g c t told is =

@@ -1,6 +1,5 @@
-use Rattle.std.proofs.Common.{rules, ◌≡◌, ◌≤◌, ◌∙◌, ◌∷◌, ◌++◌, [], List, Option, inl, sym, subst}
+use Rattle.std.proofs.Common.{rules, ◌≡◌, ◌∙◌, ◌∷◌, ◌++◌, [], List, Option, inl, sym, subst}
 use Rattle.bk_device.specs.Compose.{effect_weaken}
-use Rattle.bk_device.specs.Effects.{Effect}
 use Rattle.bk_store.specs.Store.{Kept as KeptStore}
 use Rattle.bk_stores.specs.Making.{Adds, Creates, MayAdd}
 use Rattle.bk_stores.specs.Records.{rested}

@@ -1,6 +1,5 @@
 use Rattle.std.proofs.Common.{rules, ◌≡◌, ◌∙◌, ◌<◌, ◌^◌, sym, subst}
 use Rattle.bk_device.specs.Effects.{Effect}
-use Rattle.bk_master.specs.declared.record.Record.{Record}
 use Rattle.bk_master.specs.Spelling.{KeepsRecord}
 use Rattle.bk_stores.specs.AddLaws.{begun-keeps}
 use Rattle.bk_stores.specs.Records.{SharesNone, begun}

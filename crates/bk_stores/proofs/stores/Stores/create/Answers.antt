@@ -1,4 +1,4 @@
-use Rattle.std.proofs.Common.{rules, ◌≡◌, ◌≤◌, ◌<◌, ◌^◌, ◌∙◌, ◌∷◌, ◌++◌, ◌⊎◌, [], List, ℕ, map, Some, inl, sym, subst}
+use Rattle.std.proofs.Common.{rules, ◌≡◌, ◌<◌, ◌^◌, ◌∙◌, ◌⊎◌, List, ℕ, map, Some, inl, sym, subst}
 use Rattle.bk_device.specs.Compose.{effect_then, effect_weaken}
 use Rattle.bk_device.specs.Disk.{IsDurable}
 use Rattle.bk_device.specs.Effects.{Effect}
@@ -7,9 +7,9 @@ use Rattle.bk_paged.specs.Names.{IsOwn}
 use Rattle.bk_segments.specs.Files.{control_file}
 use Rattle.bk_store.specs.Making.{Makes, founded}
 use Rattle.bk_store.specs.Told.{LeavesRecords, Told, data_file}
-use Rattle.bk_stores.specs.Making.{Creates, MayAdd}
-use Rattle.bk_stores.specs.Records.{SharesNone, begun, stored_entry}
-use Rattle.bk_stores.specs.Stores.{AreStores, IsOurs, LeavesStores, sealed_at}
+use Rattle.bk_stores.specs.Making.{MayAdd}
+use Rattle.bk_stores.specs.Records.{begun, stored_entry}
+use Rattle.bk_stores.specs.Stores.{AreStores}
 use Rattle.bk_stores.proofs.Created.{beside-crash, beside-stands, creates-as, may-add}
 use Rattle.bk_stores.proofs.stores.Stores.create.Goals as goal
 

@@ -1,10 +1,7 @@
-use Rattle.std.proofs.Common.{rules, ◌≡◌, ◌≤◌, ◌∙◌, ℕ, List, Option, Some, None, length, set, inl, sym, ap, subst}
+use Rattle.std.proofs.Common.{rules, ◌≡◌, ◌∙◌, List, Option, Some, inl, sym, subst}
 use Rattle.std.specs.Prelude.{remove, slice_get}
 use Rattle.bk_device.specs.Compose.{effect_weaken}
-use Rattle.bk_device.specs.Effects.{Effect}
 use Rattle.bk_master.specs.declared.record.Entry.{Entry}
-use Rattle.bk_master.specs.declared.record.Record.{Record}
-use Rattle.bk_master.specs.Spelling.{KeepsRecord}
 use Rattle.bk_store.specs.Store.{Kept as KeptStore}
 use Rattle.bk_stores.specs.Making.{Drops, MayRemove}
 use Rattle.bk_stores.specs.Records.{left_out}

@@ -1,7 +1,7 @@
-use Rattle.std.proofs.Common.{rules, ◌≡◌, ◌∙◌, List, sym, subst}
+use Rattle.std.proofs.Common.{rules}
 use Rattle.std.specs.Prelude.{IsErrOf}
 use Rattle.bk_device.specs.Compose.{effect_then, effect_weaken}
-use Rattle.bk_stores.specs.Loading.{HoldsInstance, Opens, shut}
+use Rattle.bk_stores.specs.Loading.{shut}
 use Rattle.bk_stores.specs.Stores.{AreStores}
 use Rattle.bk_stores.specs.declared.error.StoresError.TheVariants.{Broken}
 use Rattle.bk_stores.proofs.Loaded.{shut-leaves}

@@ -1,15 +1,13 @@
-use Rattle.std.proofs.Common.{rules, ◌≡◌, ◌≤◌, ◌<◌, ◌^◌, ◌∙◌, ◌∷◌, ◌++◌, [], List, ℕ, map, Option, None, Some, refl, sym, ap, subst}
-use Rattle.bk_control.specs.Slots.{control_of}
+use Rattle.std.proofs.Common.{rules, ◌≡◌, ◌<◌, ◌^◌, map, refl, subst}
 use Rattle.bk_device.specs.Compose.{effect_then}
 use Rattle.bk_device.specs.Effects.{Effect, IsName}
 use Rattle.bk_filling.specs.Removing.{AreGone, IsPart}
 use Rattle.bk_master.specs.declared.record.Record.{Record}
 use Rattle.bk_segments.specs.Files.{control_file}
 use Rattle.bk_side.specs.Names.{data_file as data_name}
-use Rattle.bk_store.specs.Told.{Told, data_file}
-use Rattle.bk_stores.specs.Records.{AreSmall, SharesNone, begun}
+use Rattle.bk_stores.specs.Records.{begun}
 use Rattle.bk_stores.specs.StandLaws.{rest-crash}
-use Rattle.bk_stores.specs.Stores.{AreStores, IsOurs, LeavesStores, at_paths, sealed_at}
+use Rattle.bk_stores.specs.Stores.{AreStores, at_paths}
 use Rattle.bk_stores.proofs.Created.{beside-crash, beside-stands, no-control, parts-named, paths-small, shares-at}
 use Rattle.bk_stores.proofs.stores.Stores.make_way.Goals as goal
 

@@ -1,12 +1,11 @@
 use Rattle.std.proofs.Common.{rules, ◌≡◌, ◌<◌, ◌∙◌, ℕ, List, Some, None, length, set, true, inl, sym, subst, arith}
 use Rattle.std.specs.Prelude.{slice_get, IsErrOf}
 use Rattle.bk_reopening.specs.declared.error.OpenError.TheVariants.{Foreign}
-use Rattle.bk_device.specs.Effects.{Effect}
 use Rattle.bk_master.specs.declared.record.Entry.{Entry}
 use Rattle.bk_reopening.specs.Reopening.{IsClosed, Recovers, settled}
 use Rattle.bk_store.specs.Told.{Told}
-use Rattle.bk_stores.specs.ListLaws.{got, got-one}
-use Rattle.bk_stores.specs.Stores.{AreStores, IsOurs, IsShut, Kept, LeavesStores, sealed_at}
+use Rattle.bk_stores.specs.ListLaws.{got, got-inside, got-one}
+use Rattle.bk_stores.specs.Stores.{AreStores, IsShut, Kept}
 use Rattle.bk_stores.proofs.Opened.{opened-crash, opened-stands, shut-closed}
 use Rattle.bk_stores.proofs.stores.Stores.open.Goals as goal
 
@@ -23,7 +22,7 @@ load-requires-clause-durable g c κs within t =
     let some = c.requires.stands t in
     let tolds : List Told = some.0 in
     let is = some.1 in
-    let inside : c.args.at < length tolds = omega (arith, c.requires.inside, is.standing.count) in
+    let inside : c.args.at < length tolds = let less = got-inside c.args.self.now.slots c.args.at None c.requires.shut in omega (arith, less, is.standing.count) in
     let one = got tolds c.args.at inside in
     let told : Told = one.0 in
     let told_is = one.1 in
@@ -48,7 +47,7 @@ returns-in_err-store-clause-crash g c t tolds told is told_is =
 
 pub returns-in_err-store-clause-broken : goal.returns-in_err-store-clause-broken
 returns-in_err-store-clause-broken g c t broken tolds is =
-    let inside : c.args.at < length tolds = omega (arith, c.requires.inside, is.standing.count) in
+    let inside : c.args.at < length tolds = let less = got-inside c.args.self.now.slots c.args.at None c.requires.shut in omega (arith, less, is.standing.count) in
     let one = got tolds c.args.at inside in
     let told : Told = one.0 in
     let told_is = one.1 in

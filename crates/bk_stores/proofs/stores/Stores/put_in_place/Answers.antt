@@ -1,11 +1,7 @@
-use Rattle.std.proofs.Common.{rules, ◌≡◌, ◌≤◌, ◌∙◌, ℕ, List, Option, Some, None, length, set, inl, refl, sym, ap, subst}
-use Rattle.std.specs.Prelude.{remove, slice_get}
+use Rattle.std.proofs.Common.{rules, ◌≡◌, ◌∙◌, Some, inl, sym, subst}
+use Rattle.std.specs.Prelude.{slice_get}
 use Rattle.bk_device.specs.Compose.{effect_weaken}
-use Rattle.bk_device.specs.Effects.{Effect}
 use Rattle.bk_master.specs.declared.record.Entry.{Entry}
-use Rattle.bk_master.specs.declared.record.Record.{Record}
-use Rattle.bk_master.specs.Spelling.{KeepsRecord}
-use Rattle.bk_store.specs.Store.{Kept as KeptStore}
 use Rattle.bk_stores.specs.Making.{MaySwap, Swaps}
 use Rattle.bk_stores.specs.Records.{swapped}
 use Rattle.bk_stores.specs.StandLaws.{rest-crash}

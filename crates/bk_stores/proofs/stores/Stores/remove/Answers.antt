@@ -1,16 +1,13 @@
-use Rattle.std.proofs.Common.{rules, ◌≡◌, ◌≤◌, ◌<◌, ◌∙◌, ◌∷◌, [], ℕ, List, length, map, sym, ap, subst, arith}
+use Rattle.std.proofs.Common.{rules, ◌≡◌, ◌<◌, ◌∙◌, ◌∷◌, [], ℕ, List, length, sym, ap, subst, arith}
 use Rattle.std.specs.Prelude.{remove}
 use Rattle.bk_device.specs.Compose.{effect_then}
-use Rattle.bk_device.specs.Effects.{Effect}
-use Rattle.bk_filling.specs.Removing.{IsPart}
 use Rattle.bk_master.specs.declared.record.Record.{Record}
 use Rattle.bk_master.specs.Spelling.{KeepsRecord}
-use Rattle.bk_side.specs.Names.{data_file as data_name}
 use Rattle.bk_store.specs.Told.{Told}
-use Rattle.bk_stores.specs.Making.{Drops}
-use Rattle.bk_stores.specs.Records.{left_out, unfinished_at}
+use Rattle.bk_stores.specs.LessLaws.{length-less-same, less-keeps}
+use Rattle.bk_stores.specs.Records.{unfinished_at}
 use Rattle.bk_stores.specs.Stores.{AreStores}
-use Rattle.bk_stores.proofs.Aside.{aside-crash, aside-stands, drops-then, left-count, left-keeps}
+use Rattle.bk_stores.proofs.Aside.{aside-crash, aside-stands, drops-then}
 use Rattle.bk_stores.proofs.stores.Stores.remove.Goals as goal
 
 pub returns-in_err-number-clause-crash : goal.returns-in_err-number-clause-crash
@@ -35,7 +32,7 @@ rest-requires-clause-keeps g c =
     let n = c.in_ok-number.number in
     let it = c.in_ok-number.ensures.record in
     let inside : c.args.at < length r.databases = omega (arith, c.requires.inside, c.requires.ready.count) in
-    subst KeepsRecord (sym it.3) (left-keeps r c.args.at n c.args.paths.now c.requires.small inside c.requires.ready.keeps)
+    subst KeepsRecord (sym it.3) (less-keeps r c.args.at n c.args.paths.now c.requires.small inside c.requires.ready.keeps)
 
 pub rest-requires-clause-count : goal.rest-requires-clause-count
 rest-requires-clause-count g c =
@@ -45,7 +42,7 @@ rest-requires-clause-count g c =
     let n = c.in_ok-number.number in
     let it = c.in_ok-number.ensures.record in
     let slots : then.slots ≡ remove c.args.self.now.slots c.args.at = search rules in
-    ap length slots ∙ left-count c.args.self.now.slots r.databases c.args.at c.requires.inside c.requires.ready.count ∙ sym (ap (λ (x : Record). length x.databases) it.3)
+    ap length slots ∙ length-less-same c.args.self.now.slots r.databases c.args.at c.requires.inside c.requires.ready.count ∙ sym (ap (λ (x : Record). length x.databases) it.3)
 
 pub rest-requires-clause-master : goal.rest-requires-clause-master
 rest-requires-clause-master g c t =

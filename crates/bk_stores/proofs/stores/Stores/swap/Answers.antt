@@ -1,13 +1,13 @@
-use Rattle.std.proofs.Common.{rules, ◌≡◌, ◌≤◌, ◌<◌, ◌∙◌, ◌∷◌, [], ℕ, List, length, map, set, sym, ap, subst, arith}
+use Rattle.std.proofs.Common.{rules, ◌≡◌, ◌<◌, ◌∙◌, ◌∷◌, [], ℕ, List, length, set, sym, ap, subst}
 use Rattle.std.proofs.lemmas.List.{length-set}
 use Rattle.bk_device.specs.Compose.{effect_then}
 use Rattle.bk_master.specs.declared.record.Record.{Record}
 use Rattle.bk_master.specs.Spelling.{KeepsRecord}
 use Rattle.bk_store.specs.Told.{Told}
-use Rattle.bk_stores.specs.Making.{Swaps}
 use Rattle.bk_stores.specs.Records.{unfinished_at}
 use Rattle.bk_stores.specs.Stores.{AreStores}
-use Rattle.bk_stores.proofs.Aside.{aside-crash, aside-stands, swapped-keeps, swaps-then}
+use Rattle.bk_stores.specs.SwapLaws.{swapped-keeps}
+use Rattle.bk_stores.proofs.Aside.{aside-crash, aside-stands, swaps-then}
 use Rattle.bk_stores.proofs.stores.Stores.swap.Goals as goal
 
 pub returns-in_err-number-clause-crash : goal.returns-in_err-number-clause-crash

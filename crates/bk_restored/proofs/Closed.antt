@@ -1,0 +1,26 @@
+-- Files that hold what the store of a database keeps of it hold that database.
+use Rattle.std.proofs.Common.{◌≡◌, ℕ, List, ◌++◌, sym, ap, subst, ◌∙◌}
+use Rattle.bk_device.specs.Disk.{Disk}
+use Rattle.bk_facts.specs.declared.facts.DataFile.{DataFile}
+use Rattle.bk_ids.specs.declared.record.Rec.{Rec}
+use Rattle.bk_known.specs.declared.known.Known.{Known}
+use Rattle.bk_known.specs.Known.{known_bytes}
+use Rattle.bk_paged.specs.Holds.{Holds}
+use Rattle.bk_paged.specs.Names.{AreDurable}
+use Rattle.bk_reopening.specs.Reopening.{IsClosed}
+use Rattle.bk_restored.specs.Restored.{SufficesTold}
+use Rattle.bk_restoring.specs.Arriving.{Kept, Suffices}
+use Rattle.bk_store.specs.Told.{Told, stood_of}
+
+-- the bytes that are put are the note that the store keeps
+pub suffices-bytes : (a : Kept) (checkpoint : ℕ) (note bytes : List ℕ) (given : ℕ × ℕ → List ℕ) (records : List Rec) (known : Known) (told : Told) → bytes ≡ known_bytes known ++ note → SufficesTold a checkpoint note given records known told → Suffices a checkpoint bytes given records (stood_of known told)
+suffices-bytes a checkpoint note bytes given records known told spelled enough =
+    let same : (stood_of known told).note ≡ bytes = ap (λ (n : List ℕ). known_bytes known ++ n) enough.same_note ∙ sym spelled in
+    subst (λ (n : List ℕ). Suffices a checkpoint n given records (stood_of known told)) same enough.suffices
+
+pub arrived-closed : (a : Kept) (checkpoint : ℕ) (note : List ℕ) (given : ℕ × ℕ → List ℕ) (records : List Rec) (known : Known) (told : Told) (disk : Disk) → SufficesTold a checkpoint note given records known told → AreDurable a.log.db a.filling.files disk
+    → Holds a.log.db (stood_of known told) disk.files → IsClosed a.log.db told disk
+arrived-closed a checkpoint note given records known told disk enough durable holds = record {
+  durable = subst (λ (fs : List DataFile). AreDurable a.log.db fs disk) (sym enough.suffices.files) durable;
+  holds = record { known = known; noted = enough.noted; log = enough.log; holds = holds };
+}

@@ -1,0 +1,23 @@
+// Numbers that a seed draws.
+
+// One behind the other.
+#[derive(Clone, Copy)]
+pub(crate) struct Dice {
+    state: u64,
+}
+
+impl Dice {
+    pub(crate) fn new(seed: u64) -> Self {
+        Dice { state: seed | 1 }
+    }
+
+    // The next one, below a bound.
+    pub(crate) fn below(&mut self, bound: u64) -> u64 {
+        let mut state = self.state;
+        state ^= state << 13;
+        state ^= state >> 7;
+        state ^= state << 17;
+        self.state = state;
+        state.checked_rem(bound).unwrap_or(0)
+    }
+}

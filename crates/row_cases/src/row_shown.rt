@@ -1,0 +1,137 @@
+// What a database shows of its tables.
+use crate::plain::{Facts, Seen, no_rows, row_at, with_table};
+use crate::words::number;
+use bk_ids::{RecoveryModel, Value};
+use bk_reopening::OpenError;
+use bk_shown::Written;
+use bk_store::{Store, StoreError, copy_tables};
+use bk_world::TableSpec;
+use std::alloc::{AllocError, Global};
+
+// Why a call gave nothing, as the opening of a database tells it.
+pub(crate) fn ended(error: StoreError) -> OpenError {
+    match error {
+        StoreError::Fault => OpenError::Fault,
+        StoreError::NoMemory => OpenError::NoMemory,
+    }
+}
+
+pub(crate) fn model_word(model: RecoveryModel) -> &'static str {
+    match model {
+        RecoveryModel::Simple => "simple",
+        RecoveryModel::Full => "full",
+        RecoveryModel::BulkLogged => "bulk",
+    }
+}
+
+// The number that stands for a recovery model: 0 for the full one.
+pub(crate) fn model_code(model: RecoveryModel) -> u64 {
+    match model {
+        RecoveryModel::Full => 0,
+        RecoveryModel::Simple => 1,
+        RecoveryModel::BulkLogged => 2,
+    }
+}
+
+// Adds a table: its name and its filegroup, and the key and the value of each committed row.
+fn add_table(
+    alloc: Global,
+    store: &Store,
+    table: &TableSpec,
+    out: &mut String,
+) -> Result<(), AllocError> {
+    write!(out, ", {}@{}", table.name.as_str(), table.group)?;
+    for (key, value) in &store.shown().rows(alloc, table.number)? {
+        write!(out, " {key}={}", value.as_str())?;
+    }
+    Ok(())
+}
+
+// The value that a row has or had; `-` for none.
+fn value_word(value: &Option<Value>) -> &str {
+    match value {
+        Some(value) => value.as_str(),
+        None => "-",
+    }
+}
+
+// Adds a pending write: its transaction, its row, and the values before and behind it.
+fn add_write(write: &Written, out: &mut String) -> Result<(), AllocError> {
+    let (before, value) = (value_word(&write.before), value_word(&write.value));
+    write!(
+        out,
+        ", {}: {}.{} {before}>{value}",
+        write.begin, write.table, write.key
+    )
+}
+
+// The bytes of a note as a text; `-` where there are none, and `?` where they are no text of one line.
+fn shown_note(note: &[u8]) -> &str {
+    if note.is_empty() {
+        return "-";
+    }
+    match std::str::from_utf8(note) {
+        Ok(text) if note.iter().all(|byte| *byte >= b' ') => text,
+        _ => "?",
+    }
+}
+
+// The name, the kept point, the number behind the last durable record, the end, the recovery model, the last time and the note; then the tables with their committed rows, and what is
+// pending.
+pub(crate) fn told(alloc: Global, store: &Store) -> Result<String, AllocError> {
+    let (kept, stored, end) = (store.kept(), store.stored(), store.end());
+    let (model, time) = (model_word(store.shown().model()), store.shown().time());
+    let note = shown_note(store.note());
+    let name = store.spec().name.as_str();
+    let mut out = format!(in alloc; "{name} {kept} {stored} {end} {model} {time} {note}")?;
+    let tables = copy_tables(alloc, store.shown().tables())?;
+    for table in tables.as_slice() {
+        add_table(alloc, store, table, &mut out)?;
+    }
+    for write in store.shown().written() {
+        add_write(write, &mut out)?;
+    }
+    Ok(out)
+}
+
+// Notes the committed rows of a table, whose values are numbers.
+fn add_rows(alloc: Global, store: &Store, table: u32, rows: &mut [u64]) -> Result<(), AllocError> {
+    for (key, value) in &store.shown().rows(alloc, table)? {
+        let row = row_at(u64::from(table), *key);
+        if let Some(place) = rows.get_mut(row) {
+            *place = number(value.as_str());
+        }
+    }
+    Ok(())
+}
+
+// What each row of the tables 1 and 2 holds: a number, or 0.
+fn rows_in(alloc: Global, store: &Store) -> Result<Vec<u64>, AllocError> {
+    let mut rows = no_rows(alloc)?;
+    add_rows(alloc, store, 1, &mut rows)?;
+    add_rows(alloc, store, 2, &mut rows)?;
+    Ok(rows)
+}
+
+// What else a database shows.
+fn facts_in(store: &Store) -> Facts {
+    let mut tables = 0;
+    for table in store.shown().tables() {
+        tables = with_table(tables, u64::from(table.number));
+    }
+    Facts {
+        tables,
+        model: model_code(store.shown().model()),
+        time: store.shown().time(),
+    }
+}
+
+// What a database shows, to be compared.
+pub(crate) fn seen_in(alloc: Global, store: &Store) -> Result<Seen, AllocError> {
+    Ok(Seen {
+        end: store.end(),
+        rows: rows_in(alloc, store)?,
+        facts: facts_in(store),
+        pending: store.shown().written().len(),
+    })
+}
