@@ -1,6 +1,6 @@
 -- A log that comes to hold records.
 use Rattle.std.proofs.Common.{◌≡◌, ◌≢◌, ◌≤◌, ◌<◌, ◌^◌, ℕ, suc, ◌+◌, ◌-◌, List, [], ◌∷◌, ◌++◌, drop, length, length-append, Option, Some, None, refl, inl, inr, sym, ap, subst, ◌∙◌, arith, append_assoc}
-use Rattle.bk_control.specs.Control.{IsControl, control_value, Kept as KeptControl}
+use Rattle.bk_control.specs.Control.{IsControl, control_durable, control_value, Kept as KeptControl}
 use Rattle.bk_control.specs.Slots.{control_of}
 use Rattle.bk_bytes.specs.Codec.{◌>>=◌}
 use Rattle.bk_device.specs.Compose.{effect_widen}
@@ -13,9 +13,9 @@ use Rattle.bk_ids.specs.declared.record.Rec.{Rec}
 use Rattle.bk_lemmas.specs.Tests.{equal_or_not}
 use Rattle.bk_segments.specs.declared.head.Head.{Head}
 use Rattle.bk_segments.specs.BatchLaws.{batch_of, whole_of}
-use Rattle.bk_segments.specs.Control.{read_control}
-use Rattle.bk_segments.specs.FileLaws.{all_blobs, control_not_segment, from_same, one_segment}
-use Rattle.bk_segments.specs.Files.{control_file, segment_file, blobs_at, blobs_from, blobs_of, AreDurable, IsOwn, LogIs}
+use Rattle.bk_segments.specs.Control.{read_control, IsSound}
+use Rattle.bk_segments.specs.FileLaws.{all_blobs, control_not_segment, from_same, one_segment, settled_at}
+use Rattle.bk_segments.specs.Files.{control_file, segment_file, blobs_at, blobs_from, blobs_of, AreDurable, AreSettled, IsOwn, LogIs}
 use Rattle.bk_segments.specs.Records.{records_in, records_of, IsPart, IsRun, Numbered}
 use Rattle.bk_segments.specs.RunLaws.{one_blob, last_blob, records_append, records_begun, records_one, run_begun, run_more, run_none}
 use Rattle.bk_filling.specs.Laws.{still}
@@ -33,6 +33,13 @@ pub durable_more : {P : Files → Type 0} (db : ℕ) (here : List ℕ) (a b : Di
 durable_more db here a b effect durable are name own = elim (same_or_other here name) [
   | inl same ↦ subst (IsDurable b) (sym same) durable
   | inr other ↦ still here name a b effect other (are name own)
+]
+
+-- the same for the segments
+segment_durable : {P : Files → Type 0} (db m n : ℕ) (a b : Disk) → Effect (IsName (segment_file db n)) P a b → IsDurable b (segment_file db n) → (m ≢ n → IsDurable a (segment_file db m)) → IsDurable b (segment_file db m)
+segment_durable db m n a b effect durable before = elim (same_or_other (segment_file db n) (segment_file db m)) [
+  | inl same ↦ subst (IsDurable b) (sym same) durable
+  | inr other ↦ still (segment_file db n) (segment_file db m) a b effect other (before (λ is. other (ap (segment_file db) is)))
 ]
 
 other_blobs : {P : Files → Type 0} (db m n : ℕ) (a b : Disk) → m < 2 ^ 64 → n < 2 ^ 64 → m ≢ n → Effect (IsName (segment_file db n)) P a b → blobs_at b.files db m ≡ blobs_at a.files db m
@@ -57,14 +64,14 @@ blank_records f g kept back records same blank run are =
     (subst (λ (bs : List (List ℕ)). IsRun kept bs (kept + length records)) (sym all) (run_begun kept (kept + length records) (blobs_from f 1 back) run), ap records_of all ∙ records_begun (blobs_from f 1 back) ∙ are)
 
 -- with no segment before it
-pub first_begun : {P : Files → Type 0} (db kept : ℕ) (gate : KeptGate) (a b : Disk) → a.files (control_file db) ≡ None → AreDurable db a → gate.name ≡ segment_file db 1 → IsGate b gate → IsDurable b (segment_file db 1) → blobs_at b.files db 1 ≡ [] ∷ [] → Effect (IsName (segment_file db 1)) P a b
+pub first_begun : {P : Files → Type 0} (db kept : ℕ) (gate : KeptGate) (a b : Disk) → a.files (control_file db) ≡ None → gate.name ≡ segment_file db 1 → IsGate b gate → IsDurable b (segment_file db 1) → blobs_at b.files db 1 ≡ [] ∷ [] → Effect (IsName (segment_file db 1)) P a b
     → IsBegun b (record { db = db; kept = kept; back = 1; gate = gate })
-first_begun db kept gate a b none are name gates durable blank effect = record {
+first_begun db kept gate a b none name gates durable blank effect = record {
   name = name;
   gates = gates;
   none = control_still db 1 a b effect none;
   some = λ n low high. let is : 1 ≡ n = omega (arith, low, high) in subst (λ (k : ℕ). blobs_at b.files db k ≢ []) is (one_blob (blobs_at b.files db 1) [] blank);
-  durable = durable_more db (segment_file db 1) a b effect durable are;
+  durable = λ n low high. let is : 1 ≡ n = omega (arith, low, high) in subst (λ (k : ℕ). IsDurable b (segment_file db k)) is durable;
 }
 
 pub first_records : (db kept : ℕ) (gate : KeptGate) (b : Disk) → blobs_at b.files db 1 ≡ [] ∷ [] → HasRecords b.files (record { db = db; kept = kept; back = 1; gate = gate }) []
@@ -84,7 +91,7 @@ next_begun log gate a b few is name gates durable blank effect = record {
     | inl same ↦ subst (λ (k : ℕ). blobs_at b.files log.db k ≢ []) (sym same) (one_blob (blobs_at b.files log.db (log.back + 1)) [] blank)
     | inr other ↦ λ none. is.some n low (omega (arith, high, other)) (sym (other_blobs log.db n (log.back + 1) a b (omega (arith, high, few)) (omega (arith, few)) other effect) ∙ none)
   ];
-  durable = durable_more log.db (segment_file log.db (log.back + 1)) a b effect durable is.durable;
+  durable = λ n low high. segment_durable log.db n (log.back + 1) a b effect durable (λ other. is.durable n low (omega (arith, high, other)));
 }
 
 pub next_records : {P : Files → Type 0} (log : Kept) (gate : KeptGate) (records : List Rec) (a b : Disk) → log.back + 1 ≤ 65536 → blobs_at b.files log.db (log.back + 1) ≡ [] ∷ [] → Effect (IsName (segment_file log.db (log.back + 1))) P a b → HasRecords a.files log records
@@ -138,7 +145,7 @@ module _ (log : Kept) (gate : KeptGate) (bytes : List ℕ) (a b : Disk) (small :
       | inl same ↦ subst (λ (k : ℕ). blobs_at b.files log.db k ≢ []) (sym same) (last_blob (blobs_at a.files log.db log.back) (blobs_at b.files log.db log.back) bytes last)
       | inr other ↦ λ none. is.some n low high (sym (other_blobs log.db n log.back a b (omega (arith, high, small)) (omega (arith, small)) other effect) ∙ none)
     ];
-    durable = durable_more log.db (segment_file log.db log.back) a b effect durable is.durable;
+    durable = λ n low high. segment_durable log.db n log.back a b effect durable (λ other. is.durable n low high);
   }
 
   pub records_more : (records more : List Rec) → 1 ≤ log.back → HasRecords a.files log records → Spell bytes (log.kept + length records) more → HasRecords b.files (record { db = log.db; kept = log.kept; back = log.back; gate = gate }) (records ++ more)
@@ -149,6 +156,16 @@ module _ (log : Kept) (gate : KeptGate) (bytes : List ℕ) (a b : Disk) (small :
       record { run = both.0; are = both.1 }
 
 -- ---- the control record
+
+-- what counts then is durable
+pub control_settled : (log : Kept) (control : KeptControl) (note : List ℕ) (a b : Disk) → 1 ≤ log.back → log.back ≤ 65536 → length note ≤ 32768 → IsBegun a log → Effect (IsName (control_file log.db)) (λ _. Unit {0}) a b → IsControl b control → control.name ≡ control_file log.db
+    → read_control control.content ≡ Some (record { kept = log.kept; gone = 1; front = 1; back = log.back; first = log.kept }, note) → AreSettled log.db b
+control_settled log control note a b some small short is effect controls name reads =
+    let head : Head = record { kept = log.kept; gone = 1; front = 1; back = log.back; first = log.kept } in
+    let of : control_of (b.files (control_file log.db)) ≡ Some control.content = ap (λ (n : List ℕ). control_of (b.files n)) (sym name) ∙ control_value controls in
+    let sound : IsSound head note = record { gone = omega arith; front = some; back = omega (arith, small); few = omega (arith, small); kept = omega arith; short = short } in
+    settled_at log.db b head (note, ap (λ (o : Option (List ℕ)). o >>= read_control) of ∙ reads, sound) (subst (IsDurable b) name (control_durable controls))
+    (λ n low high. still (control_file log.db) (segment_file log.db n) a b effect (λ at. control_not_segment log.db n (sym at)) (is.durable n low (omega (arith, high))))
 
 pub control_log : (log : Kept) (control : KeptControl) (note : List ℕ) (records : List Rec) (a b : Disk) → 1 ≤ log.back → log.back ≤ 65536 → length note ≤ 32768 → IsBegun a log → HasRecords a.files log records → log.kept + length records < 2 ^ 64
     → Effect (IsName (control_file log.db)) (λ _. Unit {0}) a b → IsControl b control → control.name ≡ control_file log.db

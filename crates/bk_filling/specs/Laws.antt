@@ -119,7 +119,7 @@ log_kept log a b keeps is =
       gates = gate_kept (record { same = λ name at. keeps.same name (mine name at); nothing_more = λ name at. keeps.nothing_more name (mine name at) }) is.gates;
       none = keeps.same (control_file log.db) (inl refl) ∙ is.none;
       some = λ n low high none. is.some n low high (sym (ap sealed (keeps.same (segment_file log.db n) (inr (n, refl)))) ∙ none);
-      durable = λ name own. durable_kept {names = IsOfLog log.db} name own keeps (is.durable name own);
+      durable = λ n low high. durable_kept {names = IsOfLog log.db} (segment_file log.db n) (inr (n, refl)) keeps (is.durable n low high);
     }
 
 pub records_kept : (log : KeptLog) (g h : Files) (records : List Rec) → ((name : List ℕ) → IsOfLog log.db name → h name ≡ g name) → HasRecords g log records → HasRecords h log records

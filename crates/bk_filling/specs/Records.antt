@@ -2,11 +2,11 @@
 -- SQL Server: "Transaction Log Architecture and Management Guide".
 use Rattle.std.specs.Prelude.{◌≡◌, ◌≢◌, ◌≤◌, ◌+◌, ℕ, List, [], length, None}
 use Rattle.std.specs.List.{AllByRecursion, flat_map}
-use Rattle.bk_device.specs.Disk.{Files, Disk}
+use Rattle.bk_device.specs.Disk.{Files, Disk, IsDurable}
 use Rattle.bk_gate.specs.Gate.{IsGate, Kept as KeptGate}
 use Rattle.bk_ids.specs.declared.record.Rec.{Rec}
 use Rattle.bk_record.specs.Spelling.{spelling, IsRecord}
-use Rattle.bk_segments.specs.Files.{control_file, segment_file, blobs_at, blobs_from, AreDurable}
+use Rattle.bk_segments.specs.Files.{control_file, segment_file, blobs_at, blobs_from}
 use Rattle.bk_segments.specs.Records.{records_of, IsRun, Numbered}
 
 -- what contracts see of it
@@ -18,13 +18,13 @@ pub record Kept : Type 0 where
   pub back : ℕ
   pub gate : KeptGate
 
--- There is no control file, each segment is begun, and nothing is pending.
+-- There is no control file, each segment is begun, and nothing is pending in one.
 pub record IsBegun (disk : Disk) (log : Kept) : Type 0 where
   pub name : log.gate.name ≡ segment_file log.db log.back
   pub gates : IsGate disk log.gate
   pub none : disk.files (control_file log.db) ≡ None
   pub some : (n : ℕ) → 1 ≤ n → n ≤ log.back → blobs_at disk.files log.db n ≢ []
-  pub durable : AreDurable log.db disk
+  pub durable : (n : ℕ) → 1 ≤ n → n ≤ log.back → IsDurable disk (segment_file log.db n)
 
 -- The segments hold these records.
 pub record HasRecords (image : Files) (log : Kept) (records : List Rec) : Type 0 where

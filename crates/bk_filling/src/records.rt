@@ -5,7 +5,7 @@ ghost use Rattle.bk_device.specs.Counts.{HasCause};
 ghost use Rattle.bk_device.specs.Effects.{Effect, IsName};
 ghost use Rattle.bk_filling.specs.Records.{HasRecords, IsBegun, Kept, Spell};
 ghost use Rattle.bk_ids.specs.declared.record.Rec.{Rec};
-ghost use Rattle.bk_segments.specs.Files.{control_file, segment_file, AreDurable, IsOwn, LogIs};
+ghost use Rattle.bk_segments.specs.Files.{control_file, segment_file, AreDurable, AreSettled, IsOwn, LogIs};
 
 use crate::error::FillError;
 use bk_control::{Control, ControlError};
@@ -35,19 +35,19 @@ impl Model for Records {
 }
 
 impl Records {
-    /// Begins with no record; the first one will have the number `kept`. There is no control file, and nothing is pending in the log's files.
+    /// Begins with no record; the first one will have the number `kept`. There is no control file.
     pub fn begin<D: Device>(
         alloc: Global,
         dev: &mut D,
         db: u32,
         kept: Lsn,
     ) -> Result<Records, FillError>
-        requires none { D.tells → (D.disk dev.old).files (control_file db) ≡ None }
-        requires durable { D.tells → AreDurable db (D.disk dev.old) }
+        requires { D.tells → (D.disk dev.old).files (control_file db) ≡ None }
         ensures numbers { IfOk result (λ l. (l.db ≡ db) × (l.kept ≡ kept)) }
         ensures fit { IfOk result (λ l. l.gate.failed ≡ false) }
         ensures stands { D.tells → IfOk result (λ l. IsBegun (D.disk dev.new) l) }
         ensures none { D.tells → IfOk result (λ l. HasRecords (D.disk dev.new).files l []) }
+        ensures durable { D.tells → AreDurable db (D.disk dev.old) → OnOk result (AreDurable db (D.disk dev.new)) }
         ensures crash { D.tells → Effect (IsOwn db) (λ _. Unit {0}) (D.disk dev.old) (D.disk dev.new) }
         ensures cause { HasCause D.disk_faults D.tell_faults dev.old dev.new (IsErrOf result FillError.Fault) }
     {
@@ -82,6 +82,7 @@ impl Records {
         ensures fit { OnOk result (self.new.gate.failed ≡ false) }
         ensures stands { D.tells → OnOk result (IsBegun (D.disk dev.new) self.new) }
         ensures records { D.tells → (records : List Rec) → HasRecords (D.disk dev.old).files self.old records → OnOk result (HasRecords (D.disk dev.new).files self.new records) }
+        ensures durable { D.tells → AreDurable self.old.db (D.disk dev.old) → OnOk result (AreDurable self.old.db (D.disk dev.new)) }
         ensures crash { D.tells → Effect (IsOwn self.old.db) (λ _. Unit {0}) (D.disk dev.old) (D.disk dev.new) }
         ensures cause { HasCause D.disk_faults D.tell_faults dev.old dev.new (IsErrOf result FillError.Fault) }
     {
@@ -99,6 +100,7 @@ impl Records {
         ensures fit { OnOk result (self.new.gate.failed ≡ false) }
         ensures stands { D.tells → OnOk result (IsBegun (D.disk dev.new) self.new) }
         ensures records { D.tells → (records : List Rec) → HasRecords (D.disk dev.old).files self.old records → OnOk result (HasRecords (D.disk dev.new).files self.new records) }
+        ensures durable { D.tells → AreDurable self.old.db (D.disk dev.old) → OnOk result (AreDurable self.old.db (D.disk dev.new)) }
         ensures crash { D.tells → Effect (IsOwn self.old.db) (λ _. Unit {0}) (D.disk dev.old) (D.disk dev.new) }
         ensures cause { HasCause D.disk_faults D.tell_faults dev.old dev.new (IsErrOf result FillError.Fault) }
     {
@@ -117,6 +119,7 @@ impl Records {
         ensures fit { OnOk result (self.new.gate.failed ≡ false) }
         ensures stands { D.tells → OnOk result (IsBegun (D.disk dev.new) self.new) }
         ensures records { D.tells → (records more : List Rec) → HasRecords (D.disk dev.old).files self.old records → Spell bytes.now (self.old.kept + length records) more → OnOk result (HasRecords (D.disk dev.new).files self.new (records ++ more)) }
+        ensures durable { D.tells → AreDurable self.old.db (D.disk dev.old) → OnOk result (AreDurable self.old.db (D.disk dev.new)) }
         ensures crash { D.tells → Effect (IsOwn self.old.db) (λ _. Unit {0}) (D.disk dev.old) (D.disk dev.new) }
         ensures cause { HasCause D.disk_faults D.tell_faults dev.old dev.new (IsErrOf result FillError.Fault) }
     {
@@ -139,6 +142,7 @@ impl Records {
         ensures fit { OnOk result (self.new.gate.failed ≡ false) }
         ensures stands { D.tells → OnOk result (IsBegun (D.disk dev.new) self.new) }
         ensures records { D.tells → (records more : List Rec) → HasRecords (D.disk dev.old).files self.old records → Spell bytes.now (self.old.kept + length records) more → OnOk result (HasRecords (D.disk dev.new).files self.new (records ++ more)) }
+        ensures durable { D.tells → AreDurable self.old.db (D.disk dev.old) → OnOk result (AreDurable self.old.db (D.disk dev.new)) }
         ensures crash { D.tells → Effect (IsOwn self.old.db) (λ _. Unit {0}) (D.disk dev.old) (D.disk dev.new) }
         ensures cause { HasCause D.disk_faults D.tell_faults dev.old dev.new (IsErrOf result FillError.Fault) }
     {
@@ -147,7 +151,7 @@ impl Records {
         Ok(())
     }
 
-    /// Puts the control record, with these bytes, at most 32,768, as the note: then the files are a log.
+    /// Puts the control record, with these bytes, at most 32,768, as the note: then the files are a log, and what counts of it is durable.
     pub fn finish<D: Device>(
         &self,
         alloc: Global,
@@ -156,7 +160,8 @@ impl Records {
     ) -> Result<(), FillError>
         requires short { length note.now ≤ 32768 }
         requires stands { D.tells → IsBegun (D.disk dev.old) self.now }
-        ensures durable { D.tells → OnOk result (AreDurable self.now.db (D.disk dev.new)) }
+        ensures settled { D.tells → OnOk result (AreSettled self.now.db (D.disk dev.new)) }
+        ensures durable { D.tells → AreDurable self.now.db (D.disk dev.old) → OnOk result (AreDurable self.now.db (D.disk dev.new)) }
         ensures log { D.tells → (records : List Rec) → HasRecords (D.disk dev.old).files self.now records → self.now.kept + length records < 2 ^ 64 → OnOk result (LogIs (D.disk dev.new).files self.now.db (record { kept = self.now.kept; records = records; note = note.now })) }
         ensures crash { D.tells → Effect (IsOwn self.now.db) (λ _. Unit {0}) (D.disk dev.old) (D.disk dev.new) }
         ensures cause { HasCause D.disk_faults D.tell_faults dev.old dev.new (IsErrOf result FillError.Fault) }

@@ -5,3 +5,4 @@ pub mod Parts
 pub mod Removals
 pub mod Resets
 pub mod Steps
+pub mod Skims

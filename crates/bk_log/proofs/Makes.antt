@@ -1,11 +1,13 @@
 -- A log that was made, or opened.
-use Rattle.std.proofs.Common.{◌≡◌, ◌⊎◌, ◌≤◌, ◌<◌, ◌^◌, ℕ, Bool, ◌+◌, ◌-◌, List, [], ◌∷◌, length, Some, None, refl, inl, inr, sym, ap, subst, ◌∙◌, arith}
+use Rattle.std.proofs.Common.{◌≡◌, ◌⊎◌, ◌≤◌, ◌<◌, ◌^◌, ℕ, Bool, ◌+◌, ◌-◌, List, [], ◌∷◌, length, Option, Some, None, refl, inl, inr, sym, ap, subst, ◌∙◌, arith}
+use Rattle.bk_bytes.specs.Codec.{◌>>=◌}
 use Rattle.bk_control.specs.Control.{IsControl, Kept as KeptControl}
 use Rattle.bk_control.specs.Slots.{control_of}
 use Rattle.bk_device.specs.Calls.{ChangesNothing}
-use Rattle.bk_device.specs.Compose.{effect_weaken, effect_none, effect_of_nothing, keeps_by_nothing, durable_kept}
+use Rattle.bk_device.specs.Compose.{effect_weaken, effect_none, effect_of_nothing}
 use Rattle.bk_device.specs.Disk.{Files, Disk, IsDurable}
-use Rattle.bk_device.specs.Effects.{Effect, IsName}
+use Rattle.bk_device.specs.Effects.{Effect}
+use Rattle.bk_device.specs.Laws.{durable_by_nothing}
 use Rattle.bk_gate.specs.Blobs.{sealed}
 use Rattle.bk_gate.specs.Gate.{IsGate, Kept as KeptGate}
 use Rattle.bk_ids.specs.declared.record.Rec.{Rec}
@@ -17,7 +19,7 @@ use Rattle.bk_segments.specs.RunLaws.{run_none, run_begun, none_begun, one_blob}
 use Rattle.bk_segments.specs.SegmentLaws.{segments_same, segments_none, segments_added}
 use Rattle.bk_segments.specs.FileLaws.{one_head, foreign_control, log_is, log_same, blobs_same, begun_same, blobs_moved, shown_same}
 use Rattle.bk_log.specs.Log.{value_of, Kept, IsLog}
-use Rattle.bk_segments.specs.Files.{control_file, segment_file, IsOwn, blobs_of, blobs_at, shown, emptied, AreBegun, AreSegments, IsAdded, Logged, LogIs, IsForeign, AreDurable}
+use Rattle.bk_segments.specs.Files.{control_file, segment_file, IsOwn, blobs_of, blobs_at, shown, emptied, AreBegun, AreSegments, IsAdded, Logged, LogIs, IsForeign, AreDurable, AreSettled, Holds}
 use Rattle.bk_segments.specs.Making.{Made}
 
 -- ---- a log that was made
@@ -107,19 +109,23 @@ load_nothing db a b durable call =
     effect_of_nothing (λ image mine log is. log_same db log (ap control_of (durable (control_file db) (inl refl) (image (control_file db)) (mine (control_file db) (inl refl))))
     (λ n. ap sealed (durable (segment_file db n) (inr (n, refl)) (image (segment_file db n)) (mine (segment_file db n) (inr (n, refl))))) is) call
 
--- nothing is pending in a segment behind it
-pub settled : (db n : ℕ) {a b : Disk} → AreDurable db a → ChangesNothing a b → IsDurable b (segment_file db n)
-settled db n durable call = durable_kept {names = IsName (segment_file db n)} (segment_file db n) refl (keeps_by_nothing call) (durable (segment_file db n) (inr (n, refl)))
+-- the head that was found
+pub found_holds : (files : Files) (db : ℕ) (head : Head) (note content : List ℕ) → control_of (files (control_file db)) ≡ Some content → read_control content ≡ Some (head, note) → IsSound head note → Holds files db head
+found_holds files db head note content control reads sound = (note, ap (λ (o : Option (List ℕ)). o >>= read_control) control ∙ reads, sound)
+
+-- nothing is pending in a segment that counts
+pub settled : (db : ℕ) (head : Head) (n : ℕ) {a b : Disk} → AreSettled db a → Holds a.files db head → head.front ≤ n → n ≤ head.back → ChangesNothing a b → IsDurable b (segment_file db n)
+settled db head n are holds low high call = durable_by_nothing (segment_file db n) call (are.counted head holds n low high)
 
 -- the log is what it was
 pub opened_value : (log : Kept) (a b : Disk) → IsLog b log → ChangesNothing a b → value_of b.files log ≡ value_of a.files log
 opened_value log a b is call = shown_same a.files b.files log.db log.head log.note (blobs_same a.files b.files log.db log.head is.sound.front (λ n low high. blobs_moved log.db n call))
 
 -- and it stands
-pub load_log : (db : ℕ) (head : Head) (note : List ℕ) (stored : ℕ) (a b : Disk) (control : KeptControl) (gate : KeptGate) (segments : List Segment) (end : ℕ) (waiting : List Rec) (spare_bytes spare_flushes : ℕ) (failed : Bool) → AreSegments (blobs_at a.files db) db head.front head.first segments → head.front + length segments ≡ head.back + 1 → AreDurable db a → ChangesNothing a b → control.name ≡ control_file db → gate.name ≡ segment_file db head.back
+pub load_log : (db : ℕ) (head : Head) (note : List ℕ) (stored : ℕ) (a b : Disk) (control : KeptControl) (gate : KeptGate) (segments : List Segment) (end : ℕ) (waiting : List Rec) (spare_bytes spare_flushes : ℕ) (failed : Bool) → AreSegments (blobs_at a.files db) db head.front head.first segments → head.front + length segments ≡ head.back + 1 → AreSettled db a → Holds a.files db head → ChangesNothing a b → control.name ≡ control_file db → gate.name ≡ segment_file db head.back
     → IsControl b control → IsGate b gate → read_control control.content ≡ Some (head, note) → IsSound head note → AreBegun (blobs_at a.files db) head → IsRun head.first (blobs_of a.files db head) stored → head.kept ≤ stored → stored < 2 ^ 64
     → IsLog b (record { db = db; control = control; gate = gate; head = head; segments = segments; note = note; stored = stored; end = end; waiting = waiting; spare_bytes = spare_bytes; spare_flushes = spare_flushes; failed = failed })
-load_log db head note stored a b control gate segments end waiting spare_bytes spare_flushes failed are count durable call control_name gate_name controls gates reads sound begun run inside small =
+load_log db head note stored a b control gate segments end waiting spare_bytes spare_flushes failed are count durable holds call control_name gate_name controls gates reads sound begun run inside small =
     let same : (n : ℕ) → blobs_at b.files db n ≡ blobs_at a.files db n = λ n. blobs_moved db n call in
     record {
       control_name = control_name;
@@ -130,7 +136,7 @@ load_log db head note stored a b control gate segments end waiting spare_bytes s
       sound = sound;
       segments = segments_same (blobs_at a.files db) (blobs_at b.files db) db head.front head.first segments are (λ n low high. same n);
       count = count;
-      durable = λ n low high. settled db n durable call;
+      durable = λ n low high. settled db head n durable holds low high call;
       begun = begun_same a.files b.files db head (λ n low high. same n) begun;
       run = subst (λ (bs : List (List ℕ)). IsRun head.first bs stored) (sym (blobs_same a.files b.files db head sound.front (λ n low high. same n))) run;
       inside = inside;

@@ -1,7 +1,7 @@
 -- The bytes of records, and parts of them.
 use Rattle.std.proofs.Common.{◌≡◌, ◌≤◌, ◌<◌, ℕ, zero, suc, ◌+◌, ◌-◌, List, [], ◌∷◌, ◌++◌, length, take, drop, refl, sym, ap, ◌∙◌, arith, append_assoc, length-append, add-one}
 use Rattle.std.specs.List.{flat_map, AllByRecursion}
-use Rattle.std.proofs.lemmas.List.{append-nil, drop_at, take_at, take-append-drop, drop-take, take-take}
+use Rattle.std.proofs.lemmas.List.{append-nil, drop_at, length-drop, take_all, take_at, take-append-drop, drop-take, take-take}
 use Rattle.std.proofs.lemmas.List.Concat.{flat_map-append}
 use Rattle.bk_bytes.specs.Field.{bytes_of, number_of}
 use Rattle.bk_bytes.specs.FieldLaws.{length-bytes_of, number_of-bytes_of}
@@ -23,7 +23,7 @@ records_are (blob ∷ blobs) all = all_records (records_in blob) (records_of blo
 -- ---- where records begin
 
 -- the length of a record stands at its front
-length_there : (r : Rec) (rest : List ℕ) → IsRecord r → number_of 4 (spelling r ++ rest) ≡ length (spelling r)
+pub length_there : (r : Rec) (rest : List ℕ) → IsRecord r → number_of 4 (spelling r ++ rest) ≡ length (spelling r)
 unfolding spelling
 length_there r rest is =
     ap (number_of 4) (append_assoc (bytes_of 4 (4 + length (inside r))) (inside r) rest)
@@ -59,6 +59,13 @@ spelled_from : (rs : List Rec) (i : ℕ) → drop (length (flat_map spelling (ta
 spelled_from rs i =
     let whole : flat_map spelling rs ≡ flat_map spelling (take i rs) ++ flat_map spelling (drop i rs) = ap (flat_map spelling) (sym (take-append-drop i rs)) ∙ flat_map-append spelling (take i rs) (drop i rs) in
     ap (drop (length (flat_map spelling (take i rs)))) whole ∙ drop_at (flat_map spelling (take i rs)) (flat_map spelling (drop i rs)) (length (flat_map spelling (take i rs))) refl
+
+-- the bytes behind so many records
+pub behind_is : (bytes : List ℕ) (rs : List Rec) (i at : ℕ) → bytes ≡ flat_map spelling rs → at ≡ length (flat_map spelling (take i rs)) → drop at bytes ≡ flat_map spelling (drop i rs)
+behind_is bytes rs i at spelled place = ap (λ (n : ℕ). drop n bytes) place ∙ ap (drop (length (flat_map spelling (take i rs)))) spelled ∙ spelled_from rs i
+
+pub tail_is : (bytes : List ℕ) (rs : List Rec) (i at : ℕ) → bytes ≡ flat_map spelling rs → at ≡ length (flat_map spelling (take i rs)) → take (length bytes - at) (drop at bytes) ≡ flat_map spelling (drop i rs)
+tail_is bytes rs i at spelled place = take_all (length bytes - at) (drop at bytes) (omega (arith, length-drop at bytes)) ∙ behind_is bytes rs i at spelled place
 
 -- the bytes between two records are those of the records between
 pub part_spelled : (rs : List Rec) (i j : ℕ) → i ≤ j

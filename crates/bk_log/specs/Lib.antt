@@ -1,2 +1,3 @@
 pub mod Log
 pub mod Laws
+pub mod Skims

@@ -2,8 +2,13 @@
 //! hold the others, with a note for the layer above.
 #![tactic(auto)]
 
+mod bytes;
 mod log;
 mod places;
+mod skimming;
 
-pub use bk_segments::LogError;
+pub use bk_segments::{LogError, settle};
+pub use bytes::LogBytes;
 pub use log::Log;
+pub use places::behind_records;
+pub use skimming::{Skimmed, skim_at};

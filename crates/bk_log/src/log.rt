@@ -1,6 +1,6 @@
 // The log of one database over its files.
 ghost use Rattle.std.specs.Prelude.{◌≡◌, ◌≤◌, ◌<◌, ◌⊎◌, ◌^◌, ◌+◌, ◌-◌, ◌++◌, ◌||◌, ◌∷◌, [], ℕ, None, Some, length, drop, take, vec_len, vec_capacity, false, true, IfOk, OnOk, OnErr, IsErrOf, IsErr};
-ghost use Rattle.std.specs.List.{flat_map};
+ghost use Rattle.std.specs.List.{AllByRecursion, flat_map};
 ghost use Rattle.bk_control.specs.Slots.{control_of};
 ghost use Rattle.bk_device.specs.Calls.{ChangesNothing};
 ghost use Rattle.bk_device.specs.Counts.{HasCause};
@@ -10,10 +10,11 @@ ghost use Rattle.bk_segments.specs.declared.head.Head.{Head};
 ghost use Rattle.bk_segments.specs.Control.{IsSound};
 ghost use Rattle.bk_gate.specs.Gate.{IsGate};
 ghost use Rattle.bk_log.specs.Log.{Kept, IsLog, IsSame, KeepsSpare, value_of};
-ghost use Rattle.bk_segments.specs.Files.{control_file, segment_file, blobs_at, AreGone, BeginsAt, Holds, IsAdded, IsFirstAt, IsOwn, IsTidy, LogIs, IsForeign, AreDurable, Logged, cut_at, emptied, with_more};
-ghost use Rattle.bk_segments.specs.Records.{IsPart, records_in};
+ghost use Rattle.bk_segments.specs.Files.{control_file, segment_file, blobs_at, AreGone, BeginsAt, Holds, IsAdded, IsFirstAt, IsOwn, IsTidy, LogIs, IsForeign, AreDurable, AreSettled, Logged, blobs_of, cut_at, emptied, with_more};
+ghost use Rattle.bk_segments.specs.Records.{IsPart, records_in, records_of};
 ghost use Rattle.bk_record.specs.Spelling.{IsRecord, KeepsLimits, spelling};
 
+use crate::bytes::LogBytes;
 use crate::places::place_of;
 use bk_control::Control;
 use bk_device::{Device, Failed, remove_durably};
@@ -77,49 +78,81 @@ impl Model for Log {
 }
 
 impl Log {
-    /// Opens the log of a database. Segments that no longer count, and one that was begun behind the last, are removed. Nothing
-    /// else is changed.
+    /// Opens the log of a database, of which what counts is durable (`settle`), and reads the bytes of its records, each segment in
+    /// one read. Segments that no longer count, and one that was begun behind the last, are removed. Nothing else is changed.
     ///
     /// `Foreign` is answered exactly where the files are no log: where the control file holds no control record, where one of
     /// the segments that it names holds no blob, or where they hold anything but records whose numbers follow each other. Then
     /// nothing is changed.
+    pub fn read<D: Device>(alloc: Global, dev: &mut D, db: u32) -> Result<(Log, LogBytes), LogError>
+        ensures db { IfOk result (λ x. x.0.db ≡ db) }
+        ensures failed { IfOk result (λ x. x.0.failed ≡ false) }
+        ensures none { IfOk result (λ x. x.0.waiting ≡ []) }
+        ensures end { IfOk result (λ x. x.0.end ≡ x.0.stored) }
+        ensures loaded { D.tells → IfOk result (λ x. LogIs (D.disk dev.old).files db (value_of (D.disk dev.old).files x.0)) }
+        ensures value { D.tells → AreSettled db (D.disk dev.old) → IfOk result (λ x. value_of (D.disk dev.new).files x.0 ≡ value_of (D.disk dev.old).files x.0) }
+        ensures stands { D.tells → AreSettled db (D.disk dev.old) → IfOk result (λ x. IsLog (D.disk dev.new) x.0) }
+        ensures tidy { D.tells → AreSettled db (D.disk dev.old) → IfOk result (λ x. IsTidy (D.disk dev.old).files (D.disk dev.new).files db x.0.head) }
+        ensures bytes { D.tells → IfOk result (λ x. x.1 ≡ flat_map spelling (value_of (D.disk dev.old).files x.0).records) }
+        ensures foreign { D.tells → IsErrOf result LogError.Foreign → IsForeign (D.disk dev.old).files db }
+        ensures still { D.tells → IsErrOf result LogError.Foreign → ChangesNothing (D.disk dev.old) (D.disk dev.new) }
+        ensures crash { D.tells → AreDurable db (D.disk dev.old) → Effect (IsOwn db) (λ image. (log : Logged) → LogIs (D.disk dev.old).files db log → LogIs image db log) (D.disk dev.old) (D.disk dev.new) }
+        ensures cause { HasCause D.disk_faults D.tell_faults dev.old dev.new (IsErrOf result LogError.Fault) }
+    {
+        let (log, all) = Log::open(alloc, dev, db, true)?;
+        tidy(alloc, dev, db, log.head)?;
+        let bytes = LogBytes::behind(all, log.head.kept - log.head.first);
+        Ok((log, bytes))
+    }
+
+    /// Opens a log as `read` does, without those bytes.
     pub fn load<D: Device>(alloc: Global, dev: &mut D, db: u32) -> Result<Log, LogError>
         ensures db { IfOk result (λ l. l.db ≡ db) }
         ensures failed { IfOk result (λ l. l.failed ≡ false) }
         ensures none { IfOk result (λ l. l.waiting ≡ []) }
         ensures end { IfOk result (λ l. l.end ≡ l.stored) }
         ensures loaded { D.tells → IfOk result (λ l. LogIs (D.disk dev.old).files db (value_of (D.disk dev.old).files l)) }
-        ensures value { D.tells → AreDurable db (D.disk dev.old) → IfOk result (λ l. value_of (D.disk dev.new).files l ≡ value_of (D.disk dev.old).files l) }
-        ensures stands { D.tells → AreDurable db (D.disk dev.old) → IfOk result (λ l. IsLog (D.disk dev.new) l) }
-        ensures tidy { D.tells → AreDurable db (D.disk dev.old) → IfOk result (λ l. IsTidy (D.disk dev.old).files (D.disk dev.new).files db l.head) }
+        ensures value { D.tells → AreSettled db (D.disk dev.old) → IfOk result (λ l. value_of (D.disk dev.new).files l ≡ value_of (D.disk dev.old).files l) }
+        ensures stands { D.tells → AreSettled db (D.disk dev.old) → IfOk result (λ l. IsLog (D.disk dev.new) l) }
+        ensures tidy { D.tells → AreSettled db (D.disk dev.old) → IfOk result (λ l. IsTidy (D.disk dev.old).files (D.disk dev.new).files db l.head) }
+        ensures control { D.tells → OnOk result ((D.disk dev.new).files (control_file db) ≡ (D.disk dev.old).files (control_file db)) }
         ensures foreign { D.tells → IsErrOf result LogError.Foreign → IsForeign (D.disk dev.old).files db }
         ensures still { D.tells → IsErrOf result LogError.Foreign → ChangesNothing (D.disk dev.old) (D.disk dev.new) }
         ensures crash { D.tells → AreDurable db (D.disk dev.old) → Effect (IsOwn db) (λ image. (log : Logged) → LogIs (D.disk dev.old).files db log → LogIs image db log) (D.disk dev.old) (D.disk dev.new) }
         ensures cause { HasCause D.disk_faults D.tell_faults dev.old dev.new (IsErrOf result LogError.Fault) }
     {
-        let log = Log::open(alloc, dev, db)?;
+        let (log, _) = Log::open(alloc, dev, db, false)?;
         tidy(alloc, dev, db, log.head)?;
         Ok(log)
     }
 
-    // Opens the log, and changes nothing.
-    fn open<D: Device>(alloc: Global, dev: &mut D, db: u32) -> Result<Log, LogError>
-        ensures db { IfOk result (λ l. l.db ≡ db) }
-        ensures failed { IfOk result (λ l. l.failed ≡ false) }
-        ensures none { IfOk result (λ l. l.waiting ≡ []) }
-        ensures end { IfOk result (λ l. l.end ≡ l.stored) }
-        ensures loaded { D.tells → IfOk result (λ l. LogIs (D.disk dev.old).files db (value_of (D.disk dev.old).files l)) }
-        ensures holds { D.tells → IfOk result (λ l. Holds (D.disk dev.old).files db l.head) }
-        ensures order { IfOk result (λ l. l.head.front ≤ l.head.back) }
-        ensures small { IfOk result (λ l. l.head.back < 2 ^ 62) }
-        ensures stands { D.tells → AreDurable db (D.disk dev.old) → IfOk result (λ l. IsLog (D.disk dev.new) l) }
+    // Opens the log, with the bytes of all records in its segments, if they are to be gathered. Changes nothing.
+    fn open<D: Device>(
+        alloc: Global,
+        dev: &mut D,
+        db: u32,
+        gathers: bool,
+    ) -> Result<(Log, Vec<u8>), LogError>
+        ensures db { IfOk result (λ x. x.0.db ≡ db) }
+        ensures failed { IfOk result (λ x. x.0.failed ≡ false) }
+        ensures none { IfOk result (λ x. x.0.waiting ≡ []) }
+        ensures end { IfOk result (λ x. x.0.end ≡ x.0.stored) }
+        ensures loaded { D.tells → IfOk result (λ x. LogIs (D.disk dev.old).files db (value_of (D.disk dev.old).files x.0)) }
+        ensures holds { D.tells → IfOk result (λ x. Holds (D.disk dev.old).files db x.0.head) }
+        ensures order { IfOk result (λ x. x.0.head.front ≤ x.0.head.back) }
+        ensures small { IfOk result (λ x. x.0.head.back < 2 ^ 62) }
+        ensures stands { D.tells → AreSettled db (D.disk dev.old) → IfOk result (λ x. IsLog (D.disk dev.new) x.0) }
+        ensures kept { IfOk result (λ x. x.0.head.first ≤ x.0.head.kept) }
+        ensures bytes { D.tells → gathers ≡ true → IfOk result (λ x. x.1.items ≡ flat_map spelling (records_of (blobs_of (D.disk dev.old).files db x.0.head))) }
+        ensures records { D.tells → IfOk result (λ x. AllByRecursion IsRecord (records_of (blobs_of (D.disk dev.old).files db x.0.head))) }
+        ensures enough { D.tells → IfOk result (λ x. x.0.head.kept - x.0.head.first ≤ length (records_of (blobs_of (D.disk dev.old).files db x.0.head))) }
         ensures foreign { D.tells → IsErrOf result LogError.Foreign → IsForeign (D.disk dev.old).files db }
         ensures effect { D.tells → ChangesNothing (D.disk dev.old) (D.disk dev.new) }
         ensures cause { HasCause D.disk_faults D.tell_faults dev.old dev.new (IsErrOf result LogError.Fault) }
     {
         let spelled = Vec::with_capacity(alloc, 32_808)?;
-        let found = find(alloc, dev, db)?;
-        Ok(Log {
+        let found = find(alloc, dev, db, gathers)?;
+        let log = Log {
             db,
             control: found.control,
             gate: found.gate,
@@ -133,7 +166,8 @@ impl Log {
             spare_bytes: 0,
             spare_flushes: 0,
             failed: false,
-        })
+        };
+        Ok((log, found.bytes))
     }
 
     /// Makes the log of a database that has none, with no record, an empty note, and kept point and end at `at`. A crash
@@ -210,6 +244,7 @@ impl Log {
     /// `Foreign` isn't answered.
     pub fn remove<D: Device>(alloc: Global, dev: &mut D, db: u32) -> Result<(), LogError>
         ensures gone { D.tells → OnOk result (IsForeign (D.disk dev.new).files db) }
+        ensures control { D.tells → OnOk result ((head : Head) → Holds (D.disk dev.old).files db head → (D.disk dev.new).files (control_file db) ≡ None) }
         ensures segments { D.tells → OnOk result (AreGone (D.disk dev.old).files (D.disk dev.new).files db) }
         ensures begun { D.tells → OnOk result ((head : Head) → Holds (D.disk dev.old).files db head → (D.disk dev.new).files (segment_file db (head.back + 1)) ≡ None) }
         ensures foreign { IsErrOf result LogError.Foreign → ⊥ }

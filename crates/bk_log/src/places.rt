@@ -8,7 +8,7 @@ ghost use Rattle.bk_record.specs.Spelling.{spelling, IsRecord};
 use bk_bytes::get_u32;
 
 // Where the record behind the one at this place begins.
-fn behind(bytes: &[u8], at: usize) -> usize
+pub fn behind(bytes: &[u8], at: usize) -> usize
     requires { at ≤ length bytes.now }
     ensures inside { result ≤ length bytes.now }
     ensures value { at + 4 ≤ length bytes.now → at + number_of 4 (drop at bytes.now) ≤ length bytes.now → result ≡ at + number_of 4 (drop at bytes.now) }
@@ -31,4 +31,11 @@ pub fn place_of(bytes: &[u8], index: u64) -> usize
         at = behind(bytes, at);
     }
     at
+}
+
+/// The bytes behind so many records, in the bytes of records alone.
+pub fn behind_records(bytes: &[u8], count: u64) -> &[u8]
+    ensures { (rs : List Rec) → bytes.now ≡ flat_map spelling rs → AllByRecursion IsRecord rs → count ≤ length rs → result.now ≡ flat_map spelling (drop count rs) }
+{
+    &bytes[place_of(bytes, count)..]
 }

@@ -4,9 +4,10 @@ use Rattle.std.specs.List.{flat_map}
 use Rattle.std.specs.Prelude.{slice_index_or}
 use Rattle.std.proofs.lemmas.List.{length-drop}
 use Rattle.bk_device.specs.Calls.{ChangesNothing}
-use Rattle.bk_device.specs.Compose.{durable_kept, effect_then, effect_then_nothing, effect_widen, keeps_by_effect, keeps_by_nothing, keeps_then}
+use Rattle.bk_device.specs.Compose.{durable_kept, effect_then, effect_weaken, effect_widen, keeps_by_effect, keeps_by_nothing, keeps_then}
 use Rattle.bk_device.specs.Disk.{Disk, Files, IsDurable}
 use Rattle.bk_device.specs.Effects.{Effect, KeepsFiles, MayLeaveOwn}
+use Rattle.bk_device.specs.Laws.{durable_by_nothing}
 use Rattle.bk_facts.specs.declared.facts.DataFile.{DataFile}
 use Rattle.bk_facts.specs.declared.facts.Facts.{Facts}
 use Rattle.bk_facts.specs.Facts.{Notes}
@@ -21,7 +22,8 @@ use Rattle.bk_record.specs.Spelling.{spelling}
 use Rattle.bk_record.specs.WalkLaws.{log_of_records}
 use Rattle.bk_redo.specs.declared.place.PageAt.{PageAt}
 use Rattle.bk_redo.specs.PageStates.{page_of}
-use Rattle.bk_segments.specs.Files.{IsOwn as IsOfLog, LogIs, Logged}
+use Rattle.bk_segments.specs.FileLaws.{durable_settles, log_moved, log_stays}
+use Rattle.bk_segments.specs.Files.{AreSettled, IsOwn as IsOfLog, LogIs, Logged}
 use Rattle.bk_side.specs.Laws.{added_kept, durable_left, shown_kept, side_kept}
 use Rattle.bk_side.specs.Names.{AreDifferent, side_file, IsOwn as IsOfSide}
 use Rattle.bk_side.specs.Pages.{Shows, shown}
@@ -30,8 +32,8 @@ use Rattle.bk_undo.specs.Losers.{compensation}
 use Rattle.bk_paged.specs.Laws.{apart, kept_spelled, recovers_as, stored_length}
 use Rattle.bk_paged.specs.Holds.{HaveRoom, Holds, IsStored, Leaves, Stood, recovered}
 use Rattle.bk_paged.specs.Names.{AreDurable, IsOwn, IsThere, names_of, shown_at}
-use Rattle.bk_opening.specs.Opening.{Brings}
-use Rattle.bk_paged.specs.Paged.{IsDirty, IsLast, IsPaged}
+use Rattle.bk_opening.specs.Opening.{AreHeld, Brings}
+use Rattle.bk_paged.specs.Paged.{IsDirty, IsLast, IsPaged, Standing}
 use Rattle.bk_opening.proofs.NoteFacts.{one_note}
 use Rattle.bk_opening.proofs.Settled.{Settles, kept_settled, settled_front, settled_length, settled_recovers, whole_recovers}
 use Rattle.bk_opening.proofs.Undoing.{with_undoing}
@@ -77,9 +79,23 @@ log_crash db stood a b durable is effect =
     effect_widen (λ name at. inl at) (λ image logs left. holds_leaves db stood image (holds_as db stood a.files image is (logs is.log is.log_is)
     (shown_durable db stood.files a image (λ name side. durable name (inr side)) (λ name side. left name (λ log. apart db stood.files name log side) (inr side))))) effect
 
+-- what counts of it is made durable
+pub settle_crash : (db : ℕ) (stood : Stood) (a b : Disk) → AreDurable db stood.files a → Holds db stood a.files → Effect (IsOfLog db) (MayLeaveOwn (IsOfLog db) a) a b → Effect (IsOwn db stood.files) (Left db stood) a b
+settle_crash db stood a b durable is effect =
+    let counts : AreSettled db a = durable_settles db a (λ name own. durable name (inl own)) in
+    log_crash db stood a b durable is (effect_weaken (λ image mine log. log_stays db a image log counts mine) effect)
+
+-- that changes nothing, so the files hold the database then
+pub still_holds : (db : ℕ) (stood : Stood) {a b : Disk} → ChangesNothing a b → Holds db stood a.files → Holds db stood b.files
+still_holds db stood {a} {b} call is =
+    holds_as db stood a.files b.files is (log_moved db is.log call is.log_is) (λ at. shown_kept (side_file db) (names_of stood.files) (keeps_by_nothing call) (at.file, at.page))
+
+pub still_durable : (db : ℕ) (files : List DataFile) {a b : Disk} → ChangesNothing a b → AreDurable db files a → AreDurable db files b
+still_durable db files call durable name own = durable_by_nothing name call (durable name own)
+
 -- ---- what was read of the log
 
--- The log of a database that files hold was opened and read: on this disk it stands, and nothing else was done.
+-- The log of a database that files hold was opened: on this disk it stands, its note was read, and nothing else was done.
 pub record LogRead (db : ℕ) (stood : Stood) (a c : Disk) (log : KeptLog) (facts : Facts) (note : List ℕ) : Type 0 where
   pub holds : Holds db stood a.files
   pub logs : IsLog c log
@@ -103,26 +119,25 @@ pub noted_then : (db : ℕ) (stood : Stood) (a b : Disk) (log : KeptLog) → (is
 noted_then db stood a b log is loaded value =
     subst (λ (n : List ℕ). Notes n (record { checkpoint = is.checkpoint; files = stood.files }) stood.note) (sym (ap (λ (l : Logged). l.note) (opened_value db stood a b log is loaded value))) is.noted
 
-pub log_read : (db : ℕ) (stood : Stood) (a b c : Disk) (log : KeptLog) (facts : Facts) (note : List ℕ) → AreDurable db stood.files a → Holds db stood a.files → log.db ≡ db → LogIs a.files db (value_of a.files log) → value_of b.files log ≡ value_of a.files log
-    → IsLog b log → Effect (IsOfLog db) (LogStays db a) a b → ChangesNothing b c → Notes log.note facts note → LogRead db stood a c log facts note
-log_read db stood a b c log facts note durable is named loaded value stands effect call noted =
+pub log_read : (db : ℕ) (stood : Stood) (a b : Disk) (log : KeptLog) (facts : Facts) (note : List ℕ) → AreDurable db stood.files a → Holds db stood a.files → log.db ≡ db → LogIs a.files db (value_of a.files log) → value_of b.files log ≡ value_of a.files log
+    → IsLog b log → Effect (IsOfLog db) (LogStays db a) a b → Notes log.note facts note → LogRead db stood a b log facts note
+log_read db stood a b log facts note durable is named loaded value stands effect noted =
     let at_b : value_of b.files log ≡ is.log = opened_value db stood a b log is loaded value in
     let both = one_note log.note is.log.note facts (record { checkpoint = is.checkpoint; files = stood.files }) note stood.note (ap (λ (l : Logged). l.note) at_b) noted is.noted in
     let Side : List ℕ → Type 0 = IsOfSide (side_file db) (names_of stood.files) in
-    let first : KeepsFiles Side a b = keeps_by_effect (λ name side log. apart db stood.files name log side) effect in
-    let keeps : KeepsFiles Side a c = keeps_then first (keeps_by_nothing call) in
+    let keeps : KeepsFiles Side a b = keeps_by_effect (λ name side log. apart db stood.files name log side) effect in
     record {
       holds = is;
-      logs = log_kept (keeps_by_nothing call) stands;
+      logs = stands;
       named = named;
-      value = value_kept (keeps_by_nothing call) stands ∙ at_b;
+      value = at_b;
       noted = noted;
       files = ap (λ (f : Facts). f.files) both.0;
       checkpoint = ap (λ (f : Facts). f.checkpoint) both.0;
       note_is = both.1;
       durable = λ name side. durable_kept {names = Side} name side keeps (durable name (inr side));
       shows = λ at. shown_kept (side_file db) (names_of stood.files) keeps (at.file, at.page);
-      crash = effect_then_nothing (log_crash db stood a b durable is effect) call;
+      crash = log_crash db stood a b durable is effect;
     }
 
 -- ---- the side file is opened
@@ -156,15 +171,12 @@ held_records db stood a c log facts note is = ap (λ (l : Logged). l.records) is
 kept_is : (db : ℕ) (stood : Stood) (a c : Disk) (log : KeptLog) (facts : Facts) (note : List ℕ) → (is : LogRead db stood a c log facts note) → log.head.kept ≡ is.holds.log.kept
 kept_is db stood a c log facts note is = ap (λ (l : Logged). l.kept) is.value
 
--- whose bytes were read while nothing was changed
-pub bytes_then : (b c : Disk) (log : KeptLog) (bytes : List ℕ) → IsLog b log → ChangesNothing b c → bytes ≡ flat_map spelling (value_of b.files log).records → bytes ≡ flat_map spelling (value_of c.files log).records
-bytes_then b c log bytes is call read = read ∙ ap (λ (l : Logged). flat_map spelling l.records) (sym (value_kept (keeps_by_nothing call) is))
-
-pub held_bytes : (db : ℕ) (stood : Stood) (a c : Disk) (log : KeptLog) (facts : Facts) (note bytes : List ℕ) → (is : LogRead db stood a c log facts note) → bytes ≡ flat_map spelling (value_of c.files log).records
+-- and their bytes, as the files held them before
+pub held_bytes : (db : ℕ) (stood : Stood) (a c : Disk) (log : KeptLog) (facts : Facts) (note bytes : List ℕ) → (is : LogRead db stood a c log facts note) → value_of c.files log ≡ value_of a.files log → bytes ≡ flat_map spelling (value_of a.files log).records
     → AreRecords bytes (kept_from is.holds.log.kept stood.records) None
-held_bytes db stood a c log facts note bytes is read =
+held_bytes db stood a c log facts note bytes is value read =
     let rs : List Rec = kept_from is.holds.log.kept stood.records in
-    let same : bytes ≡ flat_map spelling rs = read ∙ ap (flat_map spelling) (held_records db stood a c log facts note is) in
+    let same : bytes ≡ flat_map spelling rs = read ∙ ap (λ (l : Logged). flat_map spelling l.records) (sym value) ∙ ap (flat_map spelling) (held_records db stood a c log facts note is) in
     subst (λ (b : List ℕ). AreRecords b rs None) (sym same) (log_of_records rs (kept_spelled is.holds.log.kept stood.records is.holds.recovers.path))
 
 -- all records that the log's files hold are durable
@@ -199,11 +211,24 @@ keeps_log {db = db} c d e log files named effect call =
 still_logged : {db : ℕ} {P : Files → Type 0} (c d e : Disk) (log : KeptLog) (files : List DataFile) → IsLog c log → log.db ≡ db → Effect (IsOfSide (side_file db) (names_of files)) P c d → ChangesNothing d e → IsLog e log
 still_logged c d e log files is named effect call = log_kept (keeps_log c d e log files named effect call) is
 
--- whatever the files hold, the log that was opened stands then
-pub opened_logs : {db : ℕ} {P : Files → Type 0} (b c d e : Disk) (log new : KeptLog) (files : List DataFile) → IsLog b log → log.db ≡ db → ChangesNothing b c → Effect (IsOfSide (side_file db) (names_of files)) P c d → ChangesNothing d e
-    → new ≡ record log { waiting = new.waiting; end = new.end } → IsLog e new
-opened_logs b c d e log new files is named first effect call same =
-    subst (IsLog e) (sym same) (log_waits new.waiting new.end log.spare_bytes log.spare_flushes (still_logged c d e log files (log_kept (keeps_by_nothing first) is) named effect call))
+-- whatever the files hold, what was opened stands then
+pub opened_standing : {db : ℕ} {P : Files → Type 0} (b d e : Disk) (log new : KeptLog) (side : KeptSide) (pool : Pool) (facts : Facts) (note : List ℕ) (since : ℕ) (failed : Bool) → IsLog b log → log.db ≡ db
+    → Effect (IsOfSide (side_file db) (names_of facts.files)) P b d → ChangesNothing d e → new ≡ record log { waiting = new.waiting; end = new.end } → side.gate.name ≡ side_file db → side.names ≡ names_of facts.files → IsSide d side → added_of d side ≡ []
+    → Notes log.note facts note → HaveRoom facts.files note → AreDifferent (names_of facts.files) → Standing e (record { log = new; side = side; pool = pool; facts = facts; note = note; since = since; failed = failed })
+opened_standing b d e log new side pool facts note since failed is named effect call same name names sides none noted room different =
+    let own : KeepsFiles (IsOwnOf side) d e = keeps_by_nothing call in
+    let Made : KeptLog → Type 0 = λ l. Standing e (record { log = l; side = side; pool = pool; facts = facts; note = note; since = since; failed = failed }) in
+    let made : Made (record log { waiting = new.waiting; end = new.end }) = record {
+      logs = log_waits new.waiting new.end log.spare_bytes log.spare_flushes (still_logged b d e log facts.files is named effect call);
+      side_name = name ∙ ap side_file (sym named);
+      side_names = names;
+      sides = side_kept own sides;
+      fresh = added_kept side own ∙ none;
+      noted = noted;
+      room = room;
+      different = different;
+    } in
+    subst Made (sym same) made
 
 module _ (laws : Settles) (db : ℕ) (stood : Stood) (a c : Disk) (log : KeptLog) (facts : Facts) (note : List ℕ) (is : LogRead db stood a c log facts note) (last : log.end ≡ log.stored) where
   -- what undoes what the log holds undoes the path
@@ -274,12 +299,13 @@ module _ (laws : Settles) (db : ℕ) (stood : Stood) (a c : Disk) (log : KeptLog
         }
 
     -- the database stands
-    pub opened_stands : (e : Disk) (new : KeptLog) (pool : Pool) (failed : Bool) → ChangesNothing d e → new ≡ grown → HaveRoom facts.files note
+    pub opened_stands : (e : Disk) (new : KeptLog) (pool : Pool) (failed : Bool) → ChangesNothing d e → new ≡ grown → Standing e (record { log = new; side = side; pool = pool; facts = facts; note = note; since = facts.checkpoint; failed = failed })
         → ((i : ℕ) (at : PageAt) → IsIn pool.pages i at.file at.page → IsThere facts.files at × IsLast (settled stood.records) at (slice_index_or pool.frames i []))
         → ((at : PageAt) → IsThere facts.files at → (IsDirty pool at → ⊥) → page_of (pages_of side d.files (at.file, at.page)) ≡ last_page at (settled stood.records))
         → IsPaged e (record { log = new; side = side; pool = pool; facts = facts; note = note; since = facts.checkpoint; failed = failed }) (recovered stood)
-    opened_stands e new pool failed call is_new has_room frames clean =
+    opened_stands e new pool failed call is_new standing frames clean =
         let of = is.holds.recovers in
+        let Stands : KeptLog → Type 0 = λ l. Standing e (record { log = l; side = side; pool = pool; facts = facts; note = note; since = facts.checkpoint; failed = failed }) in
         let Made : KeptLog → Type 0 = λ l. IsPaged e (record { log = l; side = side; pool = pool; facts = facts; note = note; since = facts.checkpoint; failed = failed }) (recovered stood) in
         let same_kept = kept_is db stood a c log facts note is in
         let stored = stored_is db stood a c log facts note is in
@@ -290,16 +316,7 @@ module _ (laws : Settles) (db : ℕ) (stood : Stood) (a c : Disk) (log : KeptLog
         ∙ shown_kept side.gate.name side.names own (at.file, at.page) in
         let inside : is.holds.log.kept - 1 ≤ length stood.records = omega (arith, of.some, of.order, of.early) in
         let made : Made grown = record {
-          standing = record {
-            logs = log_waits (undoing stood.records) (end_of (settled stood.records)) log.spare_bytes log.spare_flushes (still_logged c d e log facts.files is.logs is.named opened.effect call);
-            side_name = opened.name ∙ ap side_file (sym is.named);
-            side_names = opened.names;
-            sides = side_kept own opened.stands;
-            fresh = added_kept side own ∙ opened.none;
-            noted = is.noted;
-            room = has_room;
-            different = subst (λ (fs : List DataFile). AreDifferent (names_of fs)) (sym is.files) is.holds.different;
-          };
+          standing = subst Stands is_new standing;
           files = is.files;
           same_note = is.note_is;
           ends = refl;
@@ -322,6 +339,12 @@ module _ (laws : Settles) (db : ℕ) (stood : Stood) (a c : Disk) (log : KeptLog
           clean = λ at there not_dirty. ap page_of (now at) ∙ clean at (subst (λ (fs : List DataFile). IsThere fs at) (sym is.files) there) not_dirty;
         } in
         subst Made (sym is_new) made
+
+    -- these bytes are what its log holds
+    pub opened_held : (new : KeptLog) (pool : Pool) (failed : Bool) (bytes : List ℕ) → new ≡ grown → AreRecords bytes (kept_from is.holds.log.kept (settled stood.records)) None
+        → AreHeld (record { log = new; side = side; pool = pool; facts = facts; note = note; since = facts.checkpoint; failed = failed }) (recovered stood) bytes
+    opened_held new pool failed bytes is_new are =
+        subst (λ (n : ℕ). AreRecords bytes (kept_from n (settled stood.records)) None) (sym (ap (λ (l : KeptLog). l.head.kept) is_new ∙ kept_is db stood a c log facts note is)) are
 
     -- all that was durable is
     pub opened_count : (new : KeptLog) → new ≡ grown → new.stored - 1 ≡ length stood.records

@@ -9,8 +9,9 @@ use Rattle.bk_paths.specs.Paths.{IsPath, end_of, kept_from}
 use Rattle.bk_pool.specs.Pool.{IsIn, Pool}
 use Rattle.bk_record.specs.Log.{IsLog}
 use Rattle.bk_redo.specs.declared.place.PageAt.{PageAt}
-use Rattle.bk_paged.specs.Holds.{IsStored}
+use Rattle.bk_paged.specs.Holds.{IsStored, Stood}
 use Rattle.bk_paged.specs.Names.{IsThere}
+use Rattle.bk_paged.specs.Paged.{Kept}
 
 -- a page lies in a data file below this number, or is one of the first so many pages of that file
 abbrev pub IsBefore : ℕ → ℕ → PageAt → Type 0
@@ -52,3 +53,7 @@ pub record Brings (facts : Facts) (shown : ℕ × ℕ → List ℕ) (log : List 
 -- each page of the data files lies in a frame
 abbrev pub AreIn : List DataFile → Pool → Type 0
 AreIn files pool = (at : PageAt) → IsThere files at → (i : ℕ) × IsIn pool.pages i at.file at.page
+
+-- these bytes are the records that the log of a database holds
+abbrev pub AreHeld : Kept → Stood → List ℕ → Type 0
+AreHeld p stood bytes = IsLog bytes (kept_from p.log.head.kept stood.records) None

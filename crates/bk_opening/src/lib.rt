@@ -4,4 +4,4 @@
 mod opening;
 mod reading;
 
-pub use opening::load;
+pub use opening::{Opened, load};

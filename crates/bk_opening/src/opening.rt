@@ -8,11 +8,11 @@ ghost use Rattle.bk_facts.specs.declared.facts.Facts.{Facts as KeptFacts};
 ghost use Rattle.bk_facts.specs.Facts.{HasPath, Notes};
 ghost use Rattle.bk_ids.specs.declared.record.Rec.{Rec as LogRecord};
 ghost use Rattle.bk_log.specs.Log.{IsLog, value_of};
-ghost use Rattle.bk_segments.specs.Files.{AreDurable as LogsAreDurable};
+ghost use Rattle.bk_segments.specs.Files.{AreSettled};
 ghost use Rattle.bk_paged.specs.Holds.{HaveRoom, Holds, Leaves, Stood, recovered};
 ghost use Rattle.bk_paged.specs.Names.{AreDurable, IsOwn, names_of};
-ghost use Rattle.bk_opening.specs.Opening.{AreIn};
-ghost use Rattle.bk_paged.specs.Paged.{IsPaged, sealed_count};
+ghost use Rattle.bk_opening.specs.Opening.{AreHeld, AreIn};
+ghost use Rattle.bk_paged.specs.Paged.{IsPaged, Standing, sealed_count};
 ghost use Rattle.bk_paths.specs.Paths.{numbered};
 ghost use Rattle.bk_record.specs.Log.{IsLog as AreRecords};
 ghost use Rattle.bk_record.specs.Spelling.{IsRecord, KeepsLimits, spelling};
@@ -25,10 +25,9 @@ use crate::reading::open_pool;
 use bk_device::Device;
 use bk_facts::{Facts, read_facts};
 use bk_ids::{Lsn, Rec};
-use bk_log::Log;
+use bk_log::{Log, LogBytes, settle};
 use bk_paged::{Paged, PagedError, copy_paths};
 use bk_paths::settling_law;
-use bk_record::encode;
 use bk_side::{Side, are_different, data_files};
 use bk_undo::{UndoError, losers};
 use std::alloc::Global;
@@ -46,6 +45,7 @@ fn load_side<D: Device>(
     ensures failed { IfOk result (λ s. s.failed ≡ false) }
     ensures stands { D.tells → IfOk result (λ s. IsSide (D.disk dev.new) s) }
     ensures none { D.tells → IfOk result (λ s. added_of (D.disk dev.new) s ≡ []) }
+    ensures different { OnOk result (AreDifferent (names_of facts.now.files)) }
     ensures same { D.tells → OnOk result (Shows (side_file db) (names_of facts.now.files) (shown (side_file db) (names_of facts.now.files) (D.disk dev.old).files) (D.disk dev.new).files) }
     ensures foreign { IsErrOf result PagedError.Foreign → AreDifferent (names_of facts.now.files) → ⊥ }
     ensures crash { D.tells → Effect (IsOfSide (side_file db) (names_of facts.now.files)) (λ image. MayLeaveOwn (IsOfSide (side_file db) (names_of facts.now.files)) (D.disk dev.old) image ⊎ Shows (side_file db) (names_of facts.now.files) (shown (side_file db) (names_of facts.now.files) (D.disk dev.old).files) image) (D.disk dev.old) (D.disk dev.new) }
@@ -75,14 +75,14 @@ fn undoing_of(alloc: Global, bytes: &[u8], below: Lsn) -> Result<Vec<Rec>, Paged
 }
 
 // Adds the records that undo what is pending in a log of these bytes, in memory alone, to the log and to the bytes.
-fn append_undoing(alloc: Global, bytes: &mut Vec<u8>, log: &mut Log) -> Result<(), PagedError>
+fn append_undoing(alloc: Global, bytes: &mut LogBytes, log: &mut Log) -> Result<(), PagedError>
     ensures waits { OnOk result (log.new ≡ record log.old { waiting = log.new.waiting; end = log.new.end }) }
-    ensures log { (held : List LogRecord) → AreRecords bytes.old.items held None → OnOk result (log.new ≡ record log.old { waiting = log.old.waiting ++ numbered log.old.end (compensation log.old.end held); end = log.old.end + length (compensation log.old.end held) }) }
-    ensures bytes { (held : List LogRecord) → AreRecords bytes.old.items held None → OnOk result (AreRecords bytes.new.items (held ++ numbered log.old.end (compensation log.old.end held)) None) }
-    ensures foreign { (held : List LogRecord) → AreRecords bytes.old.items held None → log.old.end + length (compensation log.old.end held) ≤ 2 ^ 63 → IsErrOf result PagedError.Foreign → ⊥ }
+    ensures log { (held : List LogRecord) → AreRecords bytes.old held None → OnOk result (log.new ≡ record log.old { waiting = log.old.waiting ++ numbered log.old.end (compensation log.old.end held); end = log.old.end + length (compensation log.old.end held) }) }
+    ensures bytes { (held : List LogRecord) → AreRecords bytes.old held None → OnOk result (AreRecords bytes.new (held ++ numbered log.old.end (compensation log.old.end held)) None) }
+    ensures foreign { (held : List LogRecord) → AreRecords bytes.old held None → log.old.end + length (compensation log.old.end held) ≤ 2 ^ 63 → IsErrOf result PagedError.Foreign → ⊥ }
     ensures fault { IsErrOf result PagedError.Fault → ⊥ }
 {
-    let undoing = undoing_of(alloc, bytes, log.end())?;
+    let undoing = undoing_of(alloc, bytes.as_slice(), log.end())?;
     for r in undoing {
         append_one(alloc, r, bytes, log)?;
     }
@@ -90,10 +90,10 @@ fn append_undoing(alloc: Global, bytes: &mut Vec<u8>, log: &mut Log) -> Result<(
 }
 
 // Adds a record under the next number to a log, in memory alone, and to some bytes.
-fn append_one(alloc: Global, r: Rec, bytes: &mut Vec<u8>, log: &mut Log) -> Result<(), PagedError>
+fn append_one(alloc: Global, r: Rec, bytes: &mut LogBytes, log: &mut Log) -> Result<(), PagedError>
     requires { KeepsLimits r.body }
     ensures log { OnOk result (log.new ≡ record log.old { waiting = log.old.waiting ++ (record r { lsn = log.old.end }) ∷ []; end = log.old.end + 1 }) }
-    ensures bytes { OnOk result (bytes.new.items ≡ bytes.old.items ++ spelling (record r { lsn = log.old.end })) }
+    ensures bytes { OnOk result (bytes.new ≡ bytes.old ++ spelling (record r { lsn = log.old.end })) }
     ensures is_record { OnOk result (IsRecord (record r { lsn = log.old.end })) }
     ensures foreign { log.old.end < 2 ^ 63 → IsErrOf result PagedError.Foreign → ⊥ }
     ensures fault { IsErrOf result PagedError.Fault → ⊥ }
@@ -103,7 +103,7 @@ fn append_one(alloc: Global, r: Rec, bytes: &mut Vec<u8>, log: &mut Log) -> Resu
     if r.lsn >= 1 << 63 {
         return Err(PagedError::Foreign);
     }
-    encode(alloc, &r, bytes)?;
+    bytes.append(alloc, &r)?;
     log.append(&r)?;
     Ok(())
 }
@@ -127,62 +127,55 @@ fn read_note(alloc: Global, whole: &[u8]) -> Result<(Facts, Vec<u8>), PagedError
     Ok((facts, note))
 }
 
-// What was read of a log: the facts in its note, the note of the layer above, and the bytes of its records.
-#[derive(Drop)]
-pub struct LogRead {
-    pub facts: Facts,
-    pub note: Vec<u8>,
-    pub bytes: Vec<u8>,
-}
-
-// Reads a log that was loaded. Changes nothing.
-fn read_log<D: Device>(alloc: Global, dev: &mut D, log: &Log) -> Result<LogRead, PagedError>
-    requires fit { log.now.failed ≡ false }
-    requires stands { D.tells → IsLog (D.disk dev.old) log.now }
-    ensures noted { IfOk result (λ read. Notes log.now.note read.facts read.note.items) }
-    ensures room { IfOk result (λ read. HaveRoom read.facts.files read.note.items) }
-    ensures paths { IfOk result (λ read. AllByRecursion HasPath read.facts.files) }
-    ensures bytes { D.tells → IfOk result (λ read. read.bytes.items ≡ flat_map spelling (value_of (D.disk dev.old).files log.now).records) }
-    ensures foreign { D.tells → IsErrOf result PagedError.Foreign → (facts : KeptFacts) (note : List ℕ) → Notes log.now.note facts note → HaveRoom facts.files note → ⊥ }
-    ensures effect { D.tells → ChangesNothing (D.disk dev.old) (D.disk dev.new) }
-    ensures cause { HasCause D.disk_faults D.tell_faults dev.old dev.new (IsErrOf result PagedError.Fault) }
+// The same of the note of a log.
+fn noted_in(alloc: Global, log: &Log) -> Result<(Facts, Vec<u8>), PagedError>
+    ensures noted { IfOk result (λ read. Notes log.now.note read.0 read.1.items) }
+    ensures room { IfOk result (λ read. HaveRoom read.0.files read.1.items) }
+    ensures paths { IfOk result (λ read. AllByRecursion HasPath read.0.files) }
+    ensures foreign { IsErrOf result PagedError.Foreign → (facts : KeptFacts) (note : List ℕ) → Notes log.now.note facts note → HaveRoom facts.files note → ⊥ }
+    ensures fault { IsErrOf result PagedError.Fault → ⊥ }
 {
-    if log.kept() > log.stored() {
-        return Err(PagedError::Foreign);
-    }
-    let (facts, note) = read_note(alloc, log.note())?;
-    let bytes = log.bytes(alloc, dev, log.kept(), log.stored())?;
-    Ok(LogRead { facts, note, bytes })
+    read_note(alloc, log.note())
 }
 
-// Opens a database, where the records that undo what is pending wait.
+/// A database that was opened.
+#[derive(Drop)]
+pub struct Opened {
+    pub paged: Paged,
+    /// The bytes of the records that its log holds: from the kept point to the end.
+    pub records: LogBytes,
+}
+
+// Opens a database of whose log what counts is durable. The records that undo what is pending wait.
 fn open<R: Threads + Sync, D: Device>(
     rt: &R,
     alloc: Global,
     dev: &mut D,
     db: u32,
-) -> Result<Paged, PagedError>
-    requires durable { D.tells → LogsAreDurable db (D.disk dev.old) }
-    ensures db { IfOk result (λ p. p.log.db ≡ db) }
-    ensures fit { IfOk result (λ p. (p.failed ≡ false) × (p.log.failed ≡ false)) }
-    ensures logs { D.tells → IfOk result (λ p. IsLog (D.disk dev.new) p.log) }
-    ensures whole { IfOk result (λ p. AreIn p.facts.files p.pool) }
-    ensures stands { D.tells → (stood : Stood) → AreDurable db stood.files (D.disk dev.old) → Holds db stood (D.disk dev.old).files → IfOk result (λ p. IsPaged (D.disk dev.new) p (recovered stood) × (sealed_count p ≡ length stood.records)) }
+) -> Result<Opened, PagedError>
+    requires settled { D.tells → AreSettled db (D.disk dev.old) }
+    ensures db { IfOk result (λ o. o.paged.log.db ≡ db) }
+    ensures fit { IfOk result (λ o. (o.paged.failed ≡ false) × (o.paged.log.failed ≡ false)) }
+    ensures standing { D.tells → IfOk result (λ o. Standing (D.disk dev.new) o.paged) }
+    ensures whole { IfOk result (λ o. AreIn o.paged.facts.files o.paged.pool) }
+    ensures stands { D.tells → (stood : Stood) → AreDurable db stood.files (D.disk dev.old) → Holds db stood (D.disk dev.old).files → IfOk result (λ o. IsPaged (D.disk dev.new) o.paged (recovered stood) × (sealed_count o.paged ≡ length stood.records)) }
+    ensures records { D.tells → (stood : Stood) → AreDurable db stood.files (D.disk dev.old) → Holds db stood (D.disk dev.old).files → IfOk result (λ o. AreHeld o.paged (recovered stood) o.records) }
     ensures foreign { D.tells → IsErrOf result PagedError.Foreign → (stood : Stood) → AreDurable db stood.files (D.disk dev.old) → Holds db stood (D.disk dev.old).files → ⊥ }
     ensures crash { D.tells → (stood : Stood) → AreDurable db stood.files (D.disk dev.old) → Holds db stood (D.disk dev.old).files → Effect (IsOwn db stood.files) (Leaves db (length stood.records) (recovered stood)) (D.disk dev.old) (D.disk dev.new) }
     ensures cause { HasCause D.disk_faults D.tell_faults dev.old dev.new (IsErrOf result PagedError.Fault) }
 {
     settling_law();
-    let mut log = Log::load(alloc, dev, db)?;
-    let mut read = read_log(alloc, dev, &log)?;
-    append_undoing(alloc, &mut read.bytes, &mut log)?;
-    let side = load_side(alloc, dev, db, &read.facts)?;
-    let pool = open_pool(rt, alloc, dev, &side, &read.facts, &read.bytes, log.end())?;
-    Ok(Paged::from_parts(log, side, pool, read.facts, read.note))
+    let (mut log, mut records) = Log::read(alloc, dev, db)?;
+    let (facts, note) = noted_in(alloc, &log)?;
+    append_undoing(alloc, &mut records, &mut log)?;
+    let side = load_side(alloc, dev, db, &facts)?;
+    let pool = open_pool(rt, alloc, dev, &side, &facts, records.as_slice(), log.end())?;
+    let paged = Paged::from_parts(log, side, pool, facts, note);
+    Ok(Opened { paged, records })
 }
 
-/// Opens a database: finishes a batch of pages that is sealed, brings the pages in memory to the end by the log from the latest checkpoint on, and undoes by durable records
-/// what is pending. Then each page lies in a frame. A crash leaves the records that there were, and perhaps some of those.
+/// Opens a database: makes durable what counts of its log, finishes a batch of pages that is sealed, brings the pages in memory to the end by the log from the latest checkpoint on, and undoes by
+/// durable records what is pending. Then each page lies in a frame. A crash leaves the records that there were, and perhaps some of those.
 ///
 /// `Foreign` is answered only where the files hold no database.
 pub fn load<R: Threads + Sync, D: Device>(
@@ -190,19 +183,20 @@ pub fn load<R: Threads + Sync, D: Device>(
     alloc: Global,
     dev: &mut D,
     db: u32,
-) -> Result<Paged, PagedError>
-    requires durable { D.tells → LogsAreDurable db (D.disk dev.old) }
-    ensures db { IfOk result (λ p. p.log.db ≡ db) }
-    ensures fit { IfOk result (λ p. p.failed ≡ false) }
-    ensures sealed { IfOk result (λ p. p.log.stored ≡ p.log.end) }
-    ensures logs { D.tells → IfOk result (λ p. IsLog (D.disk dev.new) p.log) }
-    ensures whole { IfOk result (λ p. AreIn p.facts.files p.pool) }
-    ensures stands { D.tells → (stood : Stood) → AreDurable db stood.files (D.disk dev.old) → Holds db stood (D.disk dev.old).files → IfOk result (λ p. IsPaged (D.disk dev.new) p (recovered stood)) }
+) -> Result<Opened, PagedError>
+    ensures db { IfOk result (λ o. o.paged.log.db ≡ db) }
+    ensures fit { IfOk result (λ o. o.paged.failed ≡ false) }
+    ensures sealed { IfOk result (λ o. o.paged.log.stored ≡ o.paged.log.end) }
+    ensures standing { D.tells → IfOk result (λ o. Standing (D.disk dev.new) o.paged) }
+    ensures whole { IfOk result (λ o. AreIn o.paged.facts.files o.paged.pool) }
+    ensures stands { D.tells → (stood : Stood) → AreDurable db stood.files (D.disk dev.old) → Holds db stood (D.disk dev.old).files → IfOk result (λ o. IsPaged (D.disk dev.new) o.paged (recovered stood)) }
+    ensures records { D.tells → (stood : Stood) → AreDurable db stood.files (D.disk dev.old) → Holds db stood (D.disk dev.old).files → IfOk result (λ o. AreHeld o.paged (recovered stood) o.records) }
     ensures foreign { D.tells → IsErrOf result PagedError.Foreign → (stood : Stood) → AreDurable db stood.files (D.disk dev.old) → Holds db stood (D.disk dev.old).files → ⊥ }
     ensures crash { D.tells → (stood : Stood) → AreDurable db stood.files (D.disk dev.old) → Holds db stood (D.disk dev.old).files → Effect (IsOwn db stood.files) (Leaves db (length stood.records) (recovered stood)) (D.disk dev.old) (D.disk dev.new) }
     ensures cause { HasCause D.disk_faults D.tell_faults dev.old dev.new (IsErrOf result PagedError.Fault) }
 {
-    let mut paged = open(rt, alloc, dev, db)?;
-    paged.flush(alloc, dev)?;
-    Ok(paged)
+    settle(alloc, dev, db)?;
+    let mut opened = open(rt, alloc, dev, db)?;
+    opened.paged.flush(alloc, dev)?;
+    Ok(opened)
 }

@@ -10,22 +10,23 @@ use Rattle.bk_device.specs.Disk.{Disk}
 use Rattle.bk_device.specs.Effects.{Effect, KeepsFiles}
 use Rattle.bk_facts.specs.declared.facts.DataFile.{DataFile}
 use Rattle.bk_lemmas.specs.Tests.{equal_or_not}
-use Rattle.bk_log.specs.Laws.{log_kept, value_kept}
+use Rattle.bk_log.specs.Laws.{value_kept}
 use Rattle.bk_pool.specs.Laws.{slice_get-set_other, slice_get-set_same}
 use Rattle.bk_pool.specs.Pool.{IsFound, IsIn, Pool}
 use Rattle.bk_redo.specs.declared.place.PageAt.{PageAt}
 use Rattle.bk_redo.specs.PageStates.{page_of}
 use Rattle.bk_segments.specs.Files.{IsOwn as IsOfLog, Logged}
-use Rattle.bk_side.specs.Laws.{added_kept, shown_kept, side_kept}
+use Rattle.bk_side.specs.Laws.{shown_kept}
 use Rattle.bk_side.specs.Names.{side_file, IsOwn as IsOfSide}
 use Rattle.bk_side.specs.Pages.{IsSound, shown}
-use Rattle.bk_side.specs.Side.{IsOwnOf, pages_of}
+use Rattle.bk_side.specs.Side.{pages_of}
 use Rattle.bk_paged.specs.Laws.{crash_as, recovers_as}
 use Rattle.bk_paged.specs.Holds.{Leaves, Stood}
 use Rattle.bk_paged.specs.Names.{IsOwn, IsThere, names_of, shown_at}
-use Rattle.bk_paged.specs.Paged.{IsDirty, IsLast, IsPaged, Kept, Standing, sealed_count}
+use Rattle.bk_paged.specs.Paged.{IsDirty, IsLast, IsPaged, Kept, sealed_count}
 use Rattle.bk_paged.specs.Pooled.{AreClean, Fetches, IsPool, ReadsPage}
 use Rattle.bk_paged.specs.Leaving.{still_holds}
+use Rattle.bk_paged.specs.StandLaws.{standing-kept, standing-pool}
 
 -- ---- calls that change nothing
 
@@ -33,20 +34,10 @@ pub paged_kept : (p : Kept) (stood : Stood) (a b : Disk) → IsPaged a p stood �
 paged_kept p stood a b is call =
     let db : ℕ = p.log.db in
     let log : KeepsFiles (IsOfLog db) a b = keeps_by_nothing call in
-    let side : KeepsFiles (IsOwnOf p.side) a b = keeps_by_nothing call in
     let pages : KeepsFiles (IsOfSide (side_file db) (names_of stood.files)) a b = keeps_by_nothing call in
     let same : (at : PageAt) → shown_at db stood.files b.files at ≡ shown_at db stood.files a.files at = λ at. shown_kept (side_file db) (names_of stood.files) pages (at.file, at.page) in
     record {
-      standing = record {
-        logs = log_kept log is.standing.logs;
-        side_name = is.standing.side_name;
-        side_names = is.standing.side_names;
-        sides = side_kept side is.standing.sides;
-        fresh = added_kept p.side side ∙ is.standing.fresh;
-        noted = is.standing.noted;
-        room = is.standing.room;
-        different = is.standing.different;
-      };
+      standing = standing-kept p is.standing call;
       files = is.files;
       same_note = is.same_note;
       ends = is.ends;
@@ -106,18 +97,6 @@ all_dirty pool is every clean =
 
 -- ---- a page was read
 
-standing_pool : (p : Kept) (pool : Pool) (b : Disk) → Standing b p → Standing b (record p { pool = pool })
-standing_pool p pool b is = record {
-  logs = is.logs;
-  side_name = is.side_name;
-  side_names = is.side_names;
-  sides = is.sides;
-  fresh = is.fresh;
-  noted = is.noted;
-  room = is.room;
-  different = is.different;
-}
-
 read_stands : (p : Kept) (stood : Stood) (pool : Pool) (file page i : ℕ) (a b : Disk) → IsPaged a p stood → ChangesNothing a b → IsThere p.facts.files (record { file = file; page = page }) → IsPool p.pool
     → ReadsPage (pages_of p.side a.files) p.pool pool file page i → IsPaged b (record p { pool = pool }) stood
 read_stands p stood pool file page i a b is call there sized read =
@@ -132,7 +111,7 @@ read_stands p stood pool file page i a b is call there sized read =
     let frame : (j : ℕ) → slice_index_or pool.frames j [] ≡ slice_index_or (slice_set p.pool.frames i held) j [] = λ j. ap (λ (fs : List (List ℕ)). slice_index_or fs j []) read.frames in
     let Good : PageAt → List ℕ → Type 0 = λ other bytes. IsThere stood.files other × IsLast stood.records other bytes in
     record {
-      standing = standing_pool p pool b now.standing;
+      standing = standing-pool p pool now.standing;
       files = now.files;
       same_note = now.same_note;
       ends = now.ends;

@@ -2,19 +2,26 @@
 use Rattle.std.proofs.Common.{◌≡◌, ◌≢◌, ◌<◌, ℕ, zero, suc, ◌+◌, List, length, Option, Some, None, refl, inl, inr, sym, ap, subst, ◌∙◌, arith}
 use Rattle.std.specs.Prelude.{IsSomeAnd, slice_get}
 use Rattle.std.proofs.lemmas.Option.{same_Some, slice_get_within}
+use Rattle.bk_bytes.specs.Codec.{◌>>=◌}
+use Rattle.bk_control.specs.Slots.{control_of}
+use Rattle.bk_device.specs.Calls.{ChangesNothing}
 use Rattle.bk_device.specs.Compose.{durable_kept, effect_then, effect_weaken, effect_widen, keeps_by_effect}
-use Rattle.bk_device.specs.Disk.{Files, Disk, IsDurable}
-use Rattle.bk_device.specs.Effects.{Effect, IsName, KeepsFiles}
+use Rattle.bk_device.specs.Disk.{Files, Disk, IsDurable, IsLawful}
+use Rattle.bk_device.specs.Effects.{Effect, IsName, KeepsFiles, MayLeaveOwn}
+use Rattle.bk_device.specs.Laws.{durable_by_nothing, effect_after_nothing}
 use Rattle.bk_device.specs.Names.{same_or_other}
 use Rattle.bk_facts.specs.declared.facts.DataFile.{DataFile}
 use Rattle.bk_facts.specs.Facts.{Notes}
 use Rattle.bk_lemmas.specs.Tests.{equal_or_not}
-use Rattle.bk_log.specs.Laws.{one_logged}
-use Rattle.bk_log.specs.Log.{value_of, Kept as KeptLog}
-use Rattle.bk_segments.specs.Files.{IsOwn as IsOfLog, LogIs, Logged}
+use Rattle.bk_log.specs.Laws.{control_there, one_logged}
+use Rattle.bk_log.specs.Log.{value_of, IsLog, Kept as KeptLog}
+use Rattle.bk_segments.specs.declared.head.Head.{Head}
+use Rattle.bk_segments.specs.Control.{read_control}
+use Rattle.bk_segments.specs.FileLaws.{durable_settles, log_moved, log_stays}
+use Rattle.bk_segments.specs.Files.{control_file, segment_file, AreDurable as LogsAreDurable, AreGone as SegmentsAreGone, Holds as HoldsHead, IsOwn as IsOfLog, LogIs, Logged}
 use Rattle.bk_side.specs.Names.{IsData, name_of, side_file, IsOwn as IsOfSide}
 use Rattle.bk_paged.specs.Laws.{apart}
-use Rattle.bk_paged.specs.Making.{AreAbsent, AreGone, AreNoted, IsAmong, NamesFiles, Removes, StillNames}
+use Rattle.bk_paged.specs.Making.{AreAbsent, AreGone, AreNoted, IsAmong, IsLogGone, NamesFiles, Removes, StillNames}
 use Rattle.bk_paged.specs.Names.{IsOwn, names_of}
 
 -- ---- files that go
@@ -88,9 +95,25 @@ found_none {X = X} P found is some = let Of : Option X → Type 0 = λ o. IsSome
 pub found_some : {X : Type 0} (P : X → Type 0) (found : Option X) (x : X) → found ≡ Some x → IsSomeAnd found P → P x
 found_some {X = X} P found x is some = let Of : Option X → Type 0 = λ o. IsSomeAnd o P in subst Of is some
 
--- what is left while the log is read
-pub still_names : {db : ℕ} {a b : Disk} → Effect (IsOfLog db) (λ image. (log : Logged) → LogIs a.files db log → LogIs image db log) a b → Effect (IsOfLog db) (StillNames db a.files) a b
-still_names effect = effect_weaken (λ image leads files names. record { log = names.log; checkpoint = names.checkpoint; note = names.note; log_is = leads names.log names.log_is; noted = names.noted }) effect
+-- what changes nothing leaves them named
+pub names_moved : (db : ℕ) (files : List DataFile) {a b : Disk} → ChangesNothing a b → NamesFiles db files a.files → NamesFiles db files b.files
+names_moved db files call names = record { log = names.log; checkpoint = names.checkpoint; note = names.note; log_is = log_moved db names.log call names.log_is; noted = names.noted }
+
+-- what is left while what counts of the log is made durable
+pub settling_names : (db : ℕ) (a b : Disk) → LogsAreDurable db a → Effect (IsOfLog db) (MayLeaveOwn (IsOfLog db) a) a b → Effect (IsOfLog db) (StillNames db a.files) a b
+settling_names db a b durable effect =
+    effect_weaken (λ image mine files names. record { log = names.log; checkpoint = names.checkpoint; note = names.note; log_is = log_stays db a image names.log (durable_settles db a durable) mine names.log_is; noted = names.noted }) effect
+
+-- and while it is read then
+pub still_names : (db : ℕ) {a b c : Disk} → IsLawful a → ChangesNothing a b → LogsAreDurable db a → (LogsAreDurable db b → Effect (IsOfLog db) (λ image. (log : Logged) → LogIs b.files db log → LogIs image db log) b c) → Effect (IsOfLog db) (StillNames db a.files) a c
+still_names db lawful call durable effect =
+    effect_after_nothing lawful call
+    (effect_weaken (λ image leads files names. record { log = names.log; checkpoint = names.checkpoint; note = names.note; log_is = leads names.log (log_moved db names.log call names.log_is); noted = names.noted })
+    (effect (λ name own. durable_by_nothing name call (durable name own))))
+
+-- its control file is durable
+pub control_stands : (db : ℕ) (disk : Disk) (log : KeptLog) → log.db ≡ db → IsLog disk log → IsDurable disk (control_file db)
+control_stands db disk log named is = let Of : ℕ → Type 0 = λ n. IsDurable disk (control_file n) in subst Of named (control_there is)
 
 -- the same under all names
 pub reading_left : (db : ℕ) (files : List DataFile) (a b : Disk) → NamesFiles db files a.files → Effect (IsOfLog db) (StillNames db a.files) a b → Effect (IsOwn db files) (Removes db files) a b
@@ -109,3 +132,21 @@ log_left_then db files c d gone effect =
 
 pub absent_then : {P : Files → Type 0} (db : ℕ) (files : List DataFile) (c d : Disk) → AreGone (IsOfSide (side_file db) (names_of files)) c → Effect (IsOfLog db) P c d → AreAbsent (IsOfSide (side_file db) (names_of files)) d.files
 absent_then db files c d gone effect name side = effect.others name (λ log. apart db files name log side) ∙ (gone name side).0
+
+-- they leave its control file as it is
+pub control_same : {P : Files → Type 0} (db : ℕ) (files : List DataFile) (c d : Disk) → Effect (IsOfSide (side_file db) (names_of files)) P c d → d.files (control_file db) ≡ c.files (control_file db)
+control_same db files c d effect = effect.others (control_file db) (λ side. apart db files (control_file db) (inl refl) side)
+
+-- so the head in it is still there
+pub holds_still : (db : ℕ) (a b : Files) (head : Head) → b (control_file db) ≡ a (control_file db) → HoldsHead a db head → HoldsHead b db head
+holds_still db a b head same holds = (holds.0, ap (λ (file : Option (List ℕ)). control_of file >>= read_control) same ∙ holds.1, holds.2)
+
+-- and nothing of the log is left where its segments and its control file are gone
+pub log_gone : (db : ℕ) (head : Head) (b c : Files) → HoldsHead b db head → ((other : Head) → HoldsHead b db other → c (control_file db) ≡ None) → SegmentsAreGone b c db → ((other : Head) → HoldsHead b db other → c (segment_file db (other.back + 1)) ≡ None) → IsLogGone db head c
+log_gone db head b c holds control segments begun = record {
+  control = control head holds;
+  segments = λ n low high. elim (equal_or_not n (head.back + 1)) [
+    | inl same ↦ ap (λ (m : ℕ). c (segment_file db m)) same ∙ begun head holds
+    | inr differ ↦ segments head holds n low (omega (arith, high, differ))
+  ];
+}

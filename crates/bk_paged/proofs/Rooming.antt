@@ -1,28 +1,19 @@
 -- A database with other room for records still stands.
-use Rattle.std.proofs.Common.{◌≡◌, ℕ, sym, subst}
+use Rattle.std.proofs.Common.{ℕ}
 use Rattle.bk_device.specs.Disk.{Disk}
 use Rattle.bk_ids.specs.declared.record.Rec.{Rec}
-use Rattle.bk_log.specs.Laws.{log_reserved}
 use Rattle.bk_record.specs.Spelling.{IsRecord}
 use Rattle.bk_undo.specs.Laws.{UndoingIsNoLonger}
 use Rattle.bk_paged.specs.Appends.{MayAppend, with_waiting}
 use Rattle.bk_paged.specs.Holds.{Stood, with_one}
 use Rattle.bk_paged.specs.Paged.{IsPaged, Kept}
 use Rattle.bk_paged.specs.Reserved.{SetsNoCell, with_reserved, with_room}
+use Rattle.bk_paged.specs.StandLaws.{standing-room}
 use Rattle.bk_paged.proofs.Changing.{may_next, plain_said}
 
 pub room_stands : (p : Kept) (stood : Stood) (a : Disk) (spare bytes flushes : ℕ) → IsPaged a p stood → IsPaged a (with_room p spare bytes flushes) stood
 room_stands p stood a spare bytes flushes is = record {
-  standing = record {
-    logs = log_reserved bytes flushes spare is.standing.logs;
-    side_name = is.standing.side_name;
-    side_names = is.standing.side_names;
-    sides = is.standing.sides;
-    fresh = is.standing.fresh;
-    noted = is.standing.noted;
-    room = is.standing.room;
-    different = is.standing.different;
-  };
+  standing = standing-room p spare bytes flushes is.standing;
   files = is.files;
   same_note = is.same_note;
   ends = is.ends;

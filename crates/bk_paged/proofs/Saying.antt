@@ -10,7 +10,6 @@ use Rattle.bk_device.specs.Disk.{Disk}
 use Rattle.bk_device.specs.Effects.{Effect}
 use Rattle.bk_facts.specs.declared.facts.DataFile.{DataFile}
 use Rattle.bk_ids.specs.declared.record.Rec.{Rec}
-use Rattle.bk_log.specs.Laws.{log_waits}
 use Rattle.bk_log.specs.Log.{value_of}
 use Rattle.bk_paths.specs.PageLaws.{last_more, page_more}
 use Rattle.bk_paths.specs.PathLaws.{numbered_length, path_more}
@@ -31,6 +30,7 @@ use Rattle.bk_paged.specs.Holds.{Holds, Leaves, Recovers, Stood, with_one}
 use Rattle.bk_paged.specs.Names.{IsOwn, IsThere, shown_at}
 use Rattle.bk_paged.specs.Paged.{IsDirty, IsLast, IsPaged, Kept, checkpoint_record, sealed_count}
 use Rattle.bk_paged.specs.Leaving.{still_holds}
+use Rattle.bk_paged.specs.StandLaws.{standing-pool, standing-waiting}
 
 -- ---- what is pending behind one record more
 
@@ -134,16 +134,7 @@ said_with few p stood a r pool is next frames clean =
     let Full : List Rec → Type 0 = Recovers p.log.head.kept p.since stood.files (shown_at p.log.db stood.files a.files) in
     let full : Full records = whole_recovers p stood a is in
     record {
-      standing = record {
-        logs = log_waits (p.log.waiting ++ r ∷ []) (p.log.end + 1) p.log.spare_bytes p.log.spare_flushes is.standing.logs;
-        side_name = is.standing.side_name;
-        side_names = is.standing.side_names;
-        sides = is.standing.sides;
-        fresh = is.standing.fresh;
-        noted = is.standing.noted;
-        room = is.standing.room;
-        different = is.standing.different;
-      };
+      standing = standing-waiting (record p { pool = pool }) r (standing-pool p pool is.standing);
       files = is.files;
       same_note = is.same_note;
       ends = omega (arith, is.ends, longer);

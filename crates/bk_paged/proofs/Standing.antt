@@ -2,7 +2,6 @@
 use Rattle.std.proofs.Common.{◌≡◌, ◌≤◌, ℕ, ◌-◌, Bool, List, [], ◌++◌, length, take, refl, sym, ap, subst, ◌∙◌, arith, append-nil}
 use Rattle.bk_device.specs.Disk.{Files, Disk}
 use Rattle.bk_device.specs.Effects.{Effect}
-use Rattle.bk_facts.specs.declared.facts.DataFile.{DataFile}
 use Rattle.bk_facts.specs.declared.facts.Facts.{Facts}
 use Rattle.bk_facts.specs.Facts.{Notes}
 use Rattle.bk_log.specs.Log.{IsLog, value_of, Kept as KeptLog}
@@ -10,14 +9,13 @@ use Rattle.bk_segments.specs.Files.{IsOwn as IsOfLog, Logged, with_more}
 use Rattle.bk_paths.specs.Paths.{KeepsOpen, kept_from}
 use Rattle.bk_redo.specs.declared.place.PageAt.{PageAt}
 use Rattle.bk_redo.specs.PageStates.{page_of}
-use Rattle.bk_side.specs.Laws.{added_kept, side_kept}
-use Rattle.bk_side.specs.Names.{AreDifferent, side_file}
 use Rattle.bk_paged.specs.Laws.{recovers_as}
-use Rattle.bk_paged.specs.Holds.{HaveRoom, Stood}
-use Rattle.bk_paged.specs.Names.{names_of, shown_at}
+use Rattle.bk_paged.specs.Holds.{Stood}
+use Rattle.bk_paged.specs.Names.{shown_at}
 use Rattle.bk_paged.specs.Paged.{IsPaged, Kept, sealed_count}
-use Rattle.bk_paged.specs.Leaving.{Flushed, with_note}
-use Rattle.bk_paged.specs.Named.{own_keeps, shown_stays, side_keeps}
+use Rattle.bk_paged.specs.Leaving.{Flushed}
+use Rattle.bk_paged.specs.Named.{shown_stays}
+use Rattle.bk_paged.specs.StandLaws.{standing-log}
 
 -- The log is another one, with no fewer durable records; facts and note are those in its note.
 pub log_stands : {P : Files → Type 0} (p : Kept) (stood : Stood) (log : KeptLog) (facts : Facts) (note : List ℕ) (failed : Bool) (a b : Disk) → IsPaged a p stood → Effect (IsOfLog p.log.db) P a b → IsLog b log
@@ -26,20 +24,9 @@ pub log_stands : {P : Files → Type 0} (p : Kept) (stood : Stood) (log : KeptLo
     → ((k : ℕ) → log.stored - 1 ≤ k → KeepsOpen log.head.kept (take k stood.records)) → log.head.kept ≤ stood.needed
     → IsPaged b (record p { log = log; facts = facts; note = note; failed = failed }) (record stood { note = note })
 log_stands p stood log facts note failed a b is effect logs db ends later sealed held noted files short some kept order opened need =
-    let keeps = side_keeps p.log.db p.facts.files effect in
-    let own = own_keeps p.log.db p.facts.files p.side is.standing.side_name is.standing.side_names keeps in
     let same : (at : PageAt) → shown_at log.db stood.files b.files at ≡ shown_at p.log.db stood.files a.files at = λ at. ap (λ (n : ℕ). shown_at n stood.files b.files at) db ∙ shown_stays p.log.db stood.files effect at in
     record {
-      standing = record {
-        logs = logs;
-        side_name = is.standing.side_name ∙ ap side_file (sym db);
-        side_names = is.standing.side_names ∙ ap names_of (sym files);
-        sides = side_kept own is.standing.sides;
-        fresh = added_kept p.side own ∙ is.standing.fresh;
-        noted = noted;
-        room = with_note (subst (λ (fs : List DataFile). HaveRoom fs p.note) (sym files) is.standing.room) short;
-        different = subst (λ (fs : List DataFile). AreDifferent (names_of fs)) (sym files) is.standing.different;
-      };
+      standing = standing-log p log facts note failed is.standing effect logs db noted files short;
       files = files ∙ is.files;
       same_note = refl;
       ends = ends ∙ is.ends;

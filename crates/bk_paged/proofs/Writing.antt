@@ -8,7 +8,7 @@ use Rattle.bk_device.specs.Disk.{Files, Disk}
 use Rattle.bk_device.specs.Effects.{Effect, KeepsFiles}
 use Rattle.bk_facts.specs.declared.facts.DataFile.{DataFile}
 use Rattle.bk_ids.specs.declared.record.Rec.{Rec}
-use Rattle.bk_log.specs.Laws.{log_kept, log_left, value_kept}
+use Rattle.bk_log.specs.Laws.{log_left, value_kept}
 use Rattle.bk_log.specs.Log.{value_of}
 use Rattle.bk_segments.specs.Files.{IsOwn as IsOfLog, Logged}
 use Rattle.bk_page.specs.Changes.{Seals}
@@ -34,6 +34,7 @@ use Rattle.bk_paged.specs.Paged.{IsLast, IsPaged, Kept, sealed_count}
 use Rattle.bk_paged.specs.Pooled.{AreClean, Batches, IsDirtyBelow}
 use Rattle.bk_paged.proofs.Adding.{ShowsEither, batched_pages, named}
 use Rattle.bk_paged.specs.Leaving.{log_front, same_facts, stored_front}
+use Rattle.bk_paged.specs.StandLaws.{standing-side}
 
 -- ---- one page
 
@@ -212,16 +213,7 @@ write_stands p stood side pool failed entries a c is sealed' batches effect side
     let same : Same stood.files = subst Same is.files shows.pages in
     let now : (at : PageAt) → shown_at db stood.files c.files at ≡ batched_at p stood a entries at = λ at. same (at.file, at.page) in
     record {
-      standing = record {
-        logs = log_kept keeps is.standing.logs;
-        side_name = name ∙ is.standing.side_name;
-        side_names = names ∙ is.standing.side_names;
-        sides = sides;
-        fresh = none;
-        noted = is.standing.noted;
-        room = is.standing.room;
-        different = is.standing.different;
-      };
+      standing = standing-side p side pool p.log.end failed is.standing effect sides name names none;
       files = is.files;
       same_note = is.same_note;
       ends = is.ends;

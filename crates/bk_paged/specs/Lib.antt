@@ -9,3 +9,4 @@ pub mod Laws
 pub mod Reserved
 pub mod Named
 pub mod Leaving
+pub mod StandLaws

@@ -1,12 +1,13 @@
 -- Databases that are made and removed.
-use Rattle.std.specs.Prelude.{◌≡◌, ◌≤◌, ◌<◌, ◌⊎◌, ℕ, List, None, Some, length, slice_get}
+use Rattle.std.specs.Prelude.{◌≡◌, ◌≤◌, ◌<◌, ◌⊎◌, ◌+◌, ℕ, List, None, Some, length, slice_get}
 use Rattle.std.specs.List.{AllByRecursion}
 use Rattle.bk_device.specs.Disk.{Files, Disk, IsDurable}
 use Rattle.bk_facts.specs.declared.facts.DataFile.{DataFile}
 use Rattle.bk_facts.specs.Facts.{HasPath, Notes}
 use Rattle.bk_redo.specs.declared.place.PageAt.{PageAt}
 use Rattle.bk_redo.specs.PageStates.{fresh, page_of}
-use Rattle.bk_segments.specs.Files.{LogIs, Logged}
+use Rattle.bk_segments.specs.declared.head.Head.{Head}
+use Rattle.bk_segments.specs.Files.{control_file, segment_file, LogIs, Logged}
 use Rattle.bk_side.specs.Names.{AreDifferent, side_file, IsOwn as IsOfSide}
 use Rattle.bk_side.specs.Pages.{IsSound}
 use Rattle.bk_paged.specs.Holds.{Holds, Stood}
@@ -56,6 +57,11 @@ AreAbsent names files = (name : List ℕ) → names name → files name ≡ None
 -- nor does one come back at a crash
 abbrev pub AreGone : (List ℕ → Type 0) → Disk → Type 0
 AreGone names disk = (name : List ℕ) → names name → (disk.files name ≡ None) × IsDurable disk name
+
+-- no log is left that this head heads: neither its control file, nor one of its segments, nor one that was begun behind them
+pub record IsLogGone (db : ℕ) (head : Head) (files : Files) : Type 0 where
+  pub control : files (control_file db) ≡ None
+  pub segments : (n : ℕ) → head.gone ≤ n → n ≤ head.back + 1 → files (segment_file db n) ≡ None
 
 -- a crash of what removes a database leaves a log that names the data files, or none of these
 abbrev pub Removes : ℕ → List DataFile → Files → Type 0

@@ -1,6 +1,7 @@
 -- A database's log and pages on a device.
 use Rattle.std.specs.Prelude.{◌≡◌, ◌≤◌, ◌-◌, ℕ, Bool, true, List, [], ◌++◌, length, take, Some, slice_get, slice_index_or}
 use Rattle.bk_device.specs.Disk.{Disk}
+use Rattle.bk_device.specs.Effects.{Effect}
 use Rattle.bk_ids.specs.declared.record.Rec.{Rec}
 use Rattle.bk_ids.specs.declared.record.Body.TheVariants.{Checkpoint}
 use Rattle.bk_log.specs.Log.{IsLog, value_of, Kept as KeptLog}
@@ -13,7 +14,7 @@ use Rattle.bk_side.specs.Names.{side_file, AreDifferent}
 use Rattle.bk_side.specs.Side.{IsSide, added_of, Kept as KeptSide}
 use Rattle.bk_facts.specs.declared.facts.Facts.{Facts}
 use Rattle.bk_facts.specs.Facts.{Notes}
-use Rattle.bk_paged.specs.Names.{IsPlaced, IsThere, names_of, shown_at}
+use Rattle.bk_paged.specs.Names.{IsOwn, IsPlaced, IsThere, names_of, shown_at}
 use Rattle.bk_paged.specs.Holds.{HaveRoom, Recovers, Stood}
 
 -- what contracts see of a database
@@ -46,6 +47,10 @@ pub record Standing (disk : Disk) (p : Kept) : Type 0 where
   pub noted : Notes p.log.note p.facts p.note
   pub room : HaveRoom p.facts.files p.note
   pub different : AreDifferent (names_of p.facts.files)
+
+-- a call touched the database's own files alone, whatever they hold
+abbrev pub Touches : Kept → Disk → Disk → Type 0
+Touches p old new = Effect (IsOwn p.log.db p.facts.files) (λ _. Unit {0}) old new
 
 -- A page in a frame is whole and its own, and as of the end.
 pub record IsLast (records : List Rec) (at : PageAt) (page : List ℕ) : Type 0 where

@@ -8,7 +8,7 @@ ghost use Rattle.bk_log.specs.Log.{KeepsSpare};
 ghost use Rattle.bk_paged.specs.Appends.{MayAppend, with_waiting};
 ghost use Rattle.bk_paged.specs.Holds.{Leaves, Stood, with_one};
 ghost use Rattle.bk_paged.specs.Names.{IsOwn, IsThere};
-ghost use Rattle.bk_paged.specs.Paged.{IsPaged, sealed_count};
+ghost use Rattle.bk_paged.specs.Paged.{IsPaged, Standing, Touches, sealed_count};
 ghost use Rattle.bk_paged.specs.Pooled.{AreClean, with_set};
 ghost use Rattle.bk_pool.specs.Pool.{IsFound};
 ghost use Rattle.bk_pool.specs.Sound.{HoldsPage};
@@ -55,14 +55,16 @@ impl Paged {
     pub(crate) fn write_pages<D: Device>(&mut self, dev: &mut D) -> Result<(), PagedError>
         requires fit { self.old.failed ≡ false }
         requires sealed { self.old.log.stored ≡ self.old.log.end }
-        requires stands { D.tells → (stood : Stood) × IsPaged (D.disk dev.old) self.old stood }
+        requires standing { D.tells → Standing (D.disk dev.old) self.old }
         ensures fit { OnOk result (self.new.failed ≡ false) }
         ensures same { OnOk result (self.new ≡ record self.old { side = self.new.side; pool = self.new.pool; since = self.old.log.end }) }
         ensures clean { OnOk result (AreClean self.new.pool) }
         ensures stands { D.tells → (stood : Stood) → IsPaged (D.disk dev.old) self.old stood → OnOk result (IsPaged (D.disk dev.new) self.new stood) }
+        ensures standing { D.tells → OnOk result (Standing (D.disk dev.new) self.new) }
         ensures foreign { IsErrOf result PagedError.Foreign → ⊥ }
         ensures memory { IsErrOf result PagedError.NoMemory → ⊥ }
         ensures crash { D.tells → (stood : Stood) → IsPaged (D.disk dev.old) self.old stood → Effect (IsOwn self.old.log.db stood.files) (Leaves self.old.log.db (sealed_count self.old) stood) (D.disk dev.old) (D.disk dev.new) }
+        ensures touches { D.tells → Touches self.old (D.disk dev.old) (D.disk dev.new) }
         ensures cause { HasCause D.disk_faults D.tell_faults dev.old dev.new (IsErrOf result PagedError.Fault) }
     {
         add_frames(dev, &mut self.side, &self.pool)?;
@@ -79,15 +81,17 @@ impl Paged {
         dev: &mut D,
     ) -> Result<(), PagedError>
         requires fit { self.old.failed ≡ false }
-        requires stands { D.tells → (stood : Stood) × IsPaged (D.disk dev.old) self.old stood }
+        requires standing { D.tells → Standing (D.disk dev.old) self.old }
         ensures fit { OnOk result (self.new.failed ≡ false) }
         ensures same { OnOk result (self.new ≡ record self.old { log = self.new.log; side = self.new.side; pool = self.new.pool; since = self.old.log.end }) }
         ensures ends { OnOk result ((self.new.log.db ≡ self.old.log.db) × (self.new.log.end ≡ self.old.log.end) × (self.new.log.stored ≡ self.old.log.end) × (self.new.log.head.kept ≡ self.old.log.head.kept)) }
         ensures clean { OnOk result (AreClean self.new.pool) }
         ensures stands { D.tells → (stood : Stood) → IsPaged (D.disk dev.old) self.old stood → OnOk result (IsPaged (D.disk dev.new) self.new stood) }
+        ensures standing { D.tells → OnOk result (Standing (D.disk dev.new) self.new) }
         ensures spare { OnOk result (KeepsSpare self.old.log self.new.log) }
         ensures foreign { IsErrOf result PagedError.Foreign → ⊥ }
         ensures crash { D.tells → (stood : Stood) → IsPaged (D.disk dev.old) self.old stood → Effect (IsOwn self.old.log.db stood.files) (Leaves self.old.log.db (sealed_count self.old) stood) (D.disk dev.old) (D.disk dev.new) }
+        ensures touches { D.tells → Touches self.old (D.disk dev.old) (D.disk dev.new) }
         ensures cause { HasCause D.disk_faults D.tell_faults dev.old dev.new (IsErrOf result PagedError.Fault) }
     {
         self.flush(alloc, dev)?;
@@ -103,12 +107,13 @@ impl Paged {
         page: u32,
     ) -> Result<Option<usize>, PagedError>
         requires there { IsThere self.old.facts.files (record { file = file; page = page }) }
-        requires stands { D.tells → (stood : Stood) × IsPaged (D.disk dev.old) self.old stood }
+        requires standing { D.tells → Standing (D.disk dev.old) self.old }
         ensures found { IfOk result (λ found. IfSome found (λ i. IsFound self.new.pool.pages file page i)) }
         ensures full { IfOk result (λ found. IsNone found → AreClean self.old.pool → ⊥) }
         ensures same { self.new ≡ record self.old { pool = self.new.pool } }
         ensures stands { D.tells → (stood : Stood) → IsPaged (D.disk dev.old) self.old stood → OnOk result (IsPaged (D.disk dev.new) self.new stood) }
-        ensures foreign { D.tells → IsErrOf result PagedError.Foreign → ⊥ }
+        ensures standing { D.tells → OnOk result (Standing (D.disk dev.new) self.new) }
+        ensures foreign { D.tells → IsErrOf result PagedError.Foreign → (stood : Stood) → IsPaged (D.disk dev.old) self.old stood → ⊥ }
         ensures memory { IsErrOf result PagedError.NoMemory → ⊥ }
         ensures effect { D.tells → ChangesNothing (D.disk dev.old) (D.disk dev.new) }
         ensures cause { HasCause D.disk_faults D.tell_faults dev.old dev.new (IsErrOf result PagedError.Fault) }
@@ -127,15 +132,17 @@ impl Paged {
     ) -> Result<usize, PagedError>
         requires fit { self.old.failed ≡ false }
         requires there { IsThere self.old.facts.files (record { file = file; page = page }) }
-        requires stands { D.tells → (stood : Stood) × IsPaged (D.disk dev.old) self.old stood }
+        requires standing { D.tells → Standing (D.disk dev.old) self.old }
         ensures fit { OnOk result (self.new.failed ≡ false) }
         ensures found { IfOk result (λ i. IsFound self.new.pool.pages file page i) }
         ensures same { OnOk result ((self.new.log.db ≡ self.old.log.db) × (self.new.log.end ≡ self.old.log.end) × (self.new.log.head.kept ≡ self.old.log.head.kept) × (self.new.facts ≡ self.old.facts)) }
         ensures stands { D.tells → (stood : Stood) → IsPaged (D.disk dev.old) self.old stood → OnOk result (IsPaged (D.disk dev.new) self.new stood) }
+        ensures standing { D.tells → OnOk result (Standing (D.disk dev.new) self.new) }
         ensures later { D.tells → (stood : Stood) → IsPaged (D.disk dev.old) self.old stood → OnOk result (self.old.log.stored ≤ self.new.log.stored) }
         ensures spare { OnOk result (KeepsSpare self.old.log self.new.log) }
-        ensures foreign { D.tells → IsErrOf result PagedError.Foreign → ⊥ }
+        ensures foreign { D.tells → IsErrOf result PagedError.Foreign → (stood : Stood) → IsPaged (D.disk dev.old) self.old stood → ⊥ }
         ensures crash { D.tells → (stood : Stood) → IsPaged (D.disk dev.old) self.old stood → Effect (IsOwn self.old.log.db stood.files) (Leaves self.old.log.db (sealed_count self.old) stood) (D.disk dev.old) (D.disk dev.new) }
+        ensures touches { D.tells → Touches self.old (D.disk dev.old) (D.disk dev.new) }
         ensures cause { HasCause D.disk_faults D.tell_faults dev.old dev.new (IsErrOf result PagedError.Fault) }
     {
         if let Some(i) = self.frame_of(dev, file, page)? {
@@ -152,14 +159,16 @@ impl Paged {
     fn set_page<D: Device>(&mut self, alloc: Global, dev: &mut D, r: &Rec) -> Result<(), PagedError>
         requires fit { self.old.failed ≡ false }
         requires may { MayAppend self.old r.now }
-        requires stands { D.tells → (stood : Stood) × IsPaged (D.disk dev.old) self.old stood }
+        requires standing { D.tells → Standing (D.disk dev.old) self.old }
         ensures fit { OnOk result (self.new.failed ≡ false) }
         ensures same { OnOk result ((self.new.log.db ≡ self.old.log.db) × (self.new.log.end ≡ self.old.log.end) × (self.new.log.head.kept ≡ self.old.log.head.kept) × (self.new.facts ≡ self.old.facts)) }
         ensures stands { D.tells → IsRecord r.now → (stood : Stood) → IsPaged (D.disk dev.old) self.old stood → OnOk result (IsPaged (D.disk dev.new) (with_waiting self.new r.now) (with_one stood r.now)) }
+        ensures standing { D.tells → OnOk result (Standing (D.disk dev.new) self.new) }
         ensures later { D.tells → (stood : Stood) → IsPaged (D.disk dev.old) self.old stood → OnOk result (self.old.log.stored ≤ self.new.log.stored) }
         ensures spare { OnOk result (KeepsSpare self.old.log self.new.log) }
-        ensures foreign { D.tells → IsErrOf result PagedError.Foreign → ⊥ }
+        ensures foreign { D.tells → IsErrOf result PagedError.Foreign → (stood : Stood) → IsPaged (D.disk dev.old) self.old stood → ⊥ }
         ensures crash { D.tells → (stood : Stood) → IsPaged (D.disk dev.old) self.old stood → Effect (IsOwn self.old.log.db stood.files) (Leaves self.old.log.db (sealed_count self.old) stood) (D.disk dev.old) (D.disk dev.new) }
+        ensures touches { D.tells → Touches self.old (D.disk dev.old) (D.disk dev.new) }
         ensures cause { HasCause D.disk_faults D.tell_faults dev.old dev.new (IsErrOf result PagedError.Fault) }
     {
         undoing_law();
@@ -181,14 +190,16 @@ impl Paged {
     ) -> Result<(), PagedError>
         requires fit { self.old.failed ≡ false }
         requires may { MayAppend self.old r.now }
-        requires stands { D.tells → (stood : Stood) × IsPaged (D.disk dev.old) self.old stood }
+        requires standing { D.tells → Standing (D.disk dev.old) self.old }
         ensures fit { OnOk result (self.new.failed ≡ false) }
         ensures ends { OnOk result ((self.new.log.db ≡ self.old.log.db) × (self.new.log.end ≡ self.old.log.end + 1) × (self.new.log.head.kept ≡ self.old.log.head.kept) × (self.new.facts ≡ self.old.facts)) }
         ensures stands { D.tells → (stood : Stood) → IsPaged (D.disk dev.old) self.old stood → OnOk result (IsPaged (D.disk dev.new) self.new (with_one stood r.now)) }
+        ensures standing { D.tells → OnOk result (Standing (D.disk dev.new) self.new) }
         ensures later { D.tells → (stood : Stood) → IsPaged (D.disk dev.old) self.old stood → OnOk result (self.old.log.stored ≤ self.new.log.stored) }
         ensures spare { OnOk result (KeepsSpare self.old.log self.new.log) }
-        ensures foreign { D.tells → IsErrOf result PagedError.Foreign → ⊥ }
+        ensures foreign { D.tells → IsErrOf result PagedError.Foreign → (stood : Stood) → IsPaged (D.disk dev.old) self.old stood → ⊥ }
         ensures crash { D.tells → (stood : Stood) → IsPaged (D.disk dev.old) self.old stood → Effect (IsOwn self.old.log.db stood.files) (Leaves self.old.log.db (sealed_count self.old) stood) (D.disk dev.old) (D.disk dev.new) }
+        ensures touches { D.tells → Touches self.old (D.disk dev.old) (D.disk dev.new) }
         ensures cause { HasCause D.disk_faults D.tell_faults dev.old dev.new (IsErrOf result PagedError.Fault) }
     {
         self.set_page(alloc, dev, r)?;

@@ -6,7 +6,7 @@ ghost use Rattle.bk_device.specs.Effects.{Effect};
 ghost use Rattle.bk_log.specs.Log.{IsLog as IsStoredLog, KeepsSpare};
 ghost use Rattle.bk_paged.specs.Holds.{Leaves, Stood};
 ghost use Rattle.bk_paged.specs.Names.{IsOwn, IsThere, pages_in};
-ghost use Rattle.bk_paged.specs.Paged.{IsLast, IsPaged, from_to, sealed_count};
+ghost use Rattle.bk_paged.specs.Paged.{IsLast, IsPaged, Standing, Touches, from_to, sealed_count};
 ghost use Rattle.bk_pool.specs.Pool.{IsAbsent, IsIn};
 ghost use Rattle.bk_record.specs.Log.{IsLog};
 
@@ -62,6 +62,7 @@ impl Paged {
         requires inside { to ≤ self.now.log.stored }
         requires stands { D.tells → IsStoredLog (D.disk dev.old) self.now.log }
         ensures stands { D.tells → (stood : Stood) → IsPaged (D.disk dev.old) self.now stood → IsPaged (D.disk dev.new) self.now stood }
+        ensures standing { D.tells → Standing (D.disk dev.old) self.now → Standing (D.disk dev.new) self.now }
         ensures bytes { D.tells → (stood : Stood) → IsPaged (D.disk dev.old) self.now stood → IfOk result (λ bytes. IsLog bytes.items (from_to from to stood.records) None) }
         ensures foreign { IsErrOf result PagedError.Foreign → ⊥ }
         ensures effect { D.tells → ChangesNothing (D.disk dev.old) (D.disk dev.new) }
@@ -82,15 +83,17 @@ impl Paged {
     ) -> Result<[u8; 8192], PagedError>
         requires fit { self.old.failed ≡ false }
         requires there { IsThere self.old.facts.files (record { file = file; page = page }) }
-        requires stands { D.tells → (stood : Stood) × IsPaged (D.disk dev.old) self.old stood }
+        requires standing { D.tells → Standing (D.disk dev.old) self.old }
         ensures fit { OnOk result (self.new.failed ≡ false) }
         ensures same { OnOk result ((self.new.log.db ≡ self.old.log.db) × (self.new.log.end ≡ self.old.log.end) × (self.new.log.head.kept ≡ self.old.log.head.kept) × (self.new.facts ≡ self.old.facts)) }
         ensures stands { D.tells → (stood : Stood) → IsPaged (D.disk dev.old) self.old stood → OnOk result (IsPaged (D.disk dev.new) self.new stood) }
+        ensures standing { D.tells → OnOk result (Standing (D.disk dev.new) self.new) }
         ensures later { D.tells → (stood : Stood) → IsPaged (D.disk dev.old) self.old stood → OnOk result (self.old.log.stored ≤ self.new.log.stored) }
         ensures spare { OnOk result (KeepsSpare self.old.log self.new.log) }
-        ensures foreign { D.tells → IsErrOf result PagedError.Foreign → ⊥ }
+        ensures foreign { D.tells → IsErrOf result PagedError.Foreign → (stood : Stood) → IsPaged (D.disk dev.old) self.old stood → ⊥ }
         ensures page { D.tells → (stood : Stood) → IsPaged (D.disk dev.old) self.old stood → IfOk result (λ bytes. IsLast stood.records (record { file = file; page = page }) bytes) }
         ensures crash { D.tells → (stood : Stood) → IsPaged (D.disk dev.old) self.old stood → Effect (IsOwn self.old.log.db stood.files) (Leaves self.old.log.db (sealed_count self.old) stood) (D.disk dev.old) (D.disk dev.new) }
+        ensures touches { D.tells → Touches self.old (D.disk dev.old) (D.disk dev.new) }
         ensures cause { HasCause D.disk_faults D.tell_faults dev.old dev.new (IsErrOf result PagedError.Fault) }
     {
         let i = self.bring(alloc, dev, file, page)?;

@@ -9,7 +9,7 @@ ghost use Rattle.bk_paged.specs.Appends.{with_waiting};
 ghost use Rattle.bk_paged.specs.Pooled.{IsPool};
 ghost use Rattle.bk_paged.specs.Holds.{HaveRoom, Leaves, Stood, with_one};
 ghost use Rattle.bk_paged.specs.Names.{IsOwn};
-ghost use Rattle.bk_paged.specs.Paged.{IsPaged, Kept, checkpoint_record, sealed_count};
+ghost use Rattle.bk_paged.specs.Paged.{IsPaged, Kept, Standing, Touches, checkpoint_record, sealed_count};
 ghost use Rattle.bk_paths.specs.Paths.{KeepsOpen};
 
 use crate::error::PagedError;
@@ -116,6 +116,7 @@ impl Paged {
         requires stands { D.tells → IsLog (D.disk dev.old) self.old.log }
         ensures fit { OnOk result (self.new.failed ≡ false) }
         ensures stands { D.tells → (stood : Stood) → IsPaged (D.disk dev.old) self.old stood → OnOk result (IsPaged (D.disk dev.new) self.new stood) }
+        ensures standing { D.tells → Standing (D.disk dev.old) self.old → OnOk result (Standing (D.disk dev.new) self.new) }
         ensures logs { D.tells → OnOk result (IsLog (D.disk dev.new) self.new.log) }
         ensures same { OnOk result (self.new ≡ record self.old { log = self.new.log }) }
         ensures sealed { OnOk result ((self.new.log.db ≡ self.old.log.db) × (self.new.log.end ≡ self.old.log.end) × (self.new.log.stored ≡ self.old.log.end) × (self.new.log.waiting ≡ [])) }
@@ -123,6 +124,7 @@ impl Paged {
         ensures spare { OnOk result (KeepsSpare self.old.log self.new.log) }
         ensures foreign { IsErrOf result PagedError.Foreign → ⊥ }
         ensures crash { D.tells → (stood : Stood) → IsPaged (D.disk dev.old) self.old stood → Effect (IsOwn self.old.log.db stood.files) (Leaves self.old.log.db (sealed_count self.old) stood) (D.disk dev.old) (D.disk dev.new) }
+        ensures touches { D.tells → Touches self.old (D.disk dev.old) (D.disk dev.new) }
         ensures cause { HasCause D.disk_faults D.tell_faults dev.old dev.new (IsErrOf result PagedError.Fault) }
     {
         self.log.flush(alloc, dev)?;
@@ -139,14 +141,16 @@ impl Paged {
     ) -> Result<(), PagedError>
         requires fit { self.old.failed ≡ false }
         requires room { self.old.log.end < 2 ^ 62 }
-        requires stands { D.tells → (stood : Stood) × IsPaged (D.disk dev.old) self.old stood }
+        requires standing { D.tells → Standing (D.disk dev.old) self.old }
         ensures fit { OnOk result (self.new.failed ≡ false) }
         ensures stands { D.tells → (stood : Stood) → IsPaged (D.disk dev.old) self.old stood → OnOk result (IsPaged (D.disk dev.new) self.new (with_one stood (checkpoint_record self.old now))) }
+        ensures standing { D.tells → OnOk result (Standing (D.disk dev.new) self.new) }
         ensures checkpoint { OnOk result ((self.new.facts.checkpoint ≡ self.new.log.end) × (self.new.log.stored ≡ self.new.log.end)) }
         ensures ends { OnOk result ((self.new.log.db ≡ self.old.log.db) × (self.new.log.end ≡ self.old.log.end + 1) × (self.new.log.head.kept ≡ self.old.log.head.kept) × (self.new.facts.files ≡ self.old.facts.files)) }
         ensures spare { OnOk result (KeepsSpare self.old.log self.new.log) }
         ensures foreign { IsErrOf result PagedError.Foreign → ⊥ }
         ensures crash { D.tells → (stood : Stood) → IsPaged (D.disk dev.old) self.old stood → Effect (IsOwn self.old.log.db stood.files) (Leaves self.old.log.db (sealed_count self.old) (with_one stood (checkpoint_record self.old now))) (D.disk dev.old) (D.disk dev.new) }
+        ensures touches { D.tells → Touches self.old (D.disk dev.old) (D.disk dev.new) }
         ensures cause { HasCause D.disk_faults D.tell_faults dev.old dev.new (IsErrOf result PagedError.Fault) }
     {
         undoing_law();
@@ -176,14 +180,16 @@ impl Paged {
     // Makes the number from which on the pages in the data files are as of the latest checkpoint's.
     fn note_checkpoint<D: Device>(&mut self, alloc: Global, dev: &mut D) -> Result<(), PagedError>
         requires fit { self.old.failed ≡ false }
-        requires stands { D.tells → (stood : Stood) × IsPaged (D.disk dev.old) self.old stood }
+        requires standing { D.tells → Standing (D.disk dev.old) self.old }
         ensures fit { OnOk result (self.new.failed ≡ false) }
         ensures same { OnOk result ((self.new.log.db ≡ self.old.log.db) × (self.new.log.stored ≡ self.old.log.stored) × (self.new.log.end ≡ self.old.log.end) × (self.new.log.head.kept ≡ self.old.log.head.kept)) }
         ensures facts { OnOk result (self.new.facts ≡ record self.old.facts { checkpoint = self.old.since }) }
         ensures stands { D.tells → (stood : Stood) → IsPaged (D.disk dev.old) self.old stood → OnOk result (IsPaged (D.disk dev.new) self.new stood) }
+        ensures standing { D.tells → OnOk result (Standing (D.disk dev.new) self.new) }
         ensures spare { OnOk result (KeepsSpare self.old.log self.new.log) }
         ensures foreign { IsErrOf result PagedError.Foreign → ⊥ }
         ensures crash { D.tells → (stood : Stood) → IsPaged (D.disk dev.old) self.old stood → Effect (IsOwn self.old.log.db stood.files) (Leaves self.old.log.db (sealed_count self.old) stood) (D.disk dev.old) (D.disk dev.new) }
+        ensures touches { D.tells → Touches self.old (D.disk dev.old) (D.disk dev.new) }
         ensures cause { HasCause D.disk_faults D.tell_faults dev.old dev.new (IsErrOf result PagedError.Fault) }
     {
         self.facts.checkpoint = self.since;
@@ -201,14 +207,16 @@ impl Paged {
     ) -> Result<(), PagedError>
         requires fit { self.old.failed ≡ false }
         requires short { length bytes.now ≤ 30720 }
-        requires stands { D.tells → (stood : Stood) × IsPaged (D.disk dev.old) self.old stood }
+        requires standing { D.tells → Standing (D.disk dev.old) self.old }
         ensures fit { OnOk result (self.new.failed ≡ false) }
         ensures same { OnOk result ((self.new.log.db ≡ self.old.log.db) × (self.new.log.stored ≡ self.old.log.stored) × (self.new.log.end ≡ self.old.log.end) × (self.new.log.head.kept ≡ self.old.log.head.kept)) }
         ensures facts { OnOk result (self.new.facts ≡ self.old.facts) }
         ensures stands { D.tells → (stood : Stood) → IsPaged (D.disk dev.old) self.old stood → OnOk result (IsPaged (D.disk dev.new) self.new (record stood { note = bytes.now })) }
+        ensures standing { D.tells → OnOk result (Standing (D.disk dev.new) self.new) }
         ensures spare { OnOk result (KeepsSpare self.old.log self.new.log) }
         ensures foreign { IsErrOf result PagedError.Foreign → ⊥ }
         ensures crash { D.tells → (stood : Stood) → IsPaged (D.disk dev.old) self.old stood → Effect (IsOwn self.old.log.db stood.files) (λ image. Leaves self.old.log.db (sealed_count self.old) stood image ⊎ Leaves self.old.log.db (sealed_count self.old) (record stood { note = bytes.now }) image) (D.disk dev.old) (D.disk dev.new) }
+        ensures touches { D.tells → Touches self.old (D.disk dev.old) (D.disk dev.new) }
         ensures cause { HasCause D.disk_faults D.tell_faults dev.old dev.new (IsErrOf result PagedError.Fault) }
     {
         let spelled = spell_note(alloc, &self.facts, bytes)?;
@@ -225,14 +233,16 @@ impl Paged {
         requires early { to ≤ self.old.facts.checkpoint }
         requires inside { to ≤ self.old.log.stored }
         requires sealed { self.old.log.stored ≡ self.old.log.end }
-        requires stands { D.tells → (stood : Stood) × (IsPaged (D.disk dev.old) self.old stood × (KeepsOpen to stood.records × (to ≤ stood.needed))) }
+        requires standing { D.tells → Standing (D.disk dev.old) self.old }
         ensures fit { OnOk result (self.new.failed ≡ false) }
         ensures stands { D.tells → (stood : Stood) → IsPaged (D.disk dev.old) self.old stood → KeepsOpen to stood.records → to ≤ stood.needed → OnOk result (IsPaged (D.disk dev.new) self.new stood) }
+        ensures standing { D.tells → OnOk result (Standing (D.disk dev.new) self.new) }
         ensures same { OnOk result (self.new ≡ record self.old { log = self.new.log }) }
         ensures ends { OnOk result ((self.new.log.db ≡ self.old.log.db) × (self.new.log.stored ≡ self.old.log.stored) × (self.new.log.end ≡ self.old.log.end) × (self.new.log.head.kept ≡ to)) }
         ensures spare { OnOk result (KeepsSpare self.old.log self.new.log) }
         ensures foreign { IsErrOf result PagedError.Foreign → ⊥ }
         ensures crash { D.tells → (stood : Stood) → IsPaged (D.disk dev.old) self.old stood → KeepsOpen to stood.records → to ≤ stood.needed → Effect (IsOwn self.old.log.db stood.files) (Leaves self.old.log.db (sealed_count self.old) stood) (D.disk dev.old) (D.disk dev.new) }
+        ensures touches { D.tells → Touches self.old (D.disk dev.old) (D.disk dev.new) }
         ensures cause { HasCause D.disk_faults D.tell_faults dev.old dev.new (IsErrOf result PagedError.Fault) }
     {
         self.log.truncate(dev, to)?;

@@ -4,9 +4,10 @@ ghost use Rattle.bk_device.specs.Counts.{HasCause};
 ghost use Rattle.bk_device.specs.Disk.{IsDurable};
 ghost use Rattle.bk_device.specs.Effects.{Effect};
 ghost use Rattle.bk_facts.specs.declared.facts.DataFile.{DataFile as File};
-ghost use Rattle.bk_paged.specs.Making.{AreAbsent, AreGone, AreNoted, HoldsNone, IsAmong, NamesFiles, Removes, StillNames};
+ghost use Rattle.bk_paged.specs.Making.{AreAbsent, AreGone, AreNoted, HoldsNone, IsAmong, IsLogGone, NamesFiles, Removes, StillNames};
 ghost use Rattle.bk_paged.specs.Names.{IsOwn, names_of};
-ghost use Rattle.bk_segments.specs.Files.{control_file, AreDurable as LogsAreDurable, IsOwn as IsOfLog};
+ghost use Rattle.bk_segments.specs.declared.head.Head.{Head};
+ghost use Rattle.bk_segments.specs.Files.{control_file, AreDurable as LogsAreDurable, Holds as HoldsHead, IsOwn as IsOfLog};
 ghost use Rattle.bk_side.specs.Names.{IsData, side_file, IsOwn as IsOfSide};
 
 use crate::error::PagedError;
@@ -15,7 +16,7 @@ use crate::parts::copy_paths;
 use bk_device::{Device, Failed, remove_durably};
 use bk_facts::{DataFile, Facts, read_facts};
 use bk_ids::Text;
-use bk_log::{Log, LogError};
+use bk_log::{Log, LogError, settle};
 use bk_reading::Unread;
 use bk_side::{data_files, side_file};
 use std::alloc::Global;
@@ -52,15 +53,16 @@ fn remove_pages<D: Device>(
     Ok(())
 }
 
-// The log of a database, if there is one.
+// The log of a database, if there is one. What counts of it is made durable first.
 fn find_log<D: Device>(alloc: Global, dev: &mut D, db: u32) -> Result<Option<Log>, PagedError>
-    requires durable { D.tells → LogsAreDurable db (D.disk dev.old) }
     ensures found { D.tells → (files : List File) → NamesFiles db files (D.disk dev.old).files → IfOk result (λ found. IsSomeAnd found (λ log. AreNoted log.note files)) }
     ensures control { D.tells → OnOk result (IsDurable (D.disk dev.new) (control_file db)) }
+    ensures same { D.tells → OnOk result ((D.disk dev.new).files (control_file db) ≡ (D.disk dev.old).files (control_file db)) }
     ensures foreign { IsErrOf result PagedError.Foreign → ⊥ }
-    ensures crash { D.tells → Effect (IsOfLog db) (StillNames db (D.disk dev.old).files) (D.disk dev.old) (D.disk dev.new) }
+    ensures crash { D.tells → LogsAreDurable db (D.disk dev.old) → Effect (IsOfLog db) (StillNames db (D.disk dev.old).files) (D.disk dev.old) (D.disk dev.new) }
     ensures cause { HasCause D.disk_faults D.tell_faults dev.old dev.new (IsErrOf result PagedError.Fault) }
 {
+    settle(alloc, dev, db)?;
     match Log::load(alloc, dev, db) {
         Ok(log) => Ok(Some(log)),
         Err(LogError::Foreign) => Ok(None),
@@ -84,11 +86,11 @@ fn facts_in(alloc: Global, note: &[u8]) -> Result<Option<Facts>, PagedError>
 
 // What the note of a database's log holds, if there is a log that has some.
 fn find_facts<D: Device>(alloc: Global, dev: &mut D, db: u32) -> Result<Option<Facts>, PagedError>
-    requires durable { D.tells → LogsAreDurable db (D.disk dev.old) }
     ensures found { D.tells → (files : List File) → NamesFiles db files (D.disk dev.old).files → IfOk result (λ found. IsSomeAnd found (λ facts. facts.files ≡ files)) }
     ensures control { D.tells → OnOk result (IsDurable (D.disk dev.new) (control_file db)) }
+    ensures same { D.tells → OnOk result ((D.disk dev.new).files (control_file db) ≡ (D.disk dev.old).files (control_file db)) }
     ensures foreign { IsErrOf result PagedError.Foreign → ⊥ }
-    ensures crash { D.tells → Effect (IsOfLog db) (StillNames db (D.disk dev.old).files) (D.disk dev.old) (D.disk dev.new) }
+    ensures crash { D.tells → LogsAreDurable db (D.disk dev.old) → Effect (IsOfLog db) (StillNames db (D.disk dev.old).files) (D.disk dev.old) (D.disk dev.new) }
     ensures cause { HasCause D.disk_faults D.tell_faults dev.old dev.new (IsErrOf result PagedError.Fault) }
 {
     let Some(log) = find_log(alloc, dev, db)? else {
@@ -100,11 +102,11 @@ fn find_facts<D: Device>(alloc: Global, dev: &mut D, db: u32) -> Result<Option<F
 
 // Removes the data files that the log of a database names, and its side file.
 fn remove_named<D: Device>(alloc: Global, dev: &mut D, db: u32) -> Result<(), PagedError>
-    requires durable { D.tells → LogsAreDurable db (D.disk dev.old) }
     ensures gone { D.tells → (files : List File) → NamesFiles db files (D.disk dev.old).files → OnOk result (AreGone (IsOfSide (side_file db) (names_of files)) (D.disk dev.new)) }
     ensures control { D.tells → OnOk result (IsDurable (D.disk dev.new) (control_file db)) }
+    ensures same { D.tells → OnOk result ((D.disk dev.new).files (control_file db) ≡ (D.disk dev.old).files (control_file db)) }
     ensures foreign { IsErrOf result PagedError.Foreign → ⊥ }
-    ensures crash { D.tells → (files : List File) → NamesFiles db files (D.disk dev.old).files → Effect (IsOwn db files) (Removes db files) (D.disk dev.old) (D.disk dev.new) }
+    ensures crash { D.tells → LogsAreDurable db (D.disk dev.old) → (files : List File) → NamesFiles db files (D.disk dev.old).files → Effect (IsOwn db files) (Removes db files) (D.disk dev.old) (D.disk dev.new) }
     ensures cause { HasCause D.disk_faults D.tell_faults dev.old dev.new (IsErrOf result PagedError.Fault) }
 {
     let Some(facts) = find_facts(alloc, dev, db)? else {
@@ -116,13 +118,14 @@ fn remove_named<D: Device>(alloc: Global, dev: &mut D, db: u32) -> Result<(), Pa
 
 impl Paged {
     /// Removes the data files that the log of a database names, then the side file, and then the log. Where the log isn't whole, as after a crash in this call, what is left of it alone is
-    /// removed; where there is none, nothing is done. A crash leaves the log, which names the data files, or none of these, and the call may be repeated. `Foreign` isn't answered.
+    /// removed; where there is none, nothing is done. What counts of the log is made durable first. A crash leaves the log, which names the data files, or none of these, and the call may be repeated.
+    /// `Foreign` isn't answered.
     pub fn remove<D: Device>(alloc: Global, dev: &mut D, db: u32) -> Result<(), PagedError>
-        requires durable { D.tells → LogsAreDurable db (D.disk dev.old) }
         ensures pages { D.tells → (files : List File) → NamesFiles db files (D.disk dev.old).files → OnOk result (AreAbsent (IsOfSide (side_file db) (names_of files)) (D.disk dev.new).files) }
         ensures log { D.tells → OnOk result (HoldsNone db (D.disk dev.new).files) }
+        ensures gone { D.tells → (head : Head) → HoldsHead (D.disk dev.old).files db head → OnOk result (IsLogGone db head (D.disk dev.new).files) }
         ensures foreign { IsErrOf result PagedError.Foreign → ⊥ }
-        ensures crash { D.tells → (files : List File) → NamesFiles db files (D.disk dev.old).files → Effect (IsOwn db files) (Removes db files) (D.disk dev.old) (D.disk dev.new) }
+        ensures crash { D.tells → LogsAreDurable db (D.disk dev.old) → (files : List File) → NamesFiles db files (D.disk dev.old).files → Effect (IsOwn db files) (Removes db files) (D.disk dev.old) (D.disk dev.new) }
         ensures cause { HasCause D.disk_faults D.tell_faults dev.old dev.new (IsErrOf result PagedError.Fault) }
     {
         remove_named(alloc, dev, db)?;

@@ -6,7 +6,7 @@ ghost use Rattle.bk_log.specs.Log.{IsLog};
 ghost use Rattle.bk_paged.specs.Appends.{MayAppend, with_waiting};
 ghost use Rattle.bk_paged.specs.Holds.{Leaves, Stood, with_one};
 ghost use Rattle.bk_paged.specs.Names.{IsOwn, IsThere};
-ghost use Rattle.bk_paged.specs.Paged.{IsPaged, sealed_count};
+ghost use Rattle.bk_paged.specs.Paged.{IsPaged, Standing, Touches, sealed_count};
 ghost use Rattle.bk_paged.specs.Pooled.{AreClean};
 ghost use Rattle.bk_paged.specs.Reserved.{FitsSpare, SetsNoCell, SpendsFlush, with_reserved, with_room};
 ghost use Rattle.bk_pool.specs.Pool.{IsFound};
@@ -48,6 +48,7 @@ impl Paged {
         ensures never_lowered { (self.old.log.spare_bytes ≤ self.new.log.spare_bytes) × (self.old.log.spare_flushes ≤ self.new.log.spare_flushes) }
         ensures same { self.new ≡ with_room self.old self.new.log.gate.spare self.new.log.spare_bytes self.new.log.spare_flushes }
         ensures stands { D.tells → (stood : Stood) → IsPaged (D.disk _dev.now) self.old stood → IsPaged (D.disk _dev.now) self.new stood }
+        ensures standing { D.tells → Standing (D.disk _dev.now) self.old → Standing (D.disk _dev.now) self.new }
         ensures err { OnErr result (self.new ≡ self.old) }
     {
         self.log.reserve(bytes, flushes)
@@ -60,6 +61,7 @@ impl Paged {
         requires bytes { FitsSpare self.old r.now }
         ensures same { self.new ≡ with_reserved self.old r.now }
         ensures stands { D.tells → (stood : Stood) → IsPaged (D.disk _dev.now) self.old stood → IsPaged (D.disk _dev.now) self.new (with_one stood r.now) }
+        ensures standing { D.tells → Standing (D.disk _dev.now) self.old → Standing (D.disk _dev.now) self.new }
     {
         undoing_law();
         self.log.append_reserved(r);
@@ -73,11 +75,13 @@ impl Paged {
         requires stands { D.tells → IsLog (D.disk dev.old) self.old.log }
         ensures fit { OnOk result (self.new.failed ≡ false) }
         ensures stands { D.tells → (stood : Stood) → IsPaged (D.disk dev.old) self.old stood → OnOk result (IsPaged (D.disk dev.new) self.new stood) }
+        ensures standing { D.tells → Standing (D.disk dev.old) self.old → OnOk result (Standing (D.disk dev.new) self.new) }
         ensures same { OnOk result (self.new ≡ record self.old { log = self.new.log }) }
         ensures sealed { OnOk result ((self.new.log.db ≡ self.old.log.db) × (self.new.log.end ≡ self.old.log.end) × (self.new.log.stored ≡ self.old.log.end) × (self.new.log.waiting ≡ [])) }
         ensures kept { OnOk result (self.new.log.head.kept ≡ self.old.log.head.kept) }
         ensures spare { OnOk result ((self.new.log.spare_bytes ≡ self.old.log.spare_bytes) × (self.new.log.spare_flushes + 1 ≡ self.old.log.spare_flushes)) }
         ensures crash { D.tells → (stood : Stood) → IsPaged (D.disk dev.old) self.old stood → Effect (IsOwn self.old.log.db stood.files) (Leaves self.old.log.db (sealed_count self.old) stood) (D.disk dev.old) (D.disk dev.new) }
+        ensures touches { D.tells → Touches self.old (D.disk dev.old) (D.disk dev.new) }
         ensures cause { HasCause D.disk_faults D.tell_faults dev.old dev.new (IsErr result) }
     {
         self.log.flush_reserved(dev)?;
@@ -88,16 +92,18 @@ impl Paged {
     fn write_all_reserved<D: Device>(&mut self, dev: &mut D) -> Result<(), PagedError>
         requires fit { self.old.failed ≡ false }
         requires flush { 1 ≤ self.old.log.spare_flushes }
-        requires stands { D.tells → (stood : Stood) × IsPaged (D.disk dev.old) self.old stood }
+        requires standing { D.tells → Standing (D.disk dev.old) self.old }
         ensures fit { OnOk result (self.new.failed ≡ false) }
         ensures same { OnOk result (self.new ≡ record self.old { log = self.new.log; side = self.new.side; pool = self.new.pool; since = self.old.log.end }) }
         ensures ends { OnOk result ((self.new.log.db ≡ self.old.log.db) × (self.new.log.end ≡ self.old.log.end) × (self.new.log.stored ≡ self.old.log.end) × (self.new.log.head.kept ≡ self.old.log.head.kept)) }
         ensures spare { OnOk result (SpendsFlush self.old self.new) }
         ensures clean { OnOk result (AreClean self.new.pool) }
         ensures stands { D.tells → (stood : Stood) → IsPaged (D.disk dev.old) self.old stood → OnOk result (IsPaged (D.disk dev.new) self.new stood) }
+        ensures standing { D.tells → OnOk result (Standing (D.disk dev.new) self.new) }
         ensures foreign { IsErrOf result PagedError.Foreign → ⊥ }
         ensures memory { IsErrOf result PagedError.NoMemory → ⊥ }
         ensures crash { D.tells → (stood : Stood) → IsPaged (D.disk dev.old) self.old stood → Effect (IsOwn self.old.log.db stood.files) (Leaves self.old.log.db (sealed_count self.old) stood) (D.disk dev.old) (D.disk dev.new) }
+        ensures touches { D.tells → Touches self.old (D.disk dev.old) (D.disk dev.new) }
         ensures cause { HasCause D.disk_faults D.tell_faults dev.old dev.new (IsErrOf result PagedError.Fault) }
     {
         self.flush_reserved(dev)?;
@@ -115,16 +121,18 @@ impl Paged {
         requires fit { self.old.failed ≡ false }
         requires there { IsThere self.old.facts.files (record { file = file; page = page }) }
         requires flush { 1 ≤ self.old.log.spare_flushes }
-        requires stands { D.tells → (stood : Stood) × IsPaged (D.disk dev.old) self.old stood }
+        requires standing { D.tells → Standing (D.disk dev.old) self.old }
         ensures fit { OnOk result (self.new.failed ≡ false) }
         ensures found { IfOk result (λ i. IsFound self.new.pool.pages file page i) }
         ensures same { OnOk result ((self.new.log.db ≡ self.old.log.db) × (self.new.log.end ≡ self.old.log.end) × (self.new.log.head.kept ≡ self.old.log.head.kept) × (self.new.facts ≡ self.old.facts)) }
         ensures spare { OnOk result (SpendsFlush self.old self.new) }
         ensures stands { D.tells → (stood : Stood) → IsPaged (D.disk dev.old) self.old stood → OnOk result (IsPaged (D.disk dev.new) self.new stood) }
+        ensures standing { D.tells → OnOk result (Standing (D.disk dev.new) self.new) }
         ensures later { D.tells → (stood : Stood) → IsPaged (D.disk dev.old) self.old stood → OnOk result (self.old.log.stored ≤ self.new.log.stored) }
-        ensures foreign { D.tells → IsErrOf result PagedError.Foreign → ⊥ }
+        ensures foreign { D.tells → IsErrOf result PagedError.Foreign → (stood : Stood) → IsPaged (D.disk dev.old) self.old stood → ⊥ }
         ensures memory { IsErrOf result PagedError.NoMemory → ⊥ }
         ensures crash { D.tells → (stood : Stood) → IsPaged (D.disk dev.old) self.old stood → Effect (IsOwn self.old.log.db stood.files) (Leaves self.old.log.db (sealed_count self.old) stood) (D.disk dev.old) (D.disk dev.new) }
+        ensures touches { D.tells → Touches self.old (D.disk dev.old) (D.disk dev.new) }
         ensures cause { HasCause D.disk_faults D.tell_faults dev.old dev.new (IsErrOf result PagedError.Fault) }
     {
         if let Some(i) = self.frame_of(dev, file, page)? {
@@ -142,15 +150,17 @@ impl Paged {
         requires fit { self.old.failed ≡ false }
         requires may { MayAppend self.old r.now }
         requires flush { 1 ≤ self.old.log.spare_flushes }
-        requires stands { D.tells → (stood : Stood) × IsPaged (D.disk dev.old) self.old stood }
+        requires standing { D.tells → Standing (D.disk dev.old) self.old }
         ensures fit { OnOk result (self.new.failed ≡ false) }
         ensures same { OnOk result ((self.new.log.db ≡ self.old.log.db) × (self.new.log.end ≡ self.old.log.end) × (self.new.log.head.kept ≡ self.old.log.head.kept) × (self.new.facts ≡ self.old.facts)) }
         ensures spare { OnOk result (SpendsFlush self.old self.new) }
         ensures stands { D.tells → IsRecord r.now → (stood : Stood) → IsPaged (D.disk dev.old) self.old stood → OnOk result (IsPaged (D.disk dev.new) (with_waiting self.new r.now) (with_one stood r.now)) }
+        ensures standing { D.tells → OnOk result (Standing (D.disk dev.new) self.new) }
         ensures later { D.tells → (stood : Stood) → IsPaged (D.disk dev.old) self.old stood → OnOk result (self.old.log.stored ≤ self.new.log.stored) }
-        ensures foreign { D.tells → IsErrOf result PagedError.Foreign → ⊥ }
+        ensures foreign { D.tells → IsErrOf result PagedError.Foreign → (stood : Stood) → IsPaged (D.disk dev.old) self.old stood → ⊥ }
         ensures memory { IsErrOf result PagedError.NoMemory → ⊥ }
         ensures crash { D.tells → (stood : Stood) → IsPaged (D.disk dev.old) self.old stood → Effect (IsOwn self.old.log.db stood.files) (Leaves self.old.log.db (sealed_count self.old) stood) (D.disk dev.old) (D.disk dev.new) }
+        ensures touches { D.tells → Touches self.old (D.disk dev.old) (D.disk dev.new) }
         ensures cause { HasCause D.disk_faults D.tell_faults dev.old dev.new (IsErrOf result PagedError.Fault) }
     {
         undoing_law();
@@ -170,15 +180,17 @@ impl Paged {
         requires may { MayAppend self.old r.now }
         requires bytes { FitsSpare self.old r.now }
         requires flush { 1 ≤ self.old.log.spare_flushes }
-        requires stands { D.tells → (stood : Stood) × IsPaged (D.disk dev.old) self.old stood }
+        requires standing { D.tells → Standing (D.disk dev.old) self.old }
         ensures fit { OnOk result (self.new.failed ≡ false) }
         ensures ends { OnOk result ((self.new.log.db ≡ self.old.log.db) × (self.new.log.end ≡ self.old.log.end + 1) × (self.new.log.head.kept ≡ self.old.log.head.kept) × (self.new.facts ≡ self.old.facts)) }
         ensures spare { OnOk result ((self.new.log.spare_bytes ≡ self.old.log.spare_bytes - length (spelling r.now)) × (self.old.log.spare_flushes ≤ self.new.log.spare_flushes + 1) × (self.new.log.spare_flushes ≤ self.old.log.spare_flushes)) }
         ensures stands { D.tells → (stood : Stood) → IsPaged (D.disk dev.old) self.old stood → OnOk result (IsPaged (D.disk dev.new) self.new (with_one stood r.now)) }
+        ensures standing { D.tells → OnOk result (Standing (D.disk dev.new) self.new) }
         ensures later { D.tells → (stood : Stood) → IsPaged (D.disk dev.old) self.old stood → OnOk result (self.old.log.stored ≤ self.new.log.stored) }
-        ensures foreign { D.tells → IsErrOf result PagedError.Foreign → ⊥ }
+        ensures foreign { D.tells → IsErrOf result PagedError.Foreign → (stood : Stood) → IsPaged (D.disk dev.old) self.old stood → ⊥ }
         ensures memory { IsErrOf result PagedError.NoMemory → ⊥ }
         ensures crash { D.tells → (stood : Stood) → IsPaged (D.disk dev.old) self.old stood → Effect (IsOwn self.old.log.db stood.files) (Leaves self.old.log.db (sealed_count self.old) stood) (D.disk dev.old) (D.disk dev.new) }
+        ensures touches { D.tells → Touches self.old (D.disk dev.old) (D.disk dev.new) }
         ensures cause { HasCause D.disk_faults D.tell_faults dev.old dev.new (IsErrOf result PagedError.Fault) }
     {
         self.set_page_reserved(dev, r)?;

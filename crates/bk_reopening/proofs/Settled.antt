@@ -1,9 +1,9 @@
 -- A log with all that is pending undone, in its files and in memory.
 use Rattle.std.proofs.Common.{◌≡◌, ◌≤◌, ◌<◌, ◌^◌, ℕ, ◌+◌, ◌-◌, List, [], ◌∷◌, ◌++◌, length, map, drop, None, refl, sym, ◌∙◌, ap, subst, arith}
 use Rattle.std.specs.List.{AllByRecursion}
-use Rattle.std.proofs.lemmas.List.{append-nil, drop-map, length-drop, length-map, take-append-drop, take_all}
+use Rattle.std.proofs.lemmas.List.{append-nil, drop-drop, drop-map, length-drop, length-map, take-append-drop}
 use Rattle.bk_cells.specs.Cells.{cell_of}
-use Rattle.bk_cells.specs.Laws.{CellsAreOnPages, CellsAreRows}
+use Rattle.bk_cells.specs.Laws.{CellsAreRows}
 use Rattle.bk_device.specs.Compose.{effect_weaken}
 use Rattle.bk_device.specs.Disk.{Disk}
 use Rattle.bk_device.specs.Effects.{Effect}
@@ -12,9 +12,9 @@ use Rattle.bk_ids.specs.declared.record.Rec.{Rec}
 use Rattle.bk_known.specs.declared.known.Known.{Known}
 use Rattle.bk_paged.specs.Holds.{Leaves, Stood, recovered}
 use Rattle.bk_paged.specs.Names.{IsOwn}
-use Rattle.bk_paged.specs.Paged.{IsPaged, from_to, Kept as KeptPaged}
+use Rattle.bk_paged.specs.Paged.{IsPaged, Kept as KeptPaged}
 use Rattle.bk_paths.specs.Laws.{SettlesAsTheMachine}
-use Rattle.bk_paths.specs.Paths.{end_of}
+use Rattle.bk_paths.specs.Paths.{kept_from}
 use Rattle.bk_record.specs.Log.{IsLog}
 use Rattle.bk_shown.specs.Shown.{ArePlaced, IsOf, LieInCells, LogKeeps}
 use Rattle.bk_shown.specs.Ends.{HoldsPending}
@@ -36,8 +36,6 @@ use Rattle.bk_store.specs.Told.{IsLogIn, IsNoted, LeavesRecords, Told, below, da
 use Rattle.bk_store.specs.declared.recent.Recent.{Recent}
 use Rattle.bk_reopening.specs.Cells.{AreAll, DontFall}
 use Rattle.bk_reopening.specs.Reopening.{IsQuiet, IsSettled, SaysAsOf, settled}
-use Rattle.bk_reopening.proofs.Pages.{pool-holds}
-use Rattle.bk_reopening.proofs.Fits.{cells-fit}
 use Rattle.bk_reopening.proofs.Rows.{rows-are, rows-rise}
 
 -- laws of logs in their places
@@ -90,51 +88,36 @@ crash-settled law laws db known told a b noted log effect =
 
 -- ---- what is read
 
-from-there : (from to : ℕ) (rs : List Logged) → 1 ≤ from → from ≤ to → to ≡ end_of (map spelled rs) → from_to from to (map spelled rs) ≡ map spelled (drop (from - 1) rs)
-from-there from to rs some order ends =
-    let rest : List Rec = drop (from - 1) (map spelled rs) in
-    take_all (to - from) rest (omega (arith, length-drop (from - 1) (map spelled rs), ends, some, order)) ∙ drop-map spelled (from - 1) rs
+-- the records that the log holds behind some of them
+behind-held : (kept from : ℕ) (rs : List Logged) → 1 ≤ kept → kept ≤ from → drop (from - kept) (kept_from kept (map spelled rs)) ≡ map spelled (drop (from - 1) rs)
+behind-held kept from rs some order =
+    drop-drop (from - kept) (kept - 1) (map spelled rs) ∙ ap (λ (n : ℕ). drop n (map spelled rs)) (omega (arith, some, order)) ∙ drop-map spelled (from - 1) rs
+
+-- there are so many of them
+pub held-enough : (p : KeptPaged) (bytes : List ℕ) (known : Known) (told : Told) → IsSettled p bytes known told → known.as_of.from ≤ p.log.stored → known.as_of.from - p.log.head.kept ≤ length (kept_from p.log.head.kept (map spelled told.records))
+held-enough p bytes known told is low =
+    omega (arith, is.some, is.needs, low, is.sealed, is.ends, length-drop (p.log.head.kept - 1) (map spelled told.records), length-map told.records spelled)
 
 -- the end of the log is spelled, and its front says what the note says
-pub says-front : (known : Known) (told : Told) (d : Disk) (p : KeptPaged) (bytes : List ℕ) (first : Recent) → IsSettled d p known told → known.as_of.from ≤ p.log.stored
-    → IsLog bytes (from_to known.as_of.from p.log.stored (map spelled told.records)) None → SaysAsOf known.as_of first → SaysFront told.records bytes first
-says-front known told d p bytes first is low here own = record {
+pub says-front : (p : KeptPaged) (bytes : List ℕ) (known : Known) (told : Told) (rest : List ℕ) (first : Recent) → IsSettled p bytes known told
+    → IsLog rest (drop (known.as_of.from - p.log.head.kept) (kept_from p.log.head.kept (map spelled told.records))) None → SaysAsOf known.as_of first → SaysFront told.records rest first
+says-front p bytes known told rest first is here own = record {
   front = below known.as_of.from told.records;
   left = drop (known.as_of.from - 1) told.records;
   splits = sym (take-append-drop (known.as_of.from - 1) told.records);
-  spells = subst (λ (rs : List Rec). IsLog bytes rs None) (from-there known.as_of.from p.log.stored told.records is.noted.as_of.some low (is.sealed ∙ is.stands.ends)) here;
+  spells = subst (λ (rs : List Rec). IsLog rest rs None) (behind-held p.log.head.kept known.as_of.from told.records is.some is.needs) here;
   says = record { tables = own.tables ∙ is.noted.as_of.tables; model = own.model ∙ is.noted.as_of.model; time = own.time ∙ is.noted.as_of.time };
 }
 
--- the same of bytes that were read
-pub says-read : (known : Known) (told : Told) (d : Disk) (p : KeptPaged) (items bytes : List ℕ) (to : ℕ) (first : Recent) → IsSettled d p known told → known.as_of.from ≤ p.log.stored → bytes ≡ items → to ≡ p.log.stored
-    → IsLog items (from_to known.as_of.from to (map spelled told.records)) None → SaysAsOf known.as_of first → SaysFront told.records bytes first
-says-read known told d p items bytes to first is low read ends here own =
-    let Read : List ℕ → ℕ → Type 0 = λ bs n. IsLog bs (from_to known.as_of.from n (map spelled told.records)) None in
-    says-front known told d p bytes first is low (subst (λ (bs : List ℕ). Read bs p.log.stored) (sym read) (subst (Read items) ends here)) own
-
--- the log holds what the note needs, and it is durable
-pub needs-kept : (d : Disk) (p : KeptPaged) (known : Known) (told : Told) → IsSettled d p known told → p.log.head.kept ≤ known.as_of.from
-needs-kept d p known told is = is.stands.needs
-
-pub needs-durable : (d : Disk) (p : KeptPaged) (known : Known) (told : Told) → IsSettled d p known told → known.as_of.from ≤ p.log.stored
-needs-durable d p known told is = omega (arith, is.noted.as_of.inside, is.sealed, is.stands.ends, length-map told.records spelled)
+-- what the note says is durable
+pub needs-durable : (p : KeptPaged) (bytes : List ℕ) (known : Known) (told : Told) → IsSettled p bytes known told → known.as_of.from ≤ p.log.stored
+needs-durable p bytes known told is = omega (arith, is.noted.as_of.inside, is.sealed, is.ends)
 
 -- ---- what is shown
 
 -- log and pages in memory are those of a log in which nothing is pending
-pub is-quiet : CellsAreOnPages → (known : Known) (told : Told) (d : Disk) (p : KeptPaged) (r : Recent) → IsSettled d p known told → Says told.records r → IsQuiet (files_of told) told.records p r
-is-quiet on known told d p r is says =
-    let rs : List Logged = told.records in
-    record {
-      log = is.log;
-      quiet = is.quiet;
-      ends = omega (arith, is.stands.ends, length-map rs spelled);
-      files_are = is.stands.files;
-      pages = pool-holds on d p (stood_of known told) rs refl (placed-plain (files_of told) [] rs is.log.placed) (cells-fit (files_of told) rs is.log.sound is.log.placed) is.stands;
-      whole = is.whole;
-      says = says;
-    }
+pub is-quiet : (p : KeptPaged) (bytes : List ℕ) (known : Known) (told : Told) (r : Recent) → IsSettled p bytes known told → Says told.records r → IsQuiet (files_of told) told.records p r
+is-quiet p bytes known told r is says = record { log = is.log; quiet = is.quiet; ends = is.ends; files_are = is.files_are; pages = is.pages; whole = is.whole; says = says }
 
 -- no bytes hold all of what is pending where nothing is
 nothing-held : (rs : List Logged) → pending rs ≡ [] → HoldsPending rs (length rs + 1) []

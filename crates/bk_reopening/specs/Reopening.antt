@@ -9,9 +9,9 @@ use Rattle.bk_groups.specs.Groups.{AreFiles}
 use Rattle.bk_known.specs.declared.known.AsOf.{AsOf}
 use Rattle.bk_known.specs.declared.known.Known.{Known}
 use Rattle.bk_known.specs.Known.{IsKnown, KeepsKnown, known_bytes}
-use Rattle.bk_opening.specs.Opening.{AreIn}
+use Rattle.bk_opening.specs.Opening.{AreHeld, AreIn}
 use Rattle.bk_paged.specs.Names.{AreDurable, IsOwn}
-use Rattle.bk_paged.specs.Paged.{IsPaged, Kept as KeptPaged}
+use Rattle.bk_paged.specs.Paged.{Kept as KeptPaged}
 use Rattle.bk_storage.specs.Storage.{HasPath}
 use Rattle.bk_store.specs.Recent.{Says}
 use Rattle.bk_store.specs.Told.{HoldsRecords, IsLogIn, IsNoted, LeavesRecords, Told, data_file, data_files, files_of, stood_of}
@@ -73,13 +73,19 @@ pub record SaysAsOf (a : AsOf) (r : Recent) : Type 0 where
   pub model : r.model ≡ a.model
   pub time : r.time ≡ a.time
 
--- Log and pages in memory stand for a database in which nothing is pending: all records are durable, and each page lies in a frame.
-pub record IsSettled (disk : Disk) (p : KeptPaged) (known : Known) (told : Told) : Type 0 where
+-- What is in memory is a database in which nothing is pending: all records are durable, these bytes are those that the log holds, and each page lies in a frame.
+pub record IsSettled (p : KeptPaged) (bytes : List ℕ) (known : Known) (told : Told) : Type 0 where
   pub noted : IsNoted known told
   pub log : IsLogIn (files_of told) told.records
   pub quiet : pending told.records ≡ []
-  pub stands : IsPaged disk p (stood_of known told)
+  pub note : p.note ≡ known_bytes known ++ told.note
+  pub ends : p.log.end ≡ end_behind told.records
   pub sealed : p.log.stored ≡ p.log.end
+  pub needs : p.log.head.kept ≤ known.as_of.from
+  pub some : 1 ≤ p.log.head.kept
+  pub held : AreHeld p (stood_of known told) bytes
+  pub files_are : p.facts.files ≡ data_files told
+  pub pages : AreInPool (cell_of told.records) p.pool
   pub whole : AreIn p.facts.files p.pool
 
 -- The pages in memory are those of a log in which nothing is pending, and this is what it says of tables, model and time.

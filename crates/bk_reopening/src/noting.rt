@@ -1,21 +1,18 @@
 // What a database's note and the end of its log say of it.
-ghost use Rattle.std.specs.Prelude.{◌≡◌, ◌<◌, ◌≤◌, true, false, List, ℕ, length, IfOk, IsErrOf};
-ghost use Rattle.bk_device.specs.Calls.{ChangesNothing};
-ghost use Rattle.bk_device.specs.Counts.{HasCause};
+ghost use Rattle.std.specs.Prelude.{◌≡◌, ◌<◌, ◌≤◌, ◌-◌, true, false, List, ℕ, None, drop, length, IfOk, IsErrOf};
 ghost use Rattle.bk_groups.specs.Groups.{AreFiles};
 ghost use Rattle.bk_known.specs.Known.{FitsNote, KeepsKnown};
 ghost use Rattle.bk_known.specs.declared.known.Known.{Known as Knowns};
-ghost use Rattle.bk_log.specs.Log.{IsLog};
-ghost use Rattle.bk_paged.specs.Holds.{Stood};
-ghost use Rattle.bk_paged.specs.Paged.{IsPaged};
+ghost use Rattle.bk_ids.specs.declared.record.Rec.{Rec};
+ghost use Rattle.bk_record.specs.Log.{IsLog};
 ghost use Rattle.bk_reopening.specs.Reopening.{IsFileBehind, IsNoteOf, IsSettled, KeepsFiles, SaysAsOf, Tells};
 ghost use Rattle.bk_store.specs.Recent.{Says};
 ghost use Rattle.bk_store.specs.Told.{Told};
 
 use crate::error::OpenError;
-use bk_device::Device;
 use bk_ids::Lsn;
 use bk_known::{AsOf, Known, read_known};
+use bk_log::behind_records;
 use bk_paged::Paged;
 use bk_store::{Recent, copy_tables, told_behind};
 use bk_world::{FileSpec, Storage};
@@ -115,27 +112,32 @@ fn has_from(paged: &Paged, from: Lsn) -> bool
     paged.kept() <= from && from <= paged.stored()
 }
 
-// Tables, model and last time as the durable records say, where the records below a number say what is known. `Foreign` is answered only where the log isn't that of a database. Changes nothing.
-pub fn recent_of<D: Device>(
+// The bytes of the records from a number on, of those that the log holds.
+fn records_from<'a>(paged: &Paged, records: &'a [u8], from: Lsn) -> &'a [u8]
+    requires { paged.now.log.head.kept ≤ from }
+    ensures { (rs : List Rec) → IsLog records.now rs None → from - paged.now.log.head.kept ≤ length rs → IsLog result.now (drop (from - paged.now.log.head.kept) rs) None }
+{
+    behind_records(records, from - paged.kept())
+}
+
+// Tables, model and last time as the records say that the log holds, all of them durable, where those below a number say what is known. `Foreign` is answered only where the log isn't that of a
+// database.
+pub fn recent_of(
     alloc: Global,
-    dev: &mut D,
     paged: &Paged,
+    records: &[u8],
     known: &Known,
 ) -> Result<Recent, OpenError>
-    requires fit { paged.now.failed ≡ false }
-    requires logs { D.tells → IsLog (D.disk dev.old) paged.now.log }
     ensures early { IfOk result (λ recent. known.now.as_of.from ≤ paged.now.log.stored) }
-    ensures says { D.tells → (told : Told) → IsSettled (D.disk dev.old) paged.now known.now told → IfOk result (Says told.records) }
-    ensures foreign { D.tells → IsErrOf result OpenError.Foreign → (told : Told) → IsSettled (D.disk dev.old) paged.now known.now told → ⊥ }
-    ensures stands { D.tells → (stood : Stood) → IsPaged (D.disk dev.old) paged.now stood → IsPaged (D.disk dev.new) paged.now stood }
-    ensures effect { D.tells → ChangesNothing (D.disk dev.old) (D.disk dev.new) }
-    ensures cause { HasCause D.disk_faults D.tell_faults dev.old dev.new (IsErrOf result OpenError.Fault) }
+    ensures says { (told : Told) → IsSettled paged.now records.now known.now told → IfOk result (Says told.records) }
+    ensures foreign { IsErrOf result OpenError.Foreign → (told : Told) → IsSettled paged.now records.now known.now told → ⊥ }
+    ensures fault { IsErrOf result OpenError.Fault → ⊥ }
 {
     if !has_from(paged, known.as_of.from) {
         return Err(OpenError::Foreign);
     }
-    let log = paged.log_bytes(alloc, dev, known.as_of.from, paged.stored())?;
+    let log = records_from(paged, records, known.as_of.from);
     let first = first_of(alloc, &known.as_of)?;
-    let recent = told_behind(alloc, first, &log)?;
+    let recent = told_behind(alloc, first, log)?;
     Ok(recent)
 }

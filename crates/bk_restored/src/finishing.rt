@@ -8,6 +8,7 @@ ghost use Rattle.bk_paged.specs.Names.{IsOwn};
 ghost use Rattle.bk_reopening.specs.Reopening.{IsClosed};
 ghost use Rattle.bk_restored.specs.Restored.{SufficesTold};
 ghost use Rattle.bk_restoring.specs.Arriving.{IsArriving, IsBegun};
+ghost use Rattle.bk_segments.specs.Files.{AreDurable as LogsAreDurable};
 ghost use Rattle.bk_store.specs.Told.{Told};
 
 use bk_device::Device;
@@ -17,7 +18,7 @@ use bk_restoring::{Arriving, FillError};
 use std::alloc::Global;
 
 /// Puts the control record of a database that has arrived, with the number of its latest checkpoint, what is known of it, and these bytes, at most 12,288, as the note of the layer above: then nothing is pending
-/// in its files, and they hold each database for which pages and records suffice. All pages are there. What is pending in its log is undone when it is opened.
+/// in its files, where nothing was in those of its log before, and they hold each database for which pages and records suffice. All pages are there. What is pending in its log is undone when it is opened.
 ///
 /// After an error the files may hold anything.
 pub fn finish<D: Device>(
@@ -32,7 +33,7 @@ pub fn finish<D: Device>(
     requires keeps { KeepsKnown known.now }
     requires short { length note.now ≤ 12288 }
     requires stands { D.tells → IsBegun (D.disk dev.old) arriving }
-    ensures closed { D.tells → (given : ℕ × ℕ → List ℕ) (records : List Rec) (told : Told) → IsArriving (D.disk dev.old).files arriving given records → SufficesTold arriving checkpoint note.now given records known.now told
+    ensures closed { D.tells → LogsAreDurable arriving.log.db (D.disk dev.old) → (given : ℕ × ℕ → List ℕ) (records : List Rec) (told : Told) → IsArriving (D.disk dev.old).files arriving given records → SufficesTold arriving checkpoint note.now given records known.now told
         → OnOk result (IsClosed arriving.log.db told (D.disk dev.new)) }
     ensures crash { D.tells → Effect (IsOwn arriving.log.db arriving.filling.files) (λ _. Unit {0}) (D.disk dev.old) (D.disk dev.new) }
     ensures cause { HasCause D.disk_faults D.tell_faults dev.old dev.new (IsErrOf result FillError.Fault) }

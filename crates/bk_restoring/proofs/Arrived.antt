@@ -29,6 +29,7 @@ use Rattle.bk_side.specs.BatchLaws.{content_at}
 use Rattle.bk_side.specs.Laws.{plain}
 use Rattle.bk_side.specs.Names.{AreDifferent, IsData, data_file, name_of, side_file, IsOwn as IsOfSide}
 use Rattle.bk_side.specs.Pages.{page_in, page_of}
+use Rattle.bk_side.specs.Side.{AreDurable as PagesAreDurable}
 use Rattle.bk_restoring.specs.Arriving.{IsArriving, IsBegun, Kept, Suffices}
 
 -- ---- names
@@ -52,6 +53,10 @@ pages_keep db files a b effect = keeps_by_effect (λ name side log. apart db fil
 
 gone_kept : (names : List ℕ → Type 0) (a b : Disk) → KeepsFiles names a b → AreGone names a → AreGone names b
 gone_kept names a b keeps gone name at = (keeps.same name at ∙ (gone name at).0, durable_kept {names = names} name at keeps (gone name at).1)
+
+-- so nothing is pending in the log where nothing was
+pub logs_durable : {P : Files → Type 0} (db : ℕ) (files : List DataFile) (a b : Disk) → Effect (IsData (names_of files)) P a b → LogsAreDurable db a → LogsAreDurable db b
+logs_durable db files a b effect are name own = durable_kept {names = IsOfLog db} name own (log_keeps db files a b effect) (are name own)
 
 -- ---- at first
 
@@ -105,14 +110,11 @@ log_arrives k next given old new a b effect has is = record {
 
 -- ---- at the end
 
--- nothing is pending
-pub all_durable : (k : Kept) (a b : Disk) → k.filling.whole ≡ length k.filling.files → IsBegun a k → Effect (IsOfLog k.log.db) (λ _. Unit {0}) a b → LogsAreDurable k.log.db b → AreDurable k.log.db k.filling.files b
-all_durable k a b whole is effect logs name own = elim own [
-  | inl log ↦ logs name log
-  | inr side ↦ elim side [
-    | inl is_side ↦ (gone_kept (IsName (side_file k.log.db)) a b (keeps_by_effect (λ n at log. apart k.log.db k.filling.files n log (inl at)) effect) is.side name is_side).1
-    | inr at ↦ durable_kept {names = IsData (names_of k.filling.files)} name at (data_keeps k.log.db k.filling.files a b effect) (data_durable at.0 at.1)
-  ]
+-- nothing is pending in data files and side file
+pub pages_durable : (k : Kept) (a b : Disk) → k.filling.whole ≡ length k.filling.files → IsBegun a k → Effect (IsOfLog k.log.db) (λ _. Unit {0}) a b → PagesAreDurable (IsOfSide (side_file k.log.db) (names_of k.filling.files)) b
+pages_durable k a b whole is effect name side = elim side [
+  | inl is_side ↦ (gone_kept (IsName (side_file k.log.db)) a b (keeps_by_effect (λ n at log. apart k.log.db k.filling.files n log (inl at)) effect) is.side name is_side).1
+  | inr at ↦ durable_kept {names = IsData (names_of k.filling.files)} name at (data_keeps k.log.db k.filling.files a b effect) (data_durable at.0 at.1)
 ]
   where
     data_durable : (file : ℕ) → name_of (names_of k.filling.files) file ≡ Some name → IsDurable a name
@@ -129,6 +131,13 @@ all_durable k a b whole is effect logs name own = elim own [
           let both : ◌≡◌ {A = Option (List ℕ)} (Some name) None = sym at ∙ none in
           absurd cc
     ]
+
+-- and nothing at all, where that is so in the log
+pub all_durable : (k : Kept) (a b : Disk) → k.filling.whole ≡ length k.filling.files → IsBegun a k → Effect (IsOfLog k.log.db) (λ _. Unit {0}) a b → LogsAreDurable k.log.db b → AreDurable k.log.db k.filling.files b
+all_durable k a b whole is effect logs name own = elim own [
+  | inl log ↦ logs name log
+  | inr side ↦ pages_durable k a b whole is effect name side
+]
 
 -- what the files show where no side file is there
 no_batch : (f : Option (List ℕ)) → f ≡ None → sealed f ≡ []

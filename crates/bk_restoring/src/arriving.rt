@@ -7,9 +7,11 @@ ghost use Rattle.bk_filling.specs.Records.{Spell};
 ghost use Rattle.bk_ids.specs.declared.record.Rec.{Rec};
 ghost use Rattle.bk_page.specs.Page.{fresh_page};
 ghost use Rattle.bk_paged.specs.Holds.{Holds, Stood};
-ghost use Rattle.bk_paged.specs.Names.{AreDurable, IsOwn};
+ghost use Rattle.bk_paged.specs.Names.{AreDurable, IsOwn, names_of};
 ghost use Rattle.bk_restoring.specs.Arriving.{IsArriving, IsBegun, Kept, Suffices};
-ghost use Rattle.bk_segments.specs.Files.{AreDurable as LogsAreDurable};
+ghost use Rattle.bk_segments.specs.Files.{AreDurable as LogsAreDurable, AreSettled};
+ghost use Rattle.bk_side.specs.Names.{side_file, IsOwn as IsOfSide};
+ghost use Rattle.bk_side.specs.Side.{AreDurable as PagesAreDurable};
 
 use bk_device::{Device, Failed};
 use bk_facts::{DataFile, Facts, spell_note};
@@ -37,7 +39,7 @@ impl Model for Arriving {
 
 impl Arriving {
     /// Begins the database of this number with these data files, in place of what was there, with no page and no record; the first record will have the number `kept`. The data files are at most 16, each
-    /// with a path of 1 to 100 bytes and at least one page, no two with one path. Nothing is pending in the log's files.
+    /// with a path of 1 to 100 bytes and at least one page, no two with one path.
     pub fn begin<D: Device>(
         alloc: Global,
         dev: &mut D,
@@ -45,13 +47,13 @@ impl Arriving {
         kept: Lsn,
         files: Vec<DataFile>,
     ) -> Result<Arriving, FillError>
-        requires may { MayFill files.items }
-        requires durable { D.tells → LogsAreDurable db (D.disk dev.old) }
+        requires { MayFill files.items }
         ensures numbers { IfOk result (λ a. (a.log.db ≡ db) × (a.log.kept ≡ kept)) }
         ensures filling { IfOk result (λ a. a.filling ≡ begun files.items) }
         ensures fit { IfOk result (λ a. a.log.gate.failed ≡ false) }
         ensures stands { D.tells → IfOk result (λ a. IsBegun (D.disk dev.new) a) }
         ensures none { D.tells → (given : ℕ × ℕ → List ℕ) → IfOk result (λ a. IsArriving (D.disk dev.new).files a given []) }
+        ensures durable { D.tells → LogsAreDurable db (D.disk dev.old) → OnOk result (LogsAreDurable db (D.disk dev.new)) }
         ensures crash { D.tells → Effect (IsOwn db files.items) (λ _. Unit {0}) (D.disk dev.old) (D.disk dev.new) }
         ensures cause { HasCause D.disk_faults D.tell_faults dev.old dev.new (IsErrOf result FillError.Fault) }
     {
@@ -85,6 +87,7 @@ impl Arriving {
         ensures next { OnOk result (self.new ≡ record self.old { filling = one_more self.old.filling }) }
         ensures stands { D.tells → OnOk result (IsBegun (D.disk dev.new) self.new) }
         ensures arrives { D.tells → (given : ℕ × ℕ → List ℕ) (records : List Rec) → IsArriving (D.disk dev.old).files self.old given records → given (place_of self.old.filling) ≡ bytes.now → OnOk result (IsArriving (D.disk dev.new).files self.new given records) }
+        ensures durable { D.tells → LogsAreDurable self.old.log.db (D.disk dev.old) → OnOk result (LogsAreDurable self.old.log.db (D.disk dev.new)) }
         ensures crash { D.tells → Effect (IsOwn self.old.log.db self.old.filling.files) (λ _. Unit {0}) (D.disk dev.old) (D.disk dev.new) }
         ensures cause { HasCause D.disk_faults D.tell_faults dev.old dev.new (IsErr result) }
     {
@@ -99,6 +102,7 @@ impl Arriving {
         ensures next { OnOk result (self.new ≡ record self.old { filling = one_more self.old.filling }) }
         ensures stands { D.tells → OnOk result (IsBegun (D.disk dev.new) self.new) }
         ensures arrives { D.tells → (given : ℕ × ℕ → List ℕ) (records : List Rec) → IsArriving (D.disk dev.old).files self.old given records → given (place_of self.old.filling) ≡ fresh_page (self.old.filling.whole + 1) self.old.filling.page → OnOk result (IsArriving (D.disk dev.new).files self.new given records) }
+        ensures durable { D.tells → LogsAreDurable self.old.log.db (D.disk dev.old) → OnOk result (LogsAreDurable self.old.log.db (D.disk dev.new)) }
         ensures crash { D.tells → Effect (IsOwn self.old.log.db self.old.filling.files) (λ _. Unit {0}) (D.disk dev.old) (D.disk dev.new) }
         ensures cause { HasCause D.disk_faults D.tell_faults dev.old dev.new (IsErr result) }
     {
@@ -122,6 +126,7 @@ impl Arriving {
         ensures fit { OnOk result (self.new.log.gate.failed ≡ false) }
         ensures stands { D.tells → OnOk result (IsBegun (D.disk dev.new) self.new) }
         ensures arrives { D.tells → (given : ℕ × ℕ → List ℕ) (records more : List Rec) → IsArriving (D.disk dev.old).files self.old given records → Spell bytes.now (self.old.log.kept + length records) more → OnOk result (IsArriving (D.disk dev.new).files self.new given (records ++ more)) }
+        ensures durable { D.tells → LogsAreDurable self.old.log.db (D.disk dev.old) → OnOk result (LogsAreDurable self.old.log.db (D.disk dev.new)) }
         ensures crash { D.tells → Effect (IsOwn self.old.log.db self.old.filling.files) (λ _. Unit {0}) (D.disk dev.old) (D.disk dev.new) }
         ensures cause { HasCause D.disk_faults D.tell_faults dev.old dev.new (IsErrOf result FillError.Fault) }
     {
@@ -129,8 +134,8 @@ impl Arriving {
         Ok(())
     }
 
-    /// Puts the control record, with the number of the latest checkpoint and these bytes, at most 30,720, as the note of the layer above: then nothing is pending, and the files hold each database for
-    /// which pages and records suffice. All pages are there.
+    /// Puts the control record, with the number of the latest checkpoint and these bytes, at most 30,720, as the note of the layer above: then nothing is pending in its pages and in what counts of its log,
+    /// and the files hold each database for which pages and records suffice. All pages are there.
     pub fn finish<D: Device>(
         self,
         alloc: Global,
@@ -141,7 +146,9 @@ impl Arriving {
         requires whole { self.filling.whole ≡ length self.filling.files }
         requires short { length note.now ≤ 30720 }
         requires stands { D.tells → IsBegun (D.disk dev.old) self }
-        ensures durable { D.tells → OnOk result (AreDurable self.log.db self.filling.files (D.disk dev.new)) }
+        ensures settled { D.tells → OnOk result (AreSettled self.log.db (D.disk dev.new)) }
+        ensures pages { D.tells → OnOk result (PagesAreDurable (IsOfSide (side_file self.log.db) (names_of self.filling.files)) (D.disk dev.new)) }
+        ensures durable { D.tells → LogsAreDurable self.log.db (D.disk dev.old) → OnOk result (AreDurable self.log.db self.filling.files (D.disk dev.new)) }
         ensures holds { D.tells → (given : ℕ × ℕ → List ℕ) (records : List Rec) (stood : Stood) → IsArriving (D.disk dev.old).files self given records → Suffices self checkpoint note.now given records stood → OnOk result (Holds self.log.db stood (D.disk dev.new).files) }
         ensures crash { D.tells → Effect (IsOwn self.log.db self.filling.files) (λ _. Unit {0}) (D.disk dev.old) (D.disk dev.new) }
         ensures cause { HasCause D.disk_faults D.tell_faults dev.old dev.new (IsErrOf result FillError.Fault) }

@@ -1,10 +1,9 @@
 -- Counting the segments below a number.
-use Rattle.std.proofs.Common.{◌≡◌, ◌⊎◌, ◌≤◌, ◌<◌, ℕ, zero, suc, ◌+◌, ◌-◌, List, [], length, Some, refl, inl, inr, sym, ap, subst, ◌∙◌, arith}
+use Rattle.std.proofs.Common.{◌≡◌, ◌⊎◌, ◌≤◌, ◌<◌, ℕ, ◌+◌, List, length, Some, refl, inl, inr, sym, ap, subst, ◌∙◌, arith}
 use Rattle.bk_lemmas.specs.Tests.{equal_or_not}
 use Rattle.bk_segments.specs.declared.segments.Segment.{Segment}
 use Rattle.bk_segments.specs.Files.{BeginsAt}
 use Rattle.bk_segments.specs.SegmentLaws.{Below}
-use Rattle.bk_bytes.specs.Codec.{◌>>=◌}
 
 -- a segment begins with one record
 pub begins_once : (segments : List Segment) (i m n : ℕ) → BeginsAt segments i m → BeginsAt segments i n → n ≡ m

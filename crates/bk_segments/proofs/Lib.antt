@@ -4,4 +4,5 @@ pub mod Heads
 pub mod Joined
 pub mod Makes
 pub mod Removals
+pub mod Settled
 pub mod Walks

@@ -1,5 +1,5 @@
 -- What making the files of a log did to the device.
-use Rattle.std.proofs.Common.{◌≡◌, ◌⊎◌, ℕ, ◌+◌, ◌-◌, List, [], ◌∷◌, ◌++◌, map, Some, None, refl, inl, inr, sym, ap, subst, ◌∙◌, arith}
+use Rattle.std.proofs.Common.{◌≡◌, ◌⊎◌, ℕ, List, [], ◌∷◌, ◌++◌, map, Some, None, refl, inl, inr, sym, ap, subst, ◌∙◌, arith}
 use Rattle.bk_control.specs.Control.{IsControl, control_value, control_durable, Kept as KeptControl}
 use Rattle.bk_control.specs.Slots.{control_of}
 use Rattle.bk_device.specs.Calls.{contents}

@@ -1,6 +1,5 @@
 -- What removing segments did to the device.
 use Rattle.std.proofs.Common.{◌≡◌, ◌≤◌, ◌<◌, ℕ, zero, suc, ◌+◌, List, [], ◌∷◌, length, Some, None, refl, inl, inr, sym, ap, subst, ◌∙◌, arith}
-use Rattle.bk_bytes.specs.Codec.{◌>>=◌}
 use Rattle.bk_device.specs.Compose.{effect_then, effect_widen, effect_none}
 use Rattle.bk_device.specs.Disk.{Files, Disk}
 use Rattle.bk_device.specs.Effects.{Effect, IsName}

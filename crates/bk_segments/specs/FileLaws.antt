@@ -1,5 +1,5 @@
 -- The names of a log's files, and what the files show.
-use Rattle.std.proofs.Common.{◌≡◌, ◌≤◌, ◌<◌, ◌^◌, ℕ, zero, suc, ◌+◌, ◌-◌, List, [], ◌∷◌, ◌++◌, length, drop, get_or, Option, Some, None, refl, sym, ap, subst, ◌∙◌, arith, append_assoc, add-one}
+use Rattle.std.proofs.Common.{◌≡◌, ◌≤◌, ◌<◌, ◌^◌, ℕ, zero, suc, ◌+◌, ◌-◌, List, [], ◌∷◌, ◌++◌, length, drop, get_or, Option, Some, None, refl, inl, inr, sym, ap, subst, ◌∙◌, arith, append_assoc, add-one}
 use Rattle.std.specs.Fmt.{decimal}
 use Rattle.std.specs.Prelude.{codes}
 use Rattle.std.proofs.lemmas.Fmt.{decimal_injective}
@@ -7,13 +7,15 @@ use Rattle.std.proofs.lemmas.List.{drop_at, drop-append-le, drop-drop}
 use Rattle.bk_bytes.specs.Codec.{◌>>=◌}
 use Rattle.bk_control.specs.Slots.{control_of}
 use Rattle.bk_device.specs.Calls.{ChangesNothing}
-use Rattle.bk_device.specs.Disk.{Files, Disk}
+use Rattle.bk_device.specs.Disk.{Files, Disk, IsDurable}
+use Rattle.bk_device.specs.Effects.{MayLeaveOwn}
+use Rattle.bk_device.specs.Laws.{durable_by_nothing}
 use Rattle.bk_gate.specs.Blobs.{sealed}
 use Rattle.bk_ids.specs.declared.record.Rec.{Rec}
 use Rattle.bk_segments.specs.declared.head.Head.{Head}
 use Rattle.bk_segments.specs.Control.{read_control, IsSound}
 use Rattle.bk_segments.specs.Records.{records_in, records_of, IsRun}
-use Rattle.bk_segments.specs.Files.{control_file, segment_file, blobs_at, blobs_from, blobs_of, shown, cut_at, with_more, AreBegun, Logged, LogIs, IsForeign}
+use Rattle.bk_segments.specs.Files.{control_file, segment_file, blobs_at, blobs_from, blobs_of, shown, cut_at, with_more, AreBegun, Logged, LogIs, IsForeign, IsOwn, AreDurable, AreSettled, Holds}
 use Rattle.bk_segments.specs.RunLaws.{records_append, records_one}
 
 -- ---- names
@@ -80,22 +82,26 @@ log_is files db head note content end control reads sound begun run inside small
   records = refl;
 }
 
--- files with the same control and the same blobs are the same log
-pub log_same : {f g : Files} (db : ℕ) (log : Logged) → control_of (g (control_file db)) ≡ control_of (f (control_file db)) → ((n : ℕ) → blobs_at g db n ≡ blobs_at f db n) → LogIs f db log → LogIs g db log
-log_same {f = f} {g = g} db log control same is =
-    let blobs : blobs_of g db is.head ≡ blobs_of f db is.head = blobs_same f g db is.head is.sound.front (λ n low high. same n) in
+-- files with the same control and the same blobs in the segments that count are the same log
+pub log_counted : {f g : Files} (db : ℕ) (log : Logged) → (is : LogIs f db log) → control_of (g (control_file db)) ≡ control_of (f (control_file db)) → ((n : ℕ) → is.head.front ≤ n → n ≤ is.head.back → blobs_at g db n ≡ blobs_at f db n) → LogIs g db log
+log_counted {f = f} {g = g} db log is control same =
+    let blobs : blobs_of g db is.head ≡ blobs_of f db is.head = blobs_same f g db is.head is.sound.front same in
     record {
       head = is.head;
       end = is.end;
       reads = ap (λ (o : Option (List ℕ)). o >>= read_control) control ∙ is.reads;
       sound = is.sound;
-      begun = begun_same f g db is.head (λ n low high. same n) is.begun;
+      begun = begun_same f g db is.head same is.begun;
       run = subst (λ (bs : List (List ℕ)). IsRun is.head.first bs is.end) (sym blobs) is.run;
       inside = is.inside;
       small = is.small;
       kept = is.kept;
       records = is.records ∙ ap (λ (bs : List (List ℕ)). drop (is.head.kept - is.head.first) (records_of bs)) (sym blobs);
     }
+
+-- the same in all segments
+pub log_same : {f g : Files} (db : ℕ) (log : Logged) → control_of (g (control_file db)) ≡ control_of (f (control_file db)) → ((n : ℕ) → blobs_at g db n ≡ blobs_at f db n) → LogIs f db log → LogIs g db log
+log_same db log control same is = log_counted db log is control (λ n low high. same n)
 
 -- the same blobs show the same log
 pub shown_same : (f g : Files) (db : ℕ) (head : Head) (note : List ℕ) → blobs_of g db head ≡ blobs_of f db head → shown g db head note ≡ shown f db head note
@@ -163,3 +169,52 @@ blobs_moved db n call = ap sealed (call.files (segment_file db n))
 -- all of them, seen behind what changes nothing
 pub all_moved : {a b : Disk} (db : ℕ) (head : Head) → head.front ≤ head.back → ChangesNothing a b → blobs_from (blobs_at b.files db) head.front (head.back - head.front + 1) ≡ blobs_of a.files db head
 all_moved {a = a} {b = b} db head order call = all_blobs b.files db head order ∙ blobs_same a.files b.files db head order (λ n low high. blobs_moved db n call)
+
+-- ---- what is durable
+
+-- a log in whose files nothing is pending
+pub durable_settles : (db : ℕ) (disk : Disk) → AreDurable db disk → AreSettled db disk
+durable_settles db disk durable = record { control = durable (control_file db) (inl refl); counted = λ head holds n low high. durable (segment_file db n) (inr (n, refl)) }
+
+-- a control file holds one head
+pub one_held : (files : Files) (db : ℕ) (head other : Head) → Holds files db head → Holds files db other → head ≡ other
+one_held files db head other here there =
+    let both : ◌≡◌ {A = Option (Head × List ℕ)} (Some (head, here.0)) (Some (other, there.0)) = sym here.1 ∙ there.1 in
+    let pair : ◌≡◌ {A = Head × List ℕ} (head, here.0) (other, there.0) = cc in
+    ap (λ (p : Head × List ℕ). p.0) pair
+
+-- what changes nothing leaves the head that a control file holds
+pub held_before : {a b : Disk} (db : ℕ) (head : Head) → ChangesNothing a b → Holds b.files db head → Holds a.files db head
+held_before db head call holds = (holds.0, ap (λ (file : Option (List ℕ)). control_of file >>= read_control) (sym (call.files (control_file db))) ∙ holds.1, holds.2)
+
+pub held_moved : {a b : Disk} (db : ℕ) (head : Head) → ChangesNothing a b → Holds a.files db head → Holds b.files db head
+held_moved db head call holds = (holds.0, ap (λ (file : Option (List ℕ)). control_of file >>= read_control) (call.files (control_file db)) ∙ holds.1, holds.2)
+
+-- what is durable of the segments that this head counts is so of those that count
+pub settled_at : (db : ℕ) (disk : Disk) (head : Head) → Holds disk.files db head → IsDurable disk (control_file db) → ((n : ℕ) → head.front ≤ n → n < head.back + 1 → IsDurable disk (segment_file db n)) → AreSettled db disk
+settled_at db disk head here control counted = record {
+  control = control;
+  counted = λ other there n low high.
+      let same : head ≡ other = one_held disk.files db head other here there in
+      let Low : Head → Type 0 = λ h. h.front ≤ n in
+      let High : Head → Type 0 = λ h. n ≤ h.back in
+      counted n (subst Low (sym same) low) (omega (arith, subst High (sym same) high));
+}
+
+-- what changes nothing leaves that durable
+pub settled_moved : {a b : Disk} (db : ℕ) → ChangesNothing a b → AreSettled db a → AreSettled db b
+settled_moved db call settled = record {
+  control = durable_by_nothing (control_file db) call settled.control;
+  counted = λ head holds n low high. durable_by_nothing (segment_file db n) call (settled.counted head (held_before db head call holds) n low high);
+}
+
+-- and leaves the log
+pub log_moved : {a b : Disk} (db : ℕ) (log : Logged) → ChangesNothing a b → LogIs a.files db log → LogIs b.files db log
+log_moved db log call is = log_same db log (ap control_of (call.files (control_file db))) (λ n. blobs_moved db n call) is
+
+-- each crash leaves a log of which that is durable
+pub log_stays : (db : ℕ) (disk : Disk) (image : Files) (log : Logged) → AreSettled db disk → MayLeaveOwn (IsOwn db) disk image → LogIs disk.files db log → LogIs image db log
+log_stays db disk image log settled mine is =
+    let holds : Holds disk.files db is.head = (log.note, is.reads, is.sound) in
+    log_counted db log is (ap control_of (settled.control (image (control_file db)) (mine (control_file db) (inl refl))))
+    (λ n low high. ap sealed (settled.counted is.head holds n low high (image (segment_file db n)) (mine (segment_file db n) (inr (n, refl)))))

@@ -131,3 +131,10 @@ AreGone old new db = (head : Head) → Holds old db head → (n : ℕ) → head.
 -- of the segments that the control record named, and the one that may have been begun behind them, those alone are there that count now
 abbrev pub IsTidy : Files → Files → ℕ → Head → Type 0
 IsTidy old new db now = (head : Head) → Holds old db head → (n : ℕ) → head.gone ≤ n → n ≤ head.back + 1 → (n < now.front) ⊎ (now.back < n) → new (segment_file db n) ≡ None
+
+-- what counts of a log is durable
+pub record AreSettled (db : ℕ) (disk : Disk) : Type 0 where
+  -- its control file
+  pub control : IsDurable disk (control_file db)
+  -- each segment that counts
+  pub counted : (head : Head) → Holds disk.files db head → (n : ℕ) → head.front ≤ n → n ≤ head.back → IsDurable disk (segment_file db n)

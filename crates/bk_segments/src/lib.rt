@@ -1,5 +1,5 @@
 //! The files of a log: the control record, which names its segments and has a note for the layer above, and the segments, which
-//! are gate files whose blobs are whole log records. Reading and walking them, making and removing them.
+//! are gate files whose blobs are whole log records. Making them durable, reading and walking them, making and removing them.
 #![tactic(auto)]
 
 mod error;
@@ -10,6 +10,7 @@ mod opening;
 mod reading;
 mod removing;
 mod segments;
+mod settling;
 mod walk;
 
 pub use error::LogError;
@@ -22,3 +23,4 @@ pub use removing::{find_head, remove_named, remove_segments, tidy};
 pub use segments::{
     Segment, add_segment, count_below, drop_segments, first_of, new_segment, push_segment,
 };
+pub use settling::settle;

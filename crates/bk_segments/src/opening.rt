@@ -8,7 +8,7 @@ ghost use Rattle.bk_device.specs.Disk.{IsDurable};
 ghost use Rattle.bk_gate.specs.Gate.{IsGate};
 ghost use Rattle.bk_segments.specs.Control.{IsSound, read_control};
 ghost use Rattle.bk_segments.specs.Files.{control_file, segment_file, blobs_at, blobs_of, AreBegun, AreSegments, IsForeign};
-ghost use Rattle.bk_segments.specs.Records.{IsRun};
+ghost use Rattle.bk_segments.specs.Records.{IsRun, joined};
 
 use crate::error::LogError;
 use crate::head::{Head, add, is_sound, read_head};
@@ -72,14 +72,21 @@ pub struct Found {
     pub segments: Vec<Segment>,
     /// The note, with room for 32,768 bytes.
     pub note: Vec<u8>,
+    /// The bytes of all records of those segments, where they were gathered.
+    pub bytes: Vec<u8>,
     /// The number behind that of the last record.
     pub stored: u64,
 }
 
-/// Reads a log's files: each of its segments once, in one read. Changes nothing.
+/// Reads a log's files: each of its segments once, in one read. Gathers the bytes of their records, if so. Changes nothing.
 ///
 /// `Foreign` is answered exactly where the files are no log.
-pub fn find<D: Device>(alloc: Global, dev: &mut D, db: u32) -> Result<Found, LogError>
+pub fn find<D: Device>(
+    alloc: Global,
+    dev: &mut D,
+    db: u32,
+    gathers: bool,
+) -> Result<Found, LogError>
     ensures content { D.tells → IfOk result (λ f. control_of ((D.disk dev.old).files (control_file db)) ≡ Some f.control.content) }
     ensures name { IfOk result (λ f. f.control.name ≡ control_file db) }
     ensures failed { IfOk result (λ f. f.control.failed ≡ false) }
@@ -91,6 +98,7 @@ pub fn find<D: Device>(alloc: Global, dev: &mut D, db: u32) -> Result<Found, Log
     ensures begun { D.tells → IfOk result (λ f. AreBegun (blobs_at (D.disk dev.old).files db) f.head) }
     ensures segments { D.tells → IfOk result (λ f. AreSegments (blobs_at (D.disk dev.old).files db) db f.head.front f.head.first f.segments.items) }
     ensures count { IfOk result (λ f. f.head.front + vec_len f.segments ≡ f.head.back + 1) }
+    ensures bytes { D.tells → gathers ≡ true → IfOk result (λ f. f.bytes.items ≡ joined (blobs_of (D.disk dev.old).files db f.head)) }
     ensures gate { IfOk result (λ f. (f.gate.name ≡ segment_file db f.head.back) × (f.gate.begun ≡ None) × (f.gate.failed ≡ false)) }
     ensures last { D.tells → IfOk result (λ f. IsDurable (D.disk dev.old) (segment_file db f.head.back) → IsGate (D.disk dev.new) f.gate) }
     ensures inside { IfOk result (λ f. f.head.kept ≤ f.stored) }
@@ -101,7 +109,7 @@ pub fn find<D: Device>(alloc: Global, dev: &mut D, db: u32) -> Result<Found, Log
 {
     let control = load_control(alloc, dev, db)?;
     let (head, note) = recorded(alloc, &control)?;
-    let walked = walk_all(alloc, dev, db, head)?;
+    let walked = walk_all(alloc, dev, db, head, gathers)?;
     if walked.end < head.kept {
         return Err(LogError::Foreign);
     }
@@ -111,6 +119,7 @@ pub fn find<D: Device>(alloc: Global, dev: &mut D, db: u32) -> Result<Found, Log
         head,
         segments: walked.segments,
         note,
+        bytes: walked.bytes,
         stored: walked.end,
     })
 }

@@ -1,5 +1,5 @@
 // Reading the bytes of all blobs of a log.
-ghost use Rattle.std.specs.Prelude.{◌≡◌, ◌≤◌, ◌<◌, ◌+◌, ◌-◌, ◌^◌, ◌++◌, length, IfOk, OnOk, IsErrOf};
+ghost use Rattle.std.specs.Prelude.{◌≡◌, ◌≤◌, ◌<◌, ◌+◌, ◌-◌, ◌^◌, ◌++◌, length, IfOk, OnOk, IsErrOf, true};
 ghost use Rattle.bk_device.specs.Calls.{ChangesNothing};
 ghost use Rattle.bk_device.specs.Counts.{HasCause};
 ghost use Rattle.bk_gate.specs.Blobs.{blobs_in, IsGateFile};
@@ -24,6 +24,18 @@ fn add_blobs(file: &[u8], out: &mut Vec<u8>) -> Result<(), AllocError>
         out.extend_from_slice(blob)?;
         gate += 9 + blob.len();
     }
+    Ok(())
+}
+
+// The same, if so.
+pub fn gather_blobs(file: &[u8], gathers: bool, out: &mut Vec<u8>) -> Result<(), AllocError>
+    requires { 16 ≤ length file.now }
+    ensures { gathers ≡ true → IsGateFile file.now → OnOk result (out.new.items ≡ out.old.items ++ joined (blobs_in file.now)) }
+{
+    if !gathers {
+        return Ok(());
+    }
+    add_blobs(file, out)?;
     Ok(())
 }
 

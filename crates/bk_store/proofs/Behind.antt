@@ -1,7 +1,15 @@
 -- What a log says behind one more record.
-use Rattle.std.proofs.Common.{◌≡◌, ℕ, List, [], ◌∷◌, ◌++◌, map, None, refl, sym, ◌∙◌, ap, subst, append-nil, append_assoc}
+use Rattle.std.proofs.Common.{◌≡◌, ◌≤◌, ◌<◌, ℕ, ◌+◌, List, [], ◌∷◌, ◌++◌, length, drop, map, None, refl, sym, ◌∙◌, ap, subst, arith, append-nil, append_assoc}
+use Rattle.std.specs.List.{flat_map}
+use Rattle.std.proofs.lemmas.List.{length-drop}
+use Rattle.bk_ids.specs.declared.record.Body.{Body}
+use Rattle.bk_ids.specs.declared.record.Body.TheVariants.{Database, Table, Begin, Write, Commit, RollbackEnd, Compensation, Checkpoint, Stamp, Model, Bulk, Recovery}
 use Rattle.bk_ids.specs.declared.record.Rec.{Rec}
+use Rattle.bk_log.specs.Skims.{IsWrite, Shows}
+use Rattle.bk_log.specs.declared.skimming.Skimmed.{Skimmed}
 use Rattle.bk_record.specs.Log.{IsLog, Left, Reads}
+use Rattle.bk_record.specs.RecordsLaws.{whole_is}
+use Rattle.bk_record.specs.Spelling.{spelling, BeginsWith}
 use Rattle.bk_shown.specs.Readings.{made_by, model-with, tables-with, time-with}
 use Rattle.bk_shown.specs.Steps.{model_behind, time_behind}
 use Rattle.bk_shown.specs.ReadLaws.{next-read, none-left}
@@ -44,6 +52,41 @@ front-more rs left new r old then front reads takes =
       spells = next.behind;
       says = says-more front.front next.first old then front.says (subst (λ (x : Rec). Takes x.body old then) next.read_is takes);
     }
+
+-- a log that has bytes begins with a record
+pub log-begins : (bytes : List ℕ) (left : List Logged) → IsLog bytes (map spelled left) None → 1 ≤ length bytes → (r : Rec) × (after : List ℕ) × BeginsWith bytes r after
+log-begins bytes [] log some = absurd (omega (arith, some, ap length (whole_is bytes [] log)))
+log-begins bytes (x ∷ left) log some = (spelled x, flat_map spelling (map spelled left), record { spelled = whole_is bytes (map spelled (x ∷ left)) log; is_record = log.are_records.0 })
+
+-- a write tells nothing
+pub row-takes : (body : Body) (r : Recent) → IsWrite body → Takes body r r
+row-takes (Database _ _ _) r is = elim is [ ]
+row-takes (Table _ _ _ _) r is = elim is [ ]
+row-takes Begin r is = elim is [ ]
+row-takes (Commit _ _) r is = elim is [ ]
+row-takes RollbackEnd r is = elim is [ ]
+row-takes (Compensation _ _ _) r is = elim is [ ]
+row-takes (Checkpoint _) r is = elim is [ ]
+row-takes (Stamp _ _) r is = elim is [ ]
+row-takes (Model _ _) r is = elim is [ ]
+row-takes (Bulk _ _ _ _ _) r is = elim is [ ]
+row-takes (Recovery _) r is = elim is [ ]
+row-takes (Write place before after) r is = record { tables = refl; model = refl; time = refl }
+
+-- the record at a place of a log
+pub record-at : (rs : List Logged) (log : List ℕ) (at next : ℕ) (old : Recent) → SaysFront rs (drop at log) old → (at < next) × (next ≤ length log) → (r : Rec) × (after : List ℕ) × BeginsWith (drop at log) r after
+record-at rs log at next old front inside = log-begins (drop at log) front.left front.spells (omega (arith, length-drop at log, inside.0, inside.1))
+
+-- one record is seen at a glance
+pub front-skims : (rs : List Logged) (log : List ℕ) (at next : ℕ) (skimmed : Skimmed) (old then : Recent) → SaysFront rs (drop at log) old → (at < next) × (next ≤ length log)
+    → ((r : Rec) (after : List ℕ) → BeginsWith (drop at log) r after → Shows skimmed r × (drop next log ≡ after)) → ((r : Rec) → Shows skimmed r → Takes r.body old then) → SaysFront rs (drop next log) then
+front-skims rs log at next skimmed old then front inside shows takes =
+    let one = record-at rs log at next old front inside in
+    let r : Rec = one.0 in
+    let seen = shows r one.1 one.2 in
+    let left : Left = record { bytes = drop at log; at = at } in
+    let new : Left = record { bytes = one.1; at = at + length (spelling r) } in
+    subst (λ (bs : List ℕ). SaysFront rs bs then) (sym seen.1) (front-more rs left new r old then front (record { begins = one.2; at = refl }) (takes r seen.0))
 
 -- nothing is left
 pub front-all : (rs : List Logged) (bytes : List ℕ) (last : Recent) → SaysFront rs bytes last → bytes ≡ [] → Says rs last

@@ -8,7 +8,6 @@ use Rattle.bk_device.specs.Effects.{Effect}
 use Rattle.bk_facts.specs.declared.facts.DataFile.{DataFile}
 use Rattle.bk_ids.specs.declared.guid.Guid.{Guid}
 use Rattle.bk_known.specs.declared.known.DatabaseSpec.{DatabaseSpec}
-use Rattle.bk_known.specs.declared.known.Known.{Known}
 use Rattle.bk_known.specs.Known.{IsKnown, KeepsKnown, known_bytes}
 use Rattle.bk_paged.specs.Holds.{Holds, Stood, unwritten}
 use Rattle.bk_paged.specs.Making.{HoldsNone}

@@ -1,6 +1,7 @@
 // What statements say: one record each.
 ghost use Rattle.std.specs.Prelude.{◌≡◌, ◌+◌, false, IfOk, None, OnOk, IsErrOf};
 ghost use Rattle.bk_device.specs.Counts.{HasCause};
+ghost use Rattle.bk_paged.specs.Paged.{Standing};
 ghost use Rattle.bk_record.specs.Spelling.{KeepsLimits};
 ghost use Rattle.bk_shown.specs.Shown.{IsNext};
 ghost use Rattle.bk_undo.specs.Spelled.{body_of, spelled};
@@ -24,9 +25,10 @@ impl Store {
     ) -> Result<(), StoreError>
         requires fit { self.old.paged.failed ≡ false }
         requires limits { KeepsLimits r.now.body }
-        requires stands { D.tells → (told : Told) × (now : Logged) × (IsStore (D.disk dev.old) self.old told × (IsNext (files_of told) told.records now × (spelled now ≡ r.now))) }
+        requires standing { D.tells → Standing (D.disk dev.old) self.old.paged }
         ensures fit { OnOk result (self.new.paged.failed ≡ false) }
         ensures stands { D.tells → (told : Told) (now : Logged) → IsStore (D.disk dev.old) self.old told → IsNext (files_of told) told.records now → spelled now ≡ r.now → OnOk result (IsStore (D.disk dev.new) self.new (said told now)) }
+        ensures standing { D.tells → OnOk result (Standing (D.disk dev.new) self.new.paged) }
         ensures ends { OnOk result ((self.new.paged.log.db ≡ self.old.paged.log.db) × (self.new.paged.log.end ≡ self.old.paged.log.end + 1) × (self.new.paged.log.stored ≡ self.new.paged.log.end) × (self.new.paged.log.head.kept ≡ self.old.paged.log.head.kept)) }
         ensures same { OnOk result ((self.new.known ≡ self.old.known) × (self.new.note ≡ self.old.note)) }
         ensures crash { D.tells → (told : Told) (now : Logged) → IsStore (D.disk dev.old) self.old told → IsNext (files_of told) told.records now → spelled now ≡ r.now → Crashes self.old (said told now) (D.disk dev.old) (D.disk dev.new) }
@@ -47,9 +49,10 @@ impl Store {
         mark: Option<Mark>,
     ) -> Result<(), StoreError>
         requires fit { self.old.paged.failed ≡ false }
-        requires stands { D.tells → (told : Told) × (IsStore (D.disk dev.old) self.old told × MayBeSaid self.old told begin (committed time mark)) }
+        requires standing { D.tells → Standing (D.disk dev.old) self.old.paged }
         ensures fit { OnOk result (self.new.paged.failed ≡ false) }
         ensures stands { D.tells → (told : Told) → IsStore (D.disk dev.old) self.old told → MayBeSaid self.old told begin (committed time mark) → OnOk result (IsStore (D.disk dev.new) self.new (said told (at_end self.old begin (committed time mark)))) }
+        ensures standing { D.tells → OnOk result (Standing (D.disk dev.new) self.new.paged) }
         ensures ends { OnOk result ((self.new.paged.log.db ≡ self.old.paged.log.db) × (self.new.paged.log.end ≡ self.old.paged.log.end + 1) × (self.new.paged.log.stored ≡ self.new.paged.log.end) × (self.new.paged.log.head.kept ≡ self.old.paged.log.head.kept)) }
         ensures same { OnOk result ((self.new.known ≡ self.old.known) × (self.new.note ≡ self.old.note)) }
         ensures crash { D.tells → (told : Told) → IsStore (D.disk dev.old) self.old told → MayBeSaid self.old told begin (committed time mark) → Crashes self.old (said told (at_end self.old begin (committed time mark))) (D.disk dev.old) (D.disk dev.new) }
@@ -73,9 +76,10 @@ impl Store {
         begin: Lsn,
     ) -> Result<(), StoreError>
         requires fit { self.old.paged.failed ≡ false }
-        requires stands { D.tells → (told : Told) × (IsStore (D.disk dev.old) self.old told × MayBeSaid self.old told begin rolled_back) }
+        requires standing { D.tells → Standing (D.disk dev.old) self.old.paged }
         ensures fit { OnOk result (self.new.paged.failed ≡ false) }
         ensures stands { D.tells → (told : Told) → IsStore (D.disk dev.old) self.old told → MayBeSaid self.old told begin rolled_back → OnOk result (IsStore (D.disk dev.new) self.new (said told (at_end self.old begin rolled_back))) }
+        ensures standing { D.tells → OnOk result (Standing (D.disk dev.new) self.new.paged) }
         ensures ends { OnOk result ((self.new.paged.log.db ≡ self.old.paged.log.db) × (self.new.paged.log.end ≡ self.old.paged.log.end + 1) × (self.new.paged.log.stored ≡ self.new.paged.log.end) × (self.new.paged.log.head.kept ≡ self.old.paged.log.head.kept)) }
         ensures same { OnOk result ((self.new.known ≡ self.old.known) × (self.new.note ≡ self.old.note)) }
         ensures crash { D.tells → (told : Told) → IsStore (D.disk dev.old) self.old told → MayBeSaid self.old told begin rolled_back → Crashes self.old (said told (at_end self.old begin rolled_back)) (D.disk dev.old) (D.disk dev.new) }
@@ -101,9 +105,10 @@ impl Store {
         branch: Guid,
     ) -> Result<(), StoreError>
         requires fit { self.old.paged.failed ≡ false }
-        requires stands { D.tells → (told : Told) × (IsStore (D.disk dev.old) self.old told × MayBeSaid self.old told 0 (database_made time family branch)) }
+        requires standing { D.tells → Standing (D.disk dev.old) self.old.paged }
         ensures fit { OnOk result (self.new.paged.failed ≡ false) }
         ensures stands { D.tells → (told : Told) → IsStore (D.disk dev.old) self.old told → MayBeSaid self.old told 0 (database_made time family branch) → OnOk result (IsStore (D.disk dev.new) self.new (said told (at_end self.old 0 (database_made time family branch)))) }
+        ensures standing { D.tells → OnOk result (Standing (D.disk dev.new) self.new.paged) }
         ensures ends { OnOk result ((self.new.paged.log.db ≡ self.old.paged.log.db) × (self.new.paged.log.end ≡ self.old.paged.log.end + 1) × (self.new.paged.log.stored ≡ self.new.paged.log.end) × (self.new.paged.log.head.kept ≡ self.old.paged.log.head.kept)) }
         ensures same { OnOk result ((self.new.known ≡ self.old.known) × (self.new.note ≡ self.old.note)) }
         ensures crash { D.tells → (told : Told) → IsStore (D.disk dev.old) self.old told → MayBeSaid self.old told 0 (database_made time family branch) → Crashes self.old (said told (at_end self.old 0 (database_made time family branch))) (D.disk dev.old) (D.disk dev.new) }
@@ -134,9 +139,10 @@ impl Store {
         group: u8,
     ) -> Result<(), StoreError>
         requires fit { self.old.paged.failed ≡ false }
-        requires stands { D.tells → (told : Told) × (IsStore (D.disk dev.old) self.old told × MayBeSaid self.old told 0 (table_made time (record { number = number; name = name; group = group }))) }
+        requires standing { D.tells → Standing (D.disk dev.old) self.old.paged }
         ensures fit { OnOk result (self.new.paged.failed ≡ false) }
         ensures stands { D.tells → (told : Told) → IsStore (D.disk dev.old) self.old told → MayBeSaid self.old told 0 (table_made time (record { number = number; name = name; group = group })) → OnOk result (IsStore (D.disk dev.new) self.new (said told (at_end self.old 0 (table_made time (record { number = number; name = name; group = group }))))) }
+        ensures standing { D.tells → OnOk result (Standing (D.disk dev.new) self.new.paged) }
         ensures ends { OnOk result ((self.new.paged.log.db ≡ self.old.paged.log.db) × (self.new.paged.log.end ≡ self.old.paged.log.end + 1) × (self.new.paged.log.stored ≡ self.new.paged.log.end) × (self.new.paged.log.head.kept ≡ self.old.paged.log.head.kept)) }
         ensures same { OnOk result ((self.new.known ≡ self.old.known) × (self.new.note ≡ self.old.note)) }
         ensures crash { D.tells → (told : Told) → IsStore (D.disk dev.old) self.old told → MayBeSaid self.old told 0 (table_made time (record { number = number; name = name; group = group })) → Crashes self.old (said told (at_end self.old 0 (table_made time (record { number = number; name = name; group = group })))) (D.disk dev.old) (D.disk dev.new) }
@@ -166,9 +172,10 @@ impl Store {
         model: RecoveryModel,
     ) -> Result<(), StoreError>
         requires fit { self.old.paged.failed ≡ false }
-        requires stands { D.tells → (told : Told) × (IsStore (D.disk dev.old) self.old told × MayBeSaid self.old told 0 (model_set time model)) }
+        requires standing { D.tells → Standing (D.disk dev.old) self.old.paged }
         ensures fit { OnOk result (self.new.paged.failed ≡ false) }
         ensures stands { D.tells → (told : Told) → IsStore (D.disk dev.old) self.old told → MayBeSaid self.old told 0 (model_set time model) → OnOk result (IsStore (D.disk dev.new) self.new (said told (at_end self.old 0 (model_set time model)))) }
+        ensures standing { D.tells → OnOk result (Standing (D.disk dev.new) self.new.paged) }
         ensures ends { OnOk result ((self.new.paged.log.db ≡ self.old.paged.log.db) × (self.new.paged.log.end ≡ self.old.paged.log.end + 1) × (self.new.paged.log.stored ≡ self.new.paged.log.end) × (self.new.paged.log.head.kept ≡ self.old.paged.log.head.kept)) }
         ensures same { OnOk result ((self.new.known ≡ self.old.known) × (self.new.note ≡ self.old.note)) }
         ensures crash { D.tells → (told : Told) → IsStore (D.disk dev.old) self.old told → MayBeSaid self.old told 0 (model_set time model) → Crashes self.old (said told (at_end self.old 0 (model_set time model))) (D.disk dev.old) (D.disk dev.new) }
@@ -193,9 +200,10 @@ impl Store {
         set: Guid,
     ) -> Result<(), StoreError>
         requires fit { self.old.paged.failed ≡ false }
-        requires stands { D.tells → (told : Told) × (IsStore (D.disk dev.old) self.old told × MayBeSaid self.old told 0 (stamped time set)) }
+        requires standing { D.tells → Standing (D.disk dev.old) self.old.paged }
         ensures fit { OnOk result (self.new.paged.failed ≡ false) }
         ensures stands { D.tells → (told : Told) → IsStore (D.disk dev.old) self.old told → MayBeSaid self.old told 0 (stamped time set) → OnOk result (IsStore (D.disk dev.new) self.new (said told (at_end self.old 0 (stamped time set)))) }
+        ensures standing { D.tells → OnOk result (Standing (D.disk dev.new) self.new.paged) }
         ensures ends { OnOk result ((self.new.paged.log.db ≡ self.old.paged.log.db) × (self.new.paged.log.end ≡ self.old.paged.log.end + 1) × (self.new.paged.log.stored ≡ self.new.paged.log.end) × (self.new.paged.log.head.kept ≡ self.old.paged.log.head.kept)) }
         ensures same { OnOk result ((self.new.known ≡ self.old.known) × (self.new.note ≡ self.old.note)) }
         ensures crash { D.tells → (told : Told) → IsStore (D.disk dev.old) self.old told → MayBeSaid self.old told 0 (stamped time set) → Crashes self.old (said told (at_end self.old 0 (stamped time set))) (D.disk dev.old) (D.disk dev.new) }
@@ -214,11 +222,12 @@ impl Store {
     /// Says that a transaction begins, and gives the number of its first record, which names it. It isn't durable yet. A crash leaves what was durable, or some more of what was said before.
     pub fn begin<D: Device>(&mut self, alloc: Global, dev: &mut D) -> Result<Lsn, StoreError>
         requires fit { self.old.paged.failed ≡ false }
-        requires stands { D.tells → (told : Told) × IsStore (D.disk dev.old) self.old told }
+        requires standing { D.tells → Standing (D.disk dev.old) self.old.paged }
         ensures fit { OnOk result (self.new.paged.failed ≡ false) }
         ensures first { IfOk result (λ first. first ≡ self.old.paged.log.end) }
         ensures stands { D.tells → (told : Told) → IsStore (D.disk dev.old) self.old told → MayBeSaid self.old told self.old.paged.log.end begun
             → OnOk result (IsStore (D.disk dev.new) self.new (said told (at_end self.old self.old.paged.log.end begun))) }
+        ensures standing { D.tells → OnOk result (Standing (D.disk dev.new) self.new.paged) }
         ensures ends { OnOk result ((self.new.paged.log.db ≡ self.old.paged.log.db) × (self.new.paged.log.end ≡ self.old.paged.log.end + 1) × (self.new.paged.log.head.kept ≡ self.old.paged.log.head.kept)) }
         ensures same { OnOk result ((self.new.known ≡ self.old.known) × (self.new.note ≡ self.old.note)) }
         ensures crash { D.tells → (told : Told) → IsStore (D.disk dev.old) self.old told → Crashes self.old told (D.disk dev.old) (D.disk dev.new) }

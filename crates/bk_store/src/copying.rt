@@ -4,7 +4,7 @@ ghost use Rattle.bk_device.specs.Calls.{ChangesNothing};
 ghost use Rattle.bk_device.specs.Counts.{HasCause};
 ghost use Rattle.bk_paged.specs.Holds.{IsStored};
 ghost use Rattle.bk_paged.specs.Names.{IsThere, pages_in};
-ghost use Rattle.bk_paged.specs.Paged.{from_to};
+ghost use Rattle.bk_paged.specs.Paged.{Standing, from_to};
 ghost use Rattle.bk_paths.specs.Paths.{end_of};
 ghost use Rattle.bk_record.specs.Log.{IsLog};
 ghost use Rattle.bk_undo.specs.Spelled.{spelled};
@@ -40,8 +40,9 @@ impl Store {
         requires kept { self.now.paged.log.head.kept ≤ from }
         requires order { from ≤ to }
         requires inside { to ≤ self.now.paged.log.stored }
-        requires stands { D.tells → (told : Told) × IsStore (D.disk dev.old) self.now told }
+        requires standing { D.tells → Standing (D.disk dev.old) self.now.paged }
         ensures stands { D.tells → (told : Told) → IsStore (D.disk dev.old) self.now told → IsStore (D.disk dev.new) self.now told }
+        ensures standing { D.tells → Standing (D.disk dev.new) self.now.paged }
         ensures bytes { D.tells → (told : Told) → IsStore (D.disk dev.old) self.now told → IfOk result (λ bytes. IsLog bytes.items (from_to from to (map spelled told.records)) None) }
         ensures effect { D.tells → ChangesNothing (D.disk dev.old) (D.disk dev.new) }
         ensures cause { HasCause D.disk_faults D.tell_faults dev.old dev.new (IsErrOf result StoreError.Fault) }
@@ -60,11 +61,12 @@ impl Store {
     ) -> Result<[u8; 8192], StoreError>
         requires fit { self.old.paged.failed ≡ false }
         requires there { IsThere self.old.paged.facts.files (record { file = file; page = page }) }
-        requires stands { D.tells → (told : Told) × IsStore (D.disk dev.old) self.old told }
+        requires standing { D.tells → Standing (D.disk dev.old) self.old.paged }
         ensures fit { OnOk result (self.new.paged.failed ≡ false) }
         ensures same { OnOk result ((self.new.shown ≡ self.old.shown) × (self.new.known ≡ self.old.known) × (self.new.note ≡ self.old.note)) }
         ensures ends { OnOk result ((self.new.paged.log.db ≡ self.old.paged.log.db) × (self.new.paged.log.end ≡ self.old.paged.log.end) × (self.new.paged.log.head.kept ≡ self.old.paged.log.head.kept) × (self.new.paged.facts ≡ self.old.paged.facts)) }
         ensures stands { D.tells → (told : Told) → IsStore (D.disk dev.old) self.old told → OnOk result (IsStore (D.disk dev.new) self.new told) }
+        ensures standing { D.tells → OnOk result (Standing (D.disk dev.new) self.new.paged) }
         ensures later { D.tells → (told : Told) → IsStore (D.disk dev.old) self.old told → OnOk result (self.old.paged.log.stored ≤ self.new.paged.log.stored) }
         ensures page { D.tells → (told : Told) → IsStore (D.disk dev.old) self.old told → IfOk result (λ bytes. IsStored (map spelled told.records) (end_of (map spelled told.records)) (record { file = file; page = page }) bytes) }
         ensures crash { D.tells → (told : Told) → IsStore (D.disk dev.old) self.old told → Crashes self.old told (D.disk dev.old) (D.disk dev.new) }
@@ -88,11 +90,12 @@ impl Store {
         requires fit { self.old.paged.failed ≡ false }
         requires there { 8 * extent + 8 ≤ pages_in self.old.paged.facts.files file }
         requires low { extent ≤ 4096 }
-        requires stands { D.tells → (told : Told) × IsStore (D.disk dev.old) self.old told }
+        requires standing { D.tells → Standing (D.disk dev.old) self.old.paged }
         ensures fit { OnOk result (self.new.paged.failed ≡ false) }
         ensures same { OnOk result ((self.new.shown ≡ self.old.shown) × (self.new.known ≡ self.old.known) × (self.new.note ≡ self.old.note)) }
         ensures ends { OnOk result ((self.new.paged.log.db ≡ self.old.paged.log.db) × (self.new.paged.log.end ≡ self.old.paged.log.end) × (self.new.paged.log.head.kept ≡ self.old.paged.log.head.kept) × (self.new.paged.facts ≡ self.old.paged.facts)) }
         ensures stands { D.tells → (told : Told) → IsStore (D.disk dev.old) self.old told → OnOk result (IsStore (D.disk dev.new) self.new told) }
+        ensures standing { D.tells → OnOk result (Standing (D.disk dev.new) self.new.paged) }
         ensures later { D.tells → (told : Told) → IsStore (D.disk dev.old) self.old told → OnOk result (self.old.paged.log.stored ≤ self.new.paged.log.stored) }
         ensures copied { D.tells → (told : Told) → IsStore (D.disk dev.old) self.old told → OnOk result (IsExtentOf told file extent copy.new.items) }
         ensures crash { D.tells → (told : Told) → IsStore (D.disk dev.old) self.old told → Crashes self.old told (D.disk dev.old) (D.disk dev.new) }

@@ -4,10 +4,11 @@ ghost use Rattle.bk_control.specs.Slots.{control_of};
 ghost use Rattle.bk_device.specs.Counts.{HasCause};
 ghost use Rattle.bk_device.specs.Disk.{IsDurable};
 ghost use Rattle.bk_groups.specs.Groups.{AreFiles};
-ghost use Rattle.bk_segments.specs.Files.{control_file, AreDurable as LogsAreDurable};
+ghost use Rattle.bk_segments.specs.declared.head.Head.{Head};
+ghost use Rattle.bk_segments.specs.Files.{control_file, AreDurable as LogsAreDurable, Holds as HoldsHead};
 ghost use Rattle.bk_device.specs.Effects.{Effect};
 ghost use Rattle.bk_facts.specs.declared.facts.DataFile.{DataFile as DataFiles};
-ghost use Rattle.bk_paged.specs.Making.{AreAbsent, HoldsNone, NamesFiles, Removes};
+ghost use Rattle.bk_paged.specs.Making.{AreAbsent, HoldsNone, IsLogGone, NamesFiles, Removes};
 ghost use Rattle.bk_paged.specs.Names.{IsOwn, names_of};
 ghost use Rattle.bk_side.specs.Names.{side_file, IsOwn as IsOfSide};
 ghost use Rattle.bk_shown.specs.Shown.{Shows};
@@ -151,12 +152,12 @@ impl Store {
     }
 
     /// Removes the data files that the log of a database names, then the side file, and then the log. Where the log isn't whole, as after a crash in this call, what is left of it alone is removed;
-    /// where there is none, nothing is done. A crash leaves the log, which names the data files, or none of these, and the call may be repeated.
+    /// where there is none, nothing is done. What counts of the log is made durable first. A crash leaves the log, which names the data files, or none of these, and the call may be repeated.
     pub fn remove<D: Device>(alloc: Global, dev: &mut D, db: u32) -> Result<(), StoreError>
-        requires durable { D.tells → LogsAreDurable db (D.disk dev.old) }
         ensures pages { D.tells → (files : List DataFiles) → NamesFiles db files (D.disk dev.old).files → OnOk result (AreAbsent (IsOfSide (side_file db) (names_of files)) (D.disk dev.new).files) }
         ensures log { D.tells → OnOk result (HoldsNone db (D.disk dev.new).files) }
-        ensures crash { D.tells → (files : List DataFiles) → NamesFiles db files (D.disk dev.old).files → Effect (IsOwn db files) (Removes db files) (D.disk dev.old) (D.disk dev.new) }
+        ensures gone { D.tells → (head : Head) → HoldsHead (D.disk dev.old).files db head → OnOk result (IsLogGone db head (D.disk dev.new).files) }
+        ensures crash { D.tells → LogsAreDurable db (D.disk dev.old) → (files : List DataFiles) → NamesFiles db files (D.disk dev.old).files → Effect (IsOwn db files) (Removes db files) (D.disk dev.old) (D.disk dev.new) }
         ensures cause { HasCause D.disk_faults D.tell_faults dev.old dev.new (IsErrOf result StoreError.Fault) }
     {
         Paged::remove(alloc, dev, db)?;

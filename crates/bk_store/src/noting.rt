@@ -1,6 +1,7 @@
 // What a store's note says.
 ghost use Rattle.std.specs.Prelude.{◌≡◌, ◌≤◌, ◌^◌, ◌<◌, ◌+◌, ◌⊎◌, List, false, true, length, IfOk, OnOk, IsErrOf};
 ghost use Rattle.bk_device.specs.Counts.{HasCause};
+ghost use Rattle.bk_paged.specs.Paged.{Standing};
 ghost use Rattle.bk_shown.specs.Shown.{Shows};
 ghost use Rattle.std.specs.List.{AllByRecursion};
 ghost use Rattle.bk_world.specs.declared.database.FileSpec.{FileSpec};
@@ -89,9 +90,10 @@ impl Store {
     ) -> Result<(), StoreError>
         requires fit { self.old.paged.failed ≡ false }
         requires short { length note.now ≤ 12288 }
-        requires stands { D.tells → (told : Told) × IsStore (D.disk dev.old) self.old told }
+        requires standing { D.tells → Standing (D.disk dev.old) self.old.paged }
         ensures fit { OnOk result (self.new.paged.failed ≡ false) }
         ensures stands { D.tells → (told : Told) → IsStore (D.disk dev.old) self.old told → OnOk result (IsStore (D.disk dev.new) self.new (record told { note = note.now })) }
+        ensures standing { D.tells → OnOk result (Standing (D.disk dev.new) self.new.paged) }
         ensures ends { OnOk result ((self.new.paged.log.db ≡ self.old.paged.log.db) × (self.new.paged.log.end ≡ self.old.paged.log.end) × (self.new.paged.log.stored ≡ self.old.paged.log.stored) × (self.new.paged.log.head.kept ≡ self.old.paged.log.head.kept)) }
         ensures crash { D.tells → (told : Told) → IsStore (D.disk dev.old) self.old told → NotesOr self.old told note.now (D.disk dev.old) (D.disk dev.new) }
         ensures cause { HasCause D.disk_faults D.tell_faults dev.old dev.new (IsErrOf result StoreError.Fault) }
@@ -108,9 +110,10 @@ impl Store {
     fn note_end<D: Device>(&mut self, alloc: Global, dev: &mut D) -> Result<(), StoreError>
         requires fit { self.old.paged.failed ≡ false }
         requires sealed { self.old.paged.log.stored ≡ self.old.paged.log.end }
-        requires stands { D.tells → (told : Told) × IsStore (D.disk dev.old) self.old told }
+        requires standing { D.tells → Standing (D.disk dev.old) self.old.paged }
         ensures fit { OnOk result (self.new.paged.failed ≡ false) }
         ensures stands { D.tells → (told : Told) → IsStore (D.disk dev.old) self.old told → OnOk result (IsStore (D.disk dev.new) self.new told) }
+        ensures standing { D.tells → OnOk result (Standing (D.disk dev.new) self.new.paged) }
         ensures ends { OnOk result ((self.new.paged.log.db ≡ self.old.paged.log.db) × (self.new.paged.log.end ≡ self.old.paged.log.end) × (self.new.paged.log.stored ≡ self.old.paged.log.stored) × (self.new.paged.log.head.kept ≡ self.old.paged.log.head.kept)) }
         ensures facts { OnOk result (self.new.paged.facts ≡ self.old.paged.facts) }
         ensures from { OnOk result (self.new.known.as_of.from ≡ self.old.shown.«end») }
@@ -137,9 +140,10 @@ impl Store {
     ) -> Result<(), StoreError>
         requires fit { self.old.paged.failed ≡ false }
         requires room { self.old.paged.log.end < 2 ^ 62 }
-        requires stands { D.tells → (told : Told) × IsStore (D.disk dev.old) self.old told }
+        requires standing { D.tells → Standing (D.disk dev.old) self.old.paged }
         ensures fit { OnOk result (self.new.paged.failed ≡ false) }
         ensures stands { D.tells → (told : Told) → IsStore (D.disk dev.old) self.old told → OnOk result (IsStore (D.disk dev.new) self.new (said told (at_end self.old 0 (checkpointed now)))) }
+        ensures standing { D.tells → OnOk result (Standing (D.disk dev.new) self.new.paged) }
         ensures ends { OnOk result ((self.new.paged.log.db ≡ self.old.paged.log.db) × (self.new.paged.log.end ≡ self.old.paged.log.end + 1) × (self.new.paged.log.stored ≡ self.new.paged.log.end) × (self.new.paged.log.head.kept ≡ self.old.paged.log.head.kept)) }
         ensures checkpoint { OnOk result (self.new.paged.facts.checkpoint ≡ self.new.paged.log.end) }
         ensures crash { D.tells → (told : Told) → IsStore (D.disk dev.old) self.old told → Crashes self.old (said told (at_end self.old 0 (checkpointed now))) (D.disk dev.old) (D.disk dev.new) }
@@ -159,9 +163,10 @@ impl Store {
     fn cut<D: Device>(&mut self, dev: &mut D, to: Lsn) -> Result<(), StoreError>
         requires fit { self.old.paged.failed ≡ false }
         requires sealed { self.old.paged.log.stored ≡ self.old.paged.log.end }
-        requires stands { D.tells → (told : Told) × IsStore (D.disk dev.old) self.old told }
+        requires standing { D.tells → Standing (D.disk dev.old) self.old.paged }
         ensures fit { OnOk result (self.new.paged.failed ≡ false) }
         ensures stands { D.tells → (told : Told) → IsStore (D.disk dev.old) self.old told → OnOk result (IsStore (D.disk dev.new) self.new told) }
+        ensures standing { D.tells → OnOk result (Standing (D.disk dev.new) self.new.paged) }
         ensures ends { OnOk result ((self.new.paged.log.db ≡ self.old.paged.log.db) × (self.new.paged.log.end ≡ self.old.paged.log.end) × (self.new.paged.log.stored ≡ self.old.paged.log.stored)) }
         ensures kept { OnOk result (self.old.paged.log.head.kept ≤ self.new.paged.log.head.kept) }
         ensures left { OnOk result ((self.new.paged.log.head.kept ≡ self.old.paged.log.head.kept) ⊎ (self.new.paged.log.head.kept ≡ to)) }
@@ -191,9 +196,10 @@ impl Store {
     ) -> Result<(), StoreError>
         requires fit { self.old.paged.failed ≡ false }
         requires room { self.old.paged.log.end < 2 ^ 62 }
-        requires stands { D.tells → (told : Told) × IsStore (D.disk dev.old) self.old told }
+        requires standing { D.tells → Standing (D.disk dev.old) self.old.paged }
         ensures fit { OnOk result (self.new.paged.failed ≡ false) }
         ensures stands { D.tells → (told : Told) → IsStore (D.disk dev.old) self.old told → OnOk result (IsStore (D.disk dev.new) self.new (said told (at_end self.old 0 (checkpointed now)))) }
+        ensures standing { D.tells → OnOk result (Standing (D.disk dev.new) self.new.paged) }
         ensures ends { OnOk result ((self.new.paged.log.db ≡ self.old.paged.log.db) × (self.new.paged.log.end ≡ self.old.paged.log.end + 1) × (self.new.paged.log.stored ≡ self.new.paged.log.end)) }
         ensures kept { OnOk result (self.old.paged.log.head.kept ≤ self.new.paged.log.head.kept) }
         ensures left { OnOk result ((self.new.paged.log.head.kept ≡ self.old.paged.log.head.kept) ⊎ (self.new.paged.log.head.kept ≡ floor)) }

@@ -1,14 +1,17 @@
 // What the end of a log says.
 ghost use Rattle.std.specs.Prelude.{◌≡◌, ◌≤◌, List, length, IfOk, OnOk, IsErrOf};
 ghost use Rattle.bk_shown.specs.Steps.{model_behind, time_behind};
+ghost use Rattle.bk_ids.specs.declared.record.Rec.{Rec};
+ghost use Rattle.bk_log.specs.Skims.{Shows};
 ghost use Rattle.bk_record.specs.Spelling.{IsBody};
 ghost use Rattle.bk_record.specs.View.{body_of};
 ghost use Rattle.bk_world.specs.Records.{Logged};
 ghost use Rattle.bk_store.specs.Recent.{Says, SaysFront, Takes, tables_behind};
 
 use bk_ids::{Name, NameError, RecoveryModel};
+use bk_log::{Skimmed, skim_at};
 use bk_paged::PagedError;
-use bk_record::{BodyRef, RecRef, cursor};
+use bk_record::{BodyRef, RecRef};
 use bk_world::TableSpec;
 use std::alloc::Global;
 
@@ -101,6 +104,18 @@ fn take_record(alloc: Global, recent: &mut Recent, taken: RecRef<'_>) -> Result<
     Ok(())
 }
 
+// What a record that was seen at a glance makes of them.
+fn take_skimmed(alloc: Global, recent: &mut Recent, skimmed: Skimmed<'_>) -> Result<(), PagedError>
+    ensures takes { (r : Rec) → Shows skimmed.entry r → OnOk result (Takes r.body recent.old recent.new) }
+    ensures foreign { IsErrOf result PagedError.Foreign → (r : Rec) → Shows skimmed.entry r → IsBody r.body → ⊥ }
+    ensures fault { IsErrOf result PagedError.Fault → ⊥ }
+{
+    match skimmed {
+        Skimmed::Row => Ok(()),
+        Skimmed::Other(record) => take_record(alloc, recent, record),
+    }
+}
+
 /// What all records of a log say, from what a front of them says, and the bytes of the others. `Foreign` is answered only where these are no log.
 pub fn told_behind(alloc: Global, first: Recent, log: &[u8]) -> Result<Recent, PagedError>
     ensures says { IfOk result (λ last. (rs : List Logged) → SaysFront rs log.now first → Says rs last) }
@@ -108,11 +123,13 @@ pub fn told_behind(alloc: Global, first: Recent, log: &[u8]) -> Result<Recent, P
     ensures fault { IsErrOf result PagedError.Fault → ⊥ }
 {
     let mut recent = first;
-    for record in cursor(log) {
-        let Ok(record) = record else {
-            return Err(PagedError::Foreign);
-        };
-        take_record(alloc, &mut recent, record)?;
+    let mut at = 0;
+    'records: while let Some((skimmed, next)) = skim_at(log, at) {
+        take_skimmed(alloc, &mut recent, skimmed)?;
+        at = next;
+    }
+    if at < log.len() {
+        return Err(PagedError::Foreign);
     }
     Ok(recent)
 }

@@ -1,6 +1,7 @@
 // Rolling a transaction back.
 ghost use Rattle.std.specs.Prelude.{◌≡◌, ◌≤◌, false, OnOk, IsErrOf};
 ghost use Rattle.bk_device.specs.Counts.{HasCause};
+ghost use Rattle.bk_paged.specs.Paged.{Standing};
 ghost use Rattle.bk_store.specs.Rolling.{IsUndone, rolled};
 ghost use Rattle.bk_store.specs.Store.{Crashes, IsStore};
 ghost use Rattle.bk_store.specs.Told.{Told};
@@ -21,9 +22,10 @@ impl Store {
         begin: Lsn,
     ) -> Result<(), StoreError>
         requires fit { self.old.paged.failed ≡ false }
-        requires stands { D.tells → (told : Told) × IsStore (D.disk dev.old) self.old told }
+        requires standing { D.tells → Standing (D.disk dev.old) self.old.paged }
         ensures fit { OnOk result (self.new.paged.failed ≡ false) }
         ensures undone { D.tells → (told : Told) → IsStore (D.disk dev.old) self.old told → OnOk result (IsUndone (IsStore (D.disk dev.new) self.new) begin told) }
+        ensures standing { D.tells → OnOk result (Standing (D.disk dev.new) self.new.paged) }
         ensures ends { OnOk result ((self.new.paged.log.db ≡ self.old.paged.log.db) × (self.new.paged.log.head.kept ≡ self.old.paged.log.head.kept)) }
         ensures later { D.tells → (told : Told) → IsStore (D.disk dev.old) self.old told → OnOk result (self.old.paged.log.stored ≤ self.new.paged.log.stored) }
         ensures same { OnOk result ((self.new.known ≡ self.old.known) × (self.new.note ≡ self.old.note)) }
@@ -51,9 +53,10 @@ impl Store {
         begin: Lsn,
     ) -> Result<(), StoreError>
         requires fit { self.old.paged.failed ≡ false }
-        requires stands { D.tells → (told : Told) × IsStore (D.disk dev.old) self.old told }
+        requires standing { D.tells → Standing (D.disk dev.old) self.old.paged }
         ensures fit { OnOk result (self.new.paged.failed ≡ false) }
         ensures stands { D.tells → (told : Told) → IsStore (D.disk dev.old) self.old told → OnOk result (IsStore (D.disk dev.new) self.new (rolled begin told)) }
+        ensures standing { D.tells → OnOk result (Standing (D.disk dev.new) self.new.paged) }
         ensures ends { OnOk result ((self.new.paged.log.db ≡ self.old.paged.log.db) × (self.new.paged.log.stored ≡ self.new.paged.log.end) × (self.new.paged.log.head.kept ≡ self.old.paged.log.head.kept)) }
         ensures same { OnOk result ((self.new.known ≡ self.old.known) × (self.new.note ≡ self.old.note)) }
         ensures crash { D.tells → (told : Told) → IsStore (D.disk dev.old) self.old told → Crashes self.old (rolled begin told) (D.disk dev.old) (D.disk dev.new) }

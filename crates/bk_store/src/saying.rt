@@ -3,6 +3,7 @@ ghost use Rattle.std.specs.Prelude.{◌≡◌, ◌≤◌, ◌+◌, true, false, 
 ghost use Rattle.bk_device.specs.Counts.{HasCause};
 ghost use Rattle.bk_paged.specs.Appends.{MayAppend, MaySay, page_at};
 ghost use Rattle.bk_paged.specs.Names.{IsThere};
+ghost use Rattle.bk_paged.specs.Paged.{Standing};
 ghost use Rattle.bk_record.specs.Spelling.{KeepsLimits};
 ghost use Rattle.bk_shown.specs.Shown.{IsNext};
 ghost use Rattle.bk_undo.specs.Spelled.{spelled};
@@ -59,10 +60,11 @@ impl Store {
     pub fn say<D: Device>(&mut self, alloc: Global, dev: &mut D, r: &Rec) -> Result<(), StoreError>
         requires fit { self.old.paged.failed ≡ false }
         requires limits { KeepsLimits r.now.body }
-        requires stands { D.tells → (told : Told) × IsStore (D.disk dev.old) self.old told }
+        requires standing { D.tells → Standing (D.disk dev.old) self.old.paged }
         ensures fit { OnOk result (self.new.paged.failed ≡ false) }
         ensures stands { D.tells → (told : Told) (said_now : Logged) → IsStore (D.disk dev.old) self.old told → IsNext (files_of told) told.records said_now → spelled said_now ≡ r.now
             → OnOk result (IsStore (D.disk dev.new) self.new (said told said_now)) }
+        ensures standing { D.tells → OnOk result (Standing (D.disk dev.new) self.new.paged) }
         ensures ends { OnOk result ((self.new.paged.log.db ≡ self.old.paged.log.db) × (self.new.paged.log.end ≡ self.old.paged.log.end + 1) × (self.new.paged.log.head.kept ≡ self.old.paged.log.head.kept)) }
         ensures later { D.tells → (told : Told) → IsStore (D.disk dev.old) self.old told → OnOk result (self.old.paged.log.stored ≤ self.new.paged.log.stored) }
         ensures same { OnOk result ((self.new.known ≡ self.old.known) × (self.new.note ≡ self.old.note)) }

@@ -2,6 +2,7 @@
 ghost use Rattle.std.specs.Prelude.{◌≡◌, ◌≤◌, false, length, OnOk, IsErrOf};
 ghost use Rattle.bk_device.specs.Counts.{HasCause};
 ghost use Rattle.bk_known.specs.Known.{KeepsKnown};
+ghost use Rattle.bk_paged.specs.Paged.{Standing};
 ghost use Rattle.bk_store.specs.Store.{Crashes, IsStore, Kept};
 ghost use Rattle.bk_store.specs.Told.{Told};
 
@@ -93,9 +94,10 @@ impl Store {
     /// Makes what was said durable. A crash leaves what was durable, or some more of what was said.
     pub fn flush<D: Device>(&mut self, alloc: Global, dev: &mut D) -> Result<(), StoreError>
         requires fit { self.old.paged.failed ≡ false }
-        requires stands { D.tells → (told : Told) × IsStore (D.disk dev.old) self.old told }
+        requires standing { D.tells → Standing (D.disk dev.old) self.old.paged }
         ensures fit { OnOk result (self.new.paged.failed ≡ false) }
         ensures stands { D.tells → (told : Told) → IsStore (D.disk dev.old) self.old told → OnOk result (IsStore (D.disk dev.new) self.new told) }
+        ensures standing { D.tells → OnOk result (Standing (D.disk dev.new) self.new.paged) }
         ensures ends { OnOk result ((self.new.paged.log.db ≡ self.old.paged.log.db) × (self.new.paged.log.end ≡ self.old.paged.log.end) × (self.new.paged.log.stored ≡ self.old.paged.log.end) × (self.new.paged.log.head.kept ≡ self.old.paged.log.head.kept)) }
         ensures same { OnOk result (self.new ≡ record self.old { paged = self.new.paged }) }
         ensures crash { D.tells → (told : Told) → IsStore (D.disk dev.old) self.old told → Crashes self.old told (D.disk dev.old) (D.disk dev.new) }

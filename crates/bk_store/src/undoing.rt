@@ -1,6 +1,7 @@
 // Undoing the writes of a transaction, the last one first.
 ghost use Rattle.std.specs.Prelude.{◌≡◌, ◌≤◌, ◌<◌, ◌+◌, ◌^◌, None, false, option_map, IfOk, IfSome, OnOk, IsErrOf};
 ghost use Rattle.bk_device.specs.Counts.{HasCause};
+ghost use Rattle.bk_paged.specs.Paged.{Standing};
 ghost use Rattle.bk_record.specs.Spelling.{KeepsLimits};
 ghost use Rattle.bk_store.specs.Store.{Crashes, IsStore};
 ghost use Rattle.bk_store.specs.Told.{Told};
@@ -64,9 +65,10 @@ impl Store {
     ) -> Result<bool, StoreError>
         requires fit { self.old.paged.failed ≡ false }
         requires room { self.old.paged.log.end < 2 ^ 62 }
-        requires stands { D.tells → (told : Told) × IsStore (D.disk dev.old) self.old told }
+        requires standing { D.tells → Standing (D.disk dev.old) self.old.paged }
         ensures fit { OnOk result (self.new.paged.failed ≡ false) }
         ensures stands { D.tells → (told : Told) → IsStore (D.disk dev.old) self.old told → IfOk result (UndoesLast (IsStore (D.disk dev.new) self.new) self.old told begin) }
+        ensures standing { D.tells → OnOk result (Standing (D.disk dev.new) self.new.paged) }
         ensures ends { OnOk result ((self.new.paged.log.db ≡ self.old.paged.log.db) × (self.new.paged.log.head.kept ≡ self.old.paged.log.head.kept) × (self.new.paged.log.end ≤ self.old.paged.log.end + 1)) }
         ensures later { D.tells → (told : Told) → IsStore (D.disk dev.old) self.old told → OnOk result (self.old.paged.log.stored ≤ self.new.paged.log.stored) }
         ensures same { OnOk result ((self.new.known ≡ self.old.known) × (self.new.note ≡ self.old.note)) }

@@ -2,6 +2,7 @@
 ghost use Rattle.std.specs.Prelude.{◌≡◌, ◌+◌, None, Some, List, false, option_map, IfOk, IfSome, OnOk, IsErrOf};
 ghost use Rattle.bk_bytes.specs.Cell.{IsCell};
 ghost use Rattle.bk_device.specs.Counts.{HasCause};
+ghost use Rattle.bk_paged.specs.Paged.{Standing};
 ghost use Rattle.bk_record.specs.Spelling.{KeepsLimits};
 ghost use Rattle.bk_shown.specs.Shown.{Shows};
 ghost use Rattle.bk_undo.specs.Spelled.{body_of, image};
@@ -72,10 +73,11 @@ impl Store {
         value: &Option<Value>,
     ) -> Result<Place, StoreError>
         requires fit { self.old.paged.failed ≡ false }
-        requires stands { D.tells → (told : Told) × IsStore (D.disk dev.old) self.old told }
+        requires standing { D.tells → Standing (D.disk dev.old) self.old.paged }
         ensures fit { OnOk result (self.new.paged.failed ≡ false) }
         ensures stands { D.tells → (told : Told) → IsStore (D.disk dev.old) self.old told → MayWriteRow self.old told begin (record { table = table; key = key; value = value.now })
             → IfOk result (λ at. IsStore (D.disk dev.new) self.new (said told (at_end self.old begin (write_of told.records begin at (record { table = table; key = key; value = value.now }))))) }
+        ensures standing { D.tells → OnOk result (Standing (D.disk dev.new) self.new.paged) }
         ensures place { D.tells → (told : Told) → IsStore (D.disk dev.old) self.old told → IfOk result (λ at. MayLieAt (files_of told) told.records table key at) }
         ensures ends { OnOk result ((self.new.paged.log.db ≡ self.old.paged.log.db) × (self.new.paged.log.end ≡ self.old.paged.log.end + 1) × (self.new.paged.log.head.kept ≡ self.old.paged.log.head.kept)) }
         ensures same { OnOk result ((self.new.known ≡ self.old.known) × (self.new.note ≡ self.old.note)) }

@@ -30,7 +30,6 @@ impl Stores {
         requires ready { IsReady self.old }
         requires shut { slice_get self.old.slots at ≡ Some None }
         requires stored { (e : Entries) × (slice_get self.old.master.record.databases at ≡ Some e) × (e.is_stored ≡ true) }
-        requires stands { D.tells → (tolds : List Told) × AreStores (D.disk dev.old) self.old tolds }
         ensures ready { OnOk result (IsReady self.new) }
         ensures stands { D.tells → (tolds : List Told) (told : Told) → AreStores (D.disk dev.old) self.old tolds → slice_get tolds at ≡ Some told → OnOk result (AreStores (D.disk dev.new) self.new (set tolds at (settled told))) }
         ensures crash { D.tells → (tolds : List Told) (told : Told) → AreStores (D.disk dev.old) self.old tolds → slice_get tolds at ≡ Some told → Effect IsOurs (LeavesStores (sealed_at self.old tolds) (set tolds at (settled told))) (D.disk dev.old) (D.disk dev.new) }

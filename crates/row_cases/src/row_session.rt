@@ -201,9 +201,9 @@ fn said_in_log<R: Threads + Sync>(
     session: &Session,
     device: &mut Untold,
 ) -> Result<String, OpenError> {
-    let paged = load_paged(rt, session.alloc, device, session.db)?;
-    let told = log_told(session.alloc, device, &paged);
-    drop(paged);
+    let opened = load_paged(rt, session.alloc, device, session.db)?;
+    let told = log_told(session.alloc, device, &opened.paged);
+    drop(opened);
     told
 }
 

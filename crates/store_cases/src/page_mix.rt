@@ -3,10 +3,10 @@ ghost use Rattle.std.specs.Prelude.{◌≡◌, false, OnOk};
 
 use crate::calls::call;
 use crate::mix::Mix;
+use crate::page_session::load;
 use crate::plain::{Deed, PAGES, Said, cell_at, cells_of, open_in};
 use crate::shown::cells_in;
 use crate::untold::Untold;
-use bk_opening::load;
 use bk_paged::{Paged, PagedError};
 use std::alloc::{AllocError, Global};
 use std::thread::Threads;

@@ -7,9 +7,8 @@ use crate::shown::{records_told, told};
 use crate::untold::Untold;
 use bk_facts::DataFile;
 use bk_ids::Text;
-use bk_opening::load;
 use bk_paged::{Paged, PagedError, may_make};
-use std::alloc::AllocError;
+use std::alloc::{AllocError, Global};
 use std::thread::Threads;
 
 // A data file with a path of the database's own.
@@ -46,6 +45,19 @@ fn make(session: &Session, device: &mut Untold) -> Result<Paged, PagedError>
         b"",
         session.frames as usize,
     )
+}
+
+// Loads a database.
+pub(crate) fn load<R: Threads + Sync>(
+    rt: &R,
+    alloc: Global,
+    device: &mut Untold,
+    db: u32,
+) -> Result<Paged, PagedError>
+    ensures fit { IfOk result (λ p. p.failed ≡ false) }
+{
+    let opened = bk_opening::load(rt, alloc, device, db)?;
+    Ok(opened.paged)
 }
 
 // Makes the database or loads it.

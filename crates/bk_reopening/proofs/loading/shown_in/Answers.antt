@@ -10,25 +10,23 @@ use Rattle.bk_reopening.proofs.Settled.{is-quiet}
 use Rattle.bk_reopening.proofs.loading.shown_in.Goals as goal
 
 pub returns-in_err-recent-clause-foreign : goal.returns-in_err-recent-clause-foreign
-returns-in_err-recent-clause-foreign g c =
+returns-in_err-recent-clause-foreign c =
     let p = err_from_is_err_and c.from_residual.result c.from_residual.ensures.1 in
-    rw (p.1, p.2) (λ t is. c.in_err-recent.ensures.foreign t (same_error c.in_err-recent.field-0.0 Foreign is))
+    rw (p.1, p.2) (λ is. c.in_err-recent.ensures.foreign (same_error c.in_err-recent.field-0.0 Foreign is))
 
 -- the files that are handed on are those of the database
 pub returns-in_err-shown-clause-foreign : goal.returns-in_err-shown-clause-foreign
-returns-in_err-shown-clause-foreign g c =
+returns-in_err-shown-clause-foreign c =
     let p = err_from_is_err_and c.from_residual-in_err-shown.result c.from_residual-in_err-shown.ensures.1 in
-    let d = g.D.Device.disk c.args.dev.now in
-    rw (p.1, p.2) (λ t is told its.
+    rw (p.1, p.2) (λ is told its.
     let files = files-read c.args.known.now told c.as_slice.result.now c.as_slice.ensures its.noted in
-    let quiet = is-quiet c.cells_law.ensures c.args.known.now told d c.args.paged.now c.in_ok-recent.recent its (c.in_ok-recent.ensures.says t told its) in
+    let quiet = is-quiet c.args.paged.now c.args.records.now c.args.known.now told c.in_ok-recent.recent its (c.in_ok-recent.ensures.says told its) in
     c.in_err-shown.ensures.foreign (same_error c.in_err-shown.field-0.0 Foreign is) told.records
     (subst (λ (fs : List FileSpec). IsQuiet fs told.records c.args.paged.now c.in_ok-recent.recent) (sym files) quiet))
 
 pub returns-clause-shows : goal.returns-clause-shows
-returns-clause-shows g c t told its =
-    let d = g.D.Device.disk c.args.dev.now in
+returns-clause-shows c told its =
     let files = files-read c.args.known.now told c.as_slice.result.now c.as_slice.ensures its.noted in
-    let quiet = is-quiet c.cells_law.ensures c.args.known.now told d c.args.paged.now c.in_ok-recent.recent its (c.in_ok-recent.ensures.says t told its) in
+    let quiet = is-quiet c.args.paged.now c.args.records.now c.args.known.now told c.in_ok-recent.recent its (c.in_ok-recent.ensures.says told its) in
     subst (λ (fs : List FileSpec). Shows fs told.records c.in_ok-shown.shown) files
     (c.in_ok-shown.ensures.shows told.records (subst (λ (fs : List FileSpec). IsQuiet fs told.records c.args.paged.now c.in_ok-recent.recent) (sym files) quiet))

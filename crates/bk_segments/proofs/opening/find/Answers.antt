@@ -1,4 +1,4 @@
-use Rattle.std.proofs.Common.{◌≡◌, List, ℕ, sym, subst, arith}
+use Rattle.std.proofs.Common.{◌≡◌, ◌∙◌, List, ℕ, sym, ap, subst, arith}
 use Rattle.std.proofs.lemmas.Result.{err_from_is_err_and}
 use Rattle.bk_control.specs.Control.{control_kept}
 use Rattle.bk_device.specs.Compose.{keeps_by_nothing}
@@ -8,7 +8,7 @@ use Rattle.bk_segments.specs.declared.error.LogError.TheVariants.{Foreign}
 use Rattle.bk_segments.specs.FileLaws.{foreign_record, foreign_run, all_moved, blobs_moved, begun_same, one_end}
 use Rattle.bk_segments.specs.Files.{segment_file, blobs_at, blobs_of}
 use Rattle.bk_segments.specs.SegmentLaws.{segments_same}
-use Rattle.bk_segments.specs.Records.{IsRun}
+use Rattle.bk_segments.specs.Records.{IsRun, joined}
 use Rattle.bk_segments.proofs.Walks.{settled}
 use Rattle.bk_segments.proofs.opening.find.Goals as goal
 
@@ -60,3 +60,6 @@ returns-clause-last g c t durable = c.in_ok-walked.ensures.stands t (settled (se
 
 pub returns-clause-stands : goal.returns-clause-stands
 returns-clause-stands g c t durable = control_kept (keeps_by_nothing (c.walk_all.ensures.effect t)) (c.in_ok-control.ensures.stands t durable)
+
+pub returns-clause-bytes : goal.returns-clause-bytes
+returns-clause-bytes g c t all = c.in_ok-walked.ensures.bytes t all ∙ ap joined (all_moved c.args.db c.in_ok-head.head c.in_ok-head.ensures.sound.front (c.load_control.ensures.effect t))

@@ -1,12 +1,13 @@
-use Rattle.std.proofs.Common.{◌≡◌, ◌-◌, ◌+◌, List, ℕ, length, inl, inr, sym, ap, subst, ◌∙◌, arith}
+use Rattle.std.proofs.Common.{◌≡◌, ◌-◌, ◌+◌, ◌++◌, List, ℕ, length, inl, inr, sym, ap, subst, ◌∙◌, arith}
 use Rattle.std.proofs.lemmas.Result.{err_from_is_err_and}
 use Rattle.bk_lemmas.specs.Tests.{equal_or_not, same_error}
 use Rattle.bk_segments.specs.declared.error.LogError.TheVariants.{Foreign}
 use Rattle.bk_segments.specs.FileLaws.{blobs_moved}
 use Rattle.bk_segments.specs.Files.{blobs_at, blobs_from}
-use Rattle.bk_segments.specs.Records.{IsRun}
+use Rattle.bk_segments.specs.Records.{IsRun, joined}
 use Rattle.bk_segments.specs.RunLaws.{segment_next, segments_stuck}
 use Rattle.bk_segments.specs.SegmentLaws.{segments_added}
+use Rattle.bk_segments.proofs.Joined.{joined_segment}
 use Rattle.bk_segments.proofs.walk.walk_all.Goals as goal
 
 pub returns-in_err-at-clause-foreign : goal.returns-in_err-at-clause-foreign
@@ -51,3 +52,13 @@ returns-clause-segments g c t =
     let count : length old ≡ head.back - head.front = omega (arith, c.in_ok-at.ensures.count) in
     segments_added blobs c.args.db head.front head.first head.back c.in_ok-at.at old c.add_segment.new.segments.items (c.in_ok-at.ensures.segments t) place
     (subst (λ (k : ℕ). IsRun head.first (blobs_from blobs head.front k) c.in_ok-at.at) (sym count) (c.in_ok-at.ensures.run t)) c.in_ok-add_segment.ensures.added
+
+pub returns-clause-bytes : goal.returns-clause-bytes
+returns-clause-bytes g c t all =
+    let head = c.args.head in
+    let blobs = blobs_at (g.D.Device.disk c.args.dev.now).files c.args.db in
+    let last : head.front + (head.back - head.front) ≡ head.back = omega (arith, c.requires.order) in
+    let same : blobs_at (g.D.Device.disk c.walk_front.new.dev).files c.args.db head.back ≡ blobs (head.front + (head.back - head.front)) =
+    blobs_moved c.args.db head.back (c.walk_front.ensures.effect t) ∙ ap blobs (sym last) in
+    joined_segment blobs head.front (head.back - head.front) c.walk_front.new.bytes.items c.walk_last.new.bytes.items (c.in_ok-at.ensures.bytes t all)
+    (c.in_ok-gate.ensures.added t all ∙ ap (λ (bs : List (List ℕ)). c.walk_front.new.bytes.items ++ joined bs) same)

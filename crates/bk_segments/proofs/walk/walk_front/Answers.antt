@@ -1,13 +1,14 @@
-use Rattle.std.proofs.Common.{◌≡◌, ◌<◌, ◌-◌, ◌+◌, List, ℕ, length, refl, inl, inr, sym, ap, subst, ◌∙◌, arith}
+use Rattle.std.proofs.Common.{◌≡◌, ◌<◌, ◌-◌, ◌+◌, ◌++◌, List, ℕ, length, refl, inl, inr, sym, ap, subst, ◌∙◌, arith}
 use Rattle.std.proofs.lemmas.Result.{err_from_is_err_and}
 use Rattle.bk_device.specs.Laws.{nothing_yet, nothing_then, cause_then}
 use Rattle.bk_lemmas.specs.Tests.{equal_or_not, same_error}
 use Rattle.bk_segments.specs.declared.error.LogError.TheVariants.{Foreign}
 use Rattle.bk_segments.specs.FileLaws.{blobs_moved}
 use Rattle.bk_segments.specs.Files.{blobs_at, blobs_from, AreSegments}
-use Rattle.bk_segments.specs.Records.{IsRun}
+use Rattle.bk_segments.specs.Records.{IsRun, joined}
 use Rattle.bk_segments.specs.RunLaws.{run_none, segment_next, segments_stuck}
 use Rattle.bk_segments.specs.SegmentLaws.{segments_none, segments_added}
+use Rattle.bk_segments.proofs.Joined.{joined_segment}
 use Rattle.bk_segments.proofs.walk.walk_front.Goals as goal
 
 pub returns-in_err-at-clause-foreign : goal.returns-in_err-at-clause-foreign
@@ -29,6 +30,7 @@ loop-i-init g c = record {
   begun = λ t n low high. absurd (omega (arith, low, high));
   segments = λ t. subst (AreSegments (blobs_at (g.D.Device.disk c.args.dev.now).files c.args.db) c.args.db c.args.head.front c.args.head.first) (sym c.requires.none) (segments_none (blobs_at (g.D.Device.disk c.args.dev.now).files c.args.db) c.args.db c.args.head.front c.args.head.first);
   count = omega (arith, ap length c.requires.none);
+  bytes = λ t all. c.requires.empty;
   cause = record { rose = λ none. absurd none; never_falls = omega arith; tell_faults = refl };
 }
 
@@ -49,6 +51,10 @@ loop-i-preserved g c = record {
       segments_added (blobs_at (g.D.Device.disk c.args.dev.now).files c.args.db) c.args.db c.args.head.front c.args.head.first (c.args.head.front + c.loop-i.i) c.loop-i.at c.loop-i.segments.items c.add_segment.new.segments.items
       (c.loop-i.invariant.segments t) place (subst (λ (k : ℕ). IsRun c.args.head.first (blobs_from (blobs_at (g.D.Device.disk c.args.dev.now).files c.args.db) c.args.head.front k) c.loop-i.at) (sym count) (c.loop-i.invariant.run t)) c.in_ok-add_segment.ensures.added;
   count = omega (arith, c.loop-i.invariant.count, c.in_ok-add_segment.ensures.len);
+  bytes = λ t all.
+      let same = blobs_moved c.args.db (c.args.head.front + c.loop-i.i) (c.loop-i.invariant.nothing t) in
+      joined_segment (blobs_at (g.D.Device.disk c.args.dev.now).files c.args.db) c.args.head.front c.loop-i.i c.loop-i.bytes.items c.walk_segment.new.bytes.items (c.loop-i.invariant.bytes t all)
+      (c.in_ok-at.ensures.added t all ∙ ap (λ (bs : List (List ℕ)). c.loop-i.bytes.items ++ joined bs) same);
   cause = cause_then c.loop-i.invariant.cause c.walk_segment.ensures.cause (λ none. absurd none);
 }
 

@@ -1,11 +1,11 @@
-use Rattle.std.proofs.Common.{◌≡◌, ◌∙◌, ◌++◌, ℕ, List, [], ap, map, sym, subst}
+use Rattle.std.proofs.Common.{◌≡◌, ◌∙◌, ◌++◌, List, [], ap, map, sym, subst}
 use Rattle.bk_known.specs.declared.known.Known.{Known}
 use Rattle.bk_known.specs.Known.{IsKnown, known_bytes}
 use Rattle.bk_world.specs.declared.database.FileSpec.{FileSpec}
 use Rattle.bk_store.specs.Making.{first_known}
 use Rattle.bk_store.specs.Store.{IsStore}
 use Rattle.bk_store.specs.Told.{data_file, unsaid}
-use Rattle.bk_store.proofs.Founded.{made-crash, made-stands, none-crash}
+use Rattle.bk_store.proofs.Founded.{made-crash, made-stands}
 use Rattle.bk_store.proofs.making.make_paged.Goals as goal
 
 pub returns-in_err-paged-clause-crash : goal.returns-in_err-paged-clause-crash

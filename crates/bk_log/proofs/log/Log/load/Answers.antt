@@ -1,10 +1,11 @@
-use Rattle.std.proofs.Common.{◌≡◌, ◌≤◌, ◌<◌, ◌⊎◌, ◌+◌, ℕ, None, subst}
+use Rattle.std.proofs.Common.{◌≡◌, ◌≤◌, ◌<◌, ◌⊎◌, ◌+◌, ℕ, None, subst, ◌∙◌}
 use Rattle.std.proofs.lemmas.Result.{err_from_is_err_and}
 use Rattle.bk_device.specs.Effects.{Effect}
 use Rattle.bk_segments.specs.declared.error.LogError.TheVariants.{Foreign}
 use Rattle.bk_lemmas.specs.Tests.{same_error}
 use Rattle.bk_log.specs.Log.{Kept}
-use Rattle.bk_segments.specs.Files.{IsBeside, segment_file}
+use Rattle.bk_segments.specs.Files.{IsBeside, control_file, segment_file}
+use Rattle.bk_segments.specs.FileLaws.{control_not_segment, durable_settles}
 use Rattle.bk_log.proofs.Cuts.{load_then, load_stands, load_tidy}
 use Rattle.bk_log.proofs.Makes.{load_nothing}
 use Rattle.bk_log.proofs.log.Log.load.Goals as goal
@@ -19,19 +20,22 @@ returns-in_err-log-clause-crash g c t durable = load_nothing c.args.db (g.D.Devi
 
 pub returns-in_err-tidy-clause-crash : goal.returns-in_err-tidy-clause-crash
 returns-in_err-tidy-clause-crash g c t durable =
-    load_then c.args.db c.in_ok-log.log (g.D.Device.disk c.args.dev.now) (g.D.Device.disk c.open.new.dev) (g.D.Device.disk c.tidy.new.dev) c.in_ok-log.ensures.db (c.in_ok-log.ensures.stands t durable) (c.in_ok-log.ensures.loaded t) durable (c.open.ensures.effect t) (subst (λ (k : Kept). Effect (IsBeside c.args.db k.head) (λ _. Unit {0}) (g.D.Device.disk c.open.new.dev) (g.D.Device.disk c.tidy.new.dev)) c.log.view_is (c.tidy.ensures.crash t))
+    load_then c.args.db c.in_ok-log.log (g.D.Device.disk c.args.dev.now) (g.D.Device.disk c.open.new.dev) (g.D.Device.disk c.tidy.new.dev) c.in_ok-log.ensures.db (c.in_ok-log.ensures.stands t (durable_settles c.args.db (g.D.Device.disk c.args.dev.now) durable)) (c.in_ok-log.ensures.loaded t) durable (c.open.ensures.effect t) (subst (λ (k : Kept). Effect (IsBeside c.args.db k.head) (λ _. Unit {0}) (g.D.Device.disk c.open.new.dev) (g.D.Device.disk c.tidy.new.dev)) c.log.view_is (c.tidy.ensures.crash t))
 
 pub returns-clause-value : goal.returns-clause-value
-returns-clause-value g c t durable =
-    (load_stands c.args.db c.in_ok-log.log (g.D.Device.disk c.args.dev.now) (g.D.Device.disk c.open.new.dev) (g.D.Device.disk c.tidy.new.dev) c.in_ok-log.ensures.db (c.in_ok-log.ensures.stands t durable) (c.open.ensures.effect t) (subst (λ (k : Kept). Effect (IsBeside c.args.db k.head) (λ _. Unit {0}) (g.D.Device.disk c.open.new.dev) (g.D.Device.disk c.tidy.new.dev)) c.log.view_is (c.tidy.ensures.crash t))).1
+returns-clause-value g c t settled =
+    (load_stands c.args.db c.in_ok-log.log (g.D.Device.disk c.args.dev.now) (g.D.Device.disk c.open.new.dev) (g.D.Device.disk c.tidy.new.dev) c.in_ok-log.ensures.db (c.in_ok-log.ensures.stands t settled) (c.open.ensures.effect t) (subst (λ (k : Kept). Effect (IsBeside c.args.db k.head) (λ _. Unit {0}) (g.D.Device.disk c.open.new.dev) (g.D.Device.disk c.tidy.new.dev)) c.log.view_is (c.tidy.ensures.crash t))).1
 
 pub returns-clause-stands : goal.returns-clause-stands
-returns-clause-stands g c t durable =
-    (load_stands c.args.db c.in_ok-log.log (g.D.Device.disk c.args.dev.now) (g.D.Device.disk c.open.new.dev) (g.D.Device.disk c.tidy.new.dev) c.in_ok-log.ensures.db (c.in_ok-log.ensures.stands t durable) (c.open.ensures.effect t) (subst (λ (k : Kept). Effect (IsBeside c.args.db k.head) (λ _. Unit {0}) (g.D.Device.disk c.open.new.dev) (g.D.Device.disk c.tidy.new.dev)) c.log.view_is (c.tidy.ensures.crash t))).0
+returns-clause-stands g c t settled =
+    (load_stands c.args.db c.in_ok-log.log (g.D.Device.disk c.args.dev.now) (g.D.Device.disk c.open.new.dev) (g.D.Device.disk c.tidy.new.dev) c.in_ok-log.ensures.db (c.in_ok-log.ensures.stands t settled) (c.open.ensures.effect t) (subst (λ (k : Kept). Effect (IsBeside c.args.db k.head) (λ _. Unit {0}) (g.D.Device.disk c.open.new.dev) (g.D.Device.disk c.tidy.new.dev)) c.log.view_is (c.tidy.ensures.crash t))).0
 
 pub returns-clause-tidy : goal.returns-clause-tidy
-returns-clause-tidy g c t durable = load_tidy c.args.db c.in_ok-log.log.head (g.D.Device.disk c.args.dev.now).files (g.D.Device.disk c.tidy.new.dev).files (c.in_ok-log.ensures.holds t) (subst (λ (k : Kept). (n : ℕ) → k.head.gone ≤ n → n ≤ k.head.back + 1 → (n < k.head.front) ⊎ (k.head.back < n) → (g.D.Device.disk c.tidy.new.dev).files (segment_file c.args.db n) ≡ None) c.log.view_is (c.in_ok-tidy.ensures.gone t))
+returns-clause-tidy g c t settled = load_tidy c.args.db c.in_ok-log.log.head (g.D.Device.disk c.args.dev.now).files (g.D.Device.disk c.tidy.new.dev).files (c.in_ok-log.ensures.holds t) (subst (λ (k : Kept). (n : ℕ) → k.head.gone ≤ n → n ≤ k.head.back + 1 → (n < k.head.front) ⊎ (k.head.back < n) → (g.D.Device.disk c.tidy.new.dev).files (segment_file c.args.db n) ≡ None) c.log.view_is (c.in_ok-tidy.ensures.gone t))
 
 pub returns-clause-crash : goal.returns-clause-crash
 returns-clause-crash g c t durable =
-    load_then c.args.db c.in_ok-log.log (g.D.Device.disk c.args.dev.now) (g.D.Device.disk c.open.new.dev) (g.D.Device.disk c.tidy.new.dev) c.in_ok-log.ensures.db (c.in_ok-log.ensures.stands t durable) (c.in_ok-log.ensures.loaded t) durable (c.open.ensures.effect t) (subst (λ (k : Kept). Effect (IsBeside c.args.db k.head) (λ _. Unit {0}) (g.D.Device.disk c.open.new.dev) (g.D.Device.disk c.tidy.new.dev)) c.log.view_is (c.tidy.ensures.crash t))
+    load_then c.args.db c.in_ok-log.log (g.D.Device.disk c.args.dev.now) (g.D.Device.disk c.open.new.dev) (g.D.Device.disk c.tidy.new.dev) c.in_ok-log.ensures.db (c.in_ok-log.ensures.stands t (durable_settles c.args.db (g.D.Device.disk c.args.dev.now) durable)) (c.in_ok-log.ensures.loaded t) durable (c.open.ensures.effect t) (subst (λ (k : Kept). Effect (IsBeside c.args.db k.head) (λ _. Unit {0}) (g.D.Device.disk c.open.new.dev) (g.D.Device.disk c.tidy.new.dev)) c.log.view_is (c.tidy.ensures.crash t))
+
+pub returns-clause-control : goal.returns-clause-control
+returns-clause-control g c t = (c.tidy.ensures.crash t).others (control_file c.args.db) (λ at. control_not_segment c.args.db at.0 at.3) ∙ (c.open.ensures.effect t).files (control_file c.args.db)

@@ -41,3 +41,6 @@ returns-clause-begun g c t =
 
 pub returns-in_default-clause-begun : goal.returns-in_default-clause-begun
 returns-in_default-clause-begun g c t head holds = absurd (c.in_ok-head.ensures.none t (search rules) head holds)
+
+pub returns-in_default-clause-control : goal.returns-in_default-clause-control
+returns-in_default-clause-control g c t head holds = absurd (c.in_ok-head.ensures.none t (search rules) head holds)

@@ -1,12 +1,15 @@
-use Rattle.std.proofs.Common.{◌≡◌, ◌++◌, ◌∙◌, ℕ, List, ap, sym, subst}
+use Rattle.std.proofs.Common.{◌≡◌, ◌++◌, ◌∙◌, ℕ, List, ap, refl, sym, subst}
 use Rattle.bk_device.specs.Effects.{Effect}
 use Rattle.bk_facts.specs.declared.facts.Facts.{Facts}
-use Rattle.bk_facts.specs.Facts.{facts_bytes}
+use Rattle.bk_facts.specs.Facts.{Notes, facts_bytes}
+use Rattle.bk_segments.specs.Files.{Logged}
+use Rattle.bk_paged.specs.contracts.paged.Paged.{the_view}
 use Rattle.bk_paged.specs.Holds.{Leaves}
 use Rattle.bk_paged.specs.Names.{IsOwn as IsOurs}
-use Rattle.bk_paged.specs.Paged.{IsPaged, Kept, sealed_count}
+use Rattle.bk_paged.specs.Paged.{IsPaged, Kept, Standing, Touches, sealed_count}
 use Rattle.bk_paged.specs.Leaving.{paged_none, room_short}
 use Rattle.bk_paged.proofs.Noting.{checkpoint_crash, checkpoint_stands, spelled, spelled_now}
+use Rattle.bk_paged.specs.StandLaws.{log-touches, none-touches, standing-log}
 use Rattle.bk_paged.proofs.paged.Paged.note_checkpoint.Goals as goal
 
 pub spell_note-requires-clause-few : goal.spell_note-requires-clause-few
@@ -53,3 +56,32 @@ returns-clause-stands g c t stood is =
     let spells = spelled_now _ stood a c.deref-2.result.now here (spelled facts c.deref.result.now c.self.inside.note.items _ c.deref-2.result.now c.deref.ensures.value c.deref-2.ensures.value c.in_ok-bytes.ensures.notes) in
     let same = c.in_ok-set_note.ensures.same in
     checkpoint_stands _ stood c.deref-2.result.now c.self.inside.since c.set_note.new.self _ a b here spells (c.set_note.ensures.crash t) (c.in_ok-set_note.ensures.stands t) (c.in_ok-set_note.ensures.value t) same.0 same.1 same.2 same.3
+
+pub returns-clause-standing : goal.returns-clause-standing
+returns-clause-standing g c t =
+    let a = g.D.Device.disk c.args.dev.now in
+    let b = g.D.Device.disk c.set_note.new.dev in
+    let facts : Facts = record { checkpoint = c.self.inside.since; files = c.self.inside.facts.files } in
+    let At : Kept → Type 0 = λ k. Standing a k in
+    let here = subst At (sym c.self.view_is) (c.requires.standing t) in
+    let spells = spelled facts c.deref.result.now c.self.inside.note.items _ c.deref-2.result.now c.deref.ensures.value c.deref-2.ensures.value c.in_ok-bytes.ensures.notes in
+    let note : c.set_note.new.self.note ≡ c.deref-2.result.now = ap (λ (l : Logged). l.note) (c.in_ok-set_note.ensures.value t) in
+    standing-log _ c.set_note.new.self facts c.self.inside.note.items _ {a = a} {b = b} here (c.set_note.ensures.crash t) (c.in_ok-set_note.ensures.stands t) c.in_ok-set_note.ensures.same.0 (subst (λ (n : List ℕ). Notes n facts c.self.inside.note.items) (sym note) spells) refl here.room.rest
+
+pub returns-in_err-bytes-clause-touches : goal.returns-in_err-bytes-clause-touches
+returns-in_err-bytes-clause-touches g c t =
+    none-touches c.args.self.now (g.D.Device.disk c.args.dev.now)
+
+pub returns-in_err-set_note-clause-touches : goal.returns-in_err-set_note-clause-touches
+returns-in_err-set_note-clause-touches g c t =
+    let a = g.D.Device.disk c.args.dev.now in
+    let b = g.D.Device.disk c.set_note.new.dev in
+    let To : Kept → Type 0 = λ k. Touches k a b in
+    subst To c.self.view_is (log-touches (the_view c.self.inside) (c.set_note.ensures.crash t))
+
+pub returns-clause-touches : goal.returns-clause-touches
+returns-clause-touches g c t =
+    let a = g.D.Device.disk c.args.dev.now in
+    let b = g.D.Device.disk c.set_note.new.dev in
+    let To : Kept → Type 0 = λ k. Touches k a b in
+    subst To c.self.view_is (log-touches (the_view c.self.inside) (c.set_note.ensures.crash t))

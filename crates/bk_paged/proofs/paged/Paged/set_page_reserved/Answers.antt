@@ -5,10 +5,11 @@ use Rattle.bk_pool.specs.Pool.{IsFound, Pool}
 use Rattle.bk_paged.specs.contracts.paged.Paged.{the_view}
 use Rattle.bk_paged.specs.Appends.{with_waiting}
 use Rattle.bk_paged.specs.Holds.{with_one}
-use Rattle.bk_paged.specs.Paged.{IsPaged, Kept}
+use Rattle.bk_paged.specs.Paged.{IsPaged, Kept, Standing}
 use Rattle.bk_paged.proofs.Changing.{cell_said, may_fit, may_next, plain_said}
 use Rattle.bk_paged.specs.Leaving.{paged_none}
 use Rattle.bk_paged.proofs.Saying.{Next}
+use Rattle.bk_paged.specs.StandLaws.{none-touches, standing-pool}
 use Rattle.bk_paged.proofs.paged.Paged.set_page_reserved.Goals as goal
 
 pub returns-in_default-clause-stands : goal.returns-in_default-clause-stands
@@ -46,3 +47,15 @@ returns-clause-stands g c t fits stood is =
     let view : Kept = the_view c.self.inside in
     let Of : Pool → Type 0 = λ q. IsPaged b (with_waiting (record view { pool = q }) r) (with_one stood r) in
     subst Of (sym c.set_cell.ensures.is) said
+
+pub returns-in_default-clause-touches : goal.returns-in_default-clause-touches
+returns-in_default-clause-touches g c t =
+    none-touches c.args.self.now (g.D.Device.disk c.args.dev.now)
+
+pub returns-clause-standing : goal.returns-clause-standing
+returns-clause-standing g c t =
+    let b = g.D.Device.disk c.bring_reserved.new.dev in
+    let view : Kept = the_view c.self.inside in
+    let Of : Pool → Type 0 = λ q. Standing b (record view { pool = q }) in
+    let here : Standing b view = subst (Standing b) (sym c.self.view_is) (c.in_ok-i.ensures.standing t) in
+    subst Of (sym c.set_cell.ensures.is) (standing-pool view _ here)

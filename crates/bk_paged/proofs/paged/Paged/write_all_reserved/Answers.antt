@@ -1,12 +1,13 @@
-use Rattle.std.proofs.Common.{◌∙◌, sym, arith}
+use Rattle.std.proofs.Common.{◌∙◌, ap, arith, sym}
 use Rattle.bk_device.specs.Compose.{effect_then}
 use Rattle.bk_paged.specs.Laws.{crash_as}
-use Rattle.bk_paged.specs.Paged.{sealed_count}
+use Rattle.bk_paged.specs.Paged.{Kept, sealed_count}
 use Rattle.bk_paged.proofs.Saying.{all_same}
+use Rattle.bk_paged.specs.StandLaws.{touches-as}
 use Rattle.bk_paged.proofs.paged.Paged.write_all_reserved.Goals as goal
 
-pub write_pages-requires-clause-stands : goal.write_pages-requires-clause-stands
-write_pages-requires-clause-stands g c t = let stood = (c.requires.stands t).0 in (stood, c.in_ok-flush_reserved.ensures.stands t stood (c.requires.stands t).1)
+pub write_pages-requires-clause-standing : goal.write_pages-requires-clause-standing
+write_pages-requires-clause-standing g c t = c.in_ok-flush_reserved.ensures.standing t (c.requires.standing t)
 
 pub write_pages-requires-clause-sealed : goal.write_pages-requires-clause-sealed
 write_pages-requires-clause-sealed g c = let sealed = c.in_ok-flush_reserved.ensures.sealed in sealed.2 ∙ sym sealed.1
@@ -28,3 +29,13 @@ returns-clause-stands g c t stood is = c.in_ok-write_pages.ensures.stands t stoo
 
 pub returns-clause-same : goal.returns-clause-same
 returns-clause-same g c = all_same c.args.self.now c.flush_reserved.new.self c.write_pages.new.self c.in_ok-flush_reserved.ensures.same c.in_ok-write_pages.ensures.same c.in_ok-flush_reserved.ensures.sealed.1
+
+pub returns-in_err-write_pages-clause-touches : goal.returns-in_err-write_pages-clause-touches
+returns-in_err-write_pages-clause-touches g c t =
+    effect_then (c.flush_reserved.ensures.touches t)
+    (touches-as c.args.self.now c.flush_reserved.new.self c.in_ok-flush_reserved.ensures.sealed.0 (ap (λ (k : Kept). k.facts.files) c.in_ok-flush_reserved.ensures.same) (c.write_pages.ensures.touches t))
+
+pub returns-clause-touches : goal.returns-clause-touches
+returns-clause-touches g c t =
+    effect_then (c.flush_reserved.ensures.touches t)
+    (touches-as c.args.self.now c.flush_reserved.new.self c.in_ok-flush_reserved.ensures.sealed.0 (ap (λ (k : Kept). k.facts.files) c.in_ok-flush_reserved.ensures.same) (c.write_pages.ensures.touches t))

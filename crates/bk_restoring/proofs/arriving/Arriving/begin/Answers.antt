@@ -16,9 +16,6 @@ returns-in_err-remove_parts-clause-crash g c t =
     let same = c.deref-2.ensures.value ∙ c.in_ok-paths.ensures ∙ ap (map (λ (f : DataFile). f.path)) c.deref.ensures.value in
     parts_effect c.args.db c.args.files.items c.deref-2.result.now (g.D.Device.disk c.args.dev.now) (g.D.Device.disk c.remove_parts.new.dev) same (c.remove_parts.ensures.crash t)
 
-pub begin-requires-2-clause-durable : goal.begin-requires-2-clause-durable
-begin-requires-2-clause-durable g c t = c.in_ok-remove_parts.ensures.durable t (c.requires.durable t)
-
 pub returns-in_err-log-clause-crash : goal.returns-in_err-log-clause-crash
 returns-in_err-log-clause-crash g c t =
     let same = c.deref-2.ensures.value ∙ c.in_ok-paths.ensures ∙ ap (map (λ (f : DataFile). f.path)) c.deref.ensures.value in
@@ -44,3 +41,6 @@ returns-clause-crash g c t =
     let same = c.deref-2.ensures.value ∙ c.in_ok-paths.ensures ∙ ap (map (λ (f : DataFile). f.path)) c.deref.ensures.value in
     effect_then (parts_effect c.args.db c.args.files.items c.deref-2.result.now (g.D.Device.disk c.args.dev.now) (g.D.Device.disk c.remove_parts.new.dev) same (c.remove_parts.ensures.crash t))
     (log_effect c.args.db c.args.files.items (g.D.Device.disk c.remove_parts.new.dev) (g.D.Device.disk c.begin-2.new.dev) (c.begin-2.ensures.crash t))
+
+pub returns-clause-durable : goal.returns-clause-durable
+returns-clause-durable g c t are = c.in_ok-log.ensures.durable t (c.in_ok-remove_parts.ensures.durable t are)

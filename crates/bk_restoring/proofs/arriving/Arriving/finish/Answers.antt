@@ -4,10 +4,13 @@ use Rattle.bk_facts.specs.declared.facts.DataFile.{DataFile}
 use Rattle.bk_facts.specs.Facts.{Notes}
 use Rattle.bk_filling.specs.Filling.{MayFill}
 use Rattle.bk_paged.specs.Holds.{Holds}
-use Rattle.bk_paged.specs.Names.{AreDurable, IsOwn}
+use Rattle.bk_paged.specs.Names.{AreDurable, IsOwn, names_of}
+use Rattle.bk_segments.specs.Files.{AreDurable as LogsAreDurable, AreSettled}
+use Rattle.bk_side.specs.Names.{side_file, IsOwn as IsOfSide}
+use Rattle.bk_side.specs.Side.{AreDurable as PagesAreDurable}
 use Rattle.bk_restoring.specs.contracts.arriving.Arriving.{the_view}
 use Rattle.bk_restoring.specs.Arriving.{IsArriving, IsBegun, Kept, Suffices}
-use Rattle.bk_restoring.proofs.Arrived.{all_durable, arrived_holds, log_effect, note_short}
+use Rattle.bk_restoring.proofs.Arrived.{all_durable, arrived_holds, log_effect, note_short, pages_durable}
 use Rattle.bk_restoring.proofs.arriving.Arriving.finish.Goals as goal
 
 pub finish-requires-clause-short : goal.finish-requires-clause-short
@@ -21,14 +24,29 @@ returns-in_err-finish-clause-crash g c t =
     let W : Kept → Type 0 = λ k. Effect (IsOwn k.log.db k.filling.files) (λ _. Unit {0}) a b in
     subst W c.self.view_is (log_effect c.self.inside.log.db c.self.inside.filling.files a b (c.finish.ensures.crash t))
 
+pub returns-clause-settled : goal.returns-clause-settled
+returns-clause-settled g c t =
+    let W : Kept → Type 0 = λ k. AreSettled k.log.db (g.D.Device.disk c.finish.new.dev) in
+    subst W c.self.view_is (c.in_ok-finish.ensures.settled t)
+
+pub returns-clause-pages : goal.returns-clause-pages
+returns-clause-pages g c t =
+    let a = g.D.Device.disk c.args.dev.now in
+    let b = g.D.Device.disk c.finish.new.dev in
+    let whole = subst (λ (k : Kept). k.filling.whole ≡ length k.filling.files) (sym c.self.view_is) c.requires.whole in
+    let is = subst (IsBegun a) (sym c.self.view_is) (c.requires.stands t) in
+    let W : Kept → Type 0 = λ k. PagesAreDurable (IsOfSide (side_file k.log.db) (names_of k.filling.files)) b in
+    subst W c.self.view_is (pages_durable (the_view c.self.inside) a b whole is (c.finish.ensures.crash t))
+
 pub returns-clause-durable : goal.returns-clause-durable
-returns-clause-durable g c t =
+returns-clause-durable g c t are =
     let a = g.D.Device.disk c.args.dev.now in
     let b = g.D.Device.disk c.finish.new.dev in
     let whole = subst (λ (k : Kept). k.filling.whole ≡ length k.filling.files) (sym c.self.view_is) c.requires.whole in
     let is = subst (IsBegun a) (sym c.self.view_is) (c.requires.stands t) in
     let W : Kept → Type 0 = λ k. AreDurable k.log.db k.filling.files b in
-    subst W c.self.view_is (all_durable (the_view c.self.inside) a b whole is (c.finish.ensures.crash t) (c.in_ok-finish.ensures.durable t))
+    subst W c.self.view_is
+    (all_durable (the_view c.self.inside) a b whole is (c.finish.ensures.crash t) (c.in_ok-finish.ensures.durable t (subst (λ (k : Kept). LogsAreDurable k.log.db a) (sym c.self.view_is) are)))
 
 pub returns-clause-holds : goal.returns-clause-holds
 returns-clause-holds g c t given records stood arrives suffices =

@@ -2,6 +2,7 @@ use Rattle.std.proofs.Common.{◌+◌, ◌++◌, length, sym, subst}
 use Rattle.bk_device.specs.Effects.{Effect}
 use Rattle.bk_filling.specs.Records.{Spell}
 use Rattle.bk_paged.specs.Names.{IsOwn}
+use Rattle.bk_segments.specs.Files.{AreDurable as LogsAreDurable}
 use Rattle.bk_restoring.specs.contracts.arriving.Arriving.{the_view}
 use Rattle.bk_restoring.specs.Arriving.{IsArriving, IsBegun, Kept}
 use Rattle.bk_restoring.proofs.Arrived.{log_arrives, log_begun, log_effect}
@@ -31,3 +32,8 @@ pub returns-clause-crash : goal.returns-clause-crash
 returns-clause-crash g c t =
     let W : Kept → Type 0 = λ k. Effect (IsOwn k.log.db k.filling.files) (λ _. Unit {0}) (g.D.Device.disk c.args.dev.now) (g.D.Device.disk c.push.new.dev) in
     subst W c.self.view_is (log_effect c.self.inside.log.db c.self.inside.filling.files (g.D.Device.disk c.args.dev.now) (g.D.Device.disk c.push.new.dev) (c.push.ensures.crash t))
+
+pub returns-clause-durable : goal.returns-clause-durable
+returns-clause-durable g c t =
+    let W : Kept → Type 0 = λ k. LogsAreDurable k.log.db (g.D.Device.disk c.args.dev.now) → LogsAreDurable k.log.db (g.D.Device.disk c.push.new.dev) in
+    subst W c.self.view_is (c.in_ok-push.ensures.durable t)

@@ -2,9 +2,10 @@ use Rattle.std.proofs.Common.{◌≡◌, sym, subst}
 use Rattle.bk_device.specs.Effects.{Effect}
 use Rattle.bk_filling.specs.Filling.{place_of}
 use Rattle.bk_paged.specs.Names.{IsOwn}
+use Rattle.bk_segments.specs.Files.{AreDurable as LogsAreDurable}
 use Rattle.bk_restoring.specs.contracts.arriving.Arriving.{the_view}
 use Rattle.bk_restoring.specs.Arriving.{IsArriving, IsBegun, Kept}
-use Rattle.bk_restoring.proofs.Arrived.{data_effect, page_arrives, page_begun}
+use Rattle.bk_restoring.proofs.Arrived.{data_effect, logs_durable, page_arrives, page_begun}
 use Rattle.bk_restoring.proofs.arriving.Arriving.push_page.Goals as goal
 
 pub returns-in_err-push-clause-crash : goal.returns-in_err-push-clause-crash
@@ -31,3 +32,10 @@ pub returns-clause-crash : goal.returns-clause-crash
 returns-clause-crash g c t =
     let W : Kept → Type 0 = λ k. Effect (IsOwn k.log.db k.filling.files) (λ _. Unit {0}) (g.D.Device.disk c.args.dev.now) (g.D.Device.disk c.push.new.dev) in
     subst W c.self.view_is (data_effect c.self.inside.log.db c.self.inside.filling.files (g.D.Device.disk c.args.dev.now) (g.D.Device.disk c.push.new.dev) (c.push.ensures.crash t))
+
+pub returns-clause-durable : goal.returns-clause-durable
+returns-clause-durable g c t =
+    let a = g.D.Device.disk c.args.dev.now in
+    let b = g.D.Device.disk c.push.new.dev in
+    let W : Kept → Type 0 = λ k. LogsAreDurable k.log.db a → LogsAreDurable k.log.db b in
+    subst W c.self.view_is (logs_durable c.self.inside.log.db c.self.inside.filling.files a b (c.push.ensures.crash t))

@@ -11,17 +11,6 @@ use Rattle.bk_store.specs.FrontLaws.{shown-end}
 use Rattle.bk_store.proofs.Floors.{open-behind}
 use Rattle.bk_store.proofs.store.Store.checkpoint.Goals as goal
 
-pub note_end-requires-clause-stands : goal.note_end-requires-clause-stands
-note_end-requires-clause-stands g c t =
-    let some = c.requires.stands t in
-    (said some.0 (at_end c.args.self.now 0 (checkpointed c.args.now)), c.in_ok-mark_checkpoint.ensures.stands t some.0 some.1)
-
-pub cut-requires-clause-stands : goal.cut-requires-clause-stands
-cut-requires-clause-stands g c t =
-    let some = c.requires.stands t in
-    let then = said some.0 (at_end c.args.self.now 0 (checkpointed c.args.now)) in
-    (then, c.in_ok-note_end.ensures.stands t then (c.in_ok-mark_checkpoint.ensures.stands t some.0 some.1))
-
 pub returns-in_err-note_end-clause-crash : goal.returns-in_err-note_end-clause-crash
 returns-in_err-note_end-clause-crash g c t told is =
     let then = said told (at_end c.args.self.now 0 (checkpointed c.args.now)) in

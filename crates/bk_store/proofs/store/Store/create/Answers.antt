@@ -43,12 +43,6 @@ returns-clause-crash g c t =
     let crash = making-then store c.args.db (said (unsaid spec []) (at_end store 0 (database_made c.args.time spec.family c.args.branch))) b d ends.0 (c.found.ensures.crash t (unsaid spec []) (c.in_ok-store.ensures.stands t) next) in
     effect_then first (subst Of same crash)
 
-pub found-requires-clause-stands : goal.found-requires-clause-stands
-found-requires-clause-stands g c t =
-    let spec = c.args.spec in
-    let store = c.in_ok-store.store in
-    (unsaid spec [], (c.in_ok-store.ensures.stands t, founding-next store spec c.args.time spec.family c.args.branch c.in_ok-store.ensures.ends.2))
-
 pub returns-clause-stands : goal.returns-clause-stands
 returns-clause-stands g c t =
     let spec = c.args.spec in
@@ -62,3 +56,6 @@ returns-clause-stands g c t =
     let same = founding-is store c.args.time spec.family c.args.branch ends.2 in
     let Of : Logged → Type 0 = λ x. IsStore d c.found.new.self (said (unsaid spec []) x) in
     subst Of same (c.in_ok-found.ensures.stands t (unsaid spec []) (c.in_ok-store.ensures.stands t) next)
+
+pub found-requires-clause-standing : goal.found-requires-clause-standing
+found-requires-clause-standing g c t = (c.in_ok-store.ensures.stands t).paged.standing

@@ -20,20 +20,6 @@ returns-then-not-may_cut-clause-crash g c t told is =
     let here = subst At (sym c.self.view_is) is in
     subst Crash c.self.view_is (crash-lift s told a b here (c.at_rest.ensures.crash t (stood_of s.known told) here.paged))
 
-pub truncate-requires-clause-stands : goal.truncate-requires-clause-stands
-truncate-requires-clause-stands g c t =
-    let told = (c.requires.stands t).0 in
-    let is = (c.requires.stands t).1 in
-    let disk = g.D.Device.disk in
-    let a = disk c.args.dev.now in
-    let s : Kept = record { paged = c.self.inside.paged; shown = c.self.inside.shown; known = c.self.inside.known; note = c.self.inside.note.items } in
-    let At : Kept → Type 0 = λ k. IsStore a k told in
-    let here = moved-stands disk c.args.dev.now c.at_rest.new.dev s told c.at_rest.ensures.same (subst At (sym c.self.view_is) is) in
-    let all : AllByRecursion (λ (w : Written). c.args.to ≤ w.begin) c.self.inside.shown.written.items = search rules in
-    let opened : KeepsOpen c.args.to (map spelled told.records) = keeps-open c.settling_law.ensures.opened s told c.args.to (disk c.at_rest.new.dev) here all in
-    let early : c.args.to ≤ c.self.inside.known.as_of.from = search rules in
-    (stood_of s.known told, (here.paged, (opened, early)))
-
 pub returns-in_err-truncate-clause-crash : goal.returns-in_err-truncate-clause-crash
 returns-in_err-truncate-clause-crash g c t told is =
     let disk = g.D.Device.disk in

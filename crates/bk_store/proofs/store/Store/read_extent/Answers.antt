@@ -1,8 +1,9 @@
-use Rattle.std.proofs.Common.{ℕ, ap, arith, map, subst}
+use Rattle.std.proofs.Common.{ℕ, ap, arith, map, sym, subst}
 use Rattle.bk_device.specs.Laws.{cause_then}
 use Rattle.bk_facts.specs.declared.facts.Facts.{Facts}
 use Rattle.bk_paged.specs.Holds.{IsStored}
 use Rattle.bk_paged.specs.Names.{pages_in}
+use Rattle.bk_paged.specs.Paged.{Standing}
 use Rattle.bk_paths.specs.Paths.{end_of}
 use Rattle.bk_undo.specs.Spelled.{spelled}
 use Rattle.bk_store.specs.LiftLaws.{moved-stands}
@@ -14,6 +15,7 @@ pages-init g c = record {
   within = omega arith;
   copying = copying-begins g.D.Device.tells c.args.file c.args.extent (g.D.Device.disk c.args.dev.now) (g.D.Device.disk c.at_rest.new.dev) c.args.self.now c.clear.new.self.items c.requires.fit
       (λ t told is. moved-stands g.D.Device.disk c.args.dev.now c.at_rest.new.dev c.args.self.now told c.at_rest.ensures.same is) c.at_rest.ensures.crash c.clear.ensures.items;
+  standing = λ t. subst (λ d. Standing (g.D.Device.disk d) c.args.self.now.paged) (sym c.at_rest.ensures.same) (c.requires.standing t);
   cause = record { rose = λ none. absurd none; never_falls = omega (arith, ap g.D.Device.disk_faults c.at_rest.ensures.same); tell_faults = ap g.D.Device.tell_faults c.at_rest.ensures.same };
 }
 
@@ -23,11 +25,6 @@ copy_page-requires-clause-fit g c = c.pages.invariant.copying.fit
 pub copy_page-requires-clause-there : goal.copy_page-requires-clause-there
 copy_page-requires-clause-there g c =
     omega (arith, c.requires.there, ap (λ (f : Facts). pages_in f.files c.args.file) c.pages.invariant.copying.ends.3, c.pages-test.true, c.page_in.ensures)
-
-pub copy_page-requires-clause-stands : goal.copy_page-requires-clause-stands
-copy_page-requires-clause-stands g c t =
-    let start = c.requires.stands t in
-    (start.0, c.pages.invariant.copying.stands t start.0 start.1)
 
 pub returns-in_err-bytes-clause-crash : goal.returns-in_err-bytes-clause-crash
 returns-in_err-bytes-clause-crash g c = copying-crash (g.D.Device.disk c.copy_page.new.dev) c.pages.invariant.copying c.copy_page.ensures.crash
@@ -42,6 +39,7 @@ pages-preserved g c = record {
       c.in_ok-bytes.ensures.fit c.in_ok-bytes.ensures.same c.in_ok-bytes.ensures.ends c.in_ok-bytes.ensures.stands c.in_ok-bytes.ensures.later
       (λ t told is. subst (λ (n : ℕ). IsStored (map spelled told.records) (end_of (map spelled told.records)) (record { file = c.args.file; page = n }) c.in_ok-bytes.bytes) c.page_in.ensures (c.in_ok-bytes.ensures.page t told is))
       c.copy_page.ensures.crash c.in_ok-extend_from_slice.ensures.items;
+  standing = c.in_ok-bytes.ensures.standing;
   cause = cause_then c.pages.invariant.cause c.in_ok-bytes.ensures.cause (λ none. absurd none);
 }
 

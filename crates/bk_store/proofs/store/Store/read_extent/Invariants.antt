@@ -1,5 +1,6 @@
 use Rattle.std.specs.Prelude.{◌≤◌}
 use Rattle.bk_device.specs.Counts.{HasCause}
+use Rattle.bk_paged.specs.Paged.{Standing}
 use Rattle.bk_store.proofs.Copied.{Copying}
 use Rattle.bk_store.proofs.store.Store.read_extent.Given as goal
 
@@ -7,5 +8,6 @@ abbrev pub invariant-pages : goal.invariant-pages
 invariant-pages g l = record {
   within : l.i ≤ 8;
   copying : Copying g.D.Device.tells l.file l.extent l.i (g.D.Device.disk l.fn.dev) (g.D.Device.disk l.dev) l.fn.self l.self l.copy.items;
+  standing : g.D.Device.tells → Standing (g.D.Device.disk l.dev) l.self.paged;
   cause : HasCause g.D.Device.disk_faults g.D.Device.tell_faults l.fn.dev l.dev ⊥;
 }

@@ -5,12 +5,6 @@ use Rattle.bk_store.specs.Told.{Told}
 use Rattle.bk_store.proofs.Rolled.{crash-same, rollback-ends, rollback-next}
 use Rattle.bk_store.proofs.store.Store.rollback.Goals as goal
 
-pub end_rollback-requires-clause-stands : goal.end_rollback-requires-clause-stands
-end_rollback-requires-clause-stands g c t =
-    let start = c.requires.stands t in
-    let u = c.in_ok-undo_all.ensures.undone t start.0 start.1 in
-    (u.0, (u.1, rollback-next c.undo_all.new.self u.0 c.args.begin (g.D.Device.disk c.undo_all.new.dev) u.1 (search rules) u.3))
-
 pub returns-in_err-end_rollback-clause-crash : goal.returns-in_err-end_rollback-clause-crash
 returns-in_err-end_rollback-clause-crash g c t told is =
     let s = c.undo_all.new.self in

@@ -19,10 +19,5 @@ returns-clause-crash g c t told r is next spells =
     crash-then c.args.self.now c.say.new.self told r (g.D.Device.disk c.args.dev.now) (g.D.Device.disk c.say.new.dev) (g.D.Device.disk c.flush.new.dev) is c.in_ok-say.ensures.ends.0 (c.in_ok-say.ensures.later t told is)
     (c.say.ensures.crash t told is) (c.flush.ensures.crash t (said told r) first)
 
-pub flush-requires-clause-stands : goal.flush-requires-clause-stands
-flush-requires-clause-stands g c t =
-    let some = c.requires.stands t in
-    (said some.0 some.1, c.in_ok-say.ensures.stands t some.0 some.1 some.2.0 some.2.1.0 some.2.1.1)
-
 pub returns-clause-stands : goal.returns-clause-stands
 returns-clause-stands g c t told r is next spells = c.in_ok-flush.ensures.stands t (said told r) (c.in_ok-say.ensures.stands t told r is next spells)

@@ -1,6 +1,7 @@
-use Rattle.std.proofs.Common.{ap, arith, length, subst}
+use Rattle.std.proofs.Common.{ap, arith, length, sym, subst}
 use Rattle.std.specs.Prelude.{Bool}
 use Rattle.bk_device.specs.Laws.{cause_then}
+use Rattle.bk_paged.specs.Paged.{Standing}
 use Rattle.bk_shown.specs.declared.shown.Shown.{Shown}
 use Rattle.bk_store.specs.Store.{IsStore}
 use Rattle.bk_store.specs.Writing.{UndoesLast}
@@ -12,14 +13,9 @@ pub writes-init : goal.writes-init
 writes-init g c = record {
   rolling = rolling-begins g.D.Device.tells c.args.begin c.args.self.now (g.D.Device.disk c.args.dev.now) (g.D.Device.disk c.at_rest.new.dev) c.requires.fit
       (λ t told is. moved-stands g.D.Device.disk c.args.dev.now c.at_rest.new.dev c.args.self.now told c.at_rest.ensures.same is) c.at_rest.ensures.crash;
+  standing = λ t. subst (λ d. Standing (g.D.Device.disk d) c.args.self.now.paged) (sym c.at_rest.ensures.same) (c.requires.standing t);
   cause = record { rose = λ none. absurd none; never_falls = omega (arith, ap g.D.Device.disk_faults c.at_rest.ensures.same); tell_faults = ap g.D.Device.tell_faults c.at_rest.ensures.same };
 }
-
-pub undo_last-requires-clause-stands : goal.undo_last-requires-clause-stands
-undo_last-requires-clause-stands g c t =
-    let start = c.requires.stands t in
-    let x = c.writes.invariant.rolling.there t start.0 start.1 in
-    (x.now, x.is)
 
 pub returns-in_err-undo_last-clause-crash : goal.returns-in_err-undo_last-clause-crash
 returns-in_err-undo_last-clause-crash g c =
@@ -35,6 +31,7 @@ writes-preserved g c =
           c.in_ok-undo_last.ensures.fit c.in_ok-undo_last.ensures.same c.in_ok-undo_last.ensures.ends.0 c.in_ok-undo_last.ensures.ends.1
           (λ t told is. subst (λ (b : Bool). UndoesLast (IsStore (g.D.Device.disk c.undo_last.new.dev) c.undo_last.new.self) c.writes.self told c.args.begin b) c.if-not-branch.false (c.in_ok-undo_last.ensures.stands t told is))
           c.in_ok-undo_last.ensures.later c.undo_last.ensures.crash;
+      standing = c.in_ok-undo_last.ensures.standing;
       cause = cause_then c.writes.invariant.cause c.in_ok-undo_last.ensures.cause (λ none. absurd none);
     }
 

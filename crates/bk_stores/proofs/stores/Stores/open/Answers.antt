@@ -1,4 +1,4 @@
-use Rattle.std.proofs.Common.{rules, ◌≡◌, ◌<◌, ◌∙◌, ℕ, List, Some, None, length, set, true, inl, sym, subst, arith}
+use Rattle.std.proofs.Common.{rules, ◌≡◌, ◌<◌, ◌∙◌, ℕ, List, Some, None, length, set, true, sym, subst, arith}
 use Rattle.std.specs.Prelude.{slice_get, IsErrOf}
 use Rattle.bk_reopening.specs.declared.error.OpenError.TheVariants.{Foreign}
 use Rattle.bk_master.specs.declared.record.Entry.{Entry}
@@ -8,27 +8,6 @@ use Rattle.bk_stores.specs.ListLaws.{got, got-inside, got-one}
 use Rattle.bk_stores.specs.Stores.{AreStores, IsShut, Kept}
 use Rattle.bk_stores.proofs.Opened.{opened-crash, opened-stands, shut-closed}
 use Rattle.bk_stores.proofs.stores.Stores.open.Goals as goal
-
-pub load-requires-clause-durable : goal.load-requires-clause-durable
-load-requires-clause-durable g c κs within t =
-    let disk = g.D.Device.disk in
-    let a = disk c.args.dev.now in
-    let r = c.args.self.now.master.record in
-    let it = c.store_at-number.ensures in
-    let e : Entry = it.0 in
-    let n = c.store_at-number.result in
-    let there : slice_get r.databases c.args.at ≡ Some e = search rules in
-    let stored : e.is_stored ≡ true = subst (λ (f : Entry). f.is_stored ≡ true) (got-one r.databases c.args.at c.requires.stored.0 e c.requires.stored.1 there) c.requires.stored.2 in
-    let some = c.requires.stands t in
-    let tolds : List Told = some.0 in
-    let is = some.1 in
-    let inside : c.args.at < length tolds = let less = got-inside c.args.self.now.slots c.args.at None c.requires.shut in omega (arith, less, is.standing.count) in
-    let one = got tolds c.args.at inside in
-    let told : Told = one.0 in
-    let told_is = one.1 in
-    let shut : IsShut a e told = is.standing.stand c.args.at e None told (there, told_is) c.requires.shut in
-    let closed : IsClosed n told a = subst (λ (m : ℕ). IsClosed m told a) it.2 (shut-closed a e told stored shut) in
-    λ name own. closed.durable name (inl own)
 
 pub returns-in_err-store-clause-crash : goal.returns-in_err-store-clause-crash
 returns-in_err-store-clause-crash g c t tolds told is told_is =

@@ -1,0 +1,52 @@
+use Rattle.std.proofs.Common.{◌≡◌, ◌≤◌, ◌<◌, ◌⊎◌, ◌+◌, ◌-◌, ℕ, List, None, length, drop, refl, sym, ap, subst, ◌∙◌}
+use Rattle.bk_ids.specs.declared.record.Rec.{Rec}
+use Rattle.bk_segments.specs.Records.{records_of}
+use Rattle.std.proofs.lemmas.Result.{err_from_is_err_and}
+use Rattle.bk_device.specs.Effects.{Effect}
+use Rattle.bk_segments.specs.declared.error.LogError.TheVariants.{Foreign}
+use Rattle.bk_lemmas.specs.Tests.{same_error}
+use Rattle.std.specs.List.{flat_map}
+use Rattle.bk_record.specs.Spelling.{spelling}
+use Rattle.bk_log.specs.Log.{Kept}
+use Rattle.bk_segments.specs.Files.{IsBeside, blobs_of, segment_file}
+use Rattle.bk_segments.specs.FileLaws.{durable_settles}
+use Rattle.bk_log.proofs.Cuts.{load_then, load_stands, load_tidy}
+use Rattle.bk_log.proofs.Makes.{load_nothing}
+use Rattle.bk_log.proofs.log.Log.read.Goals as goal
+
+pub returns-in_err-log-clause-foreign : goal.returns-in_err-log-clause-foreign
+returns-in_err-log-clause-foreign g c t =
+    let p = err_from_is_err_and c.from_residual.result c.from_residual.ensures.1 in
+    rw (p.1, p.2) (λ is. c.in_err-log.ensures.foreign t (same_error c.in_err-log.field-0.0 Foreign is))
+
+pub returns-in_err-log-clause-crash : goal.returns-in_err-log-clause-crash
+returns-in_err-log-clause-crash g c t durable = load_nothing c.args.db (g.D.Device.disk c.args.dev.now) (g.D.Device.disk c.open.new.dev) durable (c.open.ensures.effect t)
+
+pub returns-in_err-tidy-clause-crash : goal.returns-in_err-tidy-clause-crash
+returns-in_err-tidy-clause-crash g c t durable =
+    load_then c.args.db c.in_ok-log.log (g.D.Device.disk c.args.dev.now) (g.D.Device.disk c.open.new.dev) (g.D.Device.disk c.tidy.new.dev) c.in_ok-log.ensures.db (c.in_ok-log.ensures.stands t (durable_settles c.args.db (g.D.Device.disk c.args.dev.now) durable)) (c.in_ok-log.ensures.loaded t) durable (c.open.ensures.effect t) (subst (λ (k : Kept). Effect (IsBeside c.args.db k.head) (λ _. Unit {0}) (g.D.Device.disk c.open.new.dev) (g.D.Device.disk c.tidy.new.dev)) c.log.view_is (c.tidy.ensures.crash t))
+
+pub returns-clause-value : goal.returns-clause-value
+returns-clause-value g c t settled =
+    (load_stands c.args.db c.in_ok-log.log (g.D.Device.disk c.args.dev.now) (g.D.Device.disk c.open.new.dev) (g.D.Device.disk c.tidy.new.dev) c.in_ok-log.ensures.db (c.in_ok-log.ensures.stands t settled) (c.open.ensures.effect t) (subst (λ (k : Kept). Effect (IsBeside c.args.db k.head) (λ _. Unit {0}) (g.D.Device.disk c.open.new.dev) (g.D.Device.disk c.tidy.new.dev)) c.log.view_is (c.tidy.ensures.crash t))).1
+
+pub returns-clause-stands : goal.returns-clause-stands
+returns-clause-stands g c t settled =
+    (load_stands c.args.db c.in_ok-log.log (g.D.Device.disk c.args.dev.now) (g.D.Device.disk c.open.new.dev) (g.D.Device.disk c.tidy.new.dev) c.in_ok-log.ensures.db (c.in_ok-log.ensures.stands t settled) (c.open.ensures.effect t) (subst (λ (k : Kept). Effect (IsBeside c.args.db k.head) (λ _. Unit {0}) (g.D.Device.disk c.open.new.dev) (g.D.Device.disk c.tidy.new.dev)) c.log.view_is (c.tidy.ensures.crash t))).0
+
+pub returns-clause-tidy : goal.returns-clause-tidy
+returns-clause-tidy g c t settled = load_tidy c.args.db c.in_ok-log.log.head (g.D.Device.disk c.args.dev.now).files (g.D.Device.disk c.tidy.new.dev).files (c.in_ok-log.ensures.holds t) (subst (λ (k : Kept). (n : ℕ) → k.head.gone ≤ n → n ≤ k.head.back + 1 → (n < k.head.front) ⊎ (k.head.back < n) → (g.D.Device.disk c.tidy.new.dev).files (segment_file c.args.db n) ≡ None) c.log.view_is (c.in_ok-tidy.ensures.gone t))
+
+pub returns-clause-crash : goal.returns-clause-crash
+returns-clause-crash g c t durable =
+    load_then c.args.db c.in_ok-log.log (g.D.Device.disk c.args.dev.now) (g.D.Device.disk c.open.new.dev) (g.D.Device.disk c.tidy.new.dev) c.in_ok-log.ensures.db (c.in_ok-log.ensures.stands t (durable_settles c.args.db (g.D.Device.disk c.args.dev.now) durable)) (c.in_ok-log.ensures.loaded t) durable (c.open.ensures.effect t) (subst (λ (k : Kept). Effect (IsBeside c.args.db k.head) (λ _. Unit {0}) (g.D.Device.disk c.open.new.dev) (g.D.Device.disk c.tidy.new.dev)) c.log.view_is (c.tidy.ensures.crash t))
+
+pub returns-clause-bytes : goal.returns-clause-bytes
+returns-clause-bytes g c t =
+    let files = (g.D.Device.disk c.args.dev.now).files in
+    let log = c.in_ok-log.log in
+    let rs : List Rec = records_of (blobs_of files c.args.db log.head) in
+    let enough = subst (λ (k : Kept). k.head.kept - k.head.first ≤ length rs) (sym c.log.view_is) (c.in_ok-log.ensures.enough t) in
+    let read = subst (λ (k : Kept). c.behind-bytes.result ≡ flat_map spelling (drop (k.head.kept - k.head.first) rs)) c.log.view_is
+    (c.behind-bytes.ensures rs (c.in_ok-log.ensures.bytes t refl) (c.in_ok-log.ensures.records t) enough) in
+    read ∙ ap (λ (n : ℕ). flat_map spelling (drop (log.head.kept - log.head.first) (records_of (blobs_of files n log.head)))) (sym c.in_ok-log.ensures.db)
