@@ -5,4 +5,3 @@ pub mod Parts
 pub mod Removals
 pub mod Resets
 pub mod Steps
-pub mod Skims

@@ -1,3 +1,2 @@
 pub mod Log
 pub mod Laws
-pub mod Skims

@@ -5,10 +5,8 @@
 mod bytes;
 mod log;
 mod places;
-mod skimming;
 
 pub use bk_segments::{LogError, settle};
 pub use bytes::LogBytes;
 pub use log::Log;
 pub use places::behind_records;
-pub use skimming::{Skimmed, skim_at};

@@ -29,7 +29,7 @@ use bk_log::{Log, LogBytes, settle};
 use bk_paged::{Paged, PagedError, copy_paths};
 use bk_paths::settling_law;
 use bk_side::{Side, are_different, data_files};
-use bk_undo::{UndoError, losers};
+use bk_undo::{UndoError, losers, open_part};
 use std::alloc::Global;
 use std::thread::Threads;
 
@@ -67,7 +67,8 @@ fn undoing_of(alloc: Global, bytes: &[u8], below: Lsn) -> Result<Vec<Rec>, Paged
     ensures foreign { IsErrOf result PagedError.Foreign → (held : List LogRecord) → AreRecords bytes.now held None → ⊥ }
     ensures fault { IsErrOf result PagedError.Fault → ⊥ }
 {
-    match losers(alloc, bytes, below) {
+    let part = open_part(alloc, bytes, below)?;
+    match losers(alloc, part, below) {
         Ok(undoing) => Ok(undoing),
         Err(UndoError::BadRecord { .. }) => Err(PagedError::Foreign),
         Err(UndoError::NoMemory) => Err(PagedError::NoMemory),

@@ -1,2 +1,3 @@
 pub mod ExtentRuns
 pub mod ImageRuns
+mod Skims

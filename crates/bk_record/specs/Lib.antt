@@ -9,3 +9,4 @@ pub mod LengthLaws
 pub mod WalkLaws
 pub mod Records
 pub mod RecordsLaws
+pub mod Skims

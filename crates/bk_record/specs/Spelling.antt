@@ -1,5 +1,5 @@
 -- How a log record is spelled, and which records have a spelling.
-use Rattle.std.specs.Prelude.{◌≡◌, ℕ, ◌+◌, ◌*◌, ◌^◌, ◌<◌, ◌≤◌, List, [], ◌++◌, length, replicate, Option, Some, None}
+use Rattle.std.specs.Prelude.{◌≡◌, ℕ, ◌+◌, ◌*◌, ◌^◌, ◌<◌, List, [], ◌++◌, length, replicate, Option, Some, None}
 use Rattle.std.specs.List.{flat_map, AllByRecursion}
 use Rattle.bk_ids.specs.declared.record.Place.{Place}
 use Rattle.bk_ids.specs.declared.record.ExtentId.{ExtentId}

@@ -78,7 +78,7 @@ pub struct Found {
     pub stored: u64,
 }
 
-/// Reads a log's files: each of its segments once, in one read. Gathers the bytes of their records, if so. Changes nothing.
+/// Reads a log's files: each of its segments once, in one read. Gathers the bytes of their records where `gathers` says so. Changes nothing.
 ///
 /// `Foreign` is answered exactly where the files are no log.
 pub fn find<D: Device>(

@@ -27,7 +27,7 @@ fn add_blobs(file: &[u8], out: &mut Vec<u8>) -> Result<(), AllocError>
     Ok(())
 }
 
-// The same, if so.
+// Adds them where they are to be gathered.
 pub fn gather_blobs(file: &[u8], gathers: bool, out: &mut Vec<u8>) -> Result<(), AllocError>
     requires { 16 ≤ length file.now }
     ensures { gathers ≡ true → IsGateFile file.now → OnOk result (out.new.items ≡ out.old.items ++ joined (blobs_in file.now)) }

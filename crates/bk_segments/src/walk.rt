@@ -108,7 +108,7 @@ fn walk_file(file: &[u8], from: u64) -> Option<u64>
     Some(to)
 }
 
-// The number behind that of the last record of the segment of this number, which has a blob. Gathers the bytes of its blobs, if so.
+// The number behind that of the last record of the segment of this number, which has a blob. Gathers the bytes of its blobs where `gathers` says so.
 fn walk_segment<D: Device>(
     alloc: Global,
     dev: &mut D,
@@ -163,7 +163,7 @@ fn walk_last<D: Device>(
     Ok((gate, to))
 }
 
-// Walks over the segments that count, but for the last one: adds each of them, gathers the bytes of its blobs, if so, and answers
+// Walks over the segments that count, but for the last one: adds each of them, gathers the bytes of its blobs where `gathers` says so, and answers
 // the number behind that of their last record.
 fn walk_front<D: Device>(
     alloc: Global,

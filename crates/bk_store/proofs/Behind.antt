@@ -5,11 +5,11 @@ use Rattle.std.proofs.lemmas.List.{length-drop}
 use Rattle.bk_ids.specs.declared.record.Body.{Body}
 use Rattle.bk_ids.specs.declared.record.Body.TheVariants.{Database, Table, Begin, Write, Commit, RollbackEnd, Compensation, Checkpoint, Stamp, Model, Bulk, Recovery}
 use Rattle.bk_ids.specs.declared.record.Rec.{Rec}
-use Rattle.bk_log.specs.Skims.{IsWrite, Shows}
-use Rattle.bk_log.specs.declared.skimming.Skimmed.{Skimmed}
 use Rattle.bk_record.specs.Log.{IsLog, Left, Reads}
 use Rattle.bk_record.specs.RecordsLaws.{whole_is}
+use Rattle.bk_record.specs.Skims.{IsWrite, Shows}
 use Rattle.bk_record.specs.Spelling.{spelling, BeginsWith}
+use Rattle.bk_record.specs.declared.skimming.Skimmed.{Skimmed}
 use Rattle.bk_shown.specs.Readings.{made_by, model-with, tables-with, time-with}
 use Rattle.bk_shown.specs.Steps.{model_behind, time_behind}
 use Rattle.bk_shown.specs.ReadLaws.{next-read, none-left}

@@ -2,16 +2,15 @@
 ghost use Rattle.std.specs.Prelude.{◌≡◌, ◌≤◌, List, length, IfOk, OnOk, IsErrOf};
 ghost use Rattle.bk_shown.specs.Steps.{model_behind, time_behind};
 ghost use Rattle.bk_ids.specs.declared.record.Rec.{Rec};
-ghost use Rattle.bk_log.specs.Skims.{Shows};
+ghost use Rattle.bk_record.specs.Skims.{Shows};
 ghost use Rattle.bk_record.specs.Spelling.{IsBody};
 ghost use Rattle.bk_record.specs.View.{body_of};
 ghost use Rattle.bk_world.specs.Records.{Logged};
 ghost use Rattle.bk_store.specs.Recent.{Says, SaysFront, Takes, tables_behind};
 
 use bk_ids::{Name, NameError, RecoveryModel};
-use bk_log::{Skimmed, skim_at};
 use bk_paged::PagedError;
-use bk_record::{BodyRef, RecRef};
+use bk_record::{BodyRef, RecRef, Skimmed, skim_at};
 use bk_world::TableSpec;
 use std::alloc::Global;
 
@@ -111,7 +110,7 @@ fn take_skimmed(alloc: Global, recent: &mut Recent, skimmed: Skimmed<'_>) -> Res
     ensures fault { IsErrOf result PagedError.Fault → ⊥ }
 {
     match skimmed {
-        Skimmed::Row => Ok(()),
+        Skimmed::Write { .. } => Ok(()),
         Skimmed::Other(record) => take_record(alloc, recent, record),
     }
 }

@@ -14,3 +14,4 @@ pub mod HeldUndone
 pub mod CellValues
 pub mod Endings
 pub mod Limits
+pub mod Covered

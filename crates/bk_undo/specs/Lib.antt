@@ -5,3 +5,4 @@ pub mod CellSteps
 pub mod Spelled
 pub mod Holds
 pub mod Laws
+pub mod OpenPart

@@ -2,6 +2,7 @@
 #![tactic(auto)]
 
 mod cells;
+mod closing;
 mod error;
 mod holding;
 mod law;
@@ -9,6 +10,7 @@ mod pending;
 mod undo;
 
 pub use cells::cells_law;
+pub use closing::open_part;
 pub use error::UndoError;
 pub use holding::holding_law;
 pub use law::{undo_law, undoing_law};

@@ -9,7 +9,7 @@ use crate::pooling::answer_pool;
 use crate::records::{append_bytes, append_records};
 use crate::redoing::redo_frames;
 use crate::showing::answer_shown;
-use crate::undoing::show_losers;
+use crate::undoing::{show_losers, show_part};
 use crate::words::{number, word};
 use bk_frames::Frames;
 use bk_groups::Groups;
@@ -68,6 +68,7 @@ pub(crate) fn answer_command<R: Threads + Sync>(
         "redo" => redo_frames(rt, floor.alloc, &mut floor.frames, &floor.log, head, out),
         "beside" => redo_beside(rt, floor.alloc, &mut floor.frames, &floor.log, out),
         "shown" => answer_shown(floor.alloc, &mut floor.shown, &floor.log, head, out),
+        "part" => show_part(floor.alloc, &floor.log, number(head, 1), out),
         "losers" => show_losers(floor.alloc, &floor.log, number(head, 1), out),
         _ => out.push_str("no such command\n"),
     }

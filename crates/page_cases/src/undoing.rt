@@ -3,7 +3,7 @@
 use crate::paging::show_cell;
 use bk_ids::{Body, Rec};
 use bk_page::Cell;
-use bk_undo::losers;
+use bk_undo::{losers, open_part};
 use std::alloc::{AllocError, Global};
 
 /// The compensation below a number, a line for each record.
@@ -17,6 +17,17 @@ pub(crate) fn show_losers(
         Ok(undoing) => show_records(&undoing, out),
         Err(error) => writeln!(out, "{error}"),
     }
+}
+
+/// How many bytes of the log have to be read for it.
+pub(crate) fn show_part(
+    alloc: Global,
+    log: &[u8],
+    below: u64,
+    out: &mut String,
+) -> Result<(), AllocError> {
+    let part = open_part(alloc, log, below)?;
+    writeln!(out, "{} bytes", part.len())
 }
 
 fn show_records(undoing: &[Rec], out: &mut String) -> Result<(), AllocError> {

@@ -1,14 +1,15 @@
-// Walking over the records of a log at a glance.
+//! Reading a record at a glance.
+
 ghost use Rattle.std.specs.Prelude.{◌≡◌, ◌≤◌, ◌<◌, List, ℕ, length, drop, true, IfSome, IsNone};
 ghost use Rattle.bk_bytes.specs.Field.{number_of};
 ghost use Rattle.bk_ids.specs.declared.record.Rec.{Rec};
-ghost use Rattle.bk_log.specs.Skims.{IsWrite, Shows};
+ghost use Rattle.bk_record.specs.Skims.{IsWrite, Shows};
 ghost use Rattle.bk_record.specs.Spelling.{spelling, BeginsWith};
-ghost use Rattle.bk_record.specs.View.{record_of};
 
-use crate::places::behind;
-use bk_bytes::get_u32;
-use bk_record::{RecRef, cursor};
+use crate::reading::split_record;
+use crate::view::RecRef;
+use bk_bytes::{get_u32, get_u64};
+use bk_ids::Lsn;
 
 // How many bytes the spelling of a write has, and the number of its kind, which stands behind its length.
 const WRITE_LEN: usize = 288;
@@ -18,8 +19,8 @@ const WRITE_KIND: u32 = 4;
 /// A record at a glance.
 #[derive(Clone, Copy, Debug, PartialEq, Eq)]
 pub enum Skimmed<'a> {
-    /// A write, whose cells weren't read.
-    Row,
+    /// A write with this number, of the transaction with this first record. Its cells weren't read.
+    Write { lsn: Lsn, begin: Lsn },
     /// Any other record.
     Other(RecRef<'a>),
 }
@@ -31,6 +32,20 @@ fn kind_of(bytes: &[u8]) -> u32
     get_u32(bytes, 4).unwrap_or(0)
 }
 
+// The number of the record that stands at the front.
+fn lsn_of(bytes: &[u8]) -> Lsn
+    ensures { 16 ≤ length bytes.now → result ≡ number_of 8 (drop 8 bytes.now) }
+{
+    get_u64(bytes, 8).unwrap_or(0)
+}
+
+// The number of the first record of its transaction.
+fn begin_of(bytes: &[u8]) -> Lsn
+    ensures { 24 ≤ length bytes.now → result ≡ number_of 8 (drop 16 bytes.now) }
+{
+    get_u64(bytes, 16).unwrap_or(0)
+}
+
 // Whether the record that stands at the front is a write.
 fn is_write(bytes: &[u8]) -> bool
     ensures some { result ≡ true → 288 ≤ length bytes.now }
@@ -39,21 +54,8 @@ fn is_write(bytes: &[u8]) -> bool
     bytes.len() >= WRITE_LEN && kind_of(bytes) == WRITE_KIND
 }
 
-// The record that stands at the front.
-fn read_one(bytes: &[u8]) -> Option<RecRef<'_>>
-    ensures some { IfSome result (λ x. (after : List ℕ) × BeginsWith bytes.now (record_of x) after) }
-    ensures none { IsNone result → (r : Rec) (after : List ℕ) → BeginsWith bytes.now r after → ⊥ }
-{
-    let mut walk = cursor(bytes);
-    match walk.next() {
-        Some(Ok(record)) => Some(record),
-        Some(Err(_)) => None,
-        None => None,
-    }
-}
-
-/// The record that begins at this place, in the bytes of records, and where the next one begins. `None` is answered exactly where none is spelled there; where one is and is a write, its cells
-/// aren't read.
+/// The record that begins at this place, in bytes from a log's start, and where the next one begins. The cells of a write aren't read: bytes that look like the front of a write's spelling are
+/// taken for one. `None` is answered only where no record is spelled there.
 pub fn skim_at(bytes: &[u8], at: usize) -> Option<(Skimmed<'_>, usize)>
     requires { at ≤ length bytes.now }
     ensures inside { IfSome result (λ x. (at < x.1) × (x.1 ≤ length bytes.now)) }
@@ -62,8 +64,12 @@ pub fn skim_at(bytes: &[u8], at: usize) -> Option<(Skimmed<'_>, usize)>
 {
     let rest = &bytes[at..];
     if is_write(rest) {
-        return Some((Skimmed::Row, at + WRITE_LEN));
+        let write = Skimmed::Write {
+            lsn: lsn_of(rest),
+            begin: begin_of(rest),
+        };
+        return Some((write, at + WRITE_LEN));
     }
-    let record = read_one(rest)?;
-    Some((Skimmed::Other(record), behind(bytes, at)))
+    let (record, after) = split_record(rest)?;
+    Some((Skimmed::Other(record), bytes.len() - after.len()))
 }

@@ -1,16 +1,14 @@
 -- What the front of a record's bytes tells.
-use Rattle.std.proofs.Common.{◌≡◌, ◌≤◌, ℕ, ◌+◌, List, ◌++◌, length, drop, replicate, refl, sym, ap, ◌∙◌, arith, append_assoc, length-append}
-use Rattle.std.proofs.lemmas.List.{drop_at, drop-drop, length-drop, length-replicate}
+use Rattle.std.proofs.Common.{◌≡◌, ℕ, ◌+◌, List, ◌++◌, length, drop, replicate, refl, sym, ap, ◌∙◌, arith, append_assoc, length-append}
+use Rattle.std.proofs.lemmas.List.{drop_at, drop-drop, length-replicate}
 use Rattle.bk_bytes.specs.CellLaws.{length-cell_bytes}
 use Rattle.bk_bytes.specs.Field.{bytes_of, number_of}
-use Rattle.bk_bytes.specs.FieldLaws.{length-bytes_of}
+use Rattle.bk_bytes.specs.FieldLaws.{length-bytes_of, number_of-bytes_of}
 use Rattle.bk_ids.specs.declared.record.Body.{Body}
 use Rattle.bk_ids.specs.declared.record.Body.TheVariants.{Database, Table, Begin, Write, Commit, RollbackEnd, Compensation, Checkpoint, Stamp, Model, Bulk, Recovery}
 use Rattle.bk_ids.specs.declared.record.Rec.{Rec}
 use Rattle.bk_record.specs.Spelling.{body_bytes, inside, kind_of, place_bytes, spelling, BeginsWith, IsBody, IsRecord}
-use Rattle.bk_record.specs.RecordsLaws.{some_bytes}
-use Rattle.bk_log.specs.Skims.{IsWrite}
-use Rattle.bk_log.proofs.Parts.{length_there}
+use Rattle.bk_record.specs.Skims.{IsWrite}
 
 -- the number of a record's kind stands behind its length
 kind_read : (body : Body) (numbers rest after : List ℕ) → number_of 4 (((bytes_of 1 (kind_of body) ++ (replicate 3 0 ++ numbers)) ++ rest) ++ after) ≡ kind_of body
@@ -99,20 +97,51 @@ kind_there bytes r after begins =
     let behind : drop 4 bytes ≡ inside r ++ after = ap (drop 4) whole ∙ drop_at front (inside r ++ after) 4 (length-bytes_of 4 (4 + length (inside r))) in
     ap (number_of 4) behind ∙ kind_read r.body (bytes_of 8 r.lsn ++ bytes_of 8 r.begin) (body_bytes r.body) after
 
+-- the record's number behind it
+pub lsn_there : (bytes : List ℕ) (r : Rec) (after : List ℕ) → BeginsWith bytes r after → number_of 8 (drop 8 bytes) ≡ r.lsn
+unfolding spelling
+lsn_there bytes r after begins =
+    let front : List ℕ = bytes_of 4 (4 + length (inside r)) ++ (bytes_of 1 (kind_of r.body) ++ replicate 3 0) in
+    let rest : List ℕ = bytes_of 8 r.lsn ++ (bytes_of 8 r.begin ++ (body_bytes r.body ++ after)) in
+    let size : length front ≡ 8 = omega (
+      arith,
+      length-append (bytes_of 4 (4 + length (inside r))) (bytes_of 1 (kind_of r.body) ++ replicate 3 0),
+      length-bytes_of 4 (4 + length (inside r)),
+      length-append (bytes_of 1 (kind_of r.body)) (replicate 3 0),
+      length-bytes_of 1 (kind_of r.body),
+      length-replicate {A = ℕ} 3 0,
+    ) in
+    let regrouped : spelling r ++ after ≡ front ++ rest = simp append_assoc in
+    let whole : bytes ≡ front ++ rest = begins.spelled ∙ regrouped in
+    ap (number_of 8) (ap (drop 8) whole ∙ drop_at front rest 8 size) ∙ number_of-bytes_of 8 r.lsn (bytes_of 8 r.begin ++ (body_bytes r.body ++ after)) (omega (arith, begins.is_record.lsn))
+
+-- and the number of its transaction's first record behind its own
+pub begin_there : (bytes : List ℕ) (r : Rec) (after : List ℕ) → BeginsWith bytes r after → number_of 8 (drop 16 bytes) ≡ r.begin
+unfolding spelling
+begin_there bytes r after begins =
+    let len : List ℕ = bytes_of 4 (4 + length (inside r)) in
+    let lsn : List ℕ = bytes_of 8 r.lsn in
+    let front : List ℕ = len ++ (bytes_of 1 (kind_of r.body) ++ (replicate 3 0 ++ lsn)) in
+    let rest : List ℕ = bytes_of 8 r.begin ++ (body_bytes r.body ++ after) in
+    let size : length front ≡ 16 = omega (
+      arith,
+      length-append len (bytes_of 1 (kind_of r.body) ++ (replicate 3 0 ++ lsn)),
+      length-bytes_of 4 (4 + length (inside r)),
+      length-append (bytes_of 1 (kind_of r.body)) (replicate 3 0 ++ lsn),
+      length-bytes_of 1 (kind_of r.body),
+      length-append (replicate 3 0) lsn,
+      length-replicate {A = ℕ} 3 0,
+      length-bytes_of 8 r.lsn,
+    ) in
+    let regrouped : spelling r ++ after ≡ front ++ rest = simp append_assoc in
+    let whole : bytes ≡ front ++ rest = begins.spelled ∙ regrouped in
+    ap (number_of 8) (ap (drop 16) whole ∙ drop_at front rest 16 size) ∙ number_of-bytes_of 8 r.begin (body_bytes r.body ++ after) (omega (arith, begins.is_record.begin))
+
 -- so a record of that kind is a write
 pub write_there : (bytes : List ℕ) (kind : ℕ) (r : Rec) (after : List ℕ) → kind ≡ number_of 4 (drop 4 bytes) → kind ≡ 4 → BeginsWith bytes r after → IsWrite r.body × (length (spelling r) ≡ 288)
 write_there bytes kind r after read is begins =
     let writes : IsWrite r.body = kind_write r.body (sym (kind_there bytes r after begins) ∙ sym read ∙ is) in
     (writes, write_length r writes begins.is_record)
-
--- where the record behind one begins
-pub next_is : (bytes : List ℕ) (at next : ℕ) (r : Rec) (after : List ℕ) → BeginsWith (drop at bytes) r after
-    → (at + 4 ≤ length bytes → at + number_of 4 (drop at bytes) ≤ length bytes → next ≡ at + number_of 4 (drop at bytes)) → next ≡ at + length (spelling r)
-next_is bytes at next r after begins value =
-    let size : number_of 4 (drop at bytes) ≡ length (spelling r) = ap (number_of 4) begins.spelled ∙ length_there r after begins.is_record in
-    let whole : length (drop at bytes) ≡ length (spelling r) + length after = ap length begins.spelled ∙ length-append (spelling r) after in
-    let there : at + length (spelling r) ≤ length bytes = omega (arith, whole, length-drop at bytes, some_bytes r) in
-    value (omega (arith, there, some_bytes r)) (omega (arith, there, size)) ∙ ap (λ (n : ℕ). at + n) size
 
 -- what lies behind a record of this length
 pub behind_one : (bytes : List ℕ) (at len next : ℕ) (r : Rec) (after : List ℕ) → BeginsWith (drop at bytes) r after → length (spelling r) ≡ len → next ≡ at + len → drop next bytes ≡ after
