@@ -6,7 +6,7 @@ use Rattle.std.proofs.lemmas.Option.{slice_get_within}
 use Rattle.bk_control.specs.Control.{IsControl, control_kept, Kept as KeptControl}
 use Rattle.bk_control.specs.Slots.{control_of}
 use Rattle.bk_device.specs.Calls.{ChangesNothing}
-use Rattle.bk_device.specs.Compose.{effect_then, effect_weaken, effect_widen, keeps_by_effect, durable_kept}
+use Rattle.bk_device.specs.Compose.{effect_of_nothing, effect_then, effect_weaken, effect_widen, keeps_by_effect, durable_kept}
 use Rattle.bk_device.specs.Disk.{Files, Disk}
 use Rattle.bk_device.specs.Effects.{Effect, IsName}
 use Rattle.bk_gate.specs.Blobs.{sealed}
@@ -330,3 +330,7 @@ least_kept old new to count rest none same i s low there =
 pub least_cut : (old new : List Segment) (to count : ℕ) → ((i n : ℕ) → count < i → BeginsAt old i n → to < n) → new ≡ drop count old → IsFirstAt new to
 least_cut old new to count rest same i s low there =
     rest (count + i) s.first (omega (arith, low)) (s, get_dropped old count i (count + i) s refl (sym (ap (λ (xs : List Segment). slice_get xs i) same) ∙ there), refl)
+
+-- which files opening a log touches
+pub load_touches : (db : ℕ) (head : Head) (a b c : Disk) → ChangesNothing a b → Effect (IsBeside db head) (λ _. Unit {0}) b c → Effect (IsOwn db) (λ _. Unit {0}) a c
+load_touches db head a b c call effect = effect_then (effect_of_nothing (λ image mine. tt) call) (effect_widen (λ name at. inr (at.0, at.3)) (λ image here left. tt) effect)

@@ -97,6 +97,7 @@ impl Log {
         ensures foreign { D.tells → IsErrOf result LogError.Foreign → IsForeign (D.disk dev.old).files db }
         ensures still { D.tells → IsErrOf result LogError.Foreign → ChangesNothing (D.disk dev.old) (D.disk dev.new) }
         ensures crash { D.tells → AreDurable db (D.disk dev.old) → Effect (IsOwn db) (λ image. (log : Logged) → LogIs (D.disk dev.old).files db log → LogIs image db log) (D.disk dev.old) (D.disk dev.new) }
+        ensures touches { D.tells → Effect (IsOwn db) (λ _. Unit {0}) (D.disk dev.old) (D.disk dev.new) }
         ensures cause { HasCause D.disk_faults D.tell_faults dev.old dev.new (IsErrOf result LogError.Fault) }
     {
         let (log, all) = Log::open(alloc, dev, db, true)?;
@@ -119,6 +120,7 @@ impl Log {
         ensures foreign { D.tells → IsErrOf result LogError.Foreign → IsForeign (D.disk dev.old).files db }
         ensures still { D.tells → IsErrOf result LogError.Foreign → ChangesNothing (D.disk dev.old) (D.disk dev.new) }
         ensures crash { D.tells → AreDurable db (D.disk dev.old) → Effect (IsOwn db) (λ image. (log : Logged) → LogIs (D.disk dev.old).files db log → LogIs image db log) (D.disk dev.old) (D.disk dev.new) }
+        ensures touches { D.tells → Effect (IsOwn db) (λ _. Unit {0}) (D.disk dev.old) (D.disk dev.new) }
         ensures cause { HasCause D.disk_faults D.tell_faults dev.old dev.new (IsErrOf result LogError.Fault) }
     {
         let (log, _) = Log::open(alloc, dev, db, false)?;

@@ -4,7 +4,7 @@ use Rattle.std.specs.List.{flat_map}
 use Rattle.std.specs.Prelude.{slice_index_or}
 use Rattle.std.proofs.lemmas.List.{length-drop}
 use Rattle.bk_device.specs.Calls.{ChangesNothing}
-use Rattle.bk_device.specs.Compose.{durable_kept, effect_then, effect_weaken, effect_widen, keeps_by_effect, keeps_by_nothing, keeps_then}
+use Rattle.bk_device.specs.Compose.{durable_kept, effect_then, effect_then_nothing, effect_weaken, effect_widen, keeps_by_effect, keeps_by_nothing, keeps_then}
 use Rattle.bk_device.specs.Disk.{Disk, Files, IsDurable}
 use Rattle.bk_device.specs.Effects.{Effect, KeepsFiles, MayLeaveOwn}
 use Rattle.bk_device.specs.Laws.{durable_by_nothing}
@@ -229,6 +229,12 @@ opened_standing b d e log new side pool facts note since failed is named effect 
       different = different;
     } in
     subst Made (sym same) made
+
+-- and only its own files were touched
+pub opened_touches : {P Q : Files → Type 0} (db n : ℕ) (files : List DataFile) {a b d e : Disk} → n ≡ db → Effect (IsOfLog db) P a b → Effect (IsOfSide (side_file db) (names_of files)) Q b d → ChangesNothing d e → Effect (IsOwn n files) (λ _. Unit {0}) a e
+opened_touches db n files {a} {e = e} same first second call =
+    let Of : ℕ → Type 0 = λ m. Effect (IsOwn m files) (λ _. Unit {0}) a e in
+    subst Of (sym same) (effect_then_nothing (effect_then (effect_widen (λ name at. inl at) (λ image here left. tt) first) (effect_widen (λ name at. inr at) (λ image here left. tt) second)) call)
 
 module _ (laws : Settles) (db : ℕ) (stood : Stood) (a c : Disk) (log : KeptLog) (facts : Facts) (note : List ℕ) (is : LogRead db stood a c log facts note) (last : log.end ≡ log.stored) where
   -- what undoes what the log holds undoes the path

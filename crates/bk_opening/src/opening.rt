@@ -12,7 +12,7 @@ ghost use Rattle.bk_segments.specs.Files.{AreSettled};
 ghost use Rattle.bk_paged.specs.Holds.{HaveRoom, Holds, Leaves, Stood, recovered};
 ghost use Rattle.bk_paged.specs.Names.{AreDurable, IsOwn, names_of};
 ghost use Rattle.bk_opening.specs.Opening.{AreHeld, AreIn};
-ghost use Rattle.bk_paged.specs.Paged.{IsPaged, Standing, sealed_count};
+ghost use Rattle.bk_paged.specs.Paged.{IsPaged, Standing, Touches, sealed_count};
 ghost use Rattle.bk_paths.specs.Paths.{numbered};
 ghost use Rattle.bk_record.specs.Log.{IsLog as AreRecords};
 ghost use Rattle.bk_record.specs.Spelling.{IsRecord, KeepsLimits, spelling};
@@ -158,6 +158,7 @@ fn open<R: Threads + Sync, D: Device>(
     ensures db { IfOk result (λ o. o.paged.log.db ≡ db) }
     ensures fit { IfOk result (λ o. (o.paged.failed ≡ false) × (o.paged.log.failed ≡ false)) }
     ensures standing { D.tells → IfOk result (λ o. Standing (D.disk dev.new) o.paged) }
+    ensures touches { D.tells → IfOk result (λ o. Touches o.paged (D.disk dev.old) (D.disk dev.new)) }
     ensures whole { IfOk result (λ o. AreIn o.paged.facts.files o.paged.pool) }
     ensures stands { D.tells → (stood : Stood) → AreDurable db stood.files (D.disk dev.old) → Holds db stood (D.disk dev.old).files → IfOk result (λ o. IsPaged (D.disk dev.new) o.paged (recovered stood) × (sealed_count o.paged ≡ length stood.records)) }
     ensures records { D.tells → (stood : Stood) → AreDurable db stood.files (D.disk dev.old) → Holds db stood (D.disk dev.old).files → IfOk result (λ o. AreHeld o.paged (recovered stood) o.records) }
@@ -189,6 +190,7 @@ pub fn load<R: Threads + Sync, D: Device>(
     ensures fit { IfOk result (λ o. o.paged.failed ≡ false) }
     ensures sealed { IfOk result (λ o. o.paged.log.stored ≡ o.paged.log.end) }
     ensures standing { D.tells → IfOk result (λ o. Standing (D.disk dev.new) o.paged) }
+    ensures touches { D.tells → IfOk result (λ o. Touches o.paged (D.disk dev.old) (D.disk dev.new)) }
     ensures whole { IfOk result (λ o. AreIn o.paged.facts.files o.paged.pool) }
     ensures stands { D.tells → (stood : Stood) → AreDurable db stood.files (D.disk dev.old) → Holds db stood (D.disk dev.old).files → IfOk result (λ o. IsPaged (D.disk dev.new) o.paged (recovered stood)) }
     ensures records { D.tells → (stood : Stood) → AreDurable db stood.files (D.disk dev.old) → Holds db stood (D.disk dev.old).files → IfOk result (λ o. AreHeld o.paged (recovered stood) o.records) }

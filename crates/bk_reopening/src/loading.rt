@@ -3,7 +3,7 @@ ghost use Rattle.std.specs.Prelude.{◌≡◌, ◌≤◌, false, IfOk, IsErrOf};
 ghost use Rattle.bk_device.specs.Counts.{HasCause};
 ghost use Rattle.bk_groups.specs.Groups.{AreFiles};
 ghost use Rattle.bk_known.specs.declared.known.Known.{Known as Knowns};
-ghost use Rattle.bk_paged.specs.Paged.{Standing};
+ghost use Rattle.bk_paged.specs.Paged.{Standing, Touches};
 ghost use Rattle.bk_reopening.specs.Reopening.{IsClosed, IsSettled, Recovers, Tells, settled};
 ghost use Rattle.bk_shown.specs.Shown.{Shows};
 ghost use Rattle.bk_store.specs.Store.{IsStore};
@@ -63,6 +63,7 @@ pub fn load<R: Threads + Sync, D: Device>(
 ) -> Result<Store, OpenError>
     ensures fit { IfOk result (λ s. s.paged.failed ≡ false) }
     ensures standing { D.tells → IfOk result (λ s. Standing (D.disk dev.new) s.paged) }
+    ensures touches { D.tells → IfOk result (λ s. Touches s.paged (D.disk dev.old) (D.disk dev.new)) }
     ensures ends { IfOk result (λ s. (s.paged.log.db ≡ db) × (s.paged.log.stored ≡ s.paged.log.«end»)) }
     ensures stands { D.tells → (told : Told) → IsClosed db told (D.disk dev.old) → IfOk result (λ s. IsStore (D.disk dev.new) s (settled told)) }
     ensures foreign { D.tells → IsErrOf result OpenError.Foreign → (told : Told) → IsClosed db told (D.disk dev.old) → ⊥ }

@@ -9,5 +9,6 @@ pub mod Recent
 pub mod Rolling
 pub mod Store
 pub mod Told
+pub mod TouchLaws
 pub mod Viewing
 pub mod Writing

@@ -3,6 +3,7 @@ ghost use Rattle.std.specs.Prelude.{◌≡◌};
 ghost use Rattle.bk_paged.specs.Names.{pages_in};
 
 use crate::store::Store;
+use bk_facts::DataFile;
 use bk_known::DatabaseSpec;
 use bk_shown::Shown;
 
@@ -19,6 +20,13 @@ impl Store {
         ensures { result.now ≡ self.now.known.spec }
     {
         &self.known.spec
+    }
+
+    /// The data files in which its pages lie.
+    pub fn files(&self) -> &[DataFile]
+        ensures { result.now ≡ self.now.paged.facts.files }
+    {
+        self.paged.files()
     }
 
     /// How many pages the data file of a number has: the 8 of its header, and 8 an extent; 0 where there is none of this number.

@@ -1,7 +1,7 @@
 // What statements say: one record each.
 ghost use Rattle.std.specs.Prelude.{◌≡◌, ◌+◌, false, IfOk, None, OnOk, IsErrOf};
 ghost use Rattle.bk_device.specs.Counts.{HasCause};
-ghost use Rattle.bk_paged.specs.Paged.{Standing};
+ghost use Rattle.bk_paged.specs.Paged.{Standing, Touches};
 ghost use Rattle.bk_record.specs.Spelling.{KeepsLimits};
 ghost use Rattle.bk_shown.specs.Shown.{IsNext};
 ghost use Rattle.bk_undo.specs.Spelled.{body_of, spelled};
@@ -30,8 +30,10 @@ impl Store {
         ensures stands { D.tells → (told : Told) (now : Logged) → IsStore (D.disk dev.old) self.old told → IsNext (files_of told) told.records now → spelled now ≡ r.now → OnOk result (IsStore (D.disk dev.new) self.new (said told now)) }
         ensures standing { D.tells → OnOk result (Standing (D.disk dev.new) self.new.paged) }
         ensures ends { OnOk result ((self.new.paged.log.db ≡ self.old.paged.log.db) × (self.new.paged.log.end ≡ self.old.paged.log.end + 1) × (self.new.paged.log.stored ≡ self.new.paged.log.end) × (self.new.paged.log.head.kept ≡ self.old.paged.log.head.kept)) }
+        ensures files { OnOk result (self.new.paged.facts.files ≡ self.old.paged.facts.files) }
         ensures same { OnOk result ((self.new.known ≡ self.old.known) × (self.new.note ≡ self.old.note)) }
         ensures crash { D.tells → (told : Told) (now : Logged) → IsStore (D.disk dev.old) self.old told → IsNext (files_of told) told.records now → spelled now ≡ r.now → Crashes self.old (said told now) (D.disk dev.old) (D.disk dev.new) }
+        ensures touches { D.tells → Touches self.old.paged (D.disk dev.old) (D.disk dev.new) }
         ensures cause { HasCause D.disk_faults D.tell_faults dev.old dev.new (IsErrOf result StoreError.Fault) }
     {
         self.say(alloc, dev, r)?;
@@ -54,8 +56,10 @@ impl Store {
         ensures stands { D.tells → (told : Told) → IsStore (D.disk dev.old) self.old told → MayBeSaid self.old told begin (committed time mark) → OnOk result (IsStore (D.disk dev.new) self.new (said told (at_end self.old begin (committed time mark)))) }
         ensures standing { D.tells → OnOk result (Standing (D.disk dev.new) self.new.paged) }
         ensures ends { OnOk result ((self.new.paged.log.db ≡ self.old.paged.log.db) × (self.new.paged.log.end ≡ self.old.paged.log.end + 1) × (self.new.paged.log.stored ≡ self.new.paged.log.end) × (self.new.paged.log.head.kept ≡ self.old.paged.log.head.kept)) }
+        ensures files { OnOk result (self.new.paged.facts.files ≡ self.old.paged.facts.files) }
         ensures same { OnOk result ((self.new.known ≡ self.old.known) × (self.new.note ≡ self.old.note)) }
         ensures crash { D.tells → (told : Told) → IsStore (D.disk dev.old) self.old told → MayBeSaid self.old told begin (committed time mark) → Crashes self.old (said told (at_end self.old begin (committed time mark))) (D.disk dev.old) (D.disk dev.new) }
+        ensures touches { D.tells → Touches self.old.paged (D.disk dev.old) (D.disk dev.new) }
         ensures cause { HasCause D.disk_faults D.tell_faults dev.old dev.new (IsErrOf result StoreError.Fault) }
     {
         let r = Rec {
@@ -81,8 +85,10 @@ impl Store {
         ensures stands { D.tells → (told : Told) → IsStore (D.disk dev.old) self.old told → MayBeSaid self.old told begin rolled_back → OnOk result (IsStore (D.disk dev.new) self.new (said told (at_end self.old begin rolled_back))) }
         ensures standing { D.tells → OnOk result (Standing (D.disk dev.new) self.new.paged) }
         ensures ends { OnOk result ((self.new.paged.log.db ≡ self.old.paged.log.db) × (self.new.paged.log.end ≡ self.old.paged.log.end + 1) × (self.new.paged.log.stored ≡ self.new.paged.log.end) × (self.new.paged.log.head.kept ≡ self.old.paged.log.head.kept)) }
+        ensures files { OnOk result (self.new.paged.facts.files ≡ self.old.paged.facts.files) }
         ensures same { OnOk result ((self.new.known ≡ self.old.known) × (self.new.note ≡ self.old.note)) }
         ensures crash { D.tells → (told : Told) → IsStore (D.disk dev.old) self.old told → MayBeSaid self.old told begin rolled_back → Crashes self.old (said told (at_end self.old begin rolled_back)) (D.disk dev.old) (D.disk dev.new) }
+        ensures touches { D.tells → Touches self.old.paged (D.disk dev.old) (D.disk dev.new) }
         ensures cause { HasCause D.disk_faults D.tell_faults dev.old dev.new (IsErrOf result StoreError.Fault) }
     {
         let r = Rec {
@@ -110,8 +116,10 @@ impl Store {
         ensures stands { D.tells → (told : Told) → IsStore (D.disk dev.old) self.old told → MayBeSaid self.old told 0 (database_made time family branch) → OnOk result (IsStore (D.disk dev.new) self.new (said told (at_end self.old 0 (database_made time family branch)))) }
         ensures standing { D.tells → OnOk result (Standing (D.disk dev.new) self.new.paged) }
         ensures ends { OnOk result ((self.new.paged.log.db ≡ self.old.paged.log.db) × (self.new.paged.log.end ≡ self.old.paged.log.end + 1) × (self.new.paged.log.stored ≡ self.new.paged.log.end) × (self.new.paged.log.head.kept ≡ self.old.paged.log.head.kept)) }
+        ensures files { OnOk result (self.new.paged.facts.files ≡ self.old.paged.facts.files) }
         ensures same { OnOk result ((self.new.known ≡ self.old.known) × (self.new.note ≡ self.old.note)) }
         ensures crash { D.tells → (told : Told) → IsStore (D.disk dev.old) self.old told → MayBeSaid self.old told 0 (database_made time family branch) → Crashes self.old (said told (at_end self.old 0 (database_made time family branch))) (D.disk dev.old) (D.disk dev.new) }
+        ensures touches { D.tells → Touches self.old.paged (D.disk dev.old) (D.disk dev.new) }
         ensures cause { HasCause D.disk_faults D.tell_faults dev.old dev.new (IsErrOf result StoreError.Fault) }
     {
         let r = Rec {
@@ -144,8 +152,10 @@ impl Store {
         ensures stands { D.tells → (told : Told) → IsStore (D.disk dev.old) self.old told → MayBeSaid self.old told 0 (table_made time (record { number = number; name = name; group = group })) → OnOk result (IsStore (D.disk dev.new) self.new (said told (at_end self.old 0 (table_made time (record { number = number; name = name; group = group }))))) }
         ensures standing { D.tells → OnOk result (Standing (D.disk dev.new) self.new.paged) }
         ensures ends { OnOk result ((self.new.paged.log.db ≡ self.old.paged.log.db) × (self.new.paged.log.end ≡ self.old.paged.log.end + 1) × (self.new.paged.log.stored ≡ self.new.paged.log.end) × (self.new.paged.log.head.kept ≡ self.old.paged.log.head.kept)) }
+        ensures files { OnOk result (self.new.paged.facts.files ≡ self.old.paged.facts.files) }
         ensures same { OnOk result ((self.new.known ≡ self.old.known) × (self.new.note ≡ self.old.note)) }
         ensures crash { D.tells → (told : Told) → IsStore (D.disk dev.old) self.old told → MayBeSaid self.old told 0 (table_made time (record { number = number; name = name; group = group })) → Crashes self.old (said told (at_end self.old 0 (table_made time (record { number = number; name = name; group = group })))) (D.disk dev.old) (D.disk dev.new) }
+        ensures touches { D.tells → Touches self.old.paged (D.disk dev.old) (D.disk dev.new) }
         ensures cause { HasCause D.disk_faults D.tell_faults dev.old dev.new (IsErrOf result StoreError.Fault) }
     {
         let r = Rec {
@@ -177,8 +187,10 @@ impl Store {
         ensures stands { D.tells → (told : Told) → IsStore (D.disk dev.old) self.old told → MayBeSaid self.old told 0 (model_set time model) → OnOk result (IsStore (D.disk dev.new) self.new (said told (at_end self.old 0 (model_set time model)))) }
         ensures standing { D.tells → OnOk result (Standing (D.disk dev.new) self.new.paged) }
         ensures ends { OnOk result ((self.new.paged.log.db ≡ self.old.paged.log.db) × (self.new.paged.log.end ≡ self.old.paged.log.end + 1) × (self.new.paged.log.stored ≡ self.new.paged.log.end) × (self.new.paged.log.head.kept ≡ self.old.paged.log.head.kept)) }
+        ensures files { OnOk result (self.new.paged.facts.files ≡ self.old.paged.facts.files) }
         ensures same { OnOk result ((self.new.known ≡ self.old.known) × (self.new.note ≡ self.old.note)) }
         ensures crash { D.tells → (told : Told) → IsStore (D.disk dev.old) self.old told → MayBeSaid self.old told 0 (model_set time model) → Crashes self.old (said told (at_end self.old 0 (model_set time model))) (D.disk dev.old) (D.disk dev.new) }
+        ensures touches { D.tells → Touches self.old.paged (D.disk dev.old) (D.disk dev.new) }
         ensures cause { HasCause D.disk_faults D.tell_faults dev.old dev.new (IsErrOf result StoreError.Fault) }
     {
         let r = Rec {
@@ -205,8 +217,10 @@ impl Store {
         ensures stands { D.tells → (told : Told) → IsStore (D.disk dev.old) self.old told → MayBeSaid self.old told 0 (stamped time set) → OnOk result (IsStore (D.disk dev.new) self.new (said told (at_end self.old 0 (stamped time set)))) }
         ensures standing { D.tells → OnOk result (Standing (D.disk dev.new) self.new.paged) }
         ensures ends { OnOk result ((self.new.paged.log.db ≡ self.old.paged.log.db) × (self.new.paged.log.end ≡ self.old.paged.log.end + 1) × (self.new.paged.log.stored ≡ self.new.paged.log.end) × (self.new.paged.log.head.kept ≡ self.old.paged.log.head.kept)) }
+        ensures files { OnOk result (self.new.paged.facts.files ≡ self.old.paged.facts.files) }
         ensures same { OnOk result ((self.new.known ≡ self.old.known) × (self.new.note ≡ self.old.note)) }
         ensures crash { D.tells → (told : Told) → IsStore (D.disk dev.old) self.old told → MayBeSaid self.old told 0 (stamped time set) → Crashes self.old (said told (at_end self.old 0 (stamped time set))) (D.disk dev.old) (D.disk dev.new) }
+        ensures touches { D.tells → Touches self.old.paged (D.disk dev.old) (D.disk dev.new) }
         ensures cause { HasCause D.disk_faults D.tell_faults dev.old dev.new (IsErrOf result StoreError.Fault) }
     {
         let r = Rec {
@@ -229,8 +243,10 @@ impl Store {
             → OnOk result (IsStore (D.disk dev.new) self.new (said told (at_end self.old self.old.paged.log.end begun))) }
         ensures standing { D.tells → OnOk result (Standing (D.disk dev.new) self.new.paged) }
         ensures ends { OnOk result ((self.new.paged.log.db ≡ self.old.paged.log.db) × (self.new.paged.log.end ≡ self.old.paged.log.end + 1) × (self.new.paged.log.head.kept ≡ self.old.paged.log.head.kept)) }
+        ensures files { OnOk result (self.new.paged.facts.files ≡ self.old.paged.facts.files) }
         ensures same { OnOk result ((self.new.known ≡ self.old.known) × (self.new.note ≡ self.old.note)) }
         ensures crash { D.tells → (told : Told) → IsStore (D.disk dev.old) self.old told → Crashes self.old told (D.disk dev.old) (D.disk dev.new) }
+        ensures touches { D.tells → Touches self.old.paged (D.disk dev.old) (D.disk dev.new) }
         ensures cause { HasCause D.disk_faults D.tell_faults dev.old dev.new (IsErrOf result StoreError.Fault) }
     {
         let first = self.paged.end();

@@ -4,7 +4,7 @@ ghost use Rattle.bk_device.specs.Calls.{ChangesNothing};
 ghost use Rattle.bk_device.specs.Counts.{HasCause};
 ghost use Rattle.bk_paged.specs.Holds.{IsStored};
 ghost use Rattle.bk_paged.specs.Names.{IsThere, pages_in};
-ghost use Rattle.bk_paged.specs.Paged.{Standing, from_to};
+ghost use Rattle.bk_paged.specs.Paged.{Standing, Touches, from_to};
 ghost use Rattle.bk_paths.specs.Paths.{end_of};
 ghost use Rattle.bk_record.specs.Log.{IsLog};
 ghost use Rattle.bk_undo.specs.Spelled.{spelled};
@@ -45,6 +45,7 @@ impl Store {
         ensures standing { D.tells → Standing (D.disk dev.new) self.now.paged }
         ensures bytes { D.tells → (told : Told) → IsStore (D.disk dev.old) self.now told → IfOk result (λ bytes. IsLog bytes.items (from_to from to (map spelled told.records)) None) }
         ensures effect { D.tells → ChangesNothing (D.disk dev.old) (D.disk dev.new) }
+        ensures touches { D.tells → Touches self.now.paged (D.disk dev.old) (D.disk dev.new) }
         ensures cause { HasCause D.disk_faults D.tell_faults dev.old dev.new (IsErrOf result StoreError.Fault) }
     {
         let bytes = self.paged.log_bytes(alloc, dev, from, to)?;
@@ -70,6 +71,7 @@ impl Store {
         ensures later { D.tells → (told : Told) → IsStore (D.disk dev.old) self.old told → OnOk result (self.old.paged.log.stored ≤ self.new.paged.log.stored) }
         ensures page { D.tells → (told : Told) → IsStore (D.disk dev.old) self.old told → IfOk result (λ bytes. IsStored (map spelled told.records) (end_of (map spelled told.records)) (record { file = file; page = page }) bytes) }
         ensures crash { D.tells → (told : Told) → IsStore (D.disk dev.old) self.old told → Crashes self.old told (D.disk dev.old) (D.disk dev.new) }
+        ensures touches { D.tells → Touches self.old.paged (D.disk dev.old) (D.disk dev.new) }
         ensures cause { HasCause D.disk_faults D.tell_faults dev.old dev.new (IsErrOf result StoreError.Fault) }
     {
         let bytes = self.paged.copy_page(alloc, dev, file, page)?;
@@ -99,6 +101,7 @@ impl Store {
         ensures later { D.tells → (told : Told) → IsStore (D.disk dev.old) self.old told → OnOk result (self.old.paged.log.stored ≤ self.new.paged.log.stored) }
         ensures copied { D.tells → (told : Told) → IsStore (D.disk dev.old) self.old told → OnOk result (IsExtentOf told file extent copy.new.items) }
         ensures crash { D.tells → (told : Told) → IsStore (D.disk dev.old) self.old told → Crashes self.old told (D.disk dev.old) (D.disk dev.new) }
+        ensures touches { D.tells → Touches self.old.paged (D.disk dev.old) (D.disk dev.new) }
         ensures cause { HasCause D.disk_faults D.tell_faults dev.old dev.new (IsErrOf result StoreError.Fault) }
     {
         self.at_rest(dev);

@@ -1,7 +1,7 @@
 // Rolling a transaction back.
 ghost use Rattle.std.specs.Prelude.{◌≡◌, ◌≤◌, false, OnOk, IsErrOf};
 ghost use Rattle.bk_device.specs.Counts.{HasCause};
-ghost use Rattle.bk_paged.specs.Paged.{Standing};
+ghost use Rattle.bk_paged.specs.Paged.{Standing, Touches};
 ghost use Rattle.bk_store.specs.Rolling.{IsUndone, rolled};
 ghost use Rattle.bk_store.specs.Store.{Crashes, IsStore};
 ghost use Rattle.bk_store.specs.Told.{Told};
@@ -27,9 +27,11 @@ impl Store {
         ensures undone { D.tells → (told : Told) → IsStore (D.disk dev.old) self.old told → OnOk result (IsUndone (IsStore (D.disk dev.new) self.new) begin told) }
         ensures standing { D.tells → OnOk result (Standing (D.disk dev.new) self.new.paged) }
         ensures ends { OnOk result ((self.new.paged.log.db ≡ self.old.paged.log.db) × (self.new.paged.log.head.kept ≡ self.old.paged.log.head.kept)) }
+        ensures files { OnOk result (self.new.paged.facts.files ≡ self.old.paged.facts.files) }
         ensures later { D.tells → (told : Told) → IsStore (D.disk dev.old) self.old told → OnOk result (self.old.paged.log.stored ≤ self.new.paged.log.stored) }
         ensures same { OnOk result ((self.new.known ≡ self.old.known) × (self.new.note ≡ self.old.note)) }
         ensures crash { D.tells → (told : Told) → IsStore (D.disk dev.old) self.old told → Crashes self.old (rolled begin told) (D.disk dev.old) (D.disk dev.new) }
+        ensures touches { D.tells → Touches self.old.paged (D.disk dev.old) (D.disk dev.new) }
         ensures cause { HasCause D.disk_faults D.tell_faults dev.old dev.new (IsErrOf result StoreError.Fault) }
     {
         self.at_rest(dev);
@@ -58,8 +60,10 @@ impl Store {
         ensures stands { D.tells → (told : Told) → IsStore (D.disk dev.old) self.old told → OnOk result (IsStore (D.disk dev.new) self.new (rolled begin told)) }
         ensures standing { D.tells → OnOk result (Standing (D.disk dev.new) self.new.paged) }
         ensures ends { OnOk result ((self.new.paged.log.db ≡ self.old.paged.log.db) × (self.new.paged.log.stored ≡ self.new.paged.log.end) × (self.new.paged.log.head.kept ≡ self.old.paged.log.head.kept)) }
+        ensures files { OnOk result (self.new.paged.facts.files ≡ self.old.paged.facts.files) }
         ensures same { OnOk result ((self.new.known ≡ self.old.known) × (self.new.note ≡ self.old.note)) }
         ensures crash { D.tells → (told : Told) → IsStore (D.disk dev.old) self.old told → Crashes self.old (rolled begin told) (D.disk dev.old) (D.disk dev.new) }
+        ensures touches { D.tells → Touches self.old.paged (D.disk dev.old) (D.disk dev.new) }
         ensures cause { HasCause D.disk_faults D.tell_faults dev.old dev.new (IsErrOf result StoreError.Fault) }
     {
         self.undo_all(alloc, dev, begin)?;

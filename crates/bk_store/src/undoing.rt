@@ -1,7 +1,7 @@
 // Undoing the writes of a transaction, the last one first.
 ghost use Rattle.std.specs.Prelude.{◌≡◌, ◌≤◌, ◌<◌, ◌+◌, ◌^◌, None, false, option_map, IfOk, IfSome, OnOk, IsErrOf};
 ghost use Rattle.bk_device.specs.Counts.{HasCause};
-ghost use Rattle.bk_paged.specs.Paged.{Standing};
+ghost use Rattle.bk_paged.specs.Paged.{Standing, Touches};
 ghost use Rattle.bk_record.specs.Spelling.{KeepsLimits};
 ghost use Rattle.bk_store.specs.Store.{Crashes, IsStore};
 ghost use Rattle.bk_store.specs.Told.{Told};
@@ -70,9 +70,11 @@ impl Store {
         ensures stands { D.tells → (told : Told) → IsStore (D.disk dev.old) self.old told → IfOk result (UndoesLast (IsStore (D.disk dev.new) self.new) self.old told begin) }
         ensures standing { D.tells → OnOk result (Standing (D.disk dev.new) self.new.paged) }
         ensures ends { OnOk result ((self.new.paged.log.db ≡ self.old.paged.log.db) × (self.new.paged.log.head.kept ≡ self.old.paged.log.head.kept) × (self.new.paged.log.end ≤ self.old.paged.log.end + 1)) }
+        ensures files { OnOk result (self.new.paged.facts.files ≡ self.old.paged.facts.files) }
         ensures later { D.tells → (told : Told) → IsStore (D.disk dev.old) self.old told → OnOk result (self.old.paged.log.stored ≤ self.new.paged.log.stored) }
         ensures same { OnOk result ((self.new.known ≡ self.old.known) × (self.new.note ≡ self.old.note)) }
         ensures crash { D.tells → (told : Told) → IsStore (D.disk dev.old) self.old told → Crashes self.old told (D.disk dev.old) (D.disk dev.new) }
+        ensures touches { D.tells → Touches self.old.paged (D.disk dev.old) (D.disk dev.new) }
         ensures cause { HasCause D.disk_faults D.tell_faults dev.old dev.new (IsErrOf result StoreError.Fault) }
     {
         self.paged.at_rest(dev);

@@ -2,7 +2,7 @@
 ghost use Rattle.std.specs.Prelude.{◌≡◌, ◌+◌, None, Some, List, false, option_map, IfOk, IfSome, OnOk, IsErrOf};
 ghost use Rattle.bk_bytes.specs.Cell.{IsCell};
 ghost use Rattle.bk_device.specs.Counts.{HasCause};
-ghost use Rattle.bk_paged.specs.Paged.{Standing};
+ghost use Rattle.bk_paged.specs.Paged.{Standing, Touches};
 ghost use Rattle.bk_record.specs.Spelling.{KeepsLimits};
 ghost use Rattle.bk_shown.specs.Shown.{Shows};
 ghost use Rattle.bk_undo.specs.Spelled.{body_of, image};
@@ -80,8 +80,10 @@ impl Store {
         ensures standing { D.tells → OnOk result (Standing (D.disk dev.new) self.new.paged) }
         ensures place { D.tells → (told : Told) → IsStore (D.disk dev.old) self.old told → IfOk result (λ at. MayLieAt (files_of told) told.records table key at) }
         ensures ends { OnOk result ((self.new.paged.log.db ≡ self.old.paged.log.db) × (self.new.paged.log.end ≡ self.old.paged.log.end + 1) × (self.new.paged.log.head.kept ≡ self.old.paged.log.head.kept)) }
+        ensures files { OnOk result (self.new.paged.facts.files ≡ self.old.paged.facts.files) }
         ensures same { OnOk result ((self.new.known ≡ self.old.known) × (self.new.note ≡ self.old.note)) }
         ensures crash { D.tells → (told : Told) → IsStore (D.disk dev.old) self.old told → Crashes self.old told (D.disk dev.old) (D.disk dev.new) }
+        ensures touches { D.tells → Touches self.old.paged (D.disk dev.old) (D.disk dev.new) }
         ensures cause { HasCause D.disk_faults D.tell_faults dev.old dev.new (IsErrOf result StoreError.Fault) }
     {
         placed_logs();

@@ -1,4 +1,4 @@
-use Rattle.std.proofs.Common.{ℕ, None, arith, sym, subst}
+use Rattle.std.proofs.Common.{◌≡◌, ℕ, None, arith, sym, ap, subst}
 use Rattle.std.proofs.lemmas.Result.{err_from_is_err_and}
 use Rattle.bk_device.specs.Compose.{effect_then}
 use Rattle.bk_device.specs.Laws.{effect_after_nothing}
@@ -7,6 +7,7 @@ use Rattle.bk_paged.specs.declared.error.PagedError.TheVariants.{Foreign}
 use Rattle.bk_paged.specs.Holds.{recovered}
 use Rattle.bk_paged.specs.Laws.{crash_as}
 use Rattle.bk_paged.specs.Paged.{Kept, sealed_count}
+use Rattle.bk_paged.specs.StandLaws.{nothing-touches, touches-as}
 use Rattle.bk_opening.specs.Opening.{AreIn}
 use Rattle.bk_paths.specs.Paths.{kept_from}
 use Rattle.bk_record.specs.Log.{IsLog}
@@ -72,3 +73,10 @@ returns-clause-records g c t stood durable holds =
     let call = c.in_ok-settle.ensures.effect t in
     let Of : ℕ → Type 0 = λ n. IsLog c.in_ok-opened.opened.records (kept_from n (recovered stood).records) None in
     subst Of (sym c.in_ok-flush.ensures.kept) (c.in_ok-opened.ensures.records t stood (still_durable c.args.db stood.files call durable) (still_holds c.args.db stood call holds))
+
+pub returns-clause-touches : goal.returns-clause-touches
+returns-clause-touches g c t =
+    let p = c.in_ok-opened.opened.paged in
+    let files : p.facts.files ≡ c.flush.new.self.facts.files = sym (ap (λ (k : Kept). k.facts.files) c.in_ok-flush.ensures.same) in
+    touches-as c.flush.new.self p (sym c.in_ok-flush.ensures.sealed.0) files
+    (effect_then (nothing-touches p (c.in_ok-settle.ensures.effect t)) (effect_then (c.in_ok-opened.ensures.touches t) (c.flush.ensures.touches t)))

@@ -14,9 +14,9 @@ use Rattle.bk_paged.specs.declared.error.PagedError.TheVariants.{Foreign}
 use Rattle.bk_paged.specs.Holds.{recovered}
 use Rattle.bk_paged.specs.Names.{names_of}
 use Rattle.bk_opening.specs.Opening.{AreHeld, AreIn, Brings}
-use Rattle.bk_paged.specs.Paged.{IsPaged, Kept, Standing, sealed_count}
+use Rattle.bk_paged.specs.Paged.{IsPaged, Kept, Standing, Touches, sealed_count}
 use Rattle.bk_opening.proofs.Causes.{as_error, foreign_log, same_cause}
-use Rattle.bk_opening.proofs.Loading.{SideOpened, brings, grown_bytes, grown_is, held_bytes, log_crash, log_read, noted_then, opened_count, opened_held, opened_standing, opened_stands, room, side_crash}
+use Rattle.bk_opening.proofs.Loading.{SideOpened, brings, grown_bytes, grown_is, held_bytes, log_crash, log_read, noted_then, opened_count, opened_held, opened_standing, opened_stands, opened_touches, room, side_crash}
 use Rattle.bk_opening.proofs.Settled.{Settles}
 use Rattle.bk_opening.proofs.opening.open.Goals as goal
 
@@ -227,3 +227,12 @@ returns-clause-records g c t stood durable holds =
 
 pub returns-clause-whole : goal.returns-clause-whole
 returns-clause-whole g c = subst (λ (k : Kept). AreIn k.facts.files k.pool) (sym c.from_parts-paged.ensures) c.in_ok-pool.ensures.whole
+
+pub returns-clause-touches : goal.returns-clause-touches
+returns-clause-touches g c t =
+    let a = g.D.Device.disk c.args.dev.now in
+    let e = g.D.Device.disk c.open_pool.new.dev in
+    let new = c.append_undoing.new.log in
+    let same : new.db ≡ c.args.db = ap (λ (l : KeptLog). l.db) c.in_ok-append_undoing.ensures.waits ∙ c.in_ok-log.ensures.db in
+    subst (λ (k : Kept). Touches k a e) (sym c.from_parts-paged.ensures)
+    (opened_touches c.args.db new.db c.in_ok-facts.facts.files same (c.read.ensures.touches t) (c.load_side.ensures.crash t) (c.open_pool.ensures.effect t))

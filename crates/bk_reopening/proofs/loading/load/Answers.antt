@@ -3,6 +3,7 @@ use Rattle.std.proofs.lemmas.Result.{err_from_is_err_and}
 use Rattle.bk_lemmas.specs.Tests.{same_error}
 use Rattle.bk_opening.specs.Opening.{AreHeld}
 use Rattle.bk_paged.specs.Holds.{recovered}
+use Rattle.bk_paged.specs.Paged.{Touches}
 use Rattle.bk_store.specs.Store.{IsStore, Kept}
 use Rattle.bk_store.specs.Told.{stood_of}
 use Rattle.bk_reopening.specs.Reopening.{settled}
@@ -60,3 +61,6 @@ returns-clause-stands g c t told closed =
     let here = store-is d o.opened.paged c.as_slice.result.now c.in_ok-noted.shown h.known (settled told) c.in_ok-noted.noted c.in_ok-noted.ensures.tells now (stands-settled c.settling_law.ensures.machine h.known told o.opened.paged d h.log is)
     (c.in_ok-noted.ensures.shows h.known (settled told) now) c.in_ok-noted.ensures.early in
     subst (λ (s : Kept). IsStore d s (settled told)) (sym c.from_parts.ensures) here
+
+pub returns-clause-touches : goal.returns-clause-touches
+returns-clause-touches g c t = subst (λ (s : Kept). Touches s.paged (g.D.Device.disk c.args.dev.now) (g.D.Device.disk c.load.new.dev)) (sym c.from_parts.ensures) (c.in_ok-opened.ensures.touches t)

@@ -1,12 +1,13 @@
 use Rattle.std.proofs.Common.{◌≡◌, ◌≤◌, ◌<◌, ◌⊎◌, ◌+◌, ℕ, None, subst, ◌∙◌}
 use Rattle.std.proofs.lemmas.Result.{err_from_is_err_and}
+use Rattle.bk_device.specs.Compose.{effect_of_nothing}
 use Rattle.bk_device.specs.Effects.{Effect}
 use Rattle.bk_segments.specs.declared.error.LogError.TheVariants.{Foreign}
 use Rattle.bk_lemmas.specs.Tests.{same_error}
 use Rattle.bk_log.specs.Log.{Kept}
 use Rattle.bk_segments.specs.Files.{IsBeside, control_file, segment_file}
 use Rattle.bk_segments.specs.FileLaws.{control_not_segment, durable_settles}
-use Rattle.bk_log.proofs.Cuts.{load_then, load_stands, load_tidy}
+use Rattle.bk_log.proofs.Cuts.{load_then, load_stands, load_tidy, load_touches}
 use Rattle.bk_log.proofs.Makes.{load_nothing}
 use Rattle.bk_log.proofs.log.Log.load.Goals as goal
 
@@ -39,3 +40,16 @@ returns-clause-crash g c t durable =
 
 pub returns-clause-control : goal.returns-clause-control
 returns-clause-control g c t = (c.tidy.ensures.crash t).others (control_file c.args.db) (λ at. control_not_segment c.args.db at.0 at.3) ∙ (c.open.ensures.effect t).files (control_file c.args.db)
+
+pub returns-in_err-log-clause-touches : goal.returns-in_err-log-clause-touches
+returns-in_err-log-clause-touches g c t = effect_of_nothing (λ image mine. tt) (c.open.ensures.effect t)
+
+pub returns-in_err-tidy-clause-touches : goal.returns-in_err-tidy-clause-touches
+returns-in_err-tidy-clause-touches g c t =
+    load_touches c.args.db c.in_ok-log.log.head (g.D.Device.disk c.args.dev.now) (g.D.Device.disk c.open.new.dev) (g.D.Device.disk c.tidy.new.dev) (c.open.ensures.effect t)
+    (subst (λ (k : Kept). Effect (IsBeside c.args.db k.head) (λ _. Unit {0}) (g.D.Device.disk c.open.new.dev) (g.D.Device.disk c.tidy.new.dev)) c.log.view_is (c.tidy.ensures.crash t))
+
+pub returns-clause-touches : goal.returns-clause-touches
+returns-clause-touches g c t =
+    load_touches c.args.db c.in_ok-log.log.head (g.D.Device.disk c.args.dev.now) (g.D.Device.disk c.open.new.dev) (g.D.Device.disk c.tidy.new.dev) (c.open.ensures.effect t)
+    (subst (λ (k : Kept). Effect (IsBeside c.args.db k.head) (λ _. Unit {0}) (g.D.Device.disk c.open.new.dev) (g.D.Device.disk c.tidy.new.dev)) c.log.view_is (c.tidy.ensures.crash t))

@@ -2,6 +2,7 @@ use Rattle.std.proofs.Common.{◌≡◌, ◌≤◌, ◌<◌, ◌⊎◌, ◌+◌,
 use Rattle.bk_ids.specs.declared.record.Rec.{Rec}
 use Rattle.bk_segments.specs.Records.{records_of}
 use Rattle.std.proofs.lemmas.Result.{err_from_is_err_and}
+use Rattle.bk_device.specs.Compose.{effect_of_nothing}
 use Rattle.bk_device.specs.Effects.{Effect}
 use Rattle.bk_segments.specs.declared.error.LogError.TheVariants.{Foreign}
 use Rattle.bk_lemmas.specs.Tests.{same_error}
@@ -10,7 +11,7 @@ use Rattle.bk_record.specs.Spelling.{spelling}
 use Rattle.bk_log.specs.Log.{Kept}
 use Rattle.bk_segments.specs.Files.{IsBeside, blobs_of, segment_file}
 use Rattle.bk_segments.specs.FileLaws.{durable_settles}
-use Rattle.bk_log.proofs.Cuts.{load_then, load_stands, load_tidy}
+use Rattle.bk_log.proofs.Cuts.{load_then, load_stands, load_tidy, load_touches}
 use Rattle.bk_log.proofs.Makes.{load_nothing}
 use Rattle.bk_log.proofs.log.Log.read.Goals as goal
 
@@ -50,3 +51,16 @@ returns-clause-bytes g c t =
     let read = subst (λ (k : Kept). c.behind-bytes.result ≡ flat_map spelling (drop (k.head.kept - k.head.first) rs)) c.log.view_is
     (c.behind-bytes.ensures rs (c.in_ok-log.ensures.bytes t refl) (c.in_ok-log.ensures.records t) enough) in
     read ∙ ap (λ (n : ℕ). flat_map spelling (drop (log.head.kept - log.head.first) (records_of (blobs_of files n log.head)))) (sym c.in_ok-log.ensures.db)
+
+pub returns-in_err-log-clause-touches : goal.returns-in_err-log-clause-touches
+returns-in_err-log-clause-touches g c t = effect_of_nothing (λ image mine. tt) (c.open.ensures.effect t)
+
+pub returns-in_err-tidy-clause-touches : goal.returns-in_err-tidy-clause-touches
+returns-in_err-tidy-clause-touches g c t =
+    load_touches c.args.db c.in_ok-log.log.head (g.D.Device.disk c.args.dev.now) (g.D.Device.disk c.open.new.dev) (g.D.Device.disk c.tidy.new.dev) (c.open.ensures.effect t)
+    (subst (λ (k : Kept). Effect (IsBeside c.args.db k.head) (λ _. Unit {0}) (g.D.Device.disk c.open.new.dev) (g.D.Device.disk c.tidy.new.dev)) c.log.view_is (c.tidy.ensures.crash t))
+
+pub returns-clause-touches : goal.returns-clause-touches
+returns-clause-touches g c t =
+    load_touches c.args.db c.in_ok-log.log.head (g.D.Device.disk c.args.dev.now) (g.D.Device.disk c.open.new.dev) (g.D.Device.disk c.tidy.new.dev) (c.open.ensures.effect t)
+    (subst (λ (k : Kept). Effect (IsBeside c.args.db k.head) (λ _. Unit {0}) (g.D.Device.disk c.open.new.dev) (g.D.Device.disk c.tidy.new.dev)) c.log.view_is (c.tidy.ensures.crash t))

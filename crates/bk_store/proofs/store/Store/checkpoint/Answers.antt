@@ -8,6 +8,7 @@ use Rattle.bk_store.specs.Store.{at_end}
 use Rattle.bk_store.specs.Told.{files_of, said}
 use Rattle.bk_store.specs.CutLaws.{crash-later}
 use Rattle.bk_store.specs.FrontLaws.{shown-end}
+use Rattle.bk_store.specs.TouchLaws.{touches-then}
 use Rattle.bk_store.proofs.Floors.{open-behind}
 use Rattle.bk_store.proofs.store.Store.checkpoint.Goals as goal
 
@@ -67,3 +68,24 @@ returns-clause-cut g c t told is floor =
       needed = omega (arith, floor.inside, noted.from, ends, first.paged.ends, marked.ends.1, length-map then.records spelled);
       opened = open-behind (g.D.Device.disk c.note_end.new.dev) c.note_end.new.self c.args.self.now told c.args.now c.args.floor second floor.opened;
     })
+
+pub returns-in_err-note_end-clause-touches : goal.returns-in_err-note_end-clause-touches
+returns-in_err-note_end-clause-touches g c t =
+    let marked = c.in_ok-mark_checkpoint.ensures in
+    touches-then c.args.self.now.paged c.mark_checkpoint.new.self.paged marked.ends.0 marked.files (c.mark_checkpoint.ensures.touches t) (c.note_end.ensures.touches t)
+
+pub returns-in_err-cut-clause-touches : goal.returns-in_err-cut-clause-touches
+returns-in_err-cut-clause-touches g c t =
+    let marked = c.in_ok-mark_checkpoint.ensures in
+    let noted = c.in_ok-note_end.ensures in
+    touches-then c.args.self.now.paged c.note_end.new.self.paged (noted.ends.0 ∙ marked.ends.0) (ap (λ (f : Facts). f.files) noted.facts ∙ marked.files)
+    (touches-then c.args.self.now.paged c.mark_checkpoint.new.self.paged marked.ends.0 marked.files (c.mark_checkpoint.ensures.touches t) (c.note_end.ensures.touches t))
+    (c.cut.ensures.touches t)
+
+pub returns-clause-touches : goal.returns-clause-touches
+returns-clause-touches g c t =
+    let marked = c.in_ok-mark_checkpoint.ensures in
+    let noted = c.in_ok-note_end.ensures in
+    touches-then c.args.self.now.paged c.note_end.new.self.paged (noted.ends.0 ∙ marked.ends.0) (ap (λ (f : Facts). f.files) noted.facts ∙ marked.files)
+    (touches-then c.args.self.now.paged c.mark_checkpoint.new.self.paged marked.ends.0 marked.files (c.mark_checkpoint.ensures.touches t) (c.note_end.ensures.touches t))
+    (c.cut.ensures.touches t)

@@ -1,4 +1,5 @@
 use Rattle.std.proofs.Common.{◌≤◌, sym, subst}
+use Rattle.bk_paged.specs.Paged.{Touches}
 use Rattle.bk_store.specs.Store.{Crashes, IsStore, Kept}
 use Rattle.bk_store.specs.Told.{stood_of}
 use Rattle.bk_store.specs.LiftLaws.{crash-lift, paged-stands}
@@ -45,3 +46,11 @@ returns-clause-page g c t told is =
     let At : Kept → Type 0 = λ k. IsStore a k told in
     let here = subst At (sym c.self.view_is) is in
     c.in_ok-bytes.ensures.page t (stood_of c.self.inside.known told) here.paged
+
+pub returns-in_err-bytes-clause-touches : goal.returns-in_err-bytes-clause-touches
+returns-in_err-bytes-clause-touches g c t =
+    subst (λ (k : Kept). Touches k.paged (g.D.Device.disk c.args.dev.now) (g.D.Device.disk c.copy_page.new.dev)) c.self.view_is (c.copy_page.ensures.touches t)
+
+pub returns-clause-touches : goal.returns-clause-touches
+returns-clause-touches g c t =
+    subst (λ (k : Kept). Touches k.paged (g.D.Device.disk c.args.dev.now) (g.D.Device.disk c.copy_page.new.dev)) c.self.view_is (c.copy_page.ensures.touches t)

@@ -1,4 +1,5 @@
 use Rattle.std.proofs.Common.{sym, subst, arith}
+use Rattle.bk_paged.specs.Paged.{Touches}
 use Rattle.bk_store.specs.Store.{Crashes, IsStore, Kept}
 use Rattle.bk_store.specs.Told.{stood_of}
 use Rattle.bk_store.specs.LiftLaws.{crash-lift, paged-stands}
@@ -29,3 +30,11 @@ returns-clause-stands g c t told is =
     let At : Kept → Type 0 = λ k. IsStore a k told in
     let here = subst At (sym c.self.view_is) is in
     paged-stands _ told c.flush.new.self a b here (c.in_ok-flush.ensures.stands t (stood_of c.self.inside.known told) here.paged) (omega (arith, c.in_ok-flush.ensures.sealed.2, here.paged.sealed))
+
+pub returns-in_err-flush-clause-touches : goal.returns-in_err-flush-clause-touches
+returns-in_err-flush-clause-touches g c t =
+    subst (λ (k : Kept). Touches k.paged (g.D.Device.disk c.args.dev.now) (g.D.Device.disk c.flush.new.dev)) c.self.view_is (c.flush.ensures.touches t)
+
+pub returns-clause-touches : goal.returns-clause-touches
+returns-clause-touches g c t =
+    subst (λ (k : Kept). Touches k.paged (g.D.Device.disk c.args.dev.now) (g.D.Device.disk c.flush.new.dev)) c.self.view_is (c.flush.ensures.touches t)

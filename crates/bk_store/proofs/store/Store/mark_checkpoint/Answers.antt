@@ -1,7 +1,7 @@
 use Rattle.std.proofs.Common.{◌<◌, ◌^◌, ℕ, ap, arith, refl, sym, subst}
 use Rattle.bk_ids.specs.declared.record.Body.TheVariants.{Checkpoint}
 use Rattle.bk_ids.specs.declared.record.Rec.{Rec}
-use Rattle.bk_paged.specs.Paged.{checkpoint_record}
+use Rattle.bk_paged.specs.Paged.{Touches, checkpoint_record}
 use Rattle.bk_world.specs.Records.{checkpointed}
 use Rattle.bk_store.specs.Store.{Crashes, IsStore, Kept, at_end}
 use Rattle.bk_store.specs.Told.{files_of, said, stood_of}
@@ -64,3 +64,15 @@ returns-clause-stands g c t told is =
     let Then : Kept → Type 0 = λ k. IsStore b (record s { paged = c.checkpoint.new.self; shown = c.take.new.self }) (said told (at_end k 0 (checkpointed c.args.now))) in
     subst Then c.self.view_is (said-stands s told r (checkpoint_record s.paged c.args.now) c.checkpoint.new.self c.take.new.self a b here refl (c.in_ok-checkpoint.ensures.stands t (stood_of s.known told) here.paged)
     (c.in_ok-take.ensures.next (files_of told) told.records r here.shows next (ap As c.end.ensures)) (omega (arith, c.in_ok-checkpoint.ensures.checkpoint.1, ends.1, here.paged.sealed)))
+
+pub returns-in_err-checkpoint-clause-touches : goal.returns-in_err-checkpoint-clause-touches
+returns-in_err-checkpoint-clause-touches g c t =
+    subst (λ (k : Kept). Touches k.paged (g.D.Device.disk c.args.dev.now) (g.D.Device.disk c.checkpoint.new.dev)) c.self.view_is (c.checkpoint.ensures.touches t)
+
+pub returns-in_err-take-clause-touches : goal.returns-in_err-take-clause-touches
+returns-in_err-take-clause-touches g c t =
+    subst (λ (k : Kept). Touches k.paged (g.D.Device.disk c.args.dev.now) (g.D.Device.disk c.checkpoint.new.dev)) c.self.view_is (c.checkpoint.ensures.touches t)
+
+pub returns-clause-touches : goal.returns-clause-touches
+returns-clause-touches g c t =
+    subst (λ (k : Kept). Touches k.paged (g.D.Device.disk c.args.dev.now) (g.D.Device.disk c.checkpoint.new.dev)) c.self.view_is (c.checkpoint.ensures.touches t)

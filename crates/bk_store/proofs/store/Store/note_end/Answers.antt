@@ -1,9 +1,11 @@
 use Rattle.std.proofs.Common.{◌≡◌, ◌≤◌, ◌∙◌, ◌++◌, ℕ, List, ap, length, rules, sym, subst}
 use Rattle.bk_known.specs.declared.known.Known.{Known}
 use Rattle.bk_known.specs.Known.{KeepsKnown, known_bytes}
+use Rattle.bk_paged.specs.Paged.{Touches}
 use Rattle.bk_store.specs.Store.{Crashes, IsStore, Kept}
 use Rattle.bk_store.specs.Told.{files_of, stood_of}
 use Rattle.bk_store.specs.LiftLaws.{crash-lift, moved-crash, moved-stands}
+use Rattle.bk_store.specs.TouchLaws.{moved-touches}
 use Rattle.bk_store.proofs.Renoted.{noted-crash, noted-stands, one-note, renotes-end}
 use Rattle.bk_store.proofs.store.Store.note_end.Goals as goal
 
@@ -94,3 +96,13 @@ returns-clause-stands g c t told is =
     let bytes_are : c.deref-2.result.now ≡ known_bytes known ++ s.note = c.deref-2.ensures.value ∙ c.in_ok-bytes.ensures.bytes ∙ ap (λ (n : List ℕ). known_bytes known ++ n) c.deref.ensures.value in
     let new = renotes-end s told as_of c.deref-2.result.now (disk c.at_rest.new.dev) here (subst Sealed (sym c.self.view_is) c.requires.sealed) c.in_ok-as_of.ensures.from (c.in_ok-as_of.ensures.says (files_of told) told.records here.shows) c.in_ok-bytes.ensures.fits keeps bytes_are in
     noted-stands s told known told.note s.note c.deref-2.result.now c.set_note.new.self (disk c.at_rest.new.dev) b here new (c.in_ok-set_note.ensures.stands t (stood_of s.known told) here.paged) c.in_ok-set_note.ensures.same.1 here.note
+
+pub returns-in_err-set_note-clause-touches : goal.returns-in_err-set_note-clause-touches
+returns-in_err-set_note-clause-touches g c t =
+    let disk = g.D.Device.disk in
+    subst (λ (k : Kept). Touches k.paged (disk c.args.dev.now) (disk c.set_note.new.dev)) c.self.view_is (moved-touches disk c.args.dev.now c.at_rest.new.dev c.self.inside.paged c.at_rest.ensures.same (c.set_note.ensures.touches t))
+
+pub returns-clause-touches : goal.returns-clause-touches
+returns-clause-touches g c t =
+    let disk = g.D.Device.disk in
+    subst (λ (k : Kept). Touches k.paged (disk c.args.dev.now) (disk c.set_note.new.dev)) c.self.view_is (moved-touches disk c.args.dev.now c.at_rest.new.dev c.self.inside.paged c.at_rest.ensures.same (c.set_note.ensures.touches t))

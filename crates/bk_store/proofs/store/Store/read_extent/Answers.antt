@@ -7,6 +7,7 @@ use Rattle.bk_paged.specs.Paged.{Standing}
 use Rattle.bk_paths.specs.Paths.{end_of}
 use Rattle.bk_undo.specs.Spelled.{spelled}
 use Rattle.bk_store.specs.LiftLaws.{moved-stands}
+use Rattle.bk_store.specs.TouchLaws.{touches-then, unmoved-touches}
 use Rattle.bk_store.proofs.Copied.{copying-begins, copying-crash, copying-ends, copying-more}
 use Rattle.bk_store.proofs.store.Store.read_extent.Goals as goal
 
@@ -16,6 +17,7 @@ pages-init g c = record {
   copying = copying-begins g.D.Device.tells c.args.file c.args.extent (g.D.Device.disk c.args.dev.now) (g.D.Device.disk c.at_rest.new.dev) c.args.self.now c.clear.new.self.items c.requires.fit
       (λ t told is. moved-stands g.D.Device.disk c.args.dev.now c.at_rest.new.dev c.args.self.now told c.at_rest.ensures.same is) c.at_rest.ensures.crash c.clear.ensures.items;
   standing = λ t. subst (λ d. Standing (g.D.Device.disk d) c.args.self.now.paged) (sym c.at_rest.ensures.same) (c.requires.standing t);
+  touches = λ t. unmoved-touches g.D.Device.disk c.args.dev.now c.at_rest.new.dev c.args.self.now.paged c.at_rest.ensures.same;
   cause = record { rose = λ none. absurd none; never_falls = omega (arith, ap g.D.Device.disk_faults c.at_rest.ensures.same); tell_faults = ap g.D.Device.tell_faults c.at_rest.ensures.same };
 }
 
@@ -40,6 +42,8 @@ pages-preserved g c = record {
       (λ t told is. subst (λ (n : ℕ). IsStored (map spelled told.records) (end_of (map spelled told.records)) (record { file = c.args.file; page = n }) c.in_ok-bytes.bytes) c.page_in.ensures (c.in_ok-bytes.ensures.page t told is))
       c.copy_page.ensures.crash c.in_ok-extend_from_slice.ensures.items;
   standing = c.in_ok-bytes.ensures.standing;
+  touches = λ t.
+      touches-then c.args.self.now.paged c.pages.self.paged c.pages.invariant.copying.ends.0 (ap (λ (f : Facts). f.files) c.pages.invariant.copying.ends.3) (c.pages.invariant.touches t) (c.copy_page.ensures.touches t);
   cause = cause_then c.pages.invariant.cause c.in_ok-bytes.ensures.cause (λ none. absurd none);
 }
 
@@ -63,3 +67,11 @@ returns-clause-copied g c = copying-ends c.pages.invariant.copying (omega (arith
 
 pub returns-clause-crash : goal.returns-clause-crash
 returns-clause-crash g c = c.pages.invariant.copying.crash
+
+pub returns-in_err-bytes-clause-touches : goal.returns-in_err-bytes-clause-touches
+returns-in_err-bytes-clause-touches g c t =
+    touches-then c.args.self.now.paged c.pages.self.paged c.pages.invariant.copying.ends.0 (ap (λ (f : Facts). f.files) c.pages.invariant.copying.ends.3) (c.pages.invariant.touches t) (c.copy_page.ensures.touches t)
+
+pub returns-in_err-extend_from_slice-clause-touches : goal.returns-in_err-extend_from_slice-clause-touches
+returns-in_err-extend_from_slice-clause-touches g c t =
+    touches-then c.args.self.now.paged c.pages.self.paged c.pages.invariant.copying.ends.0 (ap (λ (f : Facts). f.files) c.pages.invariant.copying.ends.3) (c.pages.invariant.touches t) (c.copy_page.ensures.touches t)

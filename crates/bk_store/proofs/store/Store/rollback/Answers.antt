@@ -2,6 +2,7 @@ use Rattle.bk_device.specs.Compose.{effect_then}
 use Rattle.std.proofs.Common.{subst, rules}
 use Rattle.bk_store.specs.Store.{IsStore}
 use Rattle.bk_store.specs.Told.{Told}
+use Rattle.bk_store.specs.TouchLaws.{touches-then}
 use Rattle.bk_store.proofs.Rolled.{crash-same, rollback-ends, rollback-next}
 use Rattle.bk_store.proofs.store.Store.rollback.Goals as goal
 
@@ -30,3 +31,13 @@ returns-clause-stands g c t told is =
     let u = c.in_ok-undo_all.ensures.undone t told is in
     let next = rollback-next s u.0 c.args.begin b u.1 (search rules) u.3 in
     subst (λ (t : Told). IsStore (g.D.Device.disk c.end_rollback.new.dev) c.end_rollback.new.self t) (rollback-ends s told u.0 c.args.begin b u.1 u.2 u.3) (c.in_ok-end_rollback.ensures.stands t u.0 u.1 next)
+
+pub returns-in_err-end_rollback-clause-touches : goal.returns-in_err-end_rollback-clause-touches
+returns-in_err-end_rollback-clause-touches g c t =
+    let undone = c.in_ok-undo_all.ensures in
+    touches-then c.args.self.now.paged c.undo_all.new.self.paged undone.ends.0 undone.files (c.undo_all.ensures.touches t) (c.end_rollback.ensures.touches t)
+
+pub returns-clause-touches : goal.returns-clause-touches
+returns-clause-touches g c t =
+    let undone = c.in_ok-undo_all.ensures in
+    touches-then c.args.self.now.paged c.undo_all.new.self.paged undone.ends.0 undone.files (c.undo_all.ensures.touches t) (c.end_rollback.ensures.touches t)

@@ -1,7 +1,9 @@
 use Rattle.std.proofs.Common.{◌≤◌, ◌∙◌, sym, subst}
+use Rattle.bk_paged.specs.Paged.{Touches}
 use Rattle.bk_store.specs.Store.{Crashes, IsStore, Kept}
 use Rattle.bk_store.specs.Told.{files_of, stood_of}
 use Rattle.bk_store.specs.LiftLaws.{crash-lift, moved-crash, moved-stands, said-stands}
+use Rattle.bk_store.specs.TouchLaws.{moved-touches}
 use Rattle.bk_store.proofs.store.Store.say.Goals as goal
 
 pub returns-then-not-may_append-clause-crash : goal.returns-then-not-may_append-clause-crash
@@ -76,3 +78,13 @@ returns-clause-later g c t told is =
     let Later : Kept → Type 0 = λ k. k.paged.log.stored ≤ c.append.new.self.log.stored in
     let here = moved-stands disk c.args.dev.now c.at_rest.new.dev s told c.at_rest.ensures.same (subst At (sym c.self.view_is) is) in
     subst Later c.self.view_is (c.in_ok-append.ensures.later t (stood_of c.self.inside.known told) here.paged)
+
+pub returns-in_err-append-clause-touches : goal.returns-in_err-append-clause-touches
+returns-in_err-append-clause-touches g c t =
+    let disk = g.D.Device.disk in
+    subst (λ (k : Kept). Touches k.paged (disk c.args.dev.now) (disk c.append.new.dev)) c.self.view_is (moved-touches disk c.args.dev.now c.at_rest.new.dev c.self.inside.paged c.at_rest.ensures.same (c.append.ensures.touches t))
+
+pub returns-clause-touches : goal.returns-clause-touches
+returns-clause-touches g c t =
+    let disk = g.D.Device.disk in
+    subst (λ (k : Kept). Touches k.paged (disk c.args.dev.now) (disk c.append.new.dev)) c.self.view_is (moved-touches disk c.args.dev.now c.at_rest.new.dev c.self.inside.paged c.at_rest.ensures.same (c.append.ensures.touches t))

@@ -1,5 +1,6 @@
 use Rattle.bk_store.specs.Told.{said}
 use Rattle.bk_store.specs.LiftLaws.{crash-more, crash-then, sealed-few}
+use Rattle.bk_store.specs.TouchLaws.{touches-then}
 use Rattle.bk_store.proofs.store.Store.say_durably.Goals as goal
 
 pub returns-in_err-say-clause-crash : goal.returns-in_err-say-clause-crash
@@ -21,3 +22,11 @@ returns-clause-crash g c t told r is next spells =
 
 pub returns-clause-stands : goal.returns-clause-stands
 returns-clause-stands g c t told r is next spells = c.in_ok-flush.ensures.stands t (said told r) (c.in_ok-say.ensures.stands t told r is next spells)
+
+pub returns-in_err-flush-clause-touches : goal.returns-in_err-flush-clause-touches
+returns-in_err-flush-clause-touches g c t =
+    touches-then c.args.self.now.paged c.say.new.self.paged c.in_ok-say.ensures.ends.0 c.in_ok-say.ensures.files (c.say.ensures.touches t) (c.flush.ensures.touches t)
+
+pub returns-clause-touches : goal.returns-clause-touches
+returns-clause-touches g c t =
+    touches-then c.args.self.now.paged c.say.new.self.paged c.in_ok-say.ensures.ends.0 c.in_ok-say.ensures.files (c.say.ensures.touches t) (c.flush.ensures.touches t)

@@ -1,4 +1,4 @@
-use Rattle.std.proofs.Common.{ap, arith, length, sym, subst}
+use Rattle.std.proofs.Common.{◌∙◌, ap, arith, length, refl, sym, subst}
 use Rattle.std.specs.Prelude.{Bool}
 use Rattle.bk_device.specs.Laws.{cause_then}
 use Rattle.bk_paged.specs.Paged.{Standing}
@@ -6,6 +6,7 @@ use Rattle.bk_shown.specs.declared.shown.Shown.{Shown}
 use Rattle.bk_store.specs.Store.{IsStore}
 use Rattle.bk_store.specs.Writing.{UndoesLast}
 use Rattle.bk_store.specs.LiftLaws.{moved-stands}
+use Rattle.bk_store.specs.TouchLaws.{touches-then, unmoved-touches}
 use Rattle.bk_store.proofs.Rolled.{rolled-none, rolling-begins, rolling-crash, rolling-more}
 use Rattle.bk_store.proofs.store.Store.undo_all.Goals as goal
 
@@ -14,6 +15,8 @@ writes-init g c = record {
   rolling = rolling-begins g.D.Device.tells c.args.begin c.args.self.now (g.D.Device.disk c.args.dev.now) (g.D.Device.disk c.at_rest.new.dev) c.requires.fit
       (λ t told is. moved-stands g.D.Device.disk c.args.dev.now c.at_rest.new.dev c.args.self.now told c.at_rest.ensures.same is) c.at_rest.ensures.crash;
   standing = λ t. subst (λ d. Standing (g.D.Device.disk d) c.args.self.now.paged) (sym c.at_rest.ensures.same) (c.requires.standing t);
+  files = refl;
+  touches = λ t. unmoved-touches g.D.Device.disk c.args.dev.now c.at_rest.new.dev c.args.self.now.paged c.at_rest.ensures.same;
   cause = record { rose = λ none. absurd none; never_falls = omega (arith, ap g.D.Device.disk_faults c.at_rest.ensures.same); tell_faults = ap g.D.Device.tell_faults c.at_rest.ensures.same };
 }
 
@@ -32,6 +35,8 @@ writes-preserved g c =
           (λ t told is. subst (λ (b : Bool). UndoesLast (IsStore (g.D.Device.disk c.undo_last.new.dev) c.undo_last.new.self) c.writes.self told c.args.begin b) c.if-not-branch.false (c.in_ok-undo_last.ensures.stands t told is))
           c.in_ok-undo_last.ensures.later c.undo_last.ensures.crash;
       standing = c.in_ok-undo_last.ensures.standing;
+      files = c.in_ok-undo_last.ensures.files ∙ c.writes.invariant.files;
+      touches = λ t. touches-then c.args.self.now.paged c.writes.self.paged c.writes.invariant.rolling.db c.writes.invariant.files (c.writes.invariant.touches t) (c.undo_last.ensures.touches t);
       cause = cause_then c.writes.invariant.cause c.in_ok-undo_last.ensures.cause (λ none. absurd none);
     }
 
@@ -60,3 +65,11 @@ returns-clause-undone g c t told is =
 
 pub returns-clause-later : goal.returns-clause-later
 returns-clause-later g c t told is = (c.writes.invariant.rolling.there t told is).later
+
+pub returns-in_err-undo_last-clause-touches : goal.returns-in_err-undo_last-clause-touches
+returns-in_err-undo_last-clause-touches g c t =
+    touches-then c.args.self.now.paged c.writes.self.paged c.writes.invariant.rolling.db c.writes.invariant.files (c.writes.invariant.touches t) (c.undo_last.ensures.touches t)
+
+pub returns-then-not-branch-clause-touches : goal.returns-then-not-branch-clause-touches
+returns-then-not-branch-clause-touches g c t =
+    touches-then c.args.self.now.paged c.writes.self.paged c.writes.invariant.rolling.db c.writes.invariant.files (c.writes.invariant.touches t) (c.undo_last.ensures.touches t)
