@@ -3,10 +3,6 @@
 //! What the commands of a case mean stands at the head of each file of cases in `data/`.
 #![tactic(auto)]
 
-mod desk;
-mod dice;
-mod mix;
-mod plain;
 mod row_asked;
 mod row_calls;
 mod row_copied;
@@ -17,37 +13,20 @@ mod row_restored;
 mod row_session;
 mod row_shown;
 mod row_stops;
-mod session;
-mod trial;
-mod untold;
+mod rows;
 mod words;
 
-use bk_device::MemDevice;
-use cases::run_cases;
-use desk::{Answered, Answering, Desk, answer_command};
-use std::io;
+use rows::Rows;
 use std::process::ExitCode;
-use std::rt::{Env, Files};
+use trials::{Answered, Untold, answer_command, run_trials};
 
 fn main(rt: HostRuntime) -> ExitCode {
     let alloc = rt.alloc();
-    let answering = move |device: &mut MemDevice, command: &str, out: &mut String| -> Answered {
-        answer_command(&rt, alloc, device, command, out)
+    let answering = move |device: &mut Untold, command: &str, out: &mut String| -> Answered {
+        answer_command(&rt, &Rows, alloc, device, command, out)
     };
-    let Ok(answering) = Box::new(rt.alloc(), answering) else {
-        return ExitCode::from(6);
-    };
-    match run(&rt, answering) {
-        Ok(true) => ExitCode::SUCCESS,
-        Ok(false) => ExitCode::FAILURE,
+    match Box::new(alloc, answering) {
+        Ok(answering) => run_trials(&rt, answering),
         Err(_) => ExitCode::from(6),
     }
-}
-
-// Whether every case of the files that the command line names went well.
-fn run<R: AllocGlobal + Env + Files + Print>(rt: &R, answering: Answering) -> io::Result<bool>
-    requires { IsAlwaysCallable answering }
-{
-    let mut desk = Desk::new(rt.alloc(), answering);
-    run_cases(rt, &mut desk)
 }

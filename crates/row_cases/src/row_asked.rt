@@ -2,13 +2,13 @@
 ghost use Rattle.std.specs.Prelude.{◌≡◌, false};
 
 use crate::row_shown::model_word;
-use crate::untold::Untold;
 use bk_ids::RecoveryModel;
 use bk_paged::Paged;
 use bk_reopening::OpenError;
 use bk_store::{Recent, Store, told_behind};
 use bk_world::{FileSpec, Storage};
 use std::alloc::{AllocError, Global};
+use trials::Untold;
 
 // Adds a data file: its name, its path, its filegroup and its extents.
 fn add_file(file: &FileSpec, out: &mut String) -> Result<(), AllocError> {

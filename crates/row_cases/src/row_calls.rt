@@ -2,11 +2,11 @@
 ghost use Rattle.std.specs.Prelude.{◌≡◌, false, None, IfOk, OnOk, IfSome};
 
 use crate::row_copied::{add_extent, add_log, add_pages};
-use crate::untold::Untold;
-use crate::words::{count, name_of, number, word};
+use crate::words::name_of;
 use bk_ids::{Body, Guid, Mark, Place, Rec, RecoveryModel, VALUE_BYTES, Value};
 use bk_store::{Store, StoreError};
 use std::alloc::{AllocError, Global};
+use trials::{Untold, count, number, word};
 
 // The value that a word says, which has at most 112 bytes; none for an empty one.
 fn value_of(alloc: Global, word: &str) -> Result<Option<Value>, AllocError> {

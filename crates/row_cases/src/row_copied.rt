@@ -3,11 +3,10 @@ ghost use Rattle.std.specs.Prelude.{◌≡◌, ◌≤◌, ◌<◌, ◌+◌, ◌*
 ghost use Rattle.bk_paged.specs.Names.{pages_in};
 
 use crate::row_logged::add_records;
-use crate::untold::Untold;
-use crate::words::{count, number, word};
 use bk_page::{Cell, Page, check, page_file, page_lsn, page_number, read_cell};
 use bk_store::{Store, StoreError};
 use std::alloc::{AllocError, Global};
+use trials::{Untold, count, number, word};
 
 // A page has so many bytes.
 const PAGE: usize = 8192;

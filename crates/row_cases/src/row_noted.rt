@@ -1,114 +1,116 @@
 // What a call on rows says, in a plain list.
-use crate::mix::Mix;
-use crate::plain::{Deed, Open, Said, open_in, row_at, rows_of};
 use crate::row_calls::model_of;
-use crate::row_shown::model_code;
-use crate::words::{number, word};
+use crate::row_shown::row_at;
+use bk_ids::RecoveryModel;
 use std::alloc::AllocError;
+use trials::{Deed, Mix, Open, Said, number, open_in, places_of, word};
 
-impl Mix {
-    fn note(&mut self, begin: u64, time: u64, deed: Deed) -> Result<(), AllocError> {
-        self.said.push(Said { begin, time, deed })?;
-        Ok(())
-    }
+fn note(mix: &mut Mix, begin: u64, time: u64, deed: Deed) -> Result<(), AllocError> {
+    mix.said.push(Said { begin, time, deed })?;
+    Ok(())
+}
 
-    // What a row holds, as the transaction sees it that may write it.
-    pub(crate) fn seen(&self, row: usize) -> Result<u64, AllocError> {
-        let rows = rows_of(self.alloc, &self.said)?;
-        Ok(rows.get(row).copied().unwrap_or(0))
-    }
+// What a row holds, as the transaction sees it that may write it.
+pub(crate) fn held(mix: &Mix, row: usize) -> Result<u64, AllocError> {
+    let rows = places_of(mix.alloc, &mix.said)?;
+    Ok(rows.get(row).copied().unwrap_or(0))
+}
 
-    // The pending writes of a transaction, the last one first.
-    fn own(&self, begin: u64) -> Result<Vec<Open>, AllocError> {
-        let mut own = Vec::new(self.alloc);
-        for write in open_in(self.alloc, &self.said)?.iter().rev() {
-            if write.begin == begin {
-                own.push(*write)?;
-            }
-        }
-        Ok(own)
-    }
-
-    // That a transaction begins.
-    fn note_begin(&mut self) -> Result<(), AllocError> {
-        let begin = self.next();
-        self.open.push(begin)?;
-        self.note(begin, 0, Deed::Other)
-    }
-
-    // That a row gets a value, which is a number, or is deleted.
-    fn note_write(&mut self, begin: u64, words: &[&str]) -> Result<(), AllocError> {
-        let row = row_at(number(word(words, 2)), number(word(words, 3)));
-        let before = self.seen(row)?;
-        let after = number(word(words, 4));
-        let deed = Deed::Write { row, before, after };
-        self.note(begin, 0, deed)
-    }
-
-    // That a write is undone.
-    fn note_undone(&mut self, write: Open) -> Result<(), AllocError> {
-        let deed = Deed::Undo {
-            row: write.row,
-            value: write.before,
-            undone: write.lsn,
-        };
-        self.note(write.begin, 0, deed)
-    }
-
-    // That the last pending write of a transaction is undone, if it has one.
-    fn note_undo(&mut self, begin: u64) -> Result<(), AllocError> {
-        match self.own(begin)?.first() {
-            Some(write) => self.note_undone(*write),
-            None => Ok(()),
+// The pending writes of a transaction, the last one first.
+fn own(mix: &Mix, begin: u64) -> Result<Vec<Open>, AllocError> {
+    let mut own = Vec::new(mix.alloc);
+    for write in open_in(mix.alloc, &mix.said)?.iter().rev() {
+        if write.begin == begin {
+            own.push(*write)?;
         }
     }
+    Ok(own)
+}
 
-    // That a transaction ends, by a record of this time that says so.
-    fn note_end(&mut self, begin: u64, time: u64, deed: Deed) -> Result<(), AllocError> {
-        self.open.retain(|open| *open != begin);
-        self.note(begin, time, deed)
+// That a transaction begins.
+fn note_begin(mix: &mut Mix) -> Result<(), AllocError> {
+    let begin = mix.next();
+    mix.open.push(begin)?;
+    note(mix, begin, 0, Deed::Other)
+}
+
+// That a row gets a value, which is a number, or is deleted.
+fn note_write(mix: &mut Mix, begin: u64, words: &[&str]) -> Result<(), AllocError> {
+    let place = row_at(number(word(words, 2)), number(word(words, 3)));
+    let before = held(mix, place)?;
+    let after = number(word(words, 4));
+    let deed = Deed::Write {
+        place,
+        before,
+        after,
+    };
+    note(mix, begin, 0, deed)
+}
+
+// That a write is undone.
+fn note_undone(mix: &mut Mix, write: Open) -> Result<(), AllocError> {
+    let deed = Deed::Undo {
+        place: write.place,
+        value: write.before,
+        undone: write.lsn,
+    };
+    note(mix, write.begin, 0, deed)
+}
+
+// That the last pending write of a transaction is undone, if it has one.
+fn note_undo(mix: &mut Mix, begin: u64) -> Result<(), AllocError> {
+    match own(mix, begin)?.first() {
+        Some(write) => note_undone(mix, *write),
+        None => Ok(()),
     }
+}
 
-    // That all writes of a transaction are undone, and that it ends.
-    fn note_rollback(&mut self, begin: u64) -> Result<(), AllocError> {
-        for write in self.own(begin)? {
-            self.note_undone(write)?;
-        }
-        self.note_end(begin, 0, Deed::Other)
+// That a transaction ends, by a record of this time that says so.
+fn note_end(mix: &mut Mix, begin: u64, time: u64, deed: Deed) -> Result<(), AllocError> {
+    mix.open.retain(|open| *open != begin);
+    note(mix, begin, time, deed)
+}
+
+// That all writes of a transaction are undone, and that it ends.
+fn note_rollback(mix: &mut Mix, begin: u64) -> Result<(), AllocError> {
+    for write in own(mix, begin)? {
+        note_undone(mix, write)?;
     }
+    note_end(mix, begin, 0, Deed::Other)
+}
 
-    // What a call in a transaction says; nothing where it is none.
-    fn note_inside(&mut self, words: &[&str]) -> Result<(), AllocError> {
-        let begin = number(word(words, 1));
-        match word(words, 0) {
-            "begin" => self.note_begin(),
-            "write" | "delete" => self.note_write(begin, words),
-            "undo" => self.note_undo(begin),
-            "rollback" | "undo-all" => self.note_rollback(begin),
-            "commit" | "say-commit" => {
-                self.note_end(begin, number(word(words, 2)), Deed::Commit)
-            }
-            _ => Ok(()),
-        }
+// What a call in a transaction says; nothing where it is none.
+fn note_inside(mix: &mut Mix, words: &[&str]) -> Result<(), AllocError> {
+    let begin = number(word(words, 1));
+    match word(words, 0) {
+        "begin" => note_begin(mix),
+        "write" | "delete" => note_write(mix, begin, words),
+        "undo" => note_undo(mix, begin),
+        "rollback" | "undo-all" => note_rollback(mix, begin),
+        "commit" | "say-commit" => { note_end(mix, begin, number(word(words, 2)), Deed::Commit) }
+        _ => Ok(()),
     }
+}
 
-    // What the call that a line says puts into the log.
-    pub(crate) fn note_line(&mut self, line: &str) -> Result<(), AllocError> {
-        let words: Vec<&str> = line.split_whitespace().collect(self.alloc)?;
-        let time = number(word(&words, 1));
-        match word(&words, 0) {
-            "table" => {
-                let number = number(word(&words, 2));
-                self.note(0, time, Deed::Table { number })
-            }
-            "model" => {
-                let code = model_code(model_of(word(&words, 2)));
-                self.note(0, time, Deed::Model { code })
-            }
-            // a database is made with the full model
-            "found" => self.note(0, time, Deed::Model { code: 0 }),
-            "stamp" | "checkpoint" => self.note(0, time, Deed::Other),
-            _ => self.note_inside(&words),
+// What the call that a line says puts into the log.
+pub(crate) fn note_line(mix: &mut Mix, line: &str) -> Result<(), AllocError> {
+    let words: Vec<&str> = line.split_whitespace().collect(mix.alloc)?;
+    let time = number(word(&words, 1));
+    match word(&words, 0) {
+        "table" => {
+            let number = number(word(&words, 2));
+            note(mix, 0, time, Deed::Table { number })
         }
+        "model" => {
+            let model = model_of(word(&words, 2));
+            note(mix, 0, time, Deed::Model { model })
+        }
+        // a database is made with the full model
+        "found" => {
+            let model = RecoveryModel::Full;
+            note(mix, 0, time, Deed::Model { model })
+        }
+        "stamp" | "checkpoint" => note(mix, 0, time, Deed::Other),
+        _ => note_inside(mix, &words),
     }
 }

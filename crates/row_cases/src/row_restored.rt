@@ -6,8 +6,6 @@ ghost use Rattle.bk_filling.specs.Filling.{HasPages, MayFill};
 use crate::row_copied::has_extent;
 use crate::row_session::{described, path, play};
 use crate::row_shown::{ended, told};
-use crate::session::Session;
-use crate::untold::Untold;
 use bk_device::Failed;
 use bk_facts::DataFile;
 use bk_ids::Lsn;
@@ -19,6 +17,7 @@ use bk_restoring::{Arriving, FillError};
 use bk_store::{Store, StoreError, copy_tables};
 use std::alloc::{AllocError, Global};
 use std::thread::Threads;
+use trials::{Session, Untold};
 
 // How many tables the note of a database has room for.
 const MOST_TABLES: usize = 64;

@@ -10,8 +10,6 @@ use crate::row_asked::{log_told, spec_told};
 use crate::row_calls::call;
 use crate::row_restored::restored;
 use crate::row_shown::{ended, told};
-use crate::session::Session;
-use crate::untold::Untold;
 use crate::words::name_of;
 use bk_ids::{Branch, Guid, Name, Path, Sequence, Text};
 use bk_known::DatabaseSpec;
@@ -21,9 +19,13 @@ use bk_store::{Store, StoreError};
 use bk_world::{FileSpec, Storage};
 use std::alloc::AllocError;
 use std::thread::Threads;
+use trials::{Session, Untold};
 
 // The branch that a database is made on.
 const FIRST_BRANCH: Guid = Guid { high: 1, low: 2 };
+
+// The time that a database is made at.
+pub(crate) const CREATED: u64 = 1;
 
 // A path of the database's own, of 1 to 100 bytes.
 pub(crate) fn path(session: &Session, name: &str) -> Result<Text, AllocError>
@@ -105,7 +107,7 @@ pub(crate) fn described(session: &Session) -> Result<DatabaseSpec, AllocError>
     })
 }
 
-// Makes the database, at the time 1.
+// Makes the database.
 fn create(session: &Session, device: &mut Untold) -> Result<Store, StoreError>
     ensures fit { IfOk result (λ store. store.paged.failed ≡ false) }
 {
@@ -118,7 +120,7 @@ fn create(session: &Session, device: &mut Untold) -> Result<Store, StoreError>
         device,
         session.db,
         spec,
-        1,
+        CREATED,
         FIRST_BRANCH,
         session.frames as usize,
     )

@@ -1,12 +1,23 @@
 // What a database shows of its tables.
-use crate::plain::{Facts, Seen, no_rows, row_at, with_table};
-use crate::words::number;
 use bk_ids::{RecoveryModel, Value};
 use bk_reopening::OpenError;
 use bk_shown::Written;
 use bk_store::{Store, StoreError, copy_tables};
 use bk_world::TableSpec;
 use std::alloc::{AllocError, Global};
+use trials::{Facts, PLACES, Seen, no_places, number, shown_note};
+
+// So many rows are counted of each of two tables.
+const ROWS: u64 = 756;
+
+// The place in a list of all rows of the row with a key of table 1 or 2.
+pub(crate) fn row_at(table: u64, key: u64) -> usize {
+    let row = table
+        .saturating_sub(1)
+        .saturating_mul(ROWS)
+        .saturating_add(key);
+    usize::try_from(row).unwrap_or(PLACES)
+}
 
 // Why a call gave nothing, as the opening of a database tells it.
 pub(crate) fn ended(error: StoreError) -> OpenError {
@@ -21,15 +32,6 @@ pub(crate) fn model_word(model: RecoveryModel) -> &'static str {
         RecoveryModel::Simple => "simple",
         RecoveryModel::Full => "full",
         RecoveryModel::BulkLogged => "bulk",
-    }
-}
-
-// The number that stands for a recovery model: 0 for the full one.
-pub(crate) fn model_code(model: RecoveryModel) -> u64 {
-    match model {
-        RecoveryModel::Full => 0,
-        RecoveryModel::Simple => 1,
-        RecoveryModel::BulkLogged => 2,
     }
 }
 
@@ -65,17 +67,6 @@ fn add_write(write: &Written, out: &mut String) -> Result<(), AllocError> {
     )
 }
 
-// The bytes of a note as a text; `-` where there are none, and `?` where they are no text of one line.
-fn shown_note(note: &[u8]) -> &str {
-    if note.is_empty() {
-        return "-";
-    }
-    match std::str::from_utf8(note) {
-        Ok(text) if note.iter().all(|byte| *byte >= b' ') => text,
-        _ => "?",
-    }
-}
-
 // The name, the kept point, the number behind the last durable record, the end, the recovery model, the last time and the note; then the tables with their committed rows, and what is
 // pending.
 pub(crate) fn told(alloc: Global, store: &Store) -> Result<String, AllocError> {
@@ -107,31 +98,31 @@ fn add_rows(alloc: Global, store: &Store, table: u32, rows: &mut [u64]) -> Resul
 
 // What each row of the tables 1 and 2 holds: a number, or 0.
 fn rows_in(alloc: Global, store: &Store) -> Result<Vec<u64>, AllocError> {
-    let mut rows = no_rows(alloc)?;
+    let mut rows = no_places(alloc)?;
     add_rows(alloc, store, 1, &mut rows)?;
     add_rows(alloc, store, 2, &mut rows)?;
     Ok(rows)
 }
 
 // What else a database shows.
-fn facts_in(store: &Store) -> Facts {
-    let mut tables = 0;
+fn facts_in(alloc: Global, store: &Store) -> Result<Facts, AllocError> {
+    let mut tables = Vec::new(alloc);
     for table in store.shown().tables() {
-        tables = with_table(tables, u64::from(table.number));
+        tables.push(u64::from(table.number))?;
     }
-    Facts {
+    Ok(Facts {
         tables,
-        model: model_code(store.shown().model()),
+        model: store.shown().model(),
         time: store.shown().time(),
-    }
+    })
 }
 
 // What a database shows, to be compared.
 pub(crate) fn seen_in(alloc: Global, store: &Store) -> Result<Seen, AllocError> {
     Ok(Seen {
         end: store.end(),
-        rows: rows_in(alloc, store)?,
-        facts: facts_in(store),
+        places: rows_in(alloc, store)?,
+        facts: facts_in(alloc, store)?,
         pending: store.shown().written().len(),
     })
 }

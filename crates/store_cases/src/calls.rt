@@ -5,12 +5,12 @@ ghost use Rattle.bk_paged.specs.Appends.{MayAppend, MaySay, page_at};
 ghost use Rattle.bk_paged.specs.Names.{IsThere};
 ghost use Rattle.bk_record.specs.Spelling.{KeepsLimits};
 
-use crate::untold::Untold;
-use crate::words::{at, number, numbers};
+use crate::words::{at, numbers};
 use bk_bytes::Cell;
 use bk_ids::{Body, CellImage, Lsn, Place, Rec, Slot};
 use bk_paged::{Paged, PagedError};
 use std::alloc::Global;
+use trials::{Untold, number};
 
 // The cell of a key: a free one for 0, else a row of table 1 with this key.
 fn image(key: u64) -> CellImage

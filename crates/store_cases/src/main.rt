@@ -4,44 +4,23 @@
 #![tactic(auto)]
 
 mod calls;
-mod desk;
-mod dice;
-mod mix;
 mod page_mix;
 mod page_session;
-mod plain;
-mod session;
+mod pages;
 mod shown;
-mod trial;
-mod untold;
 mod words;
 
-use bk_device::MemDevice;
-use cases::run_cases;
-use desk::{Answered, Answering, Desk, answer_command};
-use std::io;
+use pages::Pages;
 use std::process::ExitCode;
-use std::rt::{Env, Files};
+use trials::{Answered, Untold, answer_command, run_trials};
 
 fn main(rt: HostRuntime) -> ExitCode {
     let alloc = rt.alloc();
-    let answering = move |device: &mut MemDevice, command: &str, out: &mut String| -> Answered {
-        answer_command(&rt, alloc, device, command, out)
+    let answering = move |device: &mut Untold, command: &str, out: &mut String| -> Answered {
+        answer_command(&rt, &Pages, alloc, device, command, out)
     };
-    let Ok(answering) = Box::new(rt.alloc(), answering) else {
-        return ExitCode::from(6);
-    };
-    match run(&rt, answering) {
-        Ok(true) => ExitCode::SUCCESS,
-        Ok(false) => ExitCode::FAILURE,
+    match Box::new(alloc, answering) {
+        Ok(answering) => run_trials(&rt, answering),
         Err(_) => ExitCode::from(6),
     }
-}
-
-// Whether every case of the files that the command line names went well.
-fn run<R: AllocGlobal + Env + Files + Print>(rt: &R, answering: Answering) -> io::Result<bool>
-    requires { IsAlwaysCallable answering }
-{
-    let mut desk = Desk::new(rt.alloc(), answering);
-    run_cases(rt, &mut desk)
 }

@@ -2,14 +2,13 @@
 ghost use Rattle.std.specs.Prelude.{◌≡◌, false, IfOk};
 
 use crate::calls::call;
-use crate::session::Session;
 use crate::shown::{records_told, told};
-use crate::untold::Untold;
 use bk_facts::DataFile;
 use bk_ids::Text;
 use bk_paged::{Paged, PagedError, may_make};
 use std::alloc::{AllocError, Global};
 use std::thread::Threads;
+use trials::{Session, Untold};
 
 // A data file with a path of the database's own.
 fn data_file(session: &Session, name: &str, pages: u32) -> Result<DataFile, AllocError> {

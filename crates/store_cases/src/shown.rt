@@ -2,12 +2,12 @@
 ghost use Rattle.std.specs.Prelude.{◌≡◌, ◌<◌, false, OnOk};
 ghost use Rattle.bk_paged.specs.Names.{IsThere, pages_in};
 
-use crate::untold::Untold;
 use bk_bytes::Cell;
 use bk_page::{page_lsn, read_cell};
 use bk_paged::{Paged, PagedError};
 use bk_record::cursor;
 use std::alloc::{AllocError, Global};
+use trials::{Untold, shown_note};
 
 // Adds a page that a record changed: its file, its number, the number of the last record that changed it, and the slot and key of each used cell.
 fn add_page(out: &mut String, file: u16, number: u32, page: &[u8; 8192]) -> Result<(), AllocError> {
@@ -141,17 +141,6 @@ pub(crate) fn records_told(
     let log = paged.log_bytes(alloc, device, from, to)?;
     add_numbers(&mut out, &log)?;
     Ok(out)
-}
-
-// The bytes of a note as a text; `-` where there are none, and `?` where they are no text of one line.
-fn shown_note(note: &[u8]) -> &str {
-    if note.is_empty() {
-        return "-";
-    }
-    match std::str::from_utf8(note) {
-        Ok(text) if note.iter().all(|byte| *byte >= b' ') => text,
-        _ => "?",
-    }
 }
 
 // The kept point, the number behind the last durable record, the end, the latest checkpoint and the note; then the pages that records changed.

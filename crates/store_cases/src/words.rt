@@ -1,20 +1,5 @@
-// The words of a command.
+// The numbers of a line.
 use std::alloc::{AllocError, Global};
-
-// The word of this number; an empty one where there is none.
-pub(crate) fn word<'a>(words: &[&'a str], i: usize) -> &'a str {
-    words.get(i).copied().unwrap_or("")
-}
-
-// The number that a word spells; 0 where it spells none.
-pub(crate) fn number(word: &str) -> u64 {
-    word.parse().unwrap_or(0)
-}
-
-// The count of at most 32 bits that a word spells; 0 where it spells none.
-pub(crate) fn count(word: &str) -> u32 {
-    word.parse().unwrap_or(0)
-}
 
 // The numbers that a line holds behind its first word, one for each further word.
 pub(crate) fn numbers(alloc: Global, line: &str) -> Result<Vec<u64>, AllocError> {

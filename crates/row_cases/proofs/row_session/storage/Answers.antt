@@ -1,6 +1,5 @@
-use Rattle.std.proofs.Common.{◌≡◌, ◌≤◌, ◌<◌, length, arith}
+use Rattle.std.proofs.Common.{arith}
 use Rattle.std.proofs.lemmas.List.Elements.{All-from_recursion}
-use Rattle.bk_known.specs.Known.{FitsNote}
 use Rattle.bk_storage.specs.Storage.{HasPath}
 use Rattle.row_cases.proofs.row_session.storage.Goals as goal
 

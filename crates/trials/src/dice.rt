@@ -1,18 +1,19 @@
 // Numbers that a seed draws.
 
-// One behind the other.
+/// Draws one number behind the other.
 #[derive(Clone, Copy)]
-pub(crate) struct Dice {
+pub struct Dice {
     state: u64,
 }
 
 impl Dice {
-    pub(crate) fn new(seed: u64) -> Self {
+    /// The dice of a seed.
+    pub fn new(seed: u64) -> Self {
         Dice { state: seed | 1 }
     }
 
-    // The next one, below a bound.
-    pub(crate) fn below(&mut self, bound: u64) -> u64 {
+    /// The next number, below a bound.
+    pub fn below(&mut self, bound: u64) -> u64 {
         let mut state = self.state;
         state ^= state << 13;
         state ^= state >> 7;

@@ -1,5 +1,5 @@
 use Rattle.std.proofs.Common.{◌≡◌, false}
-use Rattle.row_cases.proofs.mix.Mix.call_each.Given as goal
+use Rattle.row_cases.proofs.row_mix.call_each.Given as goal
 
 abbrev pub invariant-loop : goal.invariant-loop
 invariant-loop l = l.store.paged.failed ≡ false

@@ -6,11 +6,15 @@ ghost use Rattle.bk_device.specs.Disk.{unknown_disk};
 ghost use Rattle.bk_device.specs.Replay.{disk_of};
 
 use bk_device::{Device, Failed, MemDevice};
+use std::alloc::{AllocError, Global};
+use std::mem;
 
-// The device in memory, and how often a call on a file, or on the output, failed.
+/// A device in memory of which nothing is claimed, so that a case may open whatever files there are.
 #[derive(Drop)]
-pub(crate) struct Untold {
-    device: MemDevice,
+pub struct Untold {
+    alloc: Global,
+    device: Box<MemDevice>,
+    // how often a call on a file, or on the output, failed
     disk_faults: u64,
     tell_faults: u64,
 }
@@ -24,7 +28,7 @@ fn begins_inside(device: &mut MemDevice, name: &str, at: u64) -> Result<bool, Fa
 }
 
 // Whether the file is there and has at least so many bytes.
-pub(crate) fn has_bytes(device: &mut MemDevice, name: &str, len: u64) -> Result<bool, Failed>
+fn has_bytes(device: &mut MemDevice, name: &str, len: u64) -> Result<bool, Failed>
     ensures { IfOk result (λ yes. yes ≡ true → IsSomeAnd ((disk_of device.new).files name.now) (λ content. len ≤ length content)) }
 {
     match device.len(name)? {
@@ -49,17 +53,67 @@ fn cut_inside(device: &mut MemDevice, name: &str, len: u64) -> Result<(), Failed
     device.cut(name, len)
 }
 
+// Puts another byte at a place of a file. Tells whether there is such a place.
+fn damage_inside(device: &mut MemDevice, name: &str, place: u64) -> bool {
+    if place == u64::MAX {
+        return false;
+    }
+    let Ok(true) = has_bytes(device, name, place + 1) else {
+        return false;
+    };
+    device.damage(name, place);
+    true
+}
+
+// A crash, which keeps what was written since each file's last sync, or loses it.
+fn crash(alloc: Global, device: &mut MemDevice, keep: bool) {
+    let old = mem::replace(device, MemDevice::new(alloc));
+    *device = old.restart(keep);
+}
+
 impl Untold {
-    pub(crate) fn new(device: MemDevice) -> Self {
-        Untold {
-            device,
+    fn around(alloc: Global, device: MemDevice) -> Result<Self, AllocError> {
+        Ok(Untold {
+            alloc,
+            device: Box::new(alloc, device)?,
             disk_faults: 0,
             tell_faults: 0,
-        }
+        })
     }
 
-    pub(crate) fn into_device(self) -> MemDevice {
-        self.device
+    /// A device without files.
+    pub fn new(alloc: Global) -> Result<Self, AllocError> {
+        Untold::around(alloc, MemDevice::new(alloc))
+    }
+
+    /// A device with the files as a read gives them now, of which no call is to fail.
+    pub fn copy(&self) -> Result<Self, AllocError> {
+        Untold::around(self.alloc, self.device.copy()?)
+    }
+
+    /// A crash, which keeps what was written since each file's last sync, or loses it. No call is to fail then.
+    pub fn restart(&mut self, keep: bool) {
+        crash(self.alloc, &mut self.device, keep);
+    }
+
+    /// The write of this number, counted from 1, and all calls from then on will fail.
+    pub fn stop_at(&mut self, write: u64) {
+        self.device.stop_at(write);
+    }
+
+    /// The call of this number, counted from 1, will fail.
+    pub fn fail_at(&mut self, call: u64) -> Result<(), AllocError> {
+        self.device.fail_at(call)
+    }
+
+    /// Puts another byte at a place of a file. Tells whether there is such a place.
+    pub fn damage(&mut self, file: &str, place: u64) -> bool {
+        damage_inside(&mut self.device, file, place)
+    }
+
+    /// A file is gone.
+    pub fn lose(&mut self, file: &str) {
+        self.device.lose(file);
     }
 
     fn on_disk<T>(&mut self, done: Result<T, Failed>) -> Result<T, Failed>

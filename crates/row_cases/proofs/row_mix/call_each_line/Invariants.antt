@@ -1,5 +1,5 @@
 use Rattle.std.proofs.Common.{◌≡◌, false}
-use Rattle.row_cases.proofs.mix.Mix.call_each_line.Given as goal
+use Rattle.row_cases.proofs.row_mix.call_each_line.Given as goal
 
 abbrev pub invariant-loop-line : goal.invariant-loop-line
 invariant-loop-line l = record {
