@@ -14,9 +14,12 @@ use Rattle.bk_store.specs.Store.{Kept as KeptStore}
 use Rattle.bk_store.specs.Told.{Told}
 use Rattle.bk_stores.specs.AddLaws.{added-entries, added-slots}
 use Rattle.bk_stores.specs.Making.{Adds, Creates, MayAdd, sealed_more}
+use Rattle.bk_stores.specs.NumberLaws.{added-numbers}
 use Rattle.bk_stores.specs.Records.{rested}
 use Rattle.bk_stores.specs.StandLaws.{master-keeps, master-wide, slots-left, standing-kept}
-use Rattle.bk_stores.specs.Stores.{AreStores, IsAt, Kept, LeavesEntry, SlotsStand, Standing, its_files, sealed_by, sealed_of}
+use Rattle.bk_stores.specs.Standing.{AreStanding, Joins}
+use Rattle.bk_stores.specs.StandingLaws.{more-beside, put-standing}
+use Rattle.bk_stores.specs.Stores.{AreStores, IsAt, Kept, LeavesEntry, SlotsStand, StandFor, its_files, sealed_by, sealed_of}
 
 -- all of the new one's records count as durable
 sealed-same : (slots : List (Option KeptStore)) (tolds : List Told) (slot : Option KeptStore) (new : Told) (i : ℕ) → length slots ≡ length tolds → sealed_by slot new ≡ length new.records
@@ -66,7 +69,7 @@ added-stands s tolds x slot new m {a = a} {b = b} adds same is may master effect
     let slots : List (Option KeptStore) = s.slots ++ slot ∷ [] in
     let all : List Told = tolds ++ new ∷ [] in
     let few : length r.databases < 16 = let few' = adds.few in let count = adds.count in omega (arith, few', count) in
-    let before : Standing a later slots all = record {
+    let before : StandFor a later slots all = record {
       entries = added-entries r tolds x new adds.below few is.standing.entries may.apart;
       count = added-count s.slots tolds slot new is.standing.count;
       stand = added-slots a r.databases s.slots tolds x slot new is.standing.entries.count is.standing.count is.standing.stand may.stands;
@@ -74,5 +77,12 @@ added-stands s tolds x slot new m {a = a} {b = b} adds same is may master effect
     } in
     record {
       master = master;
-      standing = subst (λ (n : Record). Standing b n slots all) (sym same) (standing-kept later slots all (master-keeps effect) before);
+      standing = subst (λ (n : Record). StandFor b n slots all) (sym same) (standing-kept later slots all (master-keeps effect) before);
     }
+
+-- what stands once it is put
+pub added-put : (s : Kept) (x : Entry) (slot : Option KeptStore) (m : KeptMaster) {P : Files → Type 0} {a b : Disk} → Adds s x.store → m.record ≡ rested s.master.record (s.master.record.databases ++ x ∷ []) → AreStanding a s → Joins a s.master.record.databases s.slots x slot
+    → IsMaster b m → Effect IsOfMaster P a b → AreStanding b (record { master = m; slots = s.slots ++ slot ∷ [] })
+added-put s x slot m adds same is joins master effect =
+    let r : Record = s.master.record in
+    put-standing m (rested r (r.databases ++ x ∷ [])) (s.slots ++ slot ∷ []) same master effect (added-numbers r x adds.below joins.fresh is.numbers) (more-beside r.databases s.slots x slot adds.count joins is.stores)

@@ -1,5 +1,5 @@
 -- What is there of a store is removed that is named as one that is being made or removed.
-use Rattle.std.proofs.Common.{◌≡◌, ◌<◌, ℕ, List, [], ◌∷◌, map, set, Option, Some, refl, inr, sym, subst}
+use Rattle.std.proofs.Common.{◌≡◌, ◌<◌, ◌^◌, ℕ, List, [], ◌∷◌, length, map, set, Option, Some, None, refl, inr, sym, subst}
 use Rattle.std.specs.Prelude.{remove, slice_get}
 use Rattle.bk_device.specs.Compose.{effect_then, effect_weaken}
 use Rattle.bk_device.specs.Disk.{Disk, Files}
@@ -12,8 +12,11 @@ use Rattle.bk_side.specs.Names.{data_file as data_name}
 use Rattle.bk_store.specs.Store.{Kept as KeptStore}
 use Rattle.bk_store.specs.Told.{Told}
 use Rattle.bk_stores.specs.Making.{Drops, MaySwap, Swaps}
-use Rattle.bk_stores.specs.Records.{IsApart, unfinished_at}
+use Rattle.bk_stores.specs.NumberLaws.{less-new, number-small, swapped-new}
+use Rattle.bk_stores.specs.Records.{IsApart, left_out, swapped, unfinished_at}
 use Rattle.bk_stores.specs.StandLaws.{own-crash, own-stands}
+use Rattle.bk_stores.specs.Standing.{AreNumbered, AreStanding, AreUnused, IsNew}
+use Rattle.bk_stores.specs.StandingLaws.{aside-standing, unused-less}
 use Rattle.bk_stores.specs.Stores.{AreEntries, AreStores, IsOurs, Kept, LeavesEntry, LeavesStores, at_paths, sealed_at, sealed_of}
 use Rattle.bk_stores.proofs.Created.{parts-named}
 use Rattle.bk_stores.proofs.Swapped.{sealed-set}
@@ -51,3 +54,23 @@ swaps-then s then tolds at told new x slot paths a b c slots is may first second
       entries = here.entries;
       each = λ i f u it. subst (λ (n : ℕ). LeavesEntry f n u image) (sealed-set s.slots tolds at slot new i may.sealed) (here.each i f u it);
     })) same)
+
+-- ---- what stands
+
+-- the files of the store of an entry that was left out are removed
+pub left-aside : (s then : Kept) (at : ℕ) (e : Entry) (n : ℕ) (paths : List (List ℕ)) {P : Files → Type 0} {a b : Disk} → slice_get s.master.record.databases at ≡ Some e → e.store ≡ n → then.master.record ≡ left_out s.master.record at n paths → then.slots ≡ remove s.slots at → at < length s.slots
+    → AreNumbered s.master.record → AreUnused (set s.slots at None) (at_paths paths) → AreStanding a then → Effect (IsPart n (map data_name paths)) P a b → AreStanding b then
+left-aside s then at e n paths there number same slots filled numbers unused is effect =
+    let r : Record = s.master.record in
+    let small = subst (λ (m : ℕ). m < 2 ^ 64) number (number-small r at e numbers there) in
+    let new : IsNew then.master.record.databases n = subst (λ (x : Record). IsNew x.databases n) (sym same) (subst (IsNew (remove r.databases at)) number (less-new r.databases at e there numbers.differ)) in
+    aside-standing then n (at_paths paths) is small new (subst (λ (sl : List (Option KeptStore)). AreUnused sl (at_paths paths)) (sym slots) (unused-less s.slots at (at_paths paths) filled unused)) (parts-named n paths effect)
+
+-- and those of the store in whose place another was put
+pub swapped-aside : (s then : Kept) (at : ℕ) (e x : Entry) (slot : Option KeptStore) (n : ℕ) (paths : List (List ℕ)) {P : Files → Type 0} {a b : Disk} → slice_get s.master.record.databases at ≡ Some e → e.store ≡ n → then.master.record ≡ swapped s.master.record at x n paths → then.slots ≡ set s.slots at slot
+    → AreNumbered s.master.record → IsNew s.master.record.databases x.store → AreUnused (set s.slots at slot) (at_paths paths) → AreStanding a then → Effect (IsPart n (map data_name paths)) P a b → AreStanding b then
+swapped-aside s then at e x slot n paths there number same slots numbers fresh unused is effect =
+    let r : Record = s.master.record in
+    let small = subst (λ (m : ℕ). m < 2 ^ 64) number (number-small r at e numbers there) in
+    let new : IsNew then.master.record.databases n = subst (λ (y : Record). IsNew y.databases n) (sym same) (subst (IsNew (set r.databases at x)) number (swapped-new r.databases at e x there fresh numbers.differ)) in
+    aside-standing then n (at_paths paths) is small new (subst (λ (sl : List (Option KeptStore)). AreUnused sl (at_paths paths)) (sym slots) unused) (parts-named n paths effect)

@@ -6,8 +6,11 @@ use Rattle.bk_master.specs.declared.record.Record.{Record}
 use Rattle.bk_master.specs.Master.{HoldsRecord, IsMaster, IsOwn as IsOfMaster, Kept as KeptMaster}
 use Rattle.bk_store.specs.Told.{Told}
 use Rattle.bk_stores.specs.AddLaws.{begun-entries}
+use Rattle.bk_stores.specs.NumberLaws.{begun-numbers}
 use Rattle.bk_stores.specs.Records.{AreSmall, SharesNone, begun}
 use Rattle.bk_stores.specs.StandLaws.{put-crash, put-stands}
+use Rattle.bk_stores.specs.Standing.{AreStanding}
+use Rattle.bk_stores.specs.StandingLaws.{put-standing}
 use Rattle.bk_stores.specs.Stores.{AreEntries, AreStores, IsOurs, Kept, LeavesStores, at_paths, sealed_at}
 
 pub begun-crash : (s : Kept) (tolds : List Told) (paths : List (List ℕ)) (next : Record) {a b : Disk} → s.master.record.next < 2 ^ 32 → AreSmall paths → next ≡ begun s.master.record paths → AreStores a s tolds → SharesNone s.master.record.databases tolds (at_paths paths)
@@ -22,3 +25,9 @@ begun-stands s tolds paths m small short same is shares master effect =
     let r : Record = s.master.record in
     put-stands s tolds m is master effect (ap (λ (n : Record). n.databases) same) (subst (λ (n : Record). r.next ≤ n.next) (sym same) (omega arith))
     (subst (λ (n : Record). AreEntries n tolds) (sym same) (begun-entries r tolds paths small short is.standing.entries shares))
+
+-- what stands once it is put
+pub begun-put : (s : Kept) (paths : List (List ℕ)) (m : KeptMaster) {P : Files → Type 0} {a b : Disk} → m.record ≡ begun s.master.record paths → m.record.next < 2 ^ 32 → AreStanding a s → IsMaster b m → Effect IsOfMaster P a b → AreStanding b (record s { master = m })
+begun-put s paths m same small is master effect =
+    let r : Record = s.master.record in
+    put-standing m (begun r paths) s.slots same master effect (begun-numbers r paths (subst (λ (n : Record). n.next < 2 ^ 32) same small) is.numbers) is.stores

@@ -1,5 +1,5 @@
 -- The files of a store that is named as one that is being made are touched.
-use Rattle.std.proofs.Common.{◌≡◌, ◌≤◌, ◌<◌, ◌^◌, ◌-◌, ◌+◌, ◌⊎◌, ℕ, List, [], ◌∷◌, ◌++◌, length, map, Option, Some, None, false, refl, sym, ap, subst, ◌∙◌, arith}
+use Rattle.std.proofs.Common.{◌≡◌, ◌≤◌, ◌<◌, ◌^◌, ◌⊎◌, ℕ, List, [], ◌∷◌, ◌++◌, length, map, Option, Some, None, false, refl, sym, ap, subst, ◌∙◌, arith}
 use Rattle.std.proofs.lemmas.List.{length-map}
 use Rattle.std.proofs.lemmas.List.Elements.{recursion_from_All}
 use Rattle.std.specs.List.{AllByRecursion}
@@ -23,8 +23,11 @@ use Rattle.bk_store.specs.Told.{Told, data_file}
 use Rattle.bk_storage.specs.Storage.{HasPath}
 use Rattle.bk_stores.specs.AddLaws.{fresh-apart, named-at}
 use Rattle.bk_stores.specs.Making.{Creates, MayAdd}
+use Rattle.bk_stores.specs.NumberLaws.{begun-new}
 use Rattle.bk_stores.specs.Records.{AreSmall, IsApart, SharesNone, begun, stored_entry}
 use Rattle.bk_stores.specs.StandLaws.{own-crash, own-stands}
+use Rattle.bk_stores.specs.Standing.{AreNumbered, AreStanding, AreUnused, IsStanding, Joins}
+use Rattle.bk_stores.specs.StandingLaws.{aside-standing, unused-named}
 use Rattle.bk_stores.specs.Stores.{AreEntries, AreStores, IsOurs, Kept, LeavesStores, at_paths, sealed_at, sealed_of}
 use Rattle.bk_world.specs.declared.database.FileSpec.{FileSpec}
 
@@ -100,3 +103,30 @@ paths-small spec paths may same =
       few = omega (arith, few, length-map spec.storage.files (λ (f : FileSpec). f.path));
       short = all-short spec.storage.files (recursion_from_All HasPath spec.storage.files may.storage.keeps.paths);
     })
+
+-- ---- what stands meanwhile
+
+-- no open store has the data files that are made
+pub unused-files : (slots : List (Option KeptStore)) (files : List FileSpec) → AreUnused slots (at_paths (map (λ f. f.path) files)) → AreUnused slots (map data_file files)
+unused-files slots files unused = unused-named slots (at_paths (map (λ f. f.path) files)) (map data_file files) (sym (named-same files (map (λ f. f.path) files) refl)) unused
+
+-- what is done to its files leaves the others standing
+pub beside-standing : (s then : Kept) (paths : List (List ℕ)) (files : List DataFile) {P : Files → Type 0} {a b : Disk} → then.master.record ≡ begun s.master.record paths → then.slots ≡ s.slots → AreNumbered s.master.record → AreUnused s.slots files
+    → AreStanding a then → Effect (IsOwn s.master.record.next files) P a b → AreStanding b then
+beside-standing s then paths files same slots numbers unused is effect =
+    let small = numbers.small in
+    aside-standing then s.master.record.next files is (omega (arith, small)) (begun-new s.master.record then.master.record paths same numbers) (subst (λ (sl : List (Option KeptStore)). AreUnused sl files) (sym slots) unused) effect
+
+-- a store that was just made may stand beside them
+pub may-join : (s then : Kept) (paths : List (List ℕ)) (spec : DatabaseSpec) (time : ℕ) (branch : Guid) (store : KeptStore) (d : Disk) → then.master.record ≡ begun s.master.record paths → then.slots ≡ s.slots → AreNumbered s.master.record → AreUnused s.slots (map data_file spec.storage.files)
+    → store.paged.failed ≡ false → store.paged.log.db ≡ s.master.record.next → IsStore d store (founded spec time branch) → Joins d then.master.record.databases then.slots (stored_entry s.master.record.next) (Some store)
+may-join s then paths spec time branch store d same slots numbers unused fit number is =
+    let x : Entry = stored_entry s.master.record.next in
+    let one : (other : KeptStore) → Some store ≡ Some other → store ≡ other = λ other is'. cc in
+    let own : AreUnused then.slots store.paged.facts.files =
+    subst (λ (sl : List (Option KeptStore)). AreUnused sl store.paged.facts.files) (sym slots) (subst (λ (fs : List DataFile). AreUnused s.slots fs) (sym is.paged.files) unused) in
+    record {
+      fresh = begun-new s.master.record then.master.record paths same numbers;
+      stands = λ other is'. subst (IsStanding d x) (one other is') (record { number = number; fit = fit; standing = is.paged.standing });
+      unused = λ other is'. subst (λ (o : KeptStore). AreUnused then.slots o.paged.facts.files) (one other is') own;
+    }

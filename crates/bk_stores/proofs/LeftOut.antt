@@ -12,12 +12,15 @@ use Rattle.bk_store.specs.Told.{Told}
 use Rattle.bk_stores.specs.LessLaws.{length-less-same, less-entries, less-slots}
 use Rattle.bk_stores.specs.ListLaws.{got-inside}
 use Rattle.bk_stores.specs.Making.{Drops, MayRemove}
+use Rattle.bk_stores.specs.NumberLaws.{left-numbers}
 use Rattle.bk_stores.specs.Records.{AreSmall, left_out}
 use Rattle.bk_stores.specs.StandLaws.{master-keeps, master-wide, slots-left, standing-kept}
-use Rattle.bk_stores.specs.Stores.{AreStores, Kept, Standing, its_files}
+use Rattle.bk_stores.specs.Standing.{AreStanding}
+use Rattle.bk_stores.specs.StandingLaws.{less-beside, put-standing}
+use Rattle.bk_stores.specs.Stores.{AreStores, Kept, StandFor, its_files}
 
 left-standing : (a : Disk) (s : Kept) (tolds : List Told) (at : ℕ) (told : Told) (e : Entry) (paths : List (List ℕ)) → AreSmall paths → MayRemove s tolds at told paths → slice_get s.master.record.databases at ≡ Some e → AreStores a s tolds
-    → Standing a (left_out s.master.record at e.store paths) (remove s.slots at) (remove tolds at)
+    → StandFor a (left_out s.master.record at e.store paths) (remove s.slots at) (remove tolds at)
 left-standing a s tolds at told e paths small may there is =
     let r : Record = s.master.record in
     let inside : at < length r.databases = got-inside r.databases at e there in
@@ -52,5 +55,12 @@ left-stands s tolds at told e paths m {a = a} {b = b} small same there is may ma
     let rest : List Told = remove tolds at in
     record {
       master = master;
-      standing = subst (λ (n : Record). Standing b n slots rest) (sym same) (standing-kept (left_out s.master.record at e.store paths) slots rest (master-keeps effect) (left-standing a s tolds at told e paths small may there is));
+      standing = subst (λ (n : Record). StandFor b n slots rest) (sym same) (standing-kept (left_out s.master.record at e.store paths) slots rest (master-keeps effect) (left-standing a s tolds at told e paths small may there is));
     }
+
+-- what stands once it is put
+pub left-put : (s : Kept) (at : ℕ) (e : Entry) (paths : List (List ℕ)) (m : KeptMaster) {P : Files → Type 0} {a b : Disk} → m.record ≡ left_out s.master.record at e.store paths → slice_get s.master.record.databases at ≡ Some e → at < length s.slots → AreStanding a s
+    → IsMaster b m → Effect IsOfMaster P a b → AreStanding b (record { master = m; slots = remove s.slots at })
+left-put s at e paths m same there filled is master effect =
+    let r : Record = s.master.record in
+    put-standing m (left_out r at e.store paths) (remove s.slots at) same master effect (left-numbers r at e paths there is.numbers) (less-beside r.databases s.slots at (got-inside r.databases at e there) filled is.stores)

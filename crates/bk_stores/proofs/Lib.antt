@@ -5,6 +5,7 @@ mod Begun
 mod Created
 mod LeftOut
 mod Loaded
+mod Named
 mod Opened
 mod Rested
 mod Swapped

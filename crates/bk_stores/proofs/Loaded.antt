@@ -12,9 +12,10 @@ use Rattle.bk_master.specs.Laws.{holds_same, one_record, own_made}
 use Rattle.bk_master.specs.Master.{AreDurable, HoldsRecord, IsMaster, IsOwn as IsOfMaster, Kept as KeptMaster, Makes, fresh, made_file, control_file}
 use Rattle.bk_store.specs.Store.{Kept as KeptStore}
 use Rattle.bk_store.specs.Told.{Told}
-use Rattle.bk_stores.specs.ListLaws.{got-inside, got-none}
+use Rattle.bk_stores.specs.ListLaws.{got, got-inside, got-none}
 use Rattle.bk_stores.specs.Loading.{HoldsInstance, Opens, shut}
 use Rattle.bk_stores.specs.SlotLaws.{entry-same}
+use Rattle.bk_stores.specs.Standing.{AreDifferent, AreShut}
 use Rattle.bk_stores.specs.StandLaws.{master-apart, master-keeps}
 use Rattle.bk_stores.specs.Stores.{AreEntries, AreStores, HoldsEntry, HoldsStores, IsOurs, IsSlot, LeavesStores, its_files, sealed_at, sealed_of}
 
@@ -146,3 +147,18 @@ made-stands {b} {c} m tolds number settled none effect same master = subst (λ (
     free = λ n above small name own. durable_kept name (inl own) (master-keeps effect n []) (settled name);
   };
 })
+
+-- ---- numbers
+
+-- so many stores that aren't open
+pub shut-none : (n : ℕ) (slots : List (Option KeptStore)) → slots ≡ replicate n None → AreShut slots
+shut-none n slots same = λ i store there.
+    let none : Some store ≡ no-store = none-at n i (Some store) (ap (λ (sl : List (Option KeptStore)). slice_get sl i) (sym same) ∙ there) in
+    cc
+
+-- those of databases differ
+pub entries-differ : (r : Record) (tolds : List Told) → AreEntries r tolds → AreDifferent r.databases
+entries-differ r tolds is = λ i j e f differ first second.
+    let t = got tolds i (let inside = got-inside r.databases i e first in omega (arith, inside, is.count)) in
+    let u = got tolds j (let inside = got-inside r.databases j f second in omega (arith, inside, is.count)) in
+    (is.apart i j e f t.0 u.0 differ (first, t.1) (second, u.1)).differ

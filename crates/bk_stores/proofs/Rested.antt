@@ -5,8 +5,11 @@ use Rattle.bk_device.specs.Effects.{Effect}
 use Rattle.bk_master.specs.declared.record.Record.{Record}
 use Rattle.bk_master.specs.Master.{HoldsRecord, IsMaster, IsOwn as IsOfMaster, Kept as KeptMaster}
 use Rattle.bk_store.specs.Told.{Told}
+use Rattle.bk_stores.specs.NumberLaws.{rested-numbers}
 use Rattle.bk_stores.specs.Records.{rested}
 use Rattle.bk_stores.specs.StandLaws.{entries-rest, put-crash, put-stands}
+use Rattle.bk_stores.specs.Standing.{AreStanding}
+use Rattle.bk_stores.specs.StandingLaws.{put-standing}
 use Rattle.bk_stores.specs.Stores.{AreEntries, AreStores, IsOurs, Kept, LeavesStores, sealed_at}
 
 rested-entries : (r : Record) (tolds : List Told) → AreEntries r tolds → AreEntries (rested r r.databases) tolds
@@ -22,3 +25,9 @@ pub rested-stands : (s : Kept) (tolds : List Told) (m : KeptMaster) {P : Files �
 rested-stands s tolds m same is master effect =
     let r : Record = s.master.record in
     put-stands s tolds m is master effect (ap (λ (n : Record). n.databases) same) (subst (λ (n : Record). r.next ≤ n.next) (sym same) (omega arith)) (subst (λ (n : Record). AreEntries n tolds) (sym same) (rested-entries r tolds is.standing.entries))
+
+-- what stands once it is put
+pub rested-put : (s : Kept) (m : KeptMaster) {P : Files → Type 0} {a b : Disk} → m.record ≡ rested s.master.record s.master.record.databases → AreStanding a s → IsMaster b m → Effect IsOfMaster P a b → AreStanding b (record s { master = m })
+rested-put s m same is master effect =
+    let r : Record = s.master.record in
+    put-standing m (rested r r.databases) s.slots same master effect (rested-numbers r is.numbers) is.stores

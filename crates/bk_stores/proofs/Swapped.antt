@@ -1,5 +1,5 @@
 -- The record in which another store is that of a database is put.
-use Rattle.std.proofs.Common.{◌≡◌, ◌⊎◌, ℕ, zero, suc, List, [], ◌∷◌, length, set, Option, Some, None, refl, inl, inr, sym, subst, ◌∙◌}
+use Rattle.std.proofs.Common.{◌≡◌, ◌<◌, ◌⊎◌, ℕ, zero, suc, List, [], ◌∷◌, length, set, Option, Some, None, refl, inl, inr, sym, subst, ◌∙◌}
 use Rattle.std.proofs.lemmas.List.{length-set}
 use Rattle.std.specs.Prelude.{slice_get}
 use Rattle.bk_device.specs.Compose.{effect_weaken}
@@ -10,10 +10,14 @@ use Rattle.bk_master.specs.declared.record.Record.{Record}
 use Rattle.bk_master.specs.Master.{HoldsRecord, IsMaster, IsOwn as IsOfMaster, Kept as KeptMaster}
 use Rattle.bk_store.specs.Store.{Kept as KeptStore}
 use Rattle.bk_store.specs.Told.{Told}
+use Rattle.bk_stores.specs.ListLaws.{got-inside}
 use Rattle.bk_stores.specs.Making.{MaySwap, Swaps}
+use Rattle.bk_stores.specs.NumberLaws.{swapped-numbers}
 use Rattle.bk_stores.specs.Records.{AreSmall, swapped}
 use Rattle.bk_stores.specs.StandLaws.{master-keeps, master-wide, slots-left, standing-kept}
-use Rattle.bk_stores.specs.Stores.{AreStores, Kept, LeavesEntry, Standing, its_files, sealed_by, sealed_of}
+use Rattle.bk_stores.specs.Standing.{AreStanding, Joins}
+use Rattle.bk_stores.specs.StandingLaws.{put-standing, swapped-beside}
+use Rattle.bk_stores.specs.Stores.{AreStores, Kept, LeavesEntry, StandFor, its_files, sealed_by, sealed_of}
 use Rattle.bk_stores.specs.SwapLaws.{swapped-entries, swapped-slots}
 
 -- all of the new one's records count as durable
@@ -33,7 +37,7 @@ sealed-set (s ∷ slots) (t ∷ tolds) (suc at) slot new zero sealed = refl
 sealed-set (s ∷ slots) (t ∷ tolds) (suc at) slot new (suc i) sealed = sealed-set slots tolds at slot new i sealed
 
 swapped-standing : (a : Disk) (s : Kept) (tolds : List Told) (at : ℕ) (told new : Told) (e x : Entry) (slot : Option KeptStore) (paths : List (List ℕ)) → AreSmall paths → MaySwap a s tolds at told x slot new paths → slice_get s.master.record.databases at ≡ Some e → AreStores a s tolds
-    → Standing a (swapped s.master.record at x e.store paths) (set s.slots at slot) (set tolds at new)
+    → StandFor a (swapped s.master.record at x e.store paths) (set s.slots at slot) (set tolds at new)
 swapped-standing a s tolds at told new e x slot paths small may there is =
     let r : Record = s.master.record in
     let aside = may.aside e there in
@@ -67,5 +71,13 @@ swapped-stands s tolds at told new e x slot paths m {a = a} {b = b} small same t
     let all : List Told = set tolds at new in
     record {
       master = master;
-      standing = subst (λ (n : Record). Standing b n slots all) (sym same) (standing-kept (swapped s.master.record at x e.store paths) slots all (master-keeps effect) (swapped-standing a s tolds at told new e x slot paths small may there is));
+      standing = subst (λ (n : Record). StandFor b n slots all) (sym same) (standing-kept (swapped s.master.record at x e.store paths) slots all (master-keeps effect) (swapped-standing a s tolds at told new e x slot paths small may there is));
     }
+
+-- what stands once it is put
+pub swapped-put : (s : Kept) (at : ℕ) (e x : Entry) (slot : Option KeptStore) (paths : List (List ℕ)) (m : KeptMaster) {P : Files → Type 0} {a b : Disk} → m.record ≡ swapped s.master.record at x e.store paths → slice_get s.master.record.databases at ≡ Some e → x.store < s.master.record.next → AreStanding a s
+    → Joins a s.master.record.databases (set s.slots at None) x slot → IsMaster b m → Effect IsOfMaster P a b → AreStanding b (record { master = m; slots = set s.slots at slot })
+swapped-put s at e x slot paths m same there below is joins master effect =
+    let r : Record = s.master.record in
+    put-standing m (swapped r at x e.store paths) (set s.slots at slot) same master effect (swapped-numbers r at e x paths there below joins.fresh is.numbers)
+    (swapped-beside r.databases s.slots at x slot (got-inside r.databases at e there) joins is.stores)

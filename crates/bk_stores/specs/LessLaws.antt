@@ -18,25 +18,25 @@ use Rattle.bk_stores.specs.Stores.{AreEntries, IsAt, SlotsStand, at_paths, its_f
 -- ---- places in a list without an element
 
 -- the place that an element had before the one at a place was removed
-abbrev place : ℕ → ℕ → ℕ
+abbrev pub place : ℕ → ℕ → ℕ
 place zero i = suc i
 place (suc at) zero = zero
 place (suc at) (suc i) = suc (place at i)
 
-got-place : {X : Type 0} (xs : List X) (at i : ℕ) → at < length xs → slice_get (remove xs at) i ≡ slice_get xs (place at i)
+pub got-place : {X : Type 0} (xs : List X) (at i : ℕ) → at < length xs → slice_get (remove xs at) i ≡ slice_get xs (place at i)
 got-place [] at i inside = absurd (omega (arith, inside))
 got-place (x ∷ xs) zero i inside = refl
 got-place (x ∷ xs) (suc at) zero inside = refl
 got-place (x ∷ xs) (suc at) (suc i) inside = got-place xs at i (omega (arith, inside))
 
-place-one : (at i j : ℕ) → place at i ≡ place at j → i ≡ j
+pub place-one : (at i j : ℕ) → place at i ≡ place at j → i ≡ j
 place-one zero i j same = omega (arith, same)
 place-one (suc at) zero zero same = refl
 place-one (suc at) zero (suc j) same = absurd (omega (arith, same))
 place-one (suc at) (suc i) zero same = absurd (omega (arith, same))
 place-one (suc at) (suc i) (suc j) same = ap suc (place-one at i j (omega (arith, same)))
 
-place-other : (at i : ℕ) → at ≡ place at i → ⊥
+pub place-other : (at i : ℕ) → at ≡ place at i → ⊥
 place-other zero i same = omega (arith, same)
 place-other (suc at) zero same = omega (arith, same)
 place-other (suc at) (suc i) same = place-other at i (omega (arith, same))

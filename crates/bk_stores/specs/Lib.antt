@@ -11,5 +11,8 @@ pub mod AddLaws
 pub mod Making
 pub mod LessLaws
 pub mod ChangeLaws
+pub mod Standing
+pub mod NumberLaws
+pub mod StandingLaws
 pub mod SwapLaws
 pub mod Loading

@@ -1,5 +1,5 @@
 -- Elements of lists by their places.
-use Rattle.std.proofs.Common.{◌≡◌, ◌<◌, ◌+◌, ◌⊎◌, ℕ, zero, suc, List, [], ◌∷◌, ◌++◌, length, set, Some, refl, inl, inr, sym, ap, ◌∙◌, arith}
+use Rattle.std.proofs.Common.{◌≡◌, ◌<◌, ◌⊎◌, ℕ, zero, suc, List, [], ◌∷◌, ◌++◌, length, set, Some, refl, inl, inr, sym, ap, ◌∙◌, arith}
 use Rattle.std.specs.Prelude.{slice_get}
 
 -- a place of an element is inside
@@ -35,6 +35,12 @@ got-other (y ∷ xs) zero (suc j) x differ = refl
 got-other (y ∷ xs) (suc i) zero x differ = refl
 got-other (y ∷ xs) (suc i) (suc j) x differ = got-other xs i j x (λ same. differ (ap suc same))
 
+-- what is there where it was set
+pub set-there : {X : Type 0} (xs : List X) (i : ℕ) (x y : X) → slice_get (set xs i x) i ≡ Some y → x ≡ y
+set-there [] i x y is = absurd cc
+set-there (z ∷ xs) zero x y is = cc
+set-there (z ∷ xs) (suc i) x y is = set-there xs i x y is
+
 pub got-before : {X : Type 0} (xs ys : List X) (i : ℕ) (x : X) → slice_get xs i ≡ Some x → slice_get (xs ++ ys) i ≡ Some x
 got-before [] ys i x is = absurd cc
 got-before (y ∷ xs) ys zero x is = is
@@ -46,6 +52,11 @@ got-more [] x y zero is = inr (refl, cc)
 got-more [] x y (suc i) is = absurd cc
 got-more (z ∷ xs) x y zero is = inl is
 got-more (z ∷ xs) x y (suc i) is = elim (got-more xs x y i is) [ inl there ↦ inl there | inr last ↦ inr (ap suc last.0, last.1) ]
+
+-- the one more is the last
+pub got-last : {X : Type 0} (xs : List X) (x : X) → slice_get (xs ++ x ∷ []) (length xs) ≡ Some x
+got-last [] x = refl
+got-last (y ∷ xs) x = got-last xs x
 
 -- one element at a place
 pub got-one : {X : Type 0} (xs : List X) (i : ℕ) (x y : X) → slice_get xs i ≡ Some x → slice_get xs i ≡ Some y → x ≡ y

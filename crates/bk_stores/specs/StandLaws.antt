@@ -22,7 +22,7 @@ use Rattle.bk_stores.specs.Records.{IsApart}
 use Rattle.bk_stores.specs.ListLaws.{got, got-inside, got-none, got-one, got-other, got-set, same-place}
 use Rattle.bk_stores.specs.NameLaws.{own-apart}
 use Rattle.bk_stores.specs.SlotLaws.{slot-kept, slot-left}
-use Rattle.bk_stores.specs.Stores.{AreEntries, AreStores, at_paths, IsAt, IsFree, IsOfEntry, IsOurs, files_by, its_files, Kept, LeavesEntry, LeavesStores, SlotsStand, Standing, sealed_at, sealed_by, sealed_of}
+use Rattle.bk_stores.specs.Stores.{AreEntries, AreStores, at_paths, IsAt, IsFree, IsOfEntry, IsOurs, files_by, its_files, Kept, LeavesEntry, LeavesStores, SlotsStand, StandFor, sealed_at, sealed_by, sealed_of}
 
 -- ---- names
 
@@ -55,7 +55,7 @@ free-apart next n db files name above small below log own =
 -- ---- what is kept
 
 -- what leaves all names of stores leaves those that stand
-pub standing-kept : {a b : Disk} (r : Record) (slots : List (Option KeptStore)) (tolds : List Told) → ((db : ℕ) (files : List DataFile) → KeepsFiles (IsOwn db files) a b) → Standing a r slots tolds → Standing b r slots tolds
+pub standing-kept : {a b : Disk} (r : Record) (slots : List (Option KeptStore)) (tolds : List Told) → ((db : ℕ) (files : List DataFile) → KeepsFiles (IsOwn db files) a b) → StandFor a r slots tolds → StandFor b r slots tolds
 standing-kept r slots tolds keeps is = record {
   entries = is.entries;
   count = is.count;

@@ -12,7 +12,7 @@ use Rattle.bk_log.specs.Laws.{log_kept, value_kept}
 use Rattle.bk_redo.specs.PageStates.{page_of}
 use Rattle.bk_paged.specs.Holds.{Holds, IsStored, Recovers, Stood, point_of}
 use Rattle.bk_paged.specs.Names.{IsOwn, names_of, shown_at}
-use Rattle.bk_paged.specs.Paged.{IsPaged, Kept as KeptPaged}
+use Rattle.bk_paged.specs.Paged.{IsPaged, Standing, Kept as KeptPaged}
 use Rattle.bk_redo.specs.declared.place.PageAt.{PageAt}
 use Rattle.bk_segments.specs.FileLaws.{log_same}
 use Rattle.bk_segments.specs.Files.{control_file, segment_file, Logged as LogValue, IsOwn as IsOfLog}
@@ -40,25 +40,32 @@ recovers-on kept since files one two records same is = record {
   pages = λ at there. subst (λ (page : List ℕ). IsStored records (point_of since at) at page) (sym (same at)) (is.pages at there);
 }
 
+-- what is done to other files leaves log and pages standing
+pub physical-kept : {a b : Disk} (p : KeptPaged) → KeepsFiles (IsOwn p.log.db p.facts.files) a b → Standing a p → Standing b p
+physical-kept {a} {b} p keeps is =
+    let of_log : KeepsFiles (IsOfLog p.log.db) a b = narrow (λ name at. inl at) keeps in
+    let of_side : KeepsFiles (IsOfSide (side_file p.log.db) (names_of p.facts.files)) a b = narrow (λ name at. inr at) keeps in
+    let own : KeepsFiles (IsOwnOf p.side) a b =
+    subst (λ (s : List ℕ). KeepsFiles (IsOfSide s p.side.names) a b) (sym is.side_name) (subst (λ (ns : List (List ℕ)). KeepsFiles (IsOfSide (side_file p.log.db) ns) a b) (sym is.side_names) of_side) in
+    record {
+      logs = log_kept of_log is.logs;
+      side_name = is.side_name;
+      side_names = is.side_names;
+      sides = side_kept own is.sides;
+      fresh = added_kept p.side own ∙ is.fresh;
+      noted = is.noted;
+      room = is.room;
+      different = is.different;
+    }
+
 pub paged-kept : {a b : Disk} (p : KeptPaged) (stood : Stood) → KeepsFiles (IsOwn p.log.db stood.files) a b → IsPaged a p stood → IsPaged b p stood
 paged-kept {a} {b} p stood keeps is =
     let of_log : KeepsFiles (IsOfLog p.log.db) a b = narrow (λ name at. inl at) keeps in
     let of_side : KeepsFiles (IsOfSide (side_file p.log.db) (names_of stood.files)) a b = narrow (λ name at. inr at) keeps in
-    let names : p.side.names ≡ names_of stood.files = is.standing.side_names ∙ ap names_of is.files in
-    let own : KeepsFiles (IsOwnOf p.side) a b =
-    subst (λ (s : List ℕ). KeepsFiles (IsOfSide s p.side.names) a b) (sym is.standing.side_name) (subst (λ (ns : List (List ℕ)). KeepsFiles (IsOfSide (side_file p.log.db) ns) a b) (sym names) of_side) in
+    let own : KeepsFiles (IsOwn p.log.db p.facts.files) a b = subst (λ (fs : List DataFile). KeepsFiles (IsOwn p.log.db fs) a b) (sym is.files) keeps in
     let pages : (at : PageAt) → shown_at p.log.db stood.files b.files at ≡ shown_at p.log.db stood.files a.files at = λ at. shown_kept (side_file p.log.db) (names_of stood.files) of_side (at.file, at.page) in
     record {
-      standing = record {
-        logs = log_kept of_log is.standing.logs;
-        side_name = is.standing.side_name;
-        side_names = is.standing.side_names;
-        sides = side_kept own is.standing.sides;
-        fresh = added_kept p.side own ∙ is.standing.fresh;
-        noted = is.standing.noted;
-        room = is.standing.room;
-        different = is.standing.different;
-      };
+      standing = physical-kept p own is.standing;
       files = is.files;
       same_note = is.same_note;
       ends = is.ends;

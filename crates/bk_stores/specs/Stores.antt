@@ -121,7 +121,7 @@ abbrev pub IsFree : ℕ → Disk → Type 0
 IsFree next disk = (n : ℕ) → next ≤ n → n < 2 ^ 32 → LogsAreDurable n disk
 
 -- The slots of a record's entries stand for these databases.
-pub record Standing (disk : Disk) (r : Record) (slots : List (Option KeptStore)) (tolds : List Told) : Type 0 where
+pub record StandFor (disk : Disk) (r : Record) (slots : List (Option KeptStore)) (tolds : List Told) : Type 0 where
   pub entries : AreEntries r tolds
   pub count : length slots ≡ length tolds
   pub stand : SlotsStand disk r.databases slots tolds
@@ -130,7 +130,7 @@ pub record Standing (disk : Disk) (r : Record) (slots : List (Option KeptStore))
 -- The stores stand for these databases, and none is being made or removed.
 pub record AreStores (disk : Disk) (s : Kept) (tolds : List Told) : Type 0 where
   pub master : IsMaster disk s.master
-  pub standing : Standing disk s.master.record s.slots tolds
+  pub standing : StandFor disk s.master.record s.slots tolds
 
 -- what is needed of the stores whatever the device tells: calls may be made on them, and the record has room
 pub record IsReady (s : Kept) : Type 0 where

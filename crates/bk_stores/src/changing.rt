@@ -5,7 +5,8 @@ use crate::stores::Stores;
 use bk_store::Store;
 
 impl Stores {
-    /// Takes the store of the database at this place out, which counts from 0, where it is open. It is to be given back by `give` before anything else is done here.
+    /// Takes the store of the database at this place out, which counts from 0, where it is open. It is to be given back by `give` before anything else is done here; a call on it meanwhile leaves
+    /// the others standing (`specs/StandingLaws`: `taken`, `lent-called`, `given`).
     pub fn take(&mut self, at: usize) -> Option<Store>
         requires inside { at < length self.old.slots }
         ensures store { slice_get self.old.slots at ≡ Some result }

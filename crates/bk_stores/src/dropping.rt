@@ -1,5 +1,5 @@
 // Removing a database.
-ghost use Rattle.std.specs.Prelude.{◌≡◌, ◌<◌, List, Some, false, length, remove, slice_get, IfErr, IfOk, OnOk, IsErrOf};
+ghost use Rattle.std.specs.Prelude.{◌≡◌, ◌<◌, List, None, Some, false, length, remove, set, slice_get, IfErr, IfOk, OnOk, IsErrOf};
 ghost use Rattle.bk_device.specs.Counts.{HasCause};
 ghost use Rattle.bk_device.specs.Effects.{Effect};
 ghost use Rattle.bk_master.specs.declared.record.Entry.{Entry as Entries};
@@ -9,7 +9,8 @@ ghost use Rattle.bk_store.specs.Told.{Told};
 ghost use Rattle.bk_stores.specs.Errors.{IsTrouble};
 ghost use Rattle.bk_stores.specs.Making.{Drops, MayRemove};
 ghost use Rattle.bk_stores.specs.Records.{AreSmall, left_out, rested};
-ghost use Rattle.bk_stores.specs.Stores.{AreStores, IsOurs, IsReady, LeavesStores, sealed_at};
+ghost use Rattle.bk_stores.specs.Standing.{AreStanding, AreUnused};
+ghost use Rattle.bk_stores.specs.Stores.{AreStores, IsOurs, IsReady, LeavesStores, at_paths, sealed_at};
 
 use crate::error::StoresError;
 use crate::records::{left_record, rested_record, store_at};
@@ -31,10 +32,11 @@ impl Stores {
         requires ready { IsReady self.old }
         requires inside { at < length self.old.slots }
         requires small { AreSmall paths.now }
-        requires stands { D.tells → (tolds : List Told) × (told : Told) × (AreStores (D.disk dev.old) self.old tolds × MayRemove self.old tolds at told paths.now) }
+        requires standing { D.tells → AreStanding (D.disk dev.old) self.old }
         ensures fit { OnOk result (self.new.master.failed ≡ false) }
         ensures record { IfOk result (λ n. (e : Entries) × (slice_get self.old.master.record.databases at ≡ Some e) × (e.store ≡ n) × (self.new.master.record ≡ left_out self.old.master.record at n paths.now)) }
         ensures slots { OnOk result (self.new.slots ≡ remove self.old.slots at) }
+        ensures standing { D.tells → OnOk result (AreStanding (D.disk dev.new) self.new) }
         ensures stands { D.tells → (tolds : List Told) (told : Told) → AreStores (D.disk dev.old) self.old tolds → MayRemove self.old tolds at told paths.now → OnOk result (AreStores (D.disk dev.new) self.new (remove tolds at)) }
         ensures crash { D.tells → (tolds : List Told) (told : Told) → AreStores (D.disk dev.old) self.old tolds → MayRemove self.old tolds at told paths.now → Drops self.old tolds at (D.disk dev.old) (D.disk dev.new) }
         ensures trouble { IfErr result IsTrouble }
@@ -55,6 +57,7 @@ impl Stores {
         requires master { D.tells → IsMaster (D.disk dev.old) self.old.master }
         ensures ready { OnOk result (IsReady self.new) }
         ensures slots { OnOk result (self.new.slots ≡ self.old.slots) }
+        ensures standing { D.tells → AreStanding (D.disk dev.old) self.old → OnOk result (AreStanding (D.disk dev.new) self.new) }
         ensures stands { D.tells → (tolds : List Told) → AreStores (D.disk dev.old) self.old tolds → OnOk result (AreStores (D.disk dev.new) self.new tolds) }
         ensures master { D.tells → OnOk result (IsMaster (D.disk dev.new) self.new.master) }
         ensures crash { D.tells → (tolds : List Told) → AreStores (D.disk dev.old) self.old tolds → Effect IsOurs (LeavesStores (sealed_at self.old tolds) tolds) (D.disk dev.old) (D.disk dev.new) }
@@ -66,7 +69,8 @@ impl Stores {
         Ok(())
     }
 
-    /// Removes the database at this place, which counts from 0, with its data files, which lie at these paths, if it has some, its log and its other files. A crash leaves all databases, or those without it.
+    /// Removes the database at this place, which counts from 0, with its data files, which lie at these paths, if it has some, its log and its other files. No other open store has one of these data files. A crash
+    /// leaves all databases, or those without it.
     ///
     /// Only `Fault` and `NoMemory` are answered.
     pub fn remove<D: Device>(
@@ -79,9 +83,11 @@ impl Stores {
         requires ready { IsReady self.old }
         requires inside { at < length self.old.slots }
         requires small { AreSmall paths.now }
-        requires stands { D.tells → (tolds : List Told) × (told : Told) × (AreStores (D.disk dev.old) self.old tolds × MayRemove self.old tolds at told paths.now) }
+        requires standing { D.tells → AreStanding (D.disk dev.old) self.old }
+        requires unused { D.tells → AreUnused (set self.old.slots at None) (at_paths paths.now) }
         ensures ready { OnOk result (IsReady self.new) }
         ensures slots { OnOk result (self.new.slots ≡ remove self.old.slots at) }
+        ensures standing { D.tells → OnOk result (AreStanding (D.disk dev.new) self.new) }
         ensures stands { D.tells → (tolds : List Told) (told : Told) → AreStores (D.disk dev.old) self.old tolds → MayRemove self.old tolds at told paths.now → OnOk result (AreStores (D.disk dev.new) self.new (remove tolds at)) }
         ensures crash { D.tells → (tolds : List Told) (told : Told) → AreStores (D.disk dev.old) self.old tolds → MayRemove self.old tolds at told paths.now → Drops self.old tolds at (D.disk dev.old) (D.disk dev.new) }
         ensures trouble { IfErr result IsTrouble }

@@ -6,10 +6,13 @@ mod dropping;
 mod error;
 mod loading;
 mod making;
+mod numbers;
 mod opening;
 mod records;
 mod stores;
 mod swapping;
+mod unused;
 
 pub use error::StoresError;
 pub use stores::Stores;
+pub use unused::share_no_path;

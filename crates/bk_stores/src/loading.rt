@@ -9,9 +9,11 @@ ghost use Rattle.bk_master.specs.Spelling.{IsShort, IsShortPath, IsSmall, KeepsR
 ghost use Rattle.bk_stores.specs.Errors.{IsTrouble};
 ghost use Rattle.bk_store.specs.Told.{Told};
 ghost use Rattle.bk_stores.specs.Loading.{HoldsInstance, IsOfAny, Opens, shut};
-ghost use Rattle.bk_stores.specs.Stores.{AreStores, IsOurs, IsReady, LeavesStores, sealed_at};
+ghost use Rattle.bk_stores.specs.Standing.{AreDifferent, AreNumbered, AreShut, AreStanding, LieBelow, LieUnder};
+ghost use Rattle.bk_stores.specs.Stores.{AreEntries, AreStores, IsOurs, IsReady, LeavesStores, sealed_at};
 
 use crate::error::StoresError;
+use crate::numbers::are_numbered;
 use crate::stores::Stores;
 use bk_device::{Device, Failed};
 use bk_filling::{FillError, remove_parts};
@@ -76,6 +78,15 @@ fn keeps(record: &Record) -> bool
         && unfinished.iter().all(is_small)
 }
 
+// Whether a record keeps its limits, and each of its stores has a number of its own.
+fn is_sound(record: &Record) -> bool
+    ensures keeps { result ≡ true → KeepsRecord «record».now }
+    ensures numbered { result ≡ true → AreNumbered «record».now }
+    ensures all { KeepsRecord «record».now → LieBelow «record».now.databases «record».now.next → LieUnder «record».now.unfinished «record».now.next → AreDifferent «record».now.databases → result ≡ true }
+{
+    keeps(record) && are_numbered(record)
+}
+
 // Makes durable what a read shows of an instance's own files: a process that was stopped may have left writes there that are still pending.
 fn sync_own<D: Device>(dev: &mut D) -> Result<(), Failed>
     ensures durable { D.tells → OnOk result (AreDurable (D.disk dev.new)) }
@@ -123,6 +134,7 @@ impl Stores {
         requires master { D.tells → IsMaster (D.disk dev.old) self.old.master }
         ensures ready { OnOk result (IsReady self.new) }
         ensures slots { OnOk result (self.new.slots ≡ self.old.slots) }
+        ensures standing { D.tells → AreNumbered self.old.master.record → AreShut self.old.slots → OnOk result (AreStanding (D.disk dev.new) self.new) }
         ensures stands { D.tells → (tolds : List Told) → AreStores (D.disk dev.old) self.old tolds → OnOk result (AreStores (D.disk dev.new) self.new tolds) }
         ensures crash { D.tells → (tolds : List Told) → AreStores (D.disk dev.old) self.old tolds → Effect IsOurs (LeavesStores (sealed_at self.old tolds) tolds) (D.disk dev.old) (D.disk dev.new) }
         ensures still { D.tells → self.old.master.record.unfinished ≡ [] → ChangesNothing (D.disk dev.old) (D.disk dev.new) }
@@ -136,19 +148,21 @@ impl Stores {
         self.rest(alloc, dev)
     }
 
-    // Has no store open, and removes what was being made or removed. `Broken` is answered only where the record doesn't keep its limits.
+    // Has no store open, and removes what was being made or removed. `Broken` is answered only where the record doesn't keep its limits, or stores have no number
+    // of their own there.
     fn settle_in<D: Device>(&mut self, alloc: Global, dev: &mut D) -> Result<(), StoresError>
         requires fit { self.old.master.failed ≡ false }
         requires master { D.tells → IsMaster (D.disk dev.old) self.old.master }
         ensures ready { OnOk result (IsReady self.new) }
         ensures slots { OnOk result (self.new.slots ≡ replicate (length self.new.slots) None) }
+        ensures standing { D.tells → OnOk result (AreStanding (D.disk dev.new) self.new) }
         ensures stands { D.tells → (tolds : List Told) → AreStores (D.disk dev.old) (shut self.old.master) tolds → OnOk result (AreStores (D.disk dev.new) self.new tolds) }
         ensures crash { D.tells → (tolds : List Told) → AreStores (D.disk dev.old) (shut self.old.master) tolds → Effect IsOurs (LeavesStores (sealed_at (shut self.old.master) tolds) tolds) (D.disk dev.old) (D.disk dev.new) }
-        ensures broken { IsErrOf result StoresError.Broken → KeepsRecord self.old.master.record → ⊥ }
+        ensures broken { IsErrOf result StoresError.Broken → (tolds : List Told) → AreEntries self.old.master.record tolds → ⊥ }
         ensures not_an_instance { IsErrOf result StoresError.NotAnInstance → ⊥ }
         ensures cause { HasCause D.disk_faults D.tell_faults dev.old dev.new (IsErrOf result StoresError.Fault) }
     {
-        if !keeps(self.master.record()) {
+        if !is_sound(self.master.record()) {
             return Err(StoresError::Broken);
         }
         self.slots = shut_slots(alloc, self.master.record().databases.as_slice().len())?;
@@ -159,10 +173,12 @@ impl Stores {
     /// that there were.
     ///
     /// `NotAnInstance` is answered only where an instance is made and its control file holds no control, and `Broken` only where it is made and its control holds no record, or one that doesn't keep its limits:
-    /// 16 databases, and two stores that are being made or removed, each with 16 data files at paths of 1 to 100 bytes. `NoMemory` may come after files were touched.
+    /// 16 databases, and two stores that are being made or removed, each with 16 data files at paths of 1 to 100 bytes; each store with a number of its own below the next one. `NoMemory` may come after files
+    /// were touched.
     pub fn load<D: Device>(alloc: Global, dev: &mut D, number: u64) -> Result<Stores, StoresError>
         ensures ready { IfOk result IsReady }
         ensures shut { IfOk result (λ s. s.slots ≡ replicate (length s.slots) None) }
+        ensures standing { D.tells → IfOk result (λ s. AreStanding (D.disk dev.new) s) }
         ensures stands { D.tells → IsSettled (D.disk dev.old) → (tolds : List Told) → HoldsInstance (D.disk dev.old).files tolds → IfOk result (λ s. AreStores (D.disk dev.new) s tolds) }
         ensures not_an_instance { D.tells → IsErrOf result StoresError.NotAnInstance → IsNoInstance (D.disk dev.old).files }
         ensures broken { D.tells → IsErrOf result StoresError.Broken → IsSettled (D.disk dev.old) → (tolds : List Told) → HoldsInstance (D.disk dev.old).files tolds → ⊥ }

@@ -10,6 +10,7 @@ ghost use Rattle.bk_store.specs.Told.{Told, data_file, data_files};
 ghost use Rattle.bk_stores.specs.Errors.{IsTrouble};
 ghost use Rattle.bk_stores.specs.Making.{Adds, Creates, MayAdd};
 ghost use Rattle.bk_stores.specs.Records.{AreSmall, IsApart, SharesNone, begun, rested};
+ghost use Rattle.bk_stores.specs.Standing.{AreStanding, AreUnused, Joins};
 ghost use Rattle.bk_stores.specs.Stores.{AreStores, IsOurs, IsReady, IsSlot, LeavesStores, at_paths, its_files, sealed_at};
 
 use crate::error::StoresError;
@@ -24,7 +25,7 @@ use bk_store::Store;
 use std::alloc::Global;
 
 impl Stores {
-    /// Names the store of the next number as one that is being made, with data files at these paths, at most 16, which no database has. A crash leaves the databases that were there.
+    /// Names the store of the next number as one that is being made, with data files at these paths, at most 16. Where no database has one of these, a crash leaves the databases that were there.
     ///
     /// Only `Fault` and `NoMemory` are answered.
     pub fn begin_store<D: Device>(
@@ -35,11 +36,12 @@ impl Stores {
     ) -> Result<(), StoresError>
         requires ready { IsReady self.old }
         requires small { AreSmall paths.now }
-        requires stands { D.tells → (tolds : List Told) × (AreStores (D.disk dev.old) self.old tolds × SharesNone self.old.master.record.databases tolds (at_paths paths.now)) }
+        requires standing { D.tells → AreStanding (D.disk dev.old) self.old }
         ensures fit { OnOk result (self.new.master.failed ≡ false) }
         ensures begun { OnOk result (self.new.master.record ≡ begun self.old.master.record paths.now) }
         ensures slots { OnOk result (self.new.slots ≡ self.old.slots) }
         ensures few { OnOk result (self.old.master.record.next < 2 ^ 32) }
+        ensures standing { D.tells → OnOk result (AreStanding (D.disk dev.new) self.new) }
         ensures stands { D.tells → (tolds : List Told) → AreStores (D.disk dev.old) self.old tolds → SharesNone self.old.master.record.databases tolds (at_paths paths.now) → OnOk result (AreStores (D.disk dev.new) self.new tolds) }
         ensures crash { D.tells → (tolds : List Told) → AreStores (D.disk dev.old) self.old tolds → SharesNone self.old.master.record.databases tolds (at_paths paths.now) → Effect IsOurs (LeavesStores (sealed_at self.old tolds) tolds) (D.disk dev.old) (D.disk dev.new) }
         ensures trouble { IfErr result IsTrouble }
@@ -63,9 +65,11 @@ impl Stores {
     ) -> Result<(), StoresError>
         requires fit { self.old.master.failed ≡ false }
         requires adds { Adds self.old entry.store }
-        requires stands { D.tells → (tolds : List Told) × (new : Told) × (AreStores (D.disk dev.old) self.old tolds × MayAdd (D.disk dev.old) self.old tolds entry slot new) }
+        requires standing { D.tells → AreStanding (D.disk dev.old) self.old }
+        requires joins { D.tells → Joins (D.disk dev.old) self.old.master.record.databases self.old.slots entry slot }
         ensures ready { OnOk result (IsReady self.new) }
         ensures slots { OnOk result (self.new.slots ≡ self.old.slots ++ slot ∷ []) }
+        ensures standing { D.tells → OnOk result (AreStanding (D.disk dev.new) self.new) }
         ensures stands { D.tells → (tolds : List Told) (new : Told) → AreStores (D.disk dev.old) self.old tolds → MayAdd (D.disk dev.old) self.old tolds entry slot new → OnOk result (AreStores (D.disk dev.new) self.new (tolds ++ new ∷ [])) }
         ensures crash { D.tells → (tolds : List Told) (new : Told) → AreStores (D.disk dev.old) self.old tolds → MayAdd (D.disk dev.old) self.old tolds entry slot new → Creates self.old tolds new (D.disk dev.old) (D.disk dev.new) }
         ensures trouble { IfErr result IsTrouble }
@@ -86,13 +90,15 @@ impl Stores {
     ) -> Result<u32, StoresError>
         requires ready { IsReady self.old }
         requires may { MayDescribe spec.now }
-        requires stands { D.tells → (tolds : List Told) × (AreStores (D.disk dev.old) self.old tolds × SharesNone self.old.master.record.databases tolds (map data_file spec.now.storage.files)) }
+        requires standing { D.tells → AreStanding (D.disk dev.old) self.old }
+        requires unused { D.tells → AreUnused self.old.slots (at_paths (map (λ f. f.path) spec.now.storage.files)) }
         ensures fit { OnOk result (self.new.master.failed ≡ false) }
         ensures number { IfOk result (λ n. n ≡ self.old.master.record.next) }
         ensures begun { OnOk result (self.new.master.record ≡ begun self.old.master.record (map (λ f. f.path) spec.now.storage.files)) }
         ensures slots { OnOk result (self.new.slots ≡ self.old.slots) }
         ensures few { OnOk result (self.old.master.record.next < 2 ^ 32) }
         ensures none { D.tells → OnOk result ((control_of ((D.disk dev.new).files (control_file self.old.master.record.next)) ≡ None) × IsDurable (D.disk dev.new) (control_file self.old.master.record.next)) }
+        ensures standing { D.tells → OnOk result (AreStanding (D.disk dev.new) self.new) }
         ensures stands { D.tells → (tolds : List Told) → AreStores (D.disk dev.old) self.old tolds → SharesNone self.old.master.record.databases tolds (map data_file spec.now.storage.files) → OnOk result (AreStores (D.disk dev.new) self.new tolds) }
         ensures crash { D.tells → (tolds : List Told) → AreStores (D.disk dev.old) self.old tolds → SharesNone self.old.master.record.databases tolds (map data_file spec.now.storage.files) → Effect IsOurs (LeavesStores (sealed_at self.old tolds) tolds) (D.disk dev.old) (D.disk dev.new) }
         ensures trouble { IfErr result IsTrouble }
@@ -106,8 +112,8 @@ impl Stores {
     }
 
     /// Makes a database of this description behind the others, with one record, that it was made at this time, in milliseconds since 1970-01-01 00:00:00 UTC, on this branch; that is durable then, and its
-    /// store is open. There are fewer than 16 databases, and none of them has a data file at one of its paths. Pages are kept in so many frames, at least one. A crash leaves the databases that were there,
-    /// or these and the new one.
+    /// store is open. There are fewer than 16 databases, and no open store has a data file at one of its paths. Pages are kept in so many frames, at least one. Where no database has one either,
+    /// a crash leaves the databases that were there, or these and the new one.
     ///
     /// `NoMemory` may come after files were touched; it comes where two data files have one path. Only `Fault` and `NoMemory` are answered.
     pub fn create<D: Device>(
@@ -123,8 +129,10 @@ impl Stores {
         requires few { length self.old.slots < 16 }
         requires some { 1 ≤ frames }
         requires may { MayDescribe spec }
-        requires stands { D.tells → (tolds : List Told) × (AreStores (D.disk dev.old) self.old tolds × SharesNone self.old.master.record.databases tolds (map data_file spec.storage.files)) }
+        requires standing { D.tells → AreStanding (D.disk dev.old) self.old }
+        requires unused { D.tells → AreUnused self.old.slots (at_paths (map (λ f. f.path) spec.storage.files)) }
         ensures ready { OnOk result (IsReady self.new) }
+        ensures standing { D.tells → OnOk result (AreStanding (D.disk dev.new) self.new) }
         ensures stands { D.tells → (tolds : List Told) → AreStores (D.disk dev.old) self.old tolds → SharesNone self.old.master.record.databases tolds (map data_file spec.storage.files) → OnOk result (AreStores (D.disk dev.new) self.new (tolds ++ founded spec time branch ∷ [])) }
         ensures crash { D.tells → (tolds : List Told) → AreStores (D.disk dev.old) self.old tolds → SharesNone self.old.master.record.databases tolds (map data_file spec.storage.files) → Creates self.old tolds (founded spec time branch) (D.disk dev.old) (D.disk dev.new) }
         ensures trouble { IfErr result IsTrouble }

@@ -1,10 +1,11 @@
 // Opening a store.
-ghost use Rattle.std.specs.Prelude.{◌≡◌, ◌<◌, List, None, Some, true, length, set, slice_get, OnOk, IsErrOf};
+ghost use Rattle.std.specs.Prelude.{◌≡◌, ◌<◌, List, None, Some, true, length, set, slice_get, IfErr, IfOk, OnOk, IsErrOf};
 ghost use Rattle.bk_device.specs.Counts.{HasCause};
 ghost use Rattle.bk_device.specs.Effects.{Effect};
 ghost use Rattle.bk_master.specs.declared.record.Entry.{Entry as Entries};
 ghost use Rattle.bk_reopening.specs.Reopening.{settled};
 ghost use Rattle.bk_store.specs.Told.{Told};
+ghost use Rattle.bk_stores.specs.Standing.{AreStanding, AreUnused};
 ghost use Rattle.bk_stores.specs.Stores.{AreStores, IsOurs, IsReady, LeavesStores, sealed_at};
 
 use crate::error::StoresError;
@@ -12,14 +13,29 @@ use crate::records::store_at;
 use crate::stores::Stores;
 use bk_device::Device;
 use bk_reopening::load as load_store;
+use bk_store::Store;
 use std::alloc::Global;
 use std::thread::Threads;
 
 impl Stores {
+    // A store that was opened, where no other open store has one of its data files.
+    fn checked(&self, store: Store) -> Result<Store, StoresError>
+        ensures same { IfOk result (λ s. s ≡ store) }
+        ensures unused { OnOk result (AreUnused self.now.slots store.paged.facts.files) }
+        ensures broken { IfErr result (λ e. (e ≡ StoresError.Broken) × (AreUnused self.now.slots store.paged.facts.files → ⊥)) }
+    {
+        let files = store.files();
+        if self.has_none_of(files) {
+            Ok(store)
+        } else {
+            Err(StoresError::Broken)
+        }
+    }
+
     /// Opens the store of the database at this place, which counts from 0, where it is stored and not open: what is pending in it is undone. A crash leaves the databases that there were, and in this one perhaps
     /// some of the records that undo.
     ///
-    /// `Broken` is answered only where the files hold no database.
+    /// `Broken` is answered only where the files hold no database, or one that has a data file of another open store.
     pub fn open<R: Threads + Sync, D: Device>(
         &mut self,
         rt: &R,
@@ -29,8 +45,10 @@ impl Stores {
     ) -> Result<(), StoresError>
         requires ready { IsReady self.old }
         requires shut { slice_get self.old.slots at ≡ Some None }
+        requires standing { D.tells → AreStanding (D.disk dev.old) self.old }
         requires stored { (e : Entries) × (slice_get self.old.master.record.databases at ≡ Some e) × (e.is_stored ≡ true) }
         ensures ready { OnOk result (IsReady self.new) }
+        ensures standing { D.tells → OnOk result (AreStanding (D.disk dev.new) self.new) }
         ensures stands { D.tells → (tolds : List Told) (told : Told) → AreStores (D.disk dev.old) self.old tolds → slice_get tolds at ≡ Some told → OnOk result (AreStores (D.disk dev.new) self.new (set tolds at (settled told))) }
         ensures crash { D.tells → (tolds : List Told) (told : Told) → AreStores (D.disk dev.old) self.old tolds → slice_get tolds at ≡ Some told → Effect IsOurs (LeavesStores (sealed_at self.old tolds) (set tolds at (settled told))) (D.disk dev.old) (D.disk dev.new) }
         ensures broken { D.tells → IsErrOf result StoresError.Broken → (tolds : List Told) → AreStores (D.disk dev.old) self.old tolds → ⊥ }
@@ -38,7 +56,8 @@ impl Stores {
         ensures cause { HasCause D.disk_faults D.tell_faults dev.old dev.new (IsErrOf result StoresError.Fault) }
     {
         let number = store_at(self.master.record(), at);
-        let store = load_store(rt, alloc, dev, number)?;
+        let opened = load_store(rt, alloc, dev, number)?;
+        let store = self.checked(opened)?;
         self.slots[at] = Some(store);
         Ok(())
     }

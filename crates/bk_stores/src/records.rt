@@ -100,6 +100,7 @@ pub(crate) fn begin_record(
 ) -> Result<Record, StoresError>
     ensures begun { IfOk result (λ r. r ≡ begun old.now paths.now) }
     ensures few { IfOk result (λ r. old.now.next < 2 ^ 32) }
+    ensures small { IfOk result (λ r. r.next < 2 ^ 32) }
     ensures trouble { IfErr result IsTrouble }
     ensures no_fault { IsErrOf result Fault → ⊥ }
 {

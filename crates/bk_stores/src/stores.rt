@@ -5,7 +5,7 @@ ghost use Rattle.bk_device.specs.Effects.{Effect};
 ghost use Rattle.bk_master.specs.Master.{HoldsRecord, IsMaster, IsOwn as IsOfMaster};
 ghost use Rattle.bk_master.specs.Spelling.{KeepsRecord};
 ghost use Rattle.bk_stores.specs.Errors.{IsTrouble};
-ghost use Rattle.bk_stores.specs.Stores.{AreStores, IsReady, Kept, Standing};
+ghost use Rattle.bk_stores.specs.Stores.{AreStores, IsReady, Kept, StandFor};
 
 use crate::error::StoresError;
 use bk_device::Device;

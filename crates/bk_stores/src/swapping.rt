@@ -7,7 +7,8 @@ ghost use Rattle.bk_store.specs.Told.{Told};
 ghost use Rattle.bk_stores.specs.Errors.{IsTrouble};
 ghost use Rattle.bk_stores.specs.Making.{MaySwap, Swaps};
 ghost use Rattle.bk_stores.specs.Records.{AreSmall, swapped};
-ghost use Rattle.bk_stores.specs.Stores.{AreStores, IsReady};
+ghost use Rattle.bk_stores.specs.Standing.{AreStanding, AreUnused, Joins};
+ghost use Rattle.bk_stores.specs.Stores.{AreStores, IsReady, at_paths};
 
 use crate::error::StoresError;
 use crate::records::{store_at, swapped_record};
@@ -35,10 +36,13 @@ impl Stores {
         requires count { length self.old.slots ≡ length self.old.master.record.databases }
         requires inside { at < length self.old.slots }
         requires small { AreSmall paths.now }
-        requires stands { D.tells → (tolds : List Told) × (told : Told) × (new : Told) × (AreStores (D.disk dev.old) self.old tolds × MaySwap (D.disk dev.old) self.old tolds at told entry slot new paths.now) }
+        requires below { entry.store < self.old.master.record.next }
+        requires standing { D.tells → AreStanding (D.disk dev.old) self.old }
+        requires joins { D.tells → Joins (D.disk dev.old) self.old.master.record.databases (set self.old.slots at None) entry slot }
         ensures fit { OnOk result (self.new.master.failed ≡ false) }
         ensures record { IfOk result (λ n. (e : Entries) × (slice_get self.old.master.record.databases at ≡ Some e) × (e.store ≡ n) × (self.new.master.record ≡ swapped self.old.master.record at entry n paths.now)) }
         ensures slots { OnOk result (self.new.slots ≡ set self.old.slots at slot) }
+        ensures standing { D.tells → OnOk result (AreStanding (D.disk dev.new) self.new) }
         ensures stands { D.tells → (tolds : List Told) (told new : Told) → AreStores (D.disk dev.old) self.old tolds → MaySwap (D.disk dev.old) self.old tolds at told entry slot new paths.now → OnOk result (AreStores (D.disk dev.new) self.new (set tolds at new)) }
         ensures crash { D.tells → (tolds : List Told) (told new : Told) → AreStores (D.disk dev.old) self.old tolds → MaySwap (D.disk dev.old) self.old tolds at told entry slot new paths.now → Swaps self.old tolds at new (D.disk dev.old) (D.disk dev.new) }
         ensures trouble { IfErr result IsTrouble }
@@ -52,7 +56,7 @@ impl Stores {
     }
 
     /// Puts another store, which was begun before and is whole, open or not, in the place of that of the database at this place, which counts from 0, and removes the files of the one that was, with data files
-    /// at these paths. A crash leaves the database as it was, or as the other store holds it.
+    /// at these paths, which no open store has then. A crash leaves the database as it was, or as the other store holds it.
     ///
     /// Only `Fault` and `NoMemory` are answered.
     pub fn swap<D: Device>(
@@ -69,9 +73,13 @@ impl Stores {
         requires count { length self.old.slots ≡ length self.old.master.record.databases }
         requires inside { at < length self.old.slots }
         requires small { AreSmall paths.now }
-        requires stands { D.tells → (tolds : List Told) × (told : Told) × (new : Told) × (AreStores (D.disk dev.old) self.old tolds × MaySwap (D.disk dev.old) self.old tolds at told entry slot new paths.now) }
+        requires below { entry.store < self.old.master.record.next }
+        requires standing { D.tells → AreStanding (D.disk dev.old) self.old }
+        requires joins { D.tells → Joins (D.disk dev.old) self.old.master.record.databases (set self.old.slots at None) entry slot }
+        requires unused { D.tells → AreUnused (set self.old.slots at slot) (at_paths paths.now) }
         ensures ready { OnOk result (IsReady self.new) }
         ensures slots { OnOk result (self.new.slots ≡ set self.old.slots at slot) }
+        ensures standing { D.tells → OnOk result (AreStanding (D.disk dev.new) self.new) }
         ensures stands { D.tells → (tolds : List Told) (told new : Told) → AreStores (D.disk dev.old) self.old tolds → MaySwap (D.disk dev.old) self.old tolds at told entry slot new paths.now → OnOk result (AreStores (D.disk dev.new) self.new (set tolds at new)) }
         ensures crash { D.tells → (tolds : List Told) (told new : Told) → AreStores (D.disk dev.old) self.old tolds → MaySwap (D.disk dev.old) self.old tolds at told entry slot new paths.now → Swaps self.old tolds at new (D.disk dev.old) (D.disk dev.new) }
         ensures trouble { IfErr result IsTrouble }

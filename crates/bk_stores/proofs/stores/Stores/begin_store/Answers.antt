@@ -1,11 +1,13 @@
 use Rattle.std.proofs.Common.{rules, ◌≡◌, ◌∙◌, ◌<◌, ◌^◌, sym, subst}
 use Rattle.bk_device.specs.Effects.{Effect}
+use Rattle.bk_master.specs.declared.record.Record.{Record}
 use Rattle.bk_master.specs.Spelling.{KeepsRecord}
 use Rattle.bk_stores.specs.AddLaws.{begun-keeps}
 use Rattle.bk_stores.specs.Records.{SharesNone, begun}
 use Rattle.bk_stores.specs.StandLaws.{rest-crash}
+use Rattle.bk_stores.specs.Standing.{AreStanding}
 use Rattle.bk_stores.specs.Stores.{AreStores, IsOurs, Kept, LeavesStores, at_paths, sealed_at}
-use Rattle.bk_stores.proofs.Begun.{begun-crash, begun-stands}
+use Rattle.bk_stores.proofs.Begun.{begun-crash, begun-put, begun-stands}
 use Rattle.bk_stores.proofs.stores.Stores.begin_store.Goals as goal
 
 pub returns-in_err-next-clause-crash : goal.returns-in_err-next-clause-crash
@@ -47,3 +49,12 @@ returns-clause-crash g c t tolds is shares =
     let next_is : c.in_ok-next.next ≡ begun c.self.inside.master.record c.args.paths.now = search rules in
     let few : c.self.inside.master.record.next < 2 ^ 32 = search rules in
     subst (λ (k : Kept). Effect IsOurs (LeavesStores (sealed_at k tolds) tolds) a b) c.self.view_is (begun-crash s tolds c.args.paths.now c.in_ok-next.next few c.requires.small next_is here none (c.put.ensures.crash t))
+
+pub returns-clause-standing : goal.returns-clause-standing
+returns-clause-standing g c t =
+    let a = g.D.Device.disk c.args.dev.now in
+    let s : Kept = record { master = c.self.inside.master; slots = c.self.inside.slots.items } in
+    let here = subst (λ (k : Kept). AreStanding a k) (sym c.self.view_is) (c.requires.standing t) in
+    let next_is : c.in_ok-next.next ≡ begun c.self.inside.master.record c.args.paths.now = search rules in
+    let small : c.put.new.self.record.next < 2 ^ 32 = subst (λ (n : Record). n.next < 2 ^ 32) (sym c.in_ok-put.ensures.put) c.in_ok-next.ensures.small in
+    begun-put s c.args.paths.now c.put.new.self (c.in_ok-put.ensures.put ∙ next_is) small here (c.in_ok-put.ensures.stands t) (c.put.ensures.crash t)

@@ -16,7 +16,7 @@ pub returns-in_err-settle_in-clause-broken : goal.returns-in_err-settle_in-claus
 returns-in_err-settle_in-clause-broken g c t broken settled tolds is =
     let its : IsErrOf c.settle_in.result Broken = search rules in
     let here : AreStores (g.D.Device.disk c.open_master.new.dev) (shut c.in_ok-master.master) tolds = c.in_ok-master.ensures.stands t settled tolds is in
-    c.settle_in.ensures.broken its here.standing.entries.keeps
+    c.settle_in.ensures.broken its tolds here.standing.entries
 
 pub returns-in_err-settle_in-clause-crash : goal.returns-in_err-settle_in-clause-crash
 returns-in_err-settle_in-clause-crash g c t settled tolds is =

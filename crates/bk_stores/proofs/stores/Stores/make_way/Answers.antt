@@ -1,4 +1,4 @@
-use Rattle.std.proofs.Common.{rules, ◌≡◌, ◌<◌, ◌^◌, map, refl, subst}
+use Rattle.std.proofs.Common.{rules, ◌≡◌, ◌<◌, ◌^◌, List, ℕ, map, refl, sym, subst}
 use Rattle.bk_device.specs.Compose.{effect_then}
 use Rattle.bk_device.specs.Effects.{Effect, IsName}
 use Rattle.bk_filling.specs.Removing.{AreGone, IsPart}
@@ -7,8 +7,9 @@ use Rattle.bk_segments.specs.Files.{control_file}
 use Rattle.bk_side.specs.Names.{data_file as data_name}
 use Rattle.bk_stores.specs.Records.{begun}
 use Rattle.bk_stores.specs.StandLaws.{rest-crash}
+use Rattle.bk_stores.specs.Standing.{AreUnused}
 use Rattle.bk_stores.specs.Stores.{AreStores, at_paths}
-use Rattle.bk_stores.proofs.Created.{beside-crash, beside-stands, no-control, parts-named, paths-small, shares-at}
+use Rattle.bk_stores.proofs.Created.{beside-crash, beside-standing, beside-stands, no-control, parts-named, paths-small, shares-at}
 use Rattle.bk_stores.proofs.stores.Stores.make_way.Goals as goal
 
 pub returns-in_err-paths-clause-crash : goal.returns-in_err-paths-clause-crash
@@ -18,12 +19,6 @@ pub begin_store-requires-clause-small : goal.begin_store-requires-clause-small
 begin_store-requires-clause-small g c =
     let paths_are : c.deref.result.now ≡ map (λ f. f.path) c.args.spec.now.storage.files = search rules in
     paths-small c.args.spec.now c.deref.result.now c.requires.may paths_are
-
-pub begin_store-requires-clause-stands : goal.begin_store-requires-clause-stands
-begin_store-requires-clause-stands g c t =
-    let paths_are : c.deref.result.now ≡ map (λ f. f.path) c.args.spec.now.storage.files = search rules in
-    let some = c.requires.stands t in
-    (some.0, (some.1.0, shares-at c.args.self.now.master.record.databases some.0 c.args.spec.now.storage.files c.deref.result.now paths_are some.1.1))
 
 pub returns-in_err-begin_store-clause-crash : goal.returns-in_err-begin_store-clause-crash
 returns-in_err-begin_store-clause-crash g c t tolds is shares =
@@ -94,3 +89,18 @@ returns-clause-crash g c t tolds is shares =
     let here : AreStores (disk c.begin_store.new.dev) c.begin_store.new.self tolds = c.in_ok-begin_store.ensures.stands t tolds is shares1 in
     effect_then (c.begin_store.ensures.crash t tolds is shares1)
     (beside-crash c.args.self.now c.begin_store.new.self tolds c.deref.result.now (at_paths c.deref-2.result.now) begun_is slots_are few is.standing.entries shares2 here (parts-named r.next c.deref-2.result.now effect))
+
+pub returns-clause-standing : goal.returns-clause-standing
+returns-clause-standing g c t =
+    let disk = g.D.Device.disk in
+    let s = c.args.self.now in
+    let then = c.begin_store.new.self in
+    let files = c.args.spec.now.storage.files in
+    let again_are : c.deref-2.result.now ≡ map (λ f. f.path) files = search rules in
+    let begun_is : then.master.record ≡ begun s.master.record c.deref.result.now = search rules in
+    let slots_are : then.slots ≡ s.slots = search rules in
+    let record_is : c.record.result.now ≡ s.master.record = search rules in
+    let effect : Effect (IsPart s.master.record.next (map data_name c.deref-2.result.now)) (λ _. Unit {0}) (disk c.begin_store.new.dev) (disk c.remove_parts.new.dev) =
+    subst (λ (x : Record). Effect (IsPart x.next (map data_name c.deref-2.result.now)) (λ _. Unit {0}) (disk c.begin_store.new.dev) (disk c.remove_parts.new.dev)) record_is (c.remove_parts.ensures.crash t) in
+    let unused = subst (λ (paths : List (List ℕ)). AreUnused s.slots (at_paths paths)) (sym again_are) (c.requires.unused t) in
+    beside-standing s then c.deref.result.now (at_paths c.deref-2.result.now) begun_is slots_are (c.requires.standing t).numbers unused (c.in_ok-begin_store.ensures.standing t) (parts-named s.master.record.next c.deref-2.result.now effect)

@@ -1,12 +1,13 @@
-use Rattle.std.proofs.Common.{rules, ◌≡◌, ◌∙◌, Some, inl, sym, subst}
+use Rattle.std.proofs.Common.{rules, ◌≡◌, ◌<◌, ◌∙◌, None, Some, inl, set, sym, subst}
 use Rattle.std.specs.Prelude.{slice_get}
 use Rattle.bk_device.specs.Compose.{effect_weaken}
 use Rattle.bk_master.specs.declared.record.Entry.{Entry}
 use Rattle.bk_stores.specs.Making.{MaySwap, Swaps}
 use Rattle.bk_stores.specs.Records.{swapped}
 use Rattle.bk_stores.specs.StandLaws.{rest-crash}
+use Rattle.bk_stores.specs.Standing.{AreStanding, Joins}
 use Rattle.bk_stores.specs.Stores.{AreStores, Kept}
-use Rattle.bk_stores.proofs.Swapped.{swapped-crash, swapped-stands}
+use Rattle.bk_stores.proofs.Swapped.{swapped-crash, swapped-put, swapped-stands}
 use Rattle.bk_stores.proofs.stores.Stores.put_in_place.Goals as goal
 
 pub returns-in_err-next-clause-crash : goal.returns-in_err-next-clause-crash
@@ -50,3 +51,15 @@ returns-clause-crash g c t tolds told new is may =
     let there : slice_get s.master.record.databases c.args.at ≡ Some e = search rules in
     let next_is : c.in_ok-next.next ≡ swapped s.master.record c.args.at c.args.entry e.store c.args.paths.now = search rules in
     subst (λ (k : Kept). Swaps k tolds c.args.at new a b) c.self.view_is (swapped-crash s tolds c.args.at told new e c.args.entry c.args.slot c.args.paths.now c.in_ok-next.next c.requires.small next_is there here its (c.put.ensures.crash t))
+
+pub returns-clause-standing : goal.returns-clause-standing
+returns-clause-standing g c t =
+    let a = g.D.Device.disk c.args.dev.now in
+    let s : Kept = record { master = c.self.inside.master; slots = c.self.inside.slots.items } in
+    let here = subst (λ (k : Kept). AreStanding a k) (sym c.self.view_is) (c.requires.standing t) in
+    let joins = subst (λ (k : Kept). Joins a k.master.record.databases (set k.slots c.args.at None) c.args.entry c.args.slot) (sym c.self.view_is) (c.requires.joins t) in
+    let below = subst (λ (k : Kept). c.args.entry.store < k.master.record.next) (sym c.self.view_is) c.requires.below in
+    let e : Entry = c.store_at-number.ensures.0 in
+    let there : slice_get s.master.record.databases c.args.at ≡ Some e = search rules in
+    let next_is : c.in_ok-next.next ≡ swapped s.master.record c.args.at c.args.entry e.store c.args.paths.now = search rules in
+    swapped-put s c.args.at e c.args.entry c.args.slot c.args.paths.now c.put.new.self (c.in_ok-put.ensures.put ∙ next_is) there below here joins (c.in_ok-put.ensures.stands t) (c.put.ensures.crash t)

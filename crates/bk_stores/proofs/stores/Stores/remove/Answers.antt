@@ -1,13 +1,12 @@
-use Rattle.std.proofs.Common.{rules, ◌≡◌, ◌<◌, ◌∙◌, ◌∷◌, [], ℕ, List, length, sym, ap, subst, arith}
+use Rattle.std.proofs.Common.{rules, ◌≡◌, ◌<◌, ◌∙◌, ◌∷◌, [], ℕ, length, sym, ap, subst, arith}
 use Rattle.std.specs.Prelude.{remove}
 use Rattle.bk_device.specs.Compose.{effect_then}
 use Rattle.bk_master.specs.declared.record.Record.{Record}
 use Rattle.bk_master.specs.Spelling.{KeepsRecord}
-use Rattle.bk_store.specs.Told.{Told}
 use Rattle.bk_stores.specs.LessLaws.{length-less-same, less-keeps}
-use Rattle.bk_stores.specs.Records.{unfinished_at}
+use Rattle.bk_stores.specs.Records.{left_out, unfinished_at}
 use Rattle.bk_stores.specs.Stores.{AreStores}
-use Rattle.bk_stores.proofs.Aside.{aside-crash, aside-stands, drops-then}
+use Rattle.bk_stores.proofs.Aside.{aside-crash, aside-stands, drops-then, left-aside}
 use Rattle.bk_stores.proofs.stores.Stores.remove.Goals as goal
 
 pub returns-in_err-number-clause-crash : goal.returns-in_err-number-clause-crash
@@ -46,21 +45,24 @@ rest-requires-clause-count g c =
 
 pub rest-requires-clause-master : goal.rest-requires-clause-master
 rest-requires-clause-master g c t =
-    let some = c.requires.stands t in
-    let tolds : List Told = some.0 in
-    let told : Told = some.1 in
-    let is = some.2.0 in
-    let may = some.2.1 in
-    let disk = g.D.Device.disk in
-    let r = c.args.self.now.master.record in
+    let s = c.args.self.now in
     let then = c.leave_out.new.self in
     let n = c.in_ok-number.number in
     let it = c.in_ok-number.ensures.record in
-    let below : n < then.master.record.next = subst (λ (x : Record). n < x.next) (sym it.3) (subst (λ (m : ℕ). m < r.next) it.2 (is.standing.entries.below c.args.at it.0 it.1)) in
-    let unfinished : then.master.record.unfinished ≡ unfinished_at n c.args.paths.now ∷ [] = ap (λ (x : Record). x.unfinished) it.3 in
-    let here = c.in_ok-number.ensures.stands t tolds told is may in
-    let after : AreStores (disk c.remove_parts.new.dev) then (remove tolds c.args.at) = aside-stands then (remove tolds c.args.at) n c.args.paths.now unfinished below here (c.remove_parts.ensures.crash t) in
+    let same : then.master.record ≡ left_out s.master.record c.args.at n c.args.paths.now = it.3 in
+    let slots : then.slots ≡ remove s.slots c.args.at = search rules in
+    let after = left-aside s then c.args.at it.0 n c.args.paths.now it.1 it.2 same slots c.requires.inside (c.requires.standing t).numbers (c.requires.unused t) (c.in_ok-number.ensures.standing t) (c.remove_parts.ensures.crash t) in
     after.master
+
+pub returns-clause-standing : goal.returns-clause-standing
+returns-clause-standing g c t =
+    let s = c.args.self.now in
+    let then = c.leave_out.new.self in
+    let n = c.in_ok-number.number in
+    let it = c.in_ok-number.ensures.record in
+    let same : then.master.record ≡ left_out s.master.record c.args.at n c.args.paths.now = it.3 in
+    let slots : then.slots ≡ remove s.slots c.args.at = search rules in
+    c.rest.ensures.standing t (left-aside s then c.args.at it.0 n c.args.paths.now it.1 it.2 same slots c.requires.inside (c.requires.standing t).numbers (c.requires.unused t) (c.in_ok-number.ensures.standing t) (c.remove_parts.ensures.crash t))
 
 pub returns-clause-stands : goal.returns-clause-stands
 returns-clause-stands g c t tolds told is may =

@@ -1,13 +1,12 @@
-use Rattle.std.proofs.Common.{rules, ◌≡◌, ◌<◌, ◌∙◌, ◌∷◌, [], ℕ, List, length, set, sym, ap, subst}
+use Rattle.std.proofs.Common.{rules, ◌≡◌, ◌<◌, ◌∙◌, ◌∷◌, [], ℕ, length, set, sym, ap, subst}
 use Rattle.std.proofs.lemmas.List.{length-set}
 use Rattle.bk_device.specs.Compose.{effect_then}
 use Rattle.bk_master.specs.declared.record.Record.{Record}
 use Rattle.bk_master.specs.Spelling.{KeepsRecord}
-use Rattle.bk_store.specs.Told.{Told}
-use Rattle.bk_stores.specs.Records.{unfinished_at}
+use Rattle.bk_stores.specs.Records.{swapped, unfinished_at}
 use Rattle.bk_stores.specs.Stores.{AreStores}
 use Rattle.bk_stores.specs.SwapLaws.{swapped-keeps}
-use Rattle.bk_stores.proofs.Aside.{aside-crash, aside-stands, swaps-then}
+use Rattle.bk_stores.proofs.Aside.{aside-crash, aside-stands, swapped-aside, swaps-then}
 use Rattle.bk_stores.proofs.stores.Stores.swap.Goals as goal
 
 pub returns-in_err-number-clause-crash : goal.returns-in_err-number-clause-crash
@@ -48,22 +47,24 @@ rest-requires-clause-count g c =
 
 pub rest-requires-clause-master : goal.rest-requires-clause-master
 rest-requires-clause-master g c t =
-    let some = c.requires.stands t in
-    let tolds : List Told = some.0 in
-    let told : Told = some.1 in
-    let new : Told = some.2 in
-    let is = some.3.0 in
-    let may = some.3.1 in
-    let disk = g.D.Device.disk in
-    let r = c.args.self.now.master.record in
+    let s = c.args.self.now in
     let then = c.put_in_place.new.self in
     let n = c.in_ok-number.number in
     let it = c.in_ok-number.ensures.record in
-    let below : n < then.master.record.next = subst (λ (x : Record). n < x.next) (sym it.3) (subst (λ (m : ℕ). m < r.next) it.2 (is.standing.entries.below c.args.at it.0 it.1)) in
-    let unfinished : then.master.record.unfinished ≡ unfinished_at n c.args.paths.now ∷ [] = ap (λ (x : Record). x.unfinished) it.3 in
-    let here = c.in_ok-number.ensures.stands t tolds told new is may in
-    let after : AreStores (disk c.remove_parts.new.dev) then (set tolds c.args.at new) = aside-stands then (set tolds c.args.at new) n c.args.paths.now unfinished below here (c.remove_parts.ensures.crash t) in
+    let same : then.master.record ≡ swapped s.master.record c.args.at c.args.entry n c.args.paths.now = it.3 in
+    let slots : then.slots ≡ set s.slots c.args.at c.args.slot = search rules in
+    let after = swapped-aside s then c.args.at it.0 c.args.entry c.args.slot n c.args.paths.now it.1 it.2 same slots (c.requires.standing t).numbers (c.requires.joins t).fresh (c.requires.unused t) (c.in_ok-number.ensures.standing t) (c.remove_parts.ensures.crash t) in
     after.master
+
+pub returns-clause-standing : goal.returns-clause-standing
+returns-clause-standing g c t =
+    let s = c.args.self.now in
+    let then = c.put_in_place.new.self in
+    let n = c.in_ok-number.number in
+    let it = c.in_ok-number.ensures.record in
+    let same : then.master.record ≡ swapped s.master.record c.args.at c.args.entry n c.args.paths.now = it.3 in
+    let slots : then.slots ≡ set s.slots c.args.at c.args.slot = search rules in
+    c.rest.ensures.standing t (swapped-aside s then c.args.at it.0 c.args.entry c.args.slot n c.args.paths.now it.1 it.2 same slots (c.requires.standing t).numbers (c.requires.joins t).fresh (c.requires.unused t) (c.in_ok-number.ensures.standing t) (c.remove_parts.ensures.crash t))
 
 pub returns-clause-stands : goal.returns-clause-stands
 returns-clause-stands g c t tolds told new is may =
