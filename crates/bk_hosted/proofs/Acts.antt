@@ -20,9 +20,9 @@ use Rattle.bk_world.specs.Records.{Counts, Logged, Said, checkpointed, more}
 use Rattle.bk_world.specs.SameLaws.{is_guid-refl}
 use Rattle.bk_world.specs.Says.{alone}
 use Rattle.bk_world.specs.Telling.{model}
-use Rattle.bk_hosted.specs.Hosted.{Hosted, Hosts, IsHosted, SaysNoCheckpoint, basing, creating, database_of, names, noting, saying}
+use Rattle.bk_hosted.specs.Hosted.{Hosted, Hosts, IsHosted, SaysNoCheckpoint, basing, creating, database_of, folding, names, noting, saying}
 use Rattle.bk_hosted.proofs.Places.{all-more, all-removed, all-set, got-or, named-at, own-position, with-at, without-at}
-use Rattle.bk_hosted.proofs.Points.{checkpoint-is, noting-is, saying-is}
+use Rattle.bk_hosted.specs.PointLaws.{checkpoint-is, folding-is, noting-is, saying-is}
 
 -- ---- what the machine's laws say
 
@@ -141,20 +141,28 @@ hosts-checkpoint reads last w name time ts hosted i h sound hosts place there ma
     hosts-logged reads last w name (alone (checkpointed time)) ts hosted i h (saying (alone (checkpointed time)) ts (noting h)) sound hosts place there may
     (λ counts. checkpoint-is h time ts counts) refl refl
 
--- the next checkpoint is noted: nothing is done to the world
-pub hosts-noted : (w : World) (name : List ℕ) (hosted : List Hosted) (i : ℕ) (h : Hosted) → IsSound w → Hosts w hosted → position (names name) hosted ≡ Some i → slice_get hosted i ≡ Some h → Hosts w (set hosted i (noting h))
-hosts-noted w name hosted i h sound hosts place there =
+-- another form of a database, which is the same in the world
+hosts-same : (w : World) (name : List ℕ) (hosted : List Hosted) (i : ℕ) (h new : Hosted) → IsSound w → Hosts w hosted → position (names name) hosted ≡ Some i → slice_get hosted i ≡ Some h
+    → (Counts 1 h.records (end_behind h.records) → database_of new ≡ database_of h) → new.records ≡ h.records → new.points.status ≡ h.points.status → Hosts w (set hosted i new)
+hosts-same w name hosted i h new sound hosts place there becomes records status =
     let here = is-there w name hosted i h sound hosts place there in
-    let its : database_of (noting h) ≡ database_of h = noting-is h (records-counted w.history h here.is here.counts) in
+    let its : database_of new ≡ database_of h = becomes (records-counted w.history h here.is here.counts) in
     record {
-      same = hosts.same ∙ same-there hosted i h (noting h) here.at its;
-      each = all-set (IsHosted w.history) hosted i h (noting h) here.inside (λ _. record { log = ap (log_of w.history) its ∙ here.is.log; online = here.is.online }) hosts.each;
+      same = hosts.same ∙ same-there hosted i h new here.at its;
+      each = all-set (IsHosted w.history) hosted i h new here.inside (λ _. record { log = ap (log_of w.history) its ∙ here.is.log ∙ sym records; online = status ∙ here.is.online }) hosts.each;
     }
   where
-    same-there : (hs : List Hosted) (k : ℕ) (x new : Hosted) → x ≡ get_or hs k x → database_of new ≡ database_of x → map database_of hs ≡ map database_of (set hs k new)
-    same-there [] k x new at is = refl
-    same-there (y ∷ hs) zero x new at is = ap (λ (d : Database). d ∷ map database_of hs) (ap database_of (sym at) ∙ sym is)
-    same-there (y ∷ hs) (suc k) x new at is = ap (λ (ds : List Database). database_of y ∷ ds) (same-there hs k x new at is)
+    same-there : (hs : List Hosted) (k : ℕ) (x put : Hosted) → x ≡ get_or hs k x → database_of put ≡ database_of x → map database_of hs ≡ map database_of (set hs k put)
+    same-there [] k x put at is = refl
+    same-there (y ∷ hs) zero x put at is = ap (λ (d : Database). d ∷ map database_of hs) (ap database_of (sym at) ∙ sym is)
+    same-there (y ∷ hs) (suc k) x put at is = ap (λ (ds : List Database). database_of y ∷ ds) (same-there hs k x put at is)
+
+-- the next checkpoint is noted: nothing is done to the world
+pub hosts-noted : (w : World) (name : List ℕ) (hosted : List Hosted) (i : ℕ) (h : Hosted) → IsSound w → Hosts w hosted → position (names name) hosted ≡ Some i → slice_get hosted i ≡ Some h → Hosts w (set hosted i (noting h))
+hosts-noted w name hosted i h sound hosts place there = hosts-same w name hosted i h (noting h) sound hosts place there (noting-is h) refl refl
+
+pub hosts-folded : (w : World) (name : List ℕ) (hosted : List Hosted) (i : ℕ) (h : Hosted) → IsSound w → Hosts w hosted → position (names name) hosted ≡ Some i → slice_get hosted i ≡ Some h → Hosts w (set hosted i (folding h))
+hosts-folded w name hosted i h sound hosts place there = hosts-same w name hosted i h (folding h) sound hosts place there (folding-is h) refl refl
 
 -- ---- a database is based on a set
 

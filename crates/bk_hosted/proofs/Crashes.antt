@@ -25,7 +25,7 @@ use Rattle.bk_world.specs.SameLaws.{same_name-refl}
 use Rattle.bk_world.specs.Telling.{telling}
 use Rattle.bk_hosted.specs.Fronts.{AreFronts, IsFrontOf, settling}
 use Rattle.bk_hosted.specs.Hosted.{Hosted, Hosts, IsHosted, checkpoint_of, database_of, has_checkpoint, is_checkpoint}
-use Rattle.bk_hosted.proofs.Points.{checkpoint-same, has-behind, has-settled, kept-same, quiet-plain}
+use Rattle.bk_hosted.specs.PointLaws.{checkpoint-same, has-behind, has-settled, kept-same, quiet-plain}
 
 -- ---- lists
 

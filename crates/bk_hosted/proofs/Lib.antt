@@ -1,5 +1,4 @@
 mod Places
-mod Points
 mod Acts
 mod Restores
 mod Crashes

@@ -23,7 +23,7 @@ use Rattle.bk_world.specs.Telling.{model}
 use Rattle.bk_hosted.specs.Hosted.{Hosted, Hosts, IsHosted, database_of, has_checkpoint, names, restoring, set_log}
 use Rattle.bk_hosted.proofs.Acts.{Counted, RecoveredLast, counted}
 use Rattle.bk_hosted.proofs.Places.{all-more, all-set, new-at, new-none}
-use Rattle.bk_hosted.proofs.Points.{has-below, has-joined}
+use Rattle.bk_hosted.specs.PointLaws.{has-below, has-joined}
 
 -- ---- what the machine's laws say
 

@@ -106,6 +106,13 @@ awaiting points rs kept = record points { next_checkpoint = end_behind rs; next_
 abbrev pub noting : Hosted → Hosted
 noting h = record h { points = awaiting h.points h.records (kept_next h) }
 
+-- its points without a next checkpoint: those that were noted for one are taken in where it is in the log
+abbrev pub folded : Points → List Logged → Points
+folded points rs = record points { next_checkpoint = 0; next_kept = 0; kept = kept_of points rs; checkpoint = checkpoint_of points rs }
+
+abbrev pub folding : Hosted → Hosted
+folding h = record h { points = folded h.points h.records }
+
 -- it is based on a set: where no log backup could come before, the log chain begins with it
 abbrev pub based_points : Header → Points → Points
 based_points header points = record points {

@@ -1,6 +1,6 @@
 ghost use Rattle.std.specs.Prelude.{◌≡◌, ℕ, List, [], ◌∷◌, ◌++◌, Option, None, Some, remove, set, slice_get};
 ghost use Rattle.std.specs.List.{position};
-ghost use Rattle.bk_hosted.specs.Hosted.{Hosted, Hosts, SaysNoCheckpoint, basing, creating, names, noting, restoring, saying, set_log};
+ghost use Rattle.bk_hosted.specs.Hosted.{Hosted, Hosts, SaysNoCheckpoint, basing, creating, folding, names, noting, restoring, saying, set_log};
 ghost use Rattle.bk_machine.specs.Acts.{Recovery, based, created, done, done_all, dropped, logged, medium_made, seated, set_sealed, turned};
 ghost use Rattle.bk_machine.specs.MayDo.{MayDo, MayDoAll};
 ghost use Rattle.bk_machine.specs.Sound.{IsSound};
@@ -17,14 +17,16 @@ use bk_machine::{
     what_is_said_comes_last,
 };
 
-/// An act of a sound world does to its hosted databases what it does to the world: what one says comes behind its records, a checkpoint once it is noted as the next one, which by itself changes
-/// nothing; one is based on a set; one comes or goes. Acts on sessions and media leave them, and so do the beginning and the end of a run.
+/// An act of a sound world does to its hosted databases what it does to the world: what one says comes behind its records, a checkpoint once it is noted as the next one. That by itself changes
+/// nothing, nor does taking in what was noted; one is based on a set; one comes or goes. Acts on sessions and media leave them, and so do the beginning and the end of a run.
 pub fn hosted_databases_follow_acts()
     ensures said { (w : World) (name : List ℕ) (said : List Said) (transactions : List Open) (hosted : List Hosted) (i : ℕ) (h : Hosted) → IsSound w → Hosts w hosted
         → position (names name) hosted ≡ Some i → slice_get hosted i ≡ Some h → MayDo w (logged name said transactions) → SaysNoCheckpoint said
         → Hosts (done w (logged name said transactions)) (set hosted i (saying said transactions h)) }
     ensures noted { (w : World) (name : List ℕ) (hosted : List Hosted) (i : ℕ) (h : Hosted) → IsSound w → Hosts w hosted
         → position (names name) hosted ≡ Some i → slice_get hosted i ≡ Some h → Hosts w (set hosted i (noting h)) }
+    ensures folded { (w : World) (name : List ℕ) (hosted : List Hosted) (i : ℕ) (h : Hosted) → IsSound w → Hosts w hosted
+        → position (names name) hosted ≡ Some i → slice_get hosted i ≡ Some h → Hosts w (set hosted i (folding h)) }
     ensures checkpoint { (w : World) (name : List ℕ) (time : ℕ) (transactions : List Open) (hosted : List Hosted) (i : ℕ) (h : Hosted) → IsSound w → Hosts w hosted
         → position (names name) hosted ≡ Some i → slice_get hosted i ≡ Some h → MayDo w (logged name (alone (checkpointed time)) transactions)
         → Hosts (done w (logged name (alone (checkpointed time)) transactions)) (set hosted i (saying (alone (checkpointed time)) transactions (noting h))) }

@@ -1,4 +1,4 @@
-use Rattle.bk_hosted.proofs.Acts.{hosts-based, hosts-checkpoint, hosts-created, hosts-dropped, hosts-ended, hosts-medium, hosts-noted, hosts-opened, hosts-said, hosts-sealed, hosts-seated, hosts-turned}
+use Rattle.bk_hosted.proofs.Acts.{hosts-based, hosts-checkpoint, hosts-created, hosts-dropped, hosts-ended, hosts-folded, hosts-medium, hosts-noted, hosts-opened, hosts-said, hosts-sealed, hosts-seated, hosts-turned}
 use Rattle.bk_hosted.proofs.act_laws.hosted_databases_follow_acts.Goals as goal
 
 pub returns-clause-said : goal.returns-clause-said
@@ -6,6 +6,9 @@ returns-clause-said c = hosts-said c.acts_keep_what_is_read.ensures.act c.what_i
 
 pub returns-clause-noted : goal.returns-clause-noted
 returns-clause-noted c = hosts-noted
+
+pub returns-clause-folded : goal.returns-clause-folded
+returns-clause-folded c = hosts-folded
 
 pub returns-clause-checkpoint : goal.returns-clause-checkpoint
 returns-clause-checkpoint c = hosts-checkpoint c.acts_keep_what_is_read.ensures.act c.what_is_said_comes_last.ensures.log

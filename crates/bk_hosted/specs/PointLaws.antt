@@ -14,7 +14,7 @@ use Rattle.bk_world.specs.Records.{Counts, Deed, Logged, Said, database_made, ta
 use Rattle.bk_world.specs.Says.{alone, settle_said, undoing}
 use Rattle.bk_world.specs.SettledLaws.{end-more}
 use Rattle.bk_world.specs.Telling.{model, telling}
-use Rattle.bk_hosted.specs.Hosted.{Hosted, SaysNoCheckpoint, awaiting, checkpoint_of, database_of, has_checkpoint, is_checkpoint, kept_next, kept_of, noting, saying}
+use Rattle.bk_hosted.specs.Hosted.{Hosted, SaysNoCheckpoint, awaiting, checkpoint_of, database_of, folded, folding, has_checkpoint, is_checkpoint, kept_next, kept_of, noting, saying}
 
 -- ---- checkpoints in a log
 
@@ -146,6 +146,12 @@ noting-is h counts =
     let none : has_checkpoint (end_behind h.records) h.records ≡ false = has-above (end_behind h.records) 1 (end_behind h.records) h.records counts (omega arith) in
     ap (λ t. record (database_of h) { kept = cond t (kept_next h) (kept_of h.points h.records); checkpoint = cond t (end_behind h.records) (checkpoint_of h.points h.records) }) none
 
+-- nor does taking in what was noted
+pub folding-is : (h : Hosted) → Counts 1 h.records (end_behind h.records) → database_of (folding h) ≡ database_of h
+folding-is h counts =
+    let none : has_checkpoint 0 h.records ≡ false = has-below 0 1 (end_behind h.records) h.records counts (omega arith) in
+    ap (λ t. record (database_of h) { kept = cond t 0 (kept_of h.points h.records); checkpoint = cond t 0 (checkpoint_of h.points h.records) }) none
+
 -- and once it is said, it is the latest one
 pub checkpoint-is : (h : Hosted) (time : ℕ) (transactions : List Open) → Counts 1 h.records (end_behind h.records)
     → database_of (saying (alone (checkpointed time)) transactions (noting h)) ≡ gone_on (model h.records) (alone (checkpointed time)) transactions (database_of h)
@@ -158,3 +164,9 @@ checkpoint-is h time transactions counts =
     let there : has_checkpoint e (more h.records e said) ≡ true = has-joined e h.records (numbered e said) ∙ ap (λ t. t || has_checkpoint e (numbered e said)) none ∙ last in
     ap (λ n. moved (database_of h) n (kept_of (awaiting h.points h.records (kept_next h)) (more h.records e said)) (checkpoint_of (awaiting h.points h.records (kept_next h)) (more h.records e said)) transactions) (end-more h.records e said)
     ∙ ap (λ t. moved (database_of h) (e + 1) (cond t (kept_next h) (kept_of h.points h.records)) (cond t e (checkpoint_of h.points h.records)) transactions) there
+
+-- what is said that is no checkpoint leaves the points
+pub folded-said : (points : Points) (rs : List Logged) (n : ℕ) (said : List Said) → SaysNoCheckpoint said → folded points (rs ++ numbered n said) ≡ folded points rs
+folded-said points rs n said none =
+    let same : has_checkpoint points.next_checkpoint (rs ++ numbered n said) ≡ has_checkpoint points.next_checkpoint rs = has-behind points.next_checkpoint rs (numbered n said) (numbered-plain n said none) in
+    ap (λ t. record points { next_checkpoint = 0; next_kept = 0; kept = cond t points.next_kept points.kept; checkpoint = cond t points.next_checkpoint points.checkpoint }) same
