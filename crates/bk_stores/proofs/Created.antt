@@ -1,9 +1,9 @@
 -- The files of a store that is named as one that is being made are touched.
-use Rattle.std.proofs.Common.{◌≡◌, ◌≤◌, ◌<◌, ◌^◌, ◌⊎◌, ℕ, List, [], ◌∷◌, ◌++◌, length, map, Option, Some, None, false, refl, sym, ap, subst, ◌∙◌, arith}
+use Rattle.std.proofs.Common.{◌≡◌, ◌≤◌, ◌<◌, ◌^◌, ◌⊎◌, ℕ, List, [], ◌∷◌, ◌++◌, length, map, Option, Some, None, Result, Ok, Err, false, refl, sym, ap, subst, ◌∙◌, arith}
 use Rattle.std.proofs.lemmas.List.{length-map}
 use Rattle.std.proofs.lemmas.List.Elements.{recursion_from_All}
 use Rattle.std.specs.List.{AllByRecursion}
-use Rattle.std.specs.Prelude.{slice_get}
+use Rattle.std.specs.Prelude.{slice_get, OnOk}
 use Rattle.bk_control.specs.Slots.{control_of, counting, slot_in}
 use Rattle.bk_device.specs.Disk.{Disk, Files}
 use Rattle.bk_device.specs.Effects.{Effect}
@@ -130,3 +130,10 @@ may-join s then paths spec time branch store d same slots numbers unused fit num
       stands = λ other is'. subst (IsStanding d x) (one other is') (record { number = number; fit = fit; standing = is.paged.standing });
       unused = λ other is'. subst (λ (o : KeptStore). AreUnused then.slots o.paged.facts.files) (one other is') own;
     }
+
+-- ---- answers
+
+-- what a call answers leads further
+pub on-ok : {A E P Q : Type 0} (result : Result A E) → (P → Q) → OnOk result P → OnOk result Q
+on-ok (Ok a) leads ok = leads ok
+on-ok (Err e) leads ok = tt

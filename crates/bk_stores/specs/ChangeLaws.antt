@@ -1,5 +1,5 @@
 -- Something is done to the store of one database.
-use Rattle.std.proofs.Common.{◌≡◌, ◌<◌, ◌⊎◌, ℕ, List, length, set, Option, Some, inl, inr, sym, ap, subst, ◌∙◌, arith}
+use Rattle.std.proofs.Common.{◌≡◌, ◌<◌, ◌⊎◌, ℕ, List, length, set, Option, Some, refl, inl, inr, sym, ap, subst, ◌∙◌, arith}
 use Rattle.std.proofs.lemmas.List.{length-set}
 use Rattle.std.specs.Prelude.{slice_get}
 use Rattle.bk_device.specs.Compose.{effect_weaken}
@@ -9,7 +9,7 @@ use Rattle.bk_master.specs.declared.record.Entry.{Entry}
 use Rattle.bk_master.specs.Laws.{master_left}
 use Rattle.bk_store.specs.Store.{Kept as KeptStore}
 use Rattle.bk_store.specs.Told.{Told, data_files}
-use Rattle.bk_stores.specs.ListLaws.{got-inside, got-one, got-other, got-set, same-place}
+use Rattle.bk_stores.specs.ListLaws.{got-inside, got-one, got-other, got-set, same-place, set-same}
 use Rattle.bk_stores.specs.NameLaws.{own-apart}
 use Rattle.bk_stores.specs.SlotLaws.{slot-kept}
 use Rattle.bk_stores.specs.StandLaws.{entries-set, master-apart, own-keeps-free, own-keeps-master, own-wide, slots-left}
@@ -55,20 +55,36 @@ changed-stands s tolds at e t new slot is here same effect its = record {
   };
 }
 
--- a crash meanwhile leaves the others, and of it a front of what it has become
-pub changed-crash : {P : Files → Type 0} {a b : Disk} (s : Kept) (tolds : List Told) (at : ℕ) (e : Entry) (t new : Told) (slot : Option KeptStore) → AreStores a s tolds → IsAt s.master.record.databases tolds at e t → slice_get s.slots at ≡ Some slot → data_files new ≡ data_files t
-    → ((image : Files) → P image → LeavesEntry e (sealed_by slot t) new image) → Effect (IsOfEntry e t) P a b → Effect IsOurs (LeavesStores (sealed_at s tolds) (set tolds at new)) a b
-changed-crash {a = a} s tolds at e t new slot is here filled same leads effect =
+-- where others are left as they may be, and of it a front of what it has become, files hold fronts of all
+pub changed-left : {a : Disk} (s : Kept) (tolds : List Told) (at : ℕ) (e : Entry) (t new : Told) (slot : Option KeptStore) (image : Files) → AreStores a s tolds → IsAt s.master.record.databases tolds at e t → slice_get s.slots at ≡ Some slot → data_files new ≡ data_files t
+    → LeavesEntry e (sealed_by slot t) new image → ((name : List ℕ) → (IsOfEntry e t name → ⊥) → IsOurs name → a.may name (image name)) → LeavesStores (sealed_at s tolds) (set tolds at new) image
+changed-left {a = a} s tolds at e t new slot image is here filled same leaves left =
     let sealed_here : sealed_at s tolds at ≡ sealed_by slot t = ap (λ (o : Option (Option KeptStore)). sealed_of o (slice_get tolds at)) filled ∙ ap (λ (o : Option Told). sealed_of (Some slot) o) here.1 in
-    effect_weaken (λ image left. record {
+    record {
       «record» = s.master.record;
-      is_record = master_left image is.master (λ name master. left.1 name (λ own. master-apart e.store (its_files e t) name master own) (inl master));
+      is_record = master_left image is.master (λ name master. left name (λ own. master-apart e.store (its_files e t) name master own) (inl master));
       entries = entries-set s.master.record tolds at e t new here same is.standing.entries;
       each = λ i f u there. elim (at-set s.master.record.databases tolds at e t new here i f u there) [
         | inl one ↦
-            let front : LeavesEntry e (sealed_at s tolds at) new image = subst (λ (n : ℕ). LeavesEntry e n new image) (sym sealed_here) (leads image left.0) in
+            let front : LeavesEntry e (sealed_at s tolds at) new image = subst (λ (n : ℕ). LeavesEntry e n new image) (sym sealed_here) leaves in
             subst (λ (n : ℕ). LeavesEntry f (sealed_at s tolds n) u image) one.0 (subst (λ (v : Told). LeavesEntry f (sealed_at s tolds at) v image) one.2 (subst (λ (g : Entry). LeavesEntry g (sealed_at s tolds at) new image) one.1 front))
         | inr other ↦ slots-left a image s.master.record.databases s.slots tolds is.standing.count is.standing.stand i f u other.1
-            (λ name its. left.1 name (λ own. own-apart e.store (its_files e t) f.store (its_files f u) (is.standing.entries.apart at i e f t u other.0 here other.1) name own its) (inr (f.store, its_files f u, its)))
+            (λ name its. left name (λ own. own-apart e.store (its_files e t) f.store (its_files f u) (is.standing.entries.apart at i e f t u other.0 here other.1) name own its) (inr (f.store, its_files f u, its)))
       ];
-    }) (own-wide e.store (its_files e t) effect)
+    }
+
+-- a crash meanwhile leaves the others, and of it a front of what it has become
+pub changed-crash : {P : Files → Type 0} {a b : Disk} (s : Kept) (tolds : List Told) (at : ℕ) (e : Entry) (t new : Told) (slot : Option KeptStore) → AreStores a s tolds → IsAt s.master.record.databases tolds at e t → slice_get s.slots at ≡ Some slot → data_files new ≡ data_files t
+    → ((image : Files) → P image → LeavesEntry e (sealed_by slot t) new image) → Effect (IsOfEntry e t) P a b → Effect IsOurs (LeavesStores (sealed_at s tolds) (set tolds at new)) a b
+changed-crash s tolds at e t new slot is here filled same leads effect =
+    effect_weaken (λ image left. changed-left s tolds at e t new slot image is here filled same (leads image left.0) left.1) (own-wide e.store (its_files e t) effect)
+
+-- where a crash leaves of it a front of what it was, or of what it has become, it leaves the databases as before, or with this one changed
+pub changed-either : {P : Files → Type 0} {a b : Disk} (s : Kept) (tolds : List Told) (at : ℕ) (e : Entry) (t new : Told) (slot : Option KeptStore) → AreStores a s tolds → IsAt s.master.record.databases tolds at e t → slice_get s.slots at ≡ Some slot → data_files new ≡ data_files t
+    → ((image : Files) → P image → LeavesEntry e (sealed_by slot t) t image ⊎ LeavesEntry e (sealed_by slot t) new image) → Effect (IsOfEntry e t) P a b
+    → Effect IsOurs (λ image. LeavesStores (sealed_at s tolds) tolds image ⊎ LeavesStores (sealed_at s tolds) (set tolds at new) image) a b
+changed-either s tolds at e t new slot is here filled same leads effect =
+    effect_weaken (λ image left. elim (leads image left.0) [
+      | inl before ↦ inl (subst (λ (ts : List Told). LeavesStores (sealed_at s tolds) ts image) (set-same tolds at t here.1) (changed-left s tolds at e t t slot image is here filled refl before left.1))
+      | inr after ↦ inr (changed-left s tolds at e t new slot image is here filled same after left.1)
+    ]) (own-wide e.store (its_files e t) effect)

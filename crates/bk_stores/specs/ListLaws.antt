@@ -35,6 +35,12 @@ got-other (y ∷ xs) zero (suc j) x differ = refl
 got-other (y ∷ xs) (suc i) zero x differ = refl
 got-other (y ∷ xs) (suc i) (suc j) x differ = got-other xs i j x (λ same. differ (ap suc same))
 
+-- to put what is there changes nothing
+pub set-same : {X : Type 0} (xs : List X) (i : ℕ) (x : X) → slice_get xs i ≡ Some x → set xs i x ≡ xs
+set-same [] i x is = absurd cc
+set-same (y ∷ xs) zero x is = cc
+set-same (y ∷ xs) (suc i) x is = ap (λ (zs : List _). y ∷ zs) (set-same xs i x is)
+
 -- what is there where it was set
 pub set-there : {X : Type 0} (xs : List X) (i : ℕ) (x y : X) → slice_get (set xs i x) i ≡ Some y → x ≡ y
 set-there [] i x y is = absurd cc

@@ -1,5 +1,5 @@
 -- Databases that are made and removed beside others.
-use Rattle.std.specs.Prelude.{◌≡◌, ◌<◌, ◌∷◌, ◌++◌, ◌⊎◌, ℕ, List, [], length, remove, set, Option, None, Some, slice_get}
+use Rattle.std.specs.Prelude.{false, ◌≡◌, ◌<◌, ◌∷◌, ◌++◌, ◌⊎◌, ℕ, List, [], length, remove, set, Option, None, Some, slice_get}
 use Rattle.bk_device.specs.Disk.{Disk}
 use Rattle.bk_device.specs.Effects.{Effect}
 use Rattle.bk_master.specs.declared.record.Entry.{Entry}
@@ -10,6 +10,11 @@ use Rattle.bk_store.specs.Told.{Told}
 use Rattle.bk_stores.specs.Beside.{AreApart}
 use Rattle.bk_stores.specs.Records.{IsApart, IsApartBut}
 use Rattle.bk_stores.specs.Stores.{IsOurs, IsSlot, Kept, LeavesStores, at_paths, its_files, sealed_at, sealed_by, sealed_of}
+
+-- A store that was just opened: calls may be made on it, and each of its records is durable.
+pub record IsSealed (s : KeptStore) : Type 0 where
+  pub fit : s.paged.failed ≡ false
+  pub all : s.paged.log.stored ≡ s.paged.log.«end»
 
 -- how many records of the databases are durable, where one more is there with all of its own
 abbrev pub sealed_more : Kept → List Told → Told → ℕ → ℕ

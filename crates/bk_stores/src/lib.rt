@@ -14,5 +14,6 @@ mod swapping;
 mod unused;
 
 pub use error::StoresError;
+pub use records::paths_of;
 pub use stores::Stores;
 pub use unused::share_no_path;

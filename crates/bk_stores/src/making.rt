@@ -6,9 +6,10 @@ ghost use Rattle.bk_device.specs.Disk.{IsDurable};
 ghost use Rattle.bk_device.specs.Effects.{Effect};
 ghost use Rattle.bk_segments.specs.Files.{control_file};
 ghost use Rattle.bk_store.specs.Making.{MayDescribe, founded};
+ghost use Rattle.bk_store.specs.Store.{Kept as KeptStore};
 ghost use Rattle.bk_store.specs.Told.{Told, data_file, data_files};
 ghost use Rattle.bk_stores.specs.Errors.{IsTrouble};
-ghost use Rattle.bk_stores.specs.Making.{Adds, Creates, MayAdd};
+ghost use Rattle.bk_stores.specs.Making.{Adds, Creates, IsSealed, MayAdd};
 ghost use Rattle.bk_stores.specs.Records.{AreSmall, IsApart, SharesNone, begun, rested};
 ghost use Rattle.bk_stores.specs.Standing.{AreStanding, AreUnused, Joins};
 ghost use Rattle.bk_stores.specs.Stores.{AreStores, IsOurs, IsReady, IsSlot, LeavesStores, at_paths, its_files, sealed_at};
@@ -132,6 +133,7 @@ impl Stores {
         requires standing { D.tells → AreStanding (D.disk dev.old) self.old }
         requires unused { D.tells → AreUnused self.old.slots (at_paths (map (λ f. f.path) spec.storage.files)) }
         ensures ready { OnOk result (IsReady self.new) }
+        ensures opens { OnOk result ((s : KeptStore) × (self.new.slots ≡ self.old.slots ++ Some s ∷ []) × IsSealed s) }
         ensures standing { D.tells → OnOk result (AreStanding (D.disk dev.new) self.new) }
         ensures stands { D.tells → (tolds : List Told) → AreStores (D.disk dev.old) self.old tolds → SharesNone self.old.master.record.databases tolds (map data_file spec.storage.files) → OnOk result (AreStores (D.disk dev.new) self.new (tolds ++ founded spec time branch ∷ [])) }
         ensures crash { D.tells → (tolds : List Told) → AreStores (D.disk dev.old) self.old tolds → SharesNone self.old.master.record.databases tolds (map data_file spec.storage.files) → Creates self.old tolds (founded spec time branch) (D.disk dev.old) (D.disk dev.new) }

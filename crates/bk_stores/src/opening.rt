@@ -4,7 +4,9 @@ ghost use Rattle.bk_device.specs.Counts.{HasCause};
 ghost use Rattle.bk_device.specs.Effects.{Effect};
 ghost use Rattle.bk_master.specs.declared.record.Entry.{Entry as Entries};
 ghost use Rattle.bk_reopening.specs.Reopening.{settled};
+ghost use Rattle.bk_store.specs.Store.{Kept as KeptStore};
 ghost use Rattle.bk_store.specs.Told.{Told};
+ghost use Rattle.bk_stores.specs.Making.{IsSealed};
 ghost use Rattle.bk_stores.specs.Standing.{AreStanding, AreUnused};
 ghost use Rattle.bk_stores.specs.Stores.{AreStores, IsOurs, IsReady, LeavesStores, sealed_at};
 
@@ -48,6 +50,7 @@ impl Stores {
         requires standing { D.tells → AreStanding (D.disk dev.old) self.old }
         requires stored { (e : Entries) × (slice_get self.old.master.record.databases at ≡ Some e) × (e.is_stored ≡ true) }
         ensures ready { OnOk result (IsReady self.new) }
+        ensures opens { OnOk result ((s : KeptStore) × (self.new ≡ record self.old { slots = set self.old.slots at (Some s) }) × IsSealed s) }
         ensures standing { D.tells → OnOk result (AreStanding (D.disk dev.new) self.new) }
         ensures stands { D.tells → (tolds : List Told) (told : Told) → AreStores (D.disk dev.old) self.old tolds → slice_get tolds at ≡ Some told → OnOk result (AreStores (D.disk dev.new) self.new (set tolds at (settled told))) }
         ensures crash { D.tells → (tolds : List Told) (told : Told) → AreStores (D.disk dev.old) self.old tolds → slice_get tolds at ≡ Some told → Effect IsOurs (LeavesStores (sealed_at self.old tolds) (set tolds at (settled told))) (D.disk dev.old) (D.disk dev.new) }

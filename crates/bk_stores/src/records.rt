@@ -11,8 +11,8 @@ use bk_master::{Entry, Record, Unfinished};
 use bk_world::FileSpec;
 use std::alloc::{AllocError, Global};
 
-/// The paths of data files.
-pub(crate) fn paths_of(alloc: Global, files: &[FileSpec]) -> Result<Vec<Text>, AllocError>
+/// The paths of data files, in their order.
+pub fn paths_of(alloc: Global, files: &[FileSpec]) -> Result<Vec<Text>, AllocError>
     ensures { IfOk result (λ paths. paths.items ≡ map (λ f. f.path) files.now) }
 {
     let mut paths = Vec::new(alloc);

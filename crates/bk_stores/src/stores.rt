@@ -1,9 +1,10 @@
 // The stores of an instance.
-ghost use Rattle.std.specs.Prelude.{◌≡◌, ◌⊎◌, ◌∷◌, ◌≤◌, ◌<◌, ◌+◌, [], length, IfErr, List, OnOk, IsErrOf};
+ghost use Rattle.std.specs.Prelude.{◌≡◌, ◌⊎◌, ◌∷◌, ◌≤◌, ◌<◌, ◌+◌, [], length, slice_get, Some, option_map, IfErr, List, OnOk, IsErrOf};
 ghost use Rattle.bk_device.specs.Counts.{HasCause};
 ghost use Rattle.bk_device.specs.Effects.{Effect};
 ghost use Rattle.bk_master.specs.Master.{HoldsRecord, IsMaster, IsOwn as IsOfMaster};
 ghost use Rattle.bk_master.specs.Spelling.{KeepsRecord};
+ghost use Rattle.bk_master.specs.declared.record.Entry.{Entry as Entries};
 ghost use Rattle.bk_stores.specs.Errors.{IsTrouble};
 ghost use Rattle.bk_stores.specs.Stores.{AreStores, IsReady, Kept, StandFor};
 
@@ -35,5 +36,20 @@ impl Stores {
         ensures { result ≡ length self.now.slots }
     {
         self.slots.len()
+    }
+    /// The store of the database at this place, which counts from 0, where it is open.
+    pub fn store(&self, at: usize) -> Option<&Store>
+        requires inside { at < length self.now.slots }
+        ensures { slice_get self.now.slots at ≡ Some (option_map (λ s. s.now) result) }
+    {
+        self.slots[at].as_ref()
+    }
+
+    /// Whether the database at this place, which counts from 0, has a store of its own on the device.
+    pub fn is_stored(&self, at: usize) -> bool
+        requires inside { at < length self.now.master.record.databases }
+        ensures { (e : Entries) × (slice_get self.now.master.record.databases at ≡ Some e) × (e.is_stored ≡ result) }
+    {
+        self.master.record().databases.as_slice()[at].is_stored
     }
 }

@@ -1,4 +1,4 @@
-use Rattle.std.proofs.Common.{rules, ◌≡◌, ◌<◌, ◌^◌, ◌∙◌, ◌⊎◌, ℕ, map, Some, inl, sym, subst}
+use Rattle.std.proofs.Common.{rules, List, [], ◌∷◌, ◌++◌, Option, ap, ◌≡◌, ◌<◌, ◌^◌, ◌∙◌, ◌⊎◌, ℕ, map, Some, inl, sym, subst}
 use Rattle.bk_device.specs.Compose.{effect_then, effect_weaken}
 use Rattle.bk_device.specs.Disk.{IsDurable}
 use Rattle.bk_device.specs.Effects.{Effect}
@@ -6,12 +6,13 @@ use Rattle.bk_paged.specs.Making.{HoldsNone}
 use Rattle.bk_paged.specs.Names.{IsOwn}
 use Rattle.bk_segments.specs.Files.{control_file}
 use Rattle.bk_store.specs.Making.{Makes, founded}
+use Rattle.bk_store.specs.Store.{Kept as KeptStore}
 use Rattle.bk_store.specs.Told.{LeavesRecords, data_file}
-use Rattle.bk_stores.specs.Making.{MayAdd}
+use Rattle.bk_stores.specs.Making.{IsSealed, MayAdd}
 use Rattle.bk_stores.specs.Records.{begun, stored_entry}
 use Rattle.bk_stores.specs.Standing.{Joins}
 use Rattle.bk_stores.specs.Stores.{AreStores}
-use Rattle.bk_stores.proofs.Created.{beside-crash, beside-standing, beside-stands, creates-as, may-add, may-join, unused-files}
+use Rattle.bk_stores.proofs.Created.{on-ok, beside-crash, beside-standing, beside-stands, creates-as, may-add, may-join, unused-files}
 use Rattle.bk_stores.proofs.stores.Stores.create.Goals as goal
 
 pub returns-in_err-number-clause-crash : goal.returns-in_err-number-clause-crash
@@ -62,6 +63,13 @@ add-requires-clause-joins g c t =
     let joins : Joins d then.master.record.databases then.slots (stored_entry r.next) (Some store) =
     may-join s then paths c.args.spec c.args.time c.args.branch store d begun_is slots_are (c.requires.standing t).numbers (unused-files s.slots files (c.requires.unused t)) c.in_ok-store.ensures.fit number (c.in_ok-store.ensures.stands t) in
     subst (λ (n : ℕ). Joins d then.master.record.databases then.slots (stored_entry n) (Some store)) (sym number_is) joins
+
+pub returns-clause-opens : goal.returns-clause-opens
+returns-clause-opens g c =
+    let slots_are : c.make_way.new.self.slots ≡ c.args.self.now.slots = search rules in
+    let store = c.in_ok-store.store in
+    let sealed : IsSealed store = record { fit = c.in_ok-store.ensures.fit; all = c.in_ok-store.ensures.ends.1 } in
+    on-ok c.add.result (λ slots. (store, slots ∙ ap (λ (sl : List (Option KeptStore)). sl ++ Some store ∷ []) slots_are, sealed)) c.add.ensures.slots
 
 pub returns-clause-stands : goal.returns-clause-stands
 returns-clause-stands g c t tolds is shares =

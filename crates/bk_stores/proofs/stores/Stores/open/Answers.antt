@@ -1,4 +1,4 @@
-use Rattle.std.proofs.Common.{rules, ◌≡◌, ◌<◌, ◌∙◌, ℕ, Some, None, length, set, true, sym, subst, arith}
+use Rattle.std.proofs.Common.{rules, ◌≡◌, ◌<◌, ◌∙◌, ℕ, Some, None, length, set, true, ap, sym, subst, arith}
 use Rattle.std.specs.Prelude.{slice_get, IsErrOf}
 use Rattle.bk_reopening.specs.declared.error.OpenError.TheVariants.{Foreign}
 use Rattle.bk_master.specs.declared.record.Entry.{Entry}
@@ -6,6 +6,7 @@ use Rattle.bk_reopening.specs.Reopening.{IsClosed, Recovers, settled}
 use Rattle.bk_store.specs.Store.{Kept as KeptStore}
 use Rattle.bk_store.specs.Told.{Told}
 use Rattle.bk_stores.specs.ListLaws.{got, got-inside, got-one}
+use Rattle.bk_stores.specs.Making.{IsSealed}
 use Rattle.bk_stores.specs.Standing.{AreStanding, AreUnused, IsStanding}
 use Rattle.bk_stores.specs.StandingLaws.{opened-standing}
 use Rattle.bk_stores.specs.Stores.{AreStores, IsShut, Kept}
@@ -130,3 +131,13 @@ returns-clause-crash g c t tolds told is told_is =
     let closed : IsClosed n told a = subst (λ (m : ℕ). IsClosed m told a) it.2 (shut-closed a e told stored shut) in
     let effect : Recovers e.store told a (disk c.load.new.dev) = subst (λ (m : ℕ). Recovers m told a (disk c.load.new.dev)) (sym it.2) (c.load.ensures.crash t told closed) in
     opened-crash c.args.self.now tolds c.args.at e told is (there, told_is) stored c.requires.shut effect
+
+pub returns-clause-opens : goal.returns-clause-opens
+returns-clause-opens g c =
+    let store = c.in_ok-store.store in
+    let opened = c.in_ok-opened.ensures in
+    let sealed : IsSealed c.in_ok-opened.opened = record { fit = opened.fit; all = opened.ends.1 } in (
+      store,
+      ap (λ (k : Kept). record k { slots = set k.slots c.args.at (Some store) }) c.self.view_is,
+      subst IsSealed (sym c.in_ok-store.ensures.same) sealed,
+    )
