@@ -1,0 +1,10 @@
+mod Lists
+mod Fronts
+mod Said
+mod StoreSaid
+mod SaidLeft
+mod SaidHosted
+mod NotedHosted
+mod Checked
+mod MadeHosted
+mod DroppedHosted

@@ -1,0 +1,4 @@
+pub mod Hosting
+pub mod Saying
+pub mod Checkpointing
+pub mod Making

@@ -1,0 +1,32 @@
+// The databases that an instance hosts.
+ghost use Rattle.bk_hosting.specs.Hosting.{Kept};
+
+use bk_ids::Sequence;
+use bk_points::Points;
+use bk_stores::Stores;
+use bk_world::Open;
+use std::marker::Model;
+
+/// What an instance keeps of a database beside its store.
+#[derive(Drop)]
+pub struct State {
+    /// The points of its log, its base, its status and its units of restore.
+    pub points: Points,
+    /// What is open in it, in the order in which it began.
+    pub transactions: Sequence<Open>,
+}
+
+/// The databases of an instance on its device, in their order: each an open store, and what is kept beside it.
+///
+/// Once a call that took the value by `&mut` has answered an error it is no longer used.
+#[derive(Drop)]
+pub struct Hosting {
+    pub(crate) stores: Stores,
+    pub(crate) states: Vec<State>,
+}
+
+impl Model for Hosting {
+    ghost Value = { Kept };
+
+    ghost view = { λ h. record { stores = h.stores; states = h.states.items } };
+}

@@ -1,0 +1,11 @@
+//! The databases that an instance hosts on its device: each an open store, with the points of its log and with what is open in it.
+#![tactic(auto)]
+
+mod checkpointing;
+mod hosting;
+mod logging;
+mod making;
+mod noting;
+mod saying;
+
+pub use hosting::{Hosting, State};
