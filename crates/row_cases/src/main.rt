@@ -12,6 +12,7 @@ mod row_noted;
 mod row_restored;
 mod row_session;
 mod row_shown;
+mod row_staged;
 mod row_stops;
 mod rows;
 mod words;

@@ -2,6 +2,7 @@
 ghost use Rattle.std.specs.Prelude.{◌≡◌, false, None, IfOk, OnOk, IfSome};
 
 use crate::row_copied::{add_extent, add_log, add_pages};
+use crate::row_staged::stage;
 use crate::words::name_of;
 use bk_ids::{Body, Guid, Mark, Place, Rec, RecoveryModel, VALUE_BYTES, Value};
 use bk_store::{Store, StoreError};
@@ -312,7 +313,7 @@ fn call_plain(
     }
 }
 
-// What words ask for that changes no row: `extent FILE EXTENT`, `log FROM TO`, or else `pages FILE`.
+// What words ask for that changes no row: `extent FILE EXTENT`, `log FROM TO`, `stage FROM TO`, or else `pages FILE`.
 fn ask(
     alloc: Global,
     device: &mut Untold,
@@ -326,6 +327,7 @@ fn ask(
     match word(words, 0) {
         "extent" => add_extent(alloc, device, store, words, gave),
         "log" => add_log(alloc, device, store, words, gave),
+        "stage" => stage(alloc, device, store, words, gave),
         _ => {
             add_pages(store, words, gave)?;
             Ok(())
@@ -348,7 +350,7 @@ fn call_words(
         "begin" => begin(alloc, device, store, gave),
         "write" | "delete" => write(alloc, device, store, words, gave),
         "undo" => undo(alloc, device, store, words, gave),
-        "extent" | "log" | "pages" => ask(alloc, device, store, words, gave),
+        "extent" | "log" | "pages" | "stage" => ask(alloc, device, store, words, gave),
         _ => call_plain(alloc, device, store, words),
     }
 }

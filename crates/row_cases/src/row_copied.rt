@@ -100,7 +100,12 @@ fn add_changed(copy: &[u8], out: &mut String) -> Result<(), AllocError> {
 }
 
 // Adds what a copy of an extent holds: how many of its pages are whole, how many bytes there are beside eight pages, and the pages that a record changed.
-fn add_copy(copy: &[u8], file: u16, extent: u32, out: &mut String) -> Result<(), AllocError> {
+pub(crate) fn add_copy(
+    copy: &[u8],
+    file: u16,
+    extent: u32,
+    out: &mut String,
+) -> Result<(), AllocError> {
     write!(out, " [{} whole", whole_pages(copy, file, extent))?;
     if copy.len() != 8 * PAGE {
         write!(out, " of {} bytes", copy.len())?;

@@ -1,0 +1,5 @@
+pub mod Apart
+pub mod Kept
+pub mod Listed
+pub mod Parts
+pub mod Taken

@@ -1,0 +1,6 @@
+pub mod CopyLaws
+pub mod Copying
+pub mod Errors
+pub mod ExtentLaws
+pub mod Extents
+pub mod SetLaws
