@@ -1,0 +1,5 @@
+pub mod Errors
+pub mod Extents
+pub mod Sets
+pub mod Steps
+pub mod Laws
