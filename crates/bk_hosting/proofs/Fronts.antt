@@ -32,24 +32,24 @@ all-later P (x ∷ xs) (suc n) (suc m) le all = all-later P xs n m (omega (arith
 -- ---- lists that grow together
 
 -- a database and what a crash leaves of it
-record Leaves (Good : Hosted → ℕ → Hosted → Type 0) (image : Files) (e : Entry) (t : Told) (h : Hosted) : Type 0 where
-  k : ℕ
-  front : Hosted
-  good : Good h k front
-  tells : Tells (front_of k t) front
-  holds : HoldsEntry e (front_of k t) image
+pub record Leaves (Good : Hosted → ℕ → Hosted → Type 0) (image : Files) (e : Entry) (t : Told) (h : Hosted) : Type 0 where
+  pub k : ℕ
+  pub front : Hosted
+  pub good : Good h k front
+  pub tells : Tells (front_of k t) front
+  pub holds : HoldsEntry e (front_of k t) image
 
 -- fronts of some databases, with what stores hold of them
-record Collected (Good : Hosted → ℕ → Hosted → Type 0) (image : Files) (entries : List Entry) (tolds : List Told) (hosted : List Hosted) : Type 0 where
-  news : List Told
-  fronts : List Hosted
-  count : length news ≡ length tolds
-  same : AllZip (λ (t n : Told). (k : ℕ) × (n ≡ front_of k t)) tolds news
-  good : AllZip (λ (h f : Hosted). (k : ℕ) × Good h k f) hosted fronts
-  tells : AllZip Tells news fronts
-  each : (i : ℕ) (e : Entry) (t : Told) → IsAt entries news i e t → HoldsEntry e t image
+pub record Collected (Good : Hosted → ℕ → Hosted → Type 0) (image : Files) (entries : List Entry) (tolds : List Told) (hosted : List Hosted) : Type 0 where
+  pub news : List Told
+  pub fronts : List Hosted
+  pub count : length news ≡ length tolds
+  pub same : AllZip (λ (t n : Told). (k : ℕ) × (n ≡ front_of k t)) tolds news
+  pub good : AllZip (λ (h f : Hosted). (k : ℕ) × Good h k f) hosted fronts
+  pub tells : AllZip Tells news fronts
+  pub each : (i : ℕ) (e : Entry) (t : Told) → IsAt entries news i e t → HoldsEntry e t image
 
-collect : (Good : Hosted → ℕ → Hosted → Type 0) (image : Files) (entries : List Entry) (tolds : List Told) (hosted : List Hosted) → length tolds ≡ length entries → length tolds ≡ length hosted
+pub collect : (Good : Hosted → ℕ → Hosted → Type 0) (image : Files) (entries : List Entry) (tolds : List Told) (hosted : List Hosted) → length tolds ≡ length entries → length tolds ≡ length hosted
     → ((i : ℕ) (e : Entry) (t : Told) (h : Hosted) → IsAt entries tolds i e t → slice_get hosted i ≡ Some h → Leaves Good image e t h) → Collected Good image entries tolds hosted
 collect Good image entries [] [] count same leaves = record { news = []; fronts = []; count = refl; same = tt; good = tt; tells = tt; each = λ i e t at. absurd (cc (at.1)) }
 collect Good image entries [] (h ∷ hosted) count same leaves = absurd (omega (arith, same))

@@ -8,3 +8,6 @@ mod NotedHosted
 mod Checked
 mod MadeHosted
 mod DroppedHosted
+mod Noted
+mod Opening
+mod Loaded

@@ -2,3 +2,4 @@ pub mod Hosting
 pub mod Saying
 pub mod Checkpointing
 pub mod Making
+pub mod Loading

@@ -1,11 +1,14 @@
 //! The databases that an instance hosts on its device: each an open store, with the points of its log and with what is open in it.
 #![tactic(auto)]
 
+mod asking;
 mod checkpointing;
 mod hosting;
+mod loading;
 mod logging;
 mod making;
 mod noting;
 mod saying;
+mod states;
 
 pub use hosting::{Hosting, State};

@@ -23,7 +23,7 @@ use bk_world::{FileSpec, State as UnitState, Status, Unit};
 use std::alloc::{AllocError, Global};
 
 // What is kept of a database that was just made with these files.
-fn first_state(alloc: Global, files: &[FileSpec]) -> Result<State, AllocError>
+pub(crate) fn first_state(alloc: Global, files: &[FileSpec]) -> Result<State, AllocError>
     ensures { IfOk result (λ s. s ≡ record { points = first_points files.now; transactions = [] }) }
 {
     let mut units = Vec::new(alloc);

@@ -1,0 +1,43 @@
+use Rattle.std.proofs.Common.{rules, ◌≤◌, length}
+use Rattle.std.specs.Prelude.{IsErrOf}
+use Rattle.bk_device.specs.Compose.{effect_then}
+use Rattle.bk_stores.specs.declared.error.StoresError.TheVariants.{Broken}
+use Rattle.bk_hosting.proofs.Loaded.{all-hosting, all-ready}
+use Rattle.bk_hosting.proofs.Opening.{rest-undoing}
+use Rattle.bk_hosting.proofs.hosting.Hosting.open_all.Goals as goal
+
+pub stores-init : goal.stores-init
+stores-init g c = record {
+  partly = c.requires.partly;
+  standing = λ tells. c.requires.standing tells;
+  opening = λ tells hosted is. is;
+  crash = λ tells hosted is. rest-undoing (g.D.Device.disk c.args.dev.now) c.args.self.now hosted is c.requires.partly;
+  cause = search rules;
+}
+
+pub stores-preserved : goal.stores-preserved
+stores-preserved g c = record {
+  partly = c.in_ok-open_next.ensures.partly;
+  standing = λ tells. c.in_ok-open_next.ensures.standing tells;
+  opening = λ tells hosted is. c.in_ok-open_next.ensures.stands tells hosted (c.stores.invariant.opening tells hosted is);
+  crash = λ tells hosted is. effect_then (c.stores.invariant.crash tells hosted is) (c.open_next.ensures.crash tells hosted (c.stores.invariant.opening tells hosted is));
+  cause = search rules;
+}
+
+pub returns-in_err-open_next-clause-crash : goal.returns-in_err-open_next-clause-crash
+returns-in_err-open_next-clause-crash g c = λ tells hosted is. effect_then (c.stores.invariant.crash tells hosted is) (c.open_next.ensures.crash tells hosted (c.stores.invariant.opening tells hosted is))
+
+pub returns-in_err-open_next-clause-broken : goal.returns-in_err-open_next-clause-broken
+returns-in_err-open_next-clause-broken g c = λ tells broken hosted is.
+    let err : IsErrOf c.open_next.result Broken = search rules in
+    c.open_next.ensures.broken tells err hosted (c.stores.invariant.opening tells hosted is)
+
+pub returns-clause-ready : goal.returns-clause-ready
+returns-clause-ready g c =
+    let all : length c.stores.self.stores.slots ≤ length c.stores.self.states = search rules in
+    all-ready c.stores.self c.stores.invariant.partly all
+
+pub returns-clause-stands : goal.returns-clause-stands
+returns-clause-stands g c = λ tells hosted is.
+    let all : length c.stores.self.stores.slots ≤ length c.stores.self.states = search rules in
+    all-hosting (g.D.Device.disk c.stores.dev) c.stores.self hosted c.stores.invariant.partly all (c.stores.invariant.opening tells hosted is)

@@ -1,0 +1,124 @@
+// Opening the databases that an instance hosts.
+ghost use Rattle.std.specs.Prelude.{◌≡◌, ◌<◌, ◌+◌, [], List, Some, length, map, slice_get, IfOk, OnOk, IsErrOf};
+ghost use Rattle.bk_device.specs.Calls.{ChangesNothing};
+ghost use Rattle.bk_device.specs.Counts.{HasCause};
+ghost use Rattle.bk_device.specs.Disk.{IsSettled};
+ghost use Rattle.bk_device.specs.Effects.{Effect};
+ghost use Rattle.bk_hosted.specs.Fronts.{settling};
+ghost use Rattle.bk_hosted.specs.Hosted.{Hosted, folded};
+ghost use Rattle.bk_store.specs.Told.{Told};
+ghost use Rattle.bk_master.specs.Master.{IsNoInstance};
+ghost use Rattle.bk_stores.specs.Standing.{AreStanding};
+ghost use Rattle.bk_stores.specs.Stores.{AreStores, IsOurs};
+ghost use Rattle.bk_hosting.specs.Hosting.{IsHosting, IsReady, Tells};
+ghost use Rattle.bk_hosting.specs.Loading.{HoldsHosting, IsOpening, IsPartly, IsSealedAt, LeavesUndoing};
+
+use crate::hosting::{Hosting, State};
+use crate::states::read_state;
+use bk_device::Device;
+use bk_stores::{Stores, StoresError};
+use std::alloc::Global;
+use std::thread::Threads;
+
+// What the store of the database at this place tells of its points: it is open, and all its records are durable.
+fn read_at<D: Device>(
+    stores: &Stores,
+    alloc: Global,
+    dev: &mut D,
+    at: usize,
+) -> Result<State, StoresError>
+    requires opened { IsSealedAt stores.now.slots at }
+    requires standing { D.tells → AreStanding (D.disk dev.old) stores.now }
+    ensures state { D.tells → (tolds : List Told) (told : Told) (h : Hosted) → AreStores (D.disk dev.old) stores.now tolds → slice_get tolds at ≡ Some told → Tells told h → IfOk result (λ s. s ≡ record { points = folded h.points h.records; transactions = [] }) }
+    ensures standing { D.tells → AreStanding (D.disk dev.new) stores.now }
+    ensures stands { D.tells → (tolds : List Told) → AreStores (D.disk dev.old) stores.now tolds → AreStores (D.disk dev.new) stores.now tolds }
+    ensures effect { D.tells → ChangesNothing (D.disk dev.old) (D.disk dev.new) }
+    ensures broken { D.tells → IsErrOf result StoresError.Broken → (tolds : List Told) (told : Told) (h : Hosted) → AreStores (D.disk dev.old) stores.now tolds → slice_get tolds at ≡ Some told → Tells told h → ⊥ }
+    ensures not_an_instance { IsErrOf result StoresError.NotAnInstance → ⊥ }
+    ensures cause { HasCause D.disk_faults D.tell_faults dev.old dev.new (IsErrOf result StoresError.Fault) }
+{
+    match stores.store(at) {
+        Some(store) => read_state(alloc, dev, store),
+        None => Err(StoresError::NoMemory),
+    }
+}
+
+impl Hosting {
+    // Opens the store behind those that are open, and reads what it tells of its points.
+    fn open_next<R: Threads + Sync, D: Device>(
+        &mut self,
+        rt: &R,
+        alloc: Global,
+        dev: &mut D,
+    ) -> Result<(), StoresError>
+        requires partly { IsPartly self.old }
+        requires more { length self.old.states < length self.old.stores.slots }
+        requires standing { D.tells → AreStanding (D.disk dev.old) self.old.stores }
+        ensures partly { OnOk result (IsPartly self.new) }
+        ensures grows { OnOk result ((length self.new.states ≡ length self.old.states + 1) × (length self.new.stores.slots ≡ length self.old.stores.slots)) }
+        ensures standing { D.tells → OnOk result (AreStanding (D.disk dev.new) self.new.stores) }
+        ensures stands { D.tells → (hosted : List Hosted) → IsOpening (D.disk dev.old) self.old hosted → OnOk result (IsOpening (D.disk dev.new) self.new hosted) }
+        ensures crash { D.tells → (hosted : List Hosted) → IsOpening (D.disk dev.old) self.old hosted → Effect IsOurs (LeavesUndoing hosted) (D.disk dev.old) (D.disk dev.new) }
+        ensures broken { D.tells → IsErrOf result StoresError.Broken → (hosted : List Hosted) → IsOpening (D.disk dev.old) self.old hosted → ⊥ }
+        ensures not_an_instance { IsErrOf result StoresError.NotAnInstance → ⊥ }
+        ensures cause { HasCause D.disk_faults D.tell_faults dev.old dev.new (IsErrOf result StoresError.Fault) }
+    {
+        let at = self.states.len();
+        if !self.stores.is_stored(at) {
+            return Err(StoresError::Broken);
+        }
+        self.stores.open(rt, alloc, dev, at)?;
+        let state = read_at(&self.stores, alloc, dev, at)?;
+        self.states.push(state)?;
+        Ok(())
+    }
+    // Opens the stores that aren't open yet.
+    fn open_all<R: Threads + Sync, D: Device>(
+        &mut self,
+        rt: &R,
+        alloc: Global,
+        dev: &mut D,
+    ) -> Result<(), StoresError>
+        requires partly { IsPartly self.old }
+        requires standing { D.tells → AreStanding (D.disk dev.old) self.old.stores }
+        ensures ready { OnOk result (IsReady self.new) }
+        ensures standing { D.tells → OnOk result (AreStanding (D.disk dev.new) self.new.stores) }
+        ensures stands { D.tells → (hosted : List Hosted) → IsOpening (D.disk dev.old) self.old hosted → OnOk result (IsHosting (D.disk dev.new) self.new (map settling hosted)) }
+        ensures crash { D.tells → (hosted : List Hosted) → IsOpening (D.disk dev.old) self.old hosted → Effect IsOurs (LeavesUndoing hosted) (D.disk dev.old) (D.disk dev.new) }
+        ensures broken { D.tells → IsErrOf result StoresError.Broken → (hosted : List Hosted) → IsOpening (D.disk dev.old) self.old hosted → ⊥ }
+        ensures not_an_instance { IsErrOf result StoresError.NotAnInstance → ⊥ }
+        ensures cause { HasCause D.disk_faults D.tell_faults dev.old dev.new (IsErrOf result StoresError.Fault) }
+    {
+        'stores: while self.states.len() < self.stores.count() {
+            self.open_next(rt, alloc, dev)?;
+        }
+        Ok(())
+    }
+
+    /// Opens the databases that an instance hosts, or makes an instance with this number where none is made: of each all is undone that was pending, and nothing is open then. What was being made or removed is
+    /// removed. A crash leaves the databases that there were, of each perhaps some of what undoes; then this call opens them again.
+    ///
+    /// `NotAnInstance` is answered only where an instance is made and its control file holds no control, and `Broken` only where the files hold no hosted databases. `NoMemory` may come after files were touched.
+    pub fn load<R: Threads + Sync, D: Device>(
+        rt: &R,
+        alloc: Global,
+        dev: &mut D,
+        number: u64,
+    ) -> Result<Hosting, StoresError>
+        ensures ready { IfOk result IsReady }
+        ensures standing { D.tells → IfOk result (λ x. AreStanding (D.disk dev.new) x.stores) }
+        ensures stands { D.tells → IsSettled (D.disk dev.old) → (hosted : List Hosted) → HoldsHosting (D.disk dev.old).files hosted → IfOk result (λ x. IsHosting (D.disk dev.new) x (map settling hosted)) }
+        ensures crash { D.tells → IsSettled (D.disk dev.old) → (hosted : List Hosted) → HoldsHosting (D.disk dev.old).files hosted → Effect IsOurs (LeavesUndoing hosted) (D.disk dev.old) (D.disk dev.new) }
+        ensures not_an_instance { D.tells → IsErrOf result StoresError.NotAnInstance → IsNoInstance (D.disk dev.old).files }
+        ensures broken { D.tells → IsErrOf result StoresError.Broken → IsSettled (D.disk dev.old) → (hosted : List Hosted) → HoldsHosting (D.disk dev.old).files hosted → ⊥ }
+        ensures cause { HasCause D.disk_faults D.tell_faults dev.old dev.new (IsErrOf result StoresError.Fault) }
+    {
+        let stores = Stores::load(alloc, dev, number)?;
+        let mut hosting = Hosting {
+            stores,
+            states: Vec::new(alloc),
+        };
+        hosting.open_all(rt, alloc, dev)?;
+        Ok(hosting)
+    }
+}
