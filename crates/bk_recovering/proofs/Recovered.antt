@@ -1,0 +1,27 @@
+-- The files of a database that is made of a set.
+use Rattle.std.proofs.Common.{◌≡◌, ◌∙◌, ℕ, List, subst}
+use Rattle.bk_device.specs.Compose.{effect_weaken}
+use Rattle.bk_device.specs.Disk.{Disk}
+use Rattle.bk_device.specs.Effects.{Effect}
+use Rattle.bk_facts.specs.declared.facts.DataFile.{DataFile}
+use Rattle.bk_known.specs.declared.known.Known.{Known}
+use Rattle.bk_paged.specs.Names.{IsOwn}
+use Rattle.bk_paged.specs.Paged.{Touches}
+use Rattle.bk_reopening.specs.Reopening.{Recovers, settled}
+use Rattle.bk_store.specs.Store.{IsStore, Kept as KeptStore}
+use Rattle.bk_store.specs.Told.{Told, data_files}
+use Rattle.bk_volume.specs.Stored.{Stored}
+use Rattle.bk_recovering.specs.Recovering.{Makes}
+
+-- they are those that were asked for
+pub made-files : (bytes : List ℕ) (set : Stored) (files : List DataFile) (db checkpoint : ℕ) (note : List ℕ) (known : Known) (told : Told) → Makes bytes set files db checkpoint note known told → data_files told ≡ files
+made-files bytes set files db checkpoint note known told makes = makes.suffices.suffices.files
+
+-- opening it touches them alone
+pub opened-touches : (a b : Disk) (db : ℕ) (files : List DataFile) (told : Told) → data_files told ≡ files → Recovers db told a b → Effect (IsOwn db files) (λ _. Unit {0}) a b
+opened-touches a b db files told same effect = subst (λ (fs : List DataFile). Effect (IsOwn db fs) (λ _. Unit {0}) a b) same (effect_weaken (λ image left. tt) effect)
+
+-- and so does what is said in it
+pub said-touches : (a b c : Disk) (db : ℕ) (files : List DataFile) (told : Told) (s : KeptStore) → data_files told ≡ files → s.paged.log.db ≡ db → IsStore a s (settled told) → Touches s.paged b c → Effect (IsOwn db files) (λ _. Unit {0}) b c
+said-touches a b c db files told s same number is touches =
+    subst (λ (n : ℕ). Effect (IsOwn n files) (λ _. Unit {0}) b c) number (subst (λ (fs : List DataFile). Effect (IsOwn s.paged.log.db fs) (λ _. Unit {0}) b c) (is.paged.files ∙ same) touches)

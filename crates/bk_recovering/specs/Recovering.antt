@@ -1,0 +1,30 @@
+-- A database that is made of a set, and recovered.
+-- SQL Server: "Complete Database Restores (Full Recovery Model)"; "Restore and Recovery Overview", undo.
+use Rattle.std.specs.Prelude.{◌≡◌, ℕ, List, None}
+use Rattle.bk_arriving.specs.Sets.{AreWhole, arriving_of, pages_of}
+use Rattle.bk_body.specs.Body.{Body}
+use Rattle.bk_facts.specs.declared.facts.DataFile.{DataFile}
+use Rattle.bk_ids.specs.declared.record.Rec.{Rec}
+use Rattle.bk_known.specs.declared.known.Known.{Known}
+use Rattle.bk_record.specs.Log.{IsLog}
+use Rattle.bk_reopening.specs.Reopening.{settled}
+use Rattle.bk_restored.specs.Restored.{SufficesTold}
+use Rattle.bk_shown.specs.Shown.{IsNext}
+use Rattle.bk_store.specs.Told.{Told, files_of}
+use Rattle.bk_undo.specs.Spelled.{spelled}
+use Rattle.bk_volume.specs.Stored.{IsOf, Stored}
+use Rattle.bk_world.specs.Records.{Logged}
+
+-- These bytes of a medium have a set that makes a database with these data files: it has their extents, and with its log they are enough.
+pub record Makes (bytes : List ℕ) (set : Stored) (files : List DataFile) (db checkpoint : ℕ) (note : List ℕ) (known : Known) (told : Told) : Type 0 where
+  pub body : Body
+  pub records : List Rec
+  pub is : IsOf bytes body set
+  pub whole : AreWhole files body.extents
+  pub log : IsLog body.log records None
+  pub suffices : SufficesTold (arriving_of files db set.header.first) checkpoint note (pages_of body) records known told
+
+-- Its recovery ends with this record, behind all that was undone.
+pub record EndsWith (told : Told) (r : Logged) (last : Rec) : Type 0 where
+  pub next : IsNext (files_of told) (settled told).records r
+  pub spelled_is : spelled r ≡ last
