@@ -1,0 +1,13 @@
+pub mod Media
+pub mod Calls
+pub mod First
+pub mod Errors
+pub mod Events
+pub mod SlotLaws
+pub mod MediaLaws
+pub mod MediumLaws
+pub mod ActLaws
+pub mod ClearLaws
+pub mod DiskLaws
+pub mod FirstLaws
+pub mod TextLaws
