@@ -5,5 +5,6 @@ mod Founded
 mod More
 mod Renoted
 mod Rolled
+mod Spared
 mod Undone
 mod Written

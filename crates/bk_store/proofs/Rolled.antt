@@ -20,6 +20,7 @@ use Rattle.bk_world.specs.Pending.{Pending, PendingRise, of_transaction, pending
 use Rattle.bk_world.specs.ReadingLaws.{rise-filter}
 use Rattle.bk_world.specs.Records.{Logged, Said, more, numbered, rolled_back}
 use Rattle.bk_world.specs.Says.{rollback_said, undoing, within}
+use Rattle.bk_store.specs.Reserved.{own_count}
 use Rattle.bk_store.specs.Rolling.{rolled}
 use Rattle.bk_store.specs.Store.{Crashes, IsStore, Kept, at_end, sealed_in}
 use Rattle.bk_store.specs.Told.{HoldsRecords, LeavesRecords, Told, data_files, files_of, said}
@@ -114,12 +115,16 @@ filter-short {X} p (x ∷ xs) = by (p x) (filter-short p xs)
     by true rest = omega (arith, rest)
     by false rest = omega (arith, rest)
 
+-- a transaction has no more pending writes than there are
+pub own-few : (s : Kept) (begin : ℕ) → own_count s begin ≤ length s.shown.written.items
+own-few s begin = filter-short (λ (w : Written). w.begin == begin) s.shown.written.items
+
 -- Some of a transaction's writes are undone, the last one first.
 pub record Rolled (begin : ℕ) (s0 s : Kept) (told : Told) (a b : Disk) (i : ℕ) : Type 0 where
   pub now : Told
   pub is : IsStore b s now
   pub rest : rolled begin now ≡ rolled begin told
-  pub few : length (of_transaction begin (pending now.records)) + i ≤ length s0.shown.written.items
+  pub few : length (of_transaction begin (pending now.records)) + i ≡ own_count s0 begin
   pub later : s0.paged.log.stored ≤ s.paged.log.stored
   pub crash : Crashes s0 (rolled begin told) a b
 
@@ -130,7 +135,7 @@ rolled-start begin s told a b is effect =
       now = told;
       is = is;
       rest = refl;
-      few = omega (arith, own, filter-short (λ (w : Written). w.begin == begin) s.shown.written.items);
+      few = omega (arith, own);
       later = omega arith;
       crash = crash-on s s told (rolled begin told) (numbered (end_behind told.records) (rollback_said begin (pending told.records))) a b refl refl (omega arith) (sealed-few s told b is) effect;
     }
@@ -159,7 +164,7 @@ rolled-step begin s0 s then told a b d i r db undoes later effect =
     }
 
 -- nothing is left
-pub rolled-none : (begin : ℕ) (s0 s : Kept) (told : Told) (a b : Disk) (i : ℕ) → (r : Rolled begin s0 s told a b i) → length s0.shown.written.items ≤ i → of_transaction begin (pending r.now.records) ≡ []
+pub rolled-none : (begin : ℕ) (s0 s : Kept) (told : Told) (a b : Disk) (i : ℕ) → (r : Rolled begin s0 s told a b i) → own_count s0 begin ≤ i → of_transaction begin (pending r.now.records) ≡ []
 rolled-none begin s0 s told a b i r end = empty (of_transaction begin (pending r.now.records)) (omega (arith, r.few, end))
   where
     empty : {X : Type 0} (xs : List X) → length xs ≤ 0 → xs ≡ []

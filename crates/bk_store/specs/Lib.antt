@@ -1,3 +1,4 @@
+pub mod CellLaws
 pub mod Copying
 pub mod CutLaws
 pub mod Cutting
@@ -6,6 +7,7 @@ pub mod FrontLaws
 pub mod LiftLaws
 pub mod Making
 pub mod Recent
+pub mod Reserved
 pub mod Rolling
 pub mod Store
 pub mod Told

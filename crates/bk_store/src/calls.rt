@@ -1,6 +1,7 @@
 // What statements say: one record each.
 ghost use Rattle.std.specs.Prelude.{◌≡◌, ◌+◌, false, IfOk, None, OnOk, IsErrOf};
 ghost use Rattle.bk_device.specs.Counts.{HasCause};
+ghost use Rattle.bk_log.specs.Log.{KeepsSpare};
 ghost use Rattle.bk_paged.specs.Paged.{Standing, Touches};
 ghost use Rattle.bk_record.specs.Spelling.{KeepsLimits};
 ghost use Rattle.bk_shown.specs.Shown.{IsNext};
@@ -31,6 +32,7 @@ impl Store {
         ensures standing { D.tells → OnOk result (Standing (D.disk dev.new) self.new.paged) }
         ensures ends { OnOk result ((self.new.paged.log.db ≡ self.old.paged.log.db) × (self.new.paged.log.end ≡ self.old.paged.log.end + 1) × (self.new.paged.log.stored ≡ self.new.paged.log.end) × (self.new.paged.log.head.kept ≡ self.old.paged.log.head.kept)) }
         ensures files { OnOk result (self.new.paged.facts.files ≡ self.old.paged.facts.files) }
+        ensures spare { OnOk result (KeepsSpare self.old.paged.log self.new.paged.log) }
         ensures same { OnOk result ((self.new.known ≡ self.old.known) × (self.new.note ≡ self.old.note)) }
         ensures crash { D.tells → (told : Told) (now : Logged) → IsStore (D.disk dev.old) self.old told → IsNext (files_of told) told.records now → spelled now ≡ r.now → Crashes self.old (said told now) (D.disk dev.old) (D.disk dev.new) }
         ensures touches { D.tells → Touches self.old.paged (D.disk dev.old) (D.disk dev.new) }
@@ -57,6 +59,7 @@ impl Store {
         ensures standing { D.tells → OnOk result (Standing (D.disk dev.new) self.new.paged) }
         ensures ends { OnOk result ((self.new.paged.log.db ≡ self.old.paged.log.db) × (self.new.paged.log.end ≡ self.old.paged.log.end + 1) × (self.new.paged.log.stored ≡ self.new.paged.log.end) × (self.new.paged.log.head.kept ≡ self.old.paged.log.head.kept)) }
         ensures files { OnOk result (self.new.paged.facts.files ≡ self.old.paged.facts.files) }
+        ensures spare { OnOk result (KeepsSpare self.old.paged.log self.new.paged.log) }
         ensures same { OnOk result ((self.new.known ≡ self.old.known) × (self.new.note ≡ self.old.note)) }
         ensures crash { D.tells → (told : Told) → IsStore (D.disk dev.old) self.old told → MayBeSaid self.old told begin (committed time mark) → Crashes self.old (said told (at_end self.old begin (committed time mark))) (D.disk dev.old) (D.disk dev.new) }
         ensures touches { D.tells → Touches self.old.paged (D.disk dev.old) (D.disk dev.new) }
@@ -86,6 +89,7 @@ impl Store {
         ensures standing { D.tells → OnOk result (Standing (D.disk dev.new) self.new.paged) }
         ensures ends { OnOk result ((self.new.paged.log.db ≡ self.old.paged.log.db) × (self.new.paged.log.end ≡ self.old.paged.log.end + 1) × (self.new.paged.log.stored ≡ self.new.paged.log.end) × (self.new.paged.log.head.kept ≡ self.old.paged.log.head.kept)) }
         ensures files { OnOk result (self.new.paged.facts.files ≡ self.old.paged.facts.files) }
+        ensures spare { OnOk result (KeepsSpare self.old.paged.log self.new.paged.log) }
         ensures same { OnOk result ((self.new.known ≡ self.old.known) × (self.new.note ≡ self.old.note)) }
         ensures crash { D.tells → (told : Told) → IsStore (D.disk dev.old) self.old told → MayBeSaid self.old told begin rolled_back → Crashes self.old (said told (at_end self.old begin rolled_back)) (D.disk dev.old) (D.disk dev.new) }
         ensures touches { D.tells → Touches self.old.paged (D.disk dev.old) (D.disk dev.new) }
@@ -117,6 +121,7 @@ impl Store {
         ensures standing { D.tells → OnOk result (Standing (D.disk dev.new) self.new.paged) }
         ensures ends { OnOk result ((self.new.paged.log.db ≡ self.old.paged.log.db) × (self.new.paged.log.end ≡ self.old.paged.log.end + 1) × (self.new.paged.log.stored ≡ self.new.paged.log.end) × (self.new.paged.log.head.kept ≡ self.old.paged.log.head.kept)) }
         ensures files { OnOk result (self.new.paged.facts.files ≡ self.old.paged.facts.files) }
+        ensures spare { OnOk result (KeepsSpare self.old.paged.log self.new.paged.log) }
         ensures same { OnOk result ((self.new.known ≡ self.old.known) × (self.new.note ≡ self.old.note)) }
         ensures crash { D.tells → (told : Told) → IsStore (D.disk dev.old) self.old told → MayBeSaid self.old told 0 (database_made time family branch) → Crashes self.old (said told (at_end self.old 0 (database_made time family branch))) (D.disk dev.old) (D.disk dev.new) }
         ensures touches { D.tells → Touches self.old.paged (D.disk dev.old) (D.disk dev.new) }
@@ -153,6 +158,7 @@ impl Store {
         ensures standing { D.tells → OnOk result (Standing (D.disk dev.new) self.new.paged) }
         ensures ends { OnOk result ((self.new.paged.log.db ≡ self.old.paged.log.db) × (self.new.paged.log.end ≡ self.old.paged.log.end + 1) × (self.new.paged.log.stored ≡ self.new.paged.log.end) × (self.new.paged.log.head.kept ≡ self.old.paged.log.head.kept)) }
         ensures files { OnOk result (self.new.paged.facts.files ≡ self.old.paged.facts.files) }
+        ensures spare { OnOk result (KeepsSpare self.old.paged.log self.new.paged.log) }
         ensures same { OnOk result ((self.new.known ≡ self.old.known) × (self.new.note ≡ self.old.note)) }
         ensures crash { D.tells → (told : Told) → IsStore (D.disk dev.old) self.old told → MayBeSaid self.old told 0 (table_made time (record { number = number; name = name; group = group })) → Crashes self.old (said told (at_end self.old 0 (table_made time (record { number = number; name = name; group = group })))) (D.disk dev.old) (D.disk dev.new) }
         ensures touches { D.tells → Touches self.old.paged (D.disk dev.old) (D.disk dev.new) }
@@ -188,6 +194,7 @@ impl Store {
         ensures standing { D.tells → OnOk result (Standing (D.disk dev.new) self.new.paged) }
         ensures ends { OnOk result ((self.new.paged.log.db ≡ self.old.paged.log.db) × (self.new.paged.log.end ≡ self.old.paged.log.end + 1) × (self.new.paged.log.stored ≡ self.new.paged.log.end) × (self.new.paged.log.head.kept ≡ self.old.paged.log.head.kept)) }
         ensures files { OnOk result (self.new.paged.facts.files ≡ self.old.paged.facts.files) }
+        ensures spare { OnOk result (KeepsSpare self.old.paged.log self.new.paged.log) }
         ensures same { OnOk result ((self.new.known ≡ self.old.known) × (self.new.note ≡ self.old.note)) }
         ensures crash { D.tells → (told : Told) → IsStore (D.disk dev.old) self.old told → MayBeSaid self.old told 0 (model_set time model) → Crashes self.old (said told (at_end self.old 0 (model_set time model))) (D.disk dev.old) (D.disk dev.new) }
         ensures touches { D.tells → Touches self.old.paged (D.disk dev.old) (D.disk dev.new) }
@@ -218,6 +225,7 @@ impl Store {
         ensures standing { D.tells → OnOk result (Standing (D.disk dev.new) self.new.paged) }
         ensures ends { OnOk result ((self.new.paged.log.db ≡ self.old.paged.log.db) × (self.new.paged.log.end ≡ self.old.paged.log.end + 1) × (self.new.paged.log.stored ≡ self.new.paged.log.end) × (self.new.paged.log.head.kept ≡ self.old.paged.log.head.kept)) }
         ensures files { OnOk result (self.new.paged.facts.files ≡ self.old.paged.facts.files) }
+        ensures spare { OnOk result (KeepsSpare self.old.paged.log self.new.paged.log) }
         ensures same { OnOk result ((self.new.known ≡ self.old.known) × (self.new.note ≡ self.old.note)) }
         ensures crash { D.tells → (told : Told) → IsStore (D.disk dev.old) self.old told → MayBeSaid self.old told 0 (stamped time set) → Crashes self.old (said told (at_end self.old 0 (stamped time set))) (D.disk dev.old) (D.disk dev.new) }
         ensures touches { D.tells → Touches self.old.paged (D.disk dev.old) (D.disk dev.new) }
@@ -244,6 +252,7 @@ impl Store {
         ensures standing { D.tells → OnOk result (Standing (D.disk dev.new) self.new.paged) }
         ensures ends { OnOk result ((self.new.paged.log.db ≡ self.old.paged.log.db) × (self.new.paged.log.end ≡ self.old.paged.log.end + 1) × (self.new.paged.log.head.kept ≡ self.old.paged.log.head.kept)) }
         ensures files { OnOk result (self.new.paged.facts.files ≡ self.old.paged.facts.files) }
+        ensures spare { OnOk result (KeepsSpare self.old.paged.log self.new.paged.log) }
         ensures same { OnOk result ((self.new.known ≡ self.old.known) × (self.new.note ≡ self.old.note)) }
         ensures crash { D.tells → (told : Told) → IsStore (D.disk dev.old) self.old told → Crashes self.old told (D.disk dev.old) (D.disk dev.new) }
         ensures touches { D.tells → Touches self.old.paged (D.disk dev.old) (D.disk dev.new) }

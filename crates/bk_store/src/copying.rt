@@ -2,6 +2,7 @@
 ghost use Rattle.std.specs.Prelude.{◌≡◌, ◌≤◌, ◌<◌, ◌+◌, ◌*◌, None, false, map, IfOk, OnOk, IsErrOf};
 ghost use Rattle.bk_device.specs.Calls.{ChangesNothing};
 ghost use Rattle.bk_device.specs.Counts.{HasCause};
+ghost use Rattle.bk_log.specs.Log.{KeepsSpare};
 ghost use Rattle.bk_paged.specs.Holds.{IsStored};
 ghost use Rattle.bk_paged.specs.Names.{IsThere, pages_in};
 ghost use Rattle.bk_paged.specs.Paged.{Standing, Touches, from_to};
@@ -66,6 +67,7 @@ impl Store {
         ensures fit { OnOk result (self.new.paged.failed ≡ false) }
         ensures same { OnOk result ((self.new.shown ≡ self.old.shown) × (self.new.known ≡ self.old.known) × (self.new.note ≡ self.old.note)) }
         ensures ends { OnOk result ((self.new.paged.log.db ≡ self.old.paged.log.db) × (self.new.paged.log.end ≡ self.old.paged.log.end) × (self.new.paged.log.head.kept ≡ self.old.paged.log.head.kept) × (self.new.paged.facts ≡ self.old.paged.facts)) }
+        ensures spare { OnOk result (KeepsSpare self.old.paged.log self.new.paged.log) }
         ensures stands { D.tells → (told : Told) → IsStore (D.disk dev.old) self.old told → OnOk result (IsStore (D.disk dev.new) self.new told) }
         ensures standing { D.tells → OnOk result (Standing (D.disk dev.new) self.new.paged) }
         ensures later { D.tells → (told : Told) → IsStore (D.disk dev.old) self.old told → OnOk result (self.old.paged.log.stored ≤ self.new.paged.log.stored) }
@@ -96,6 +98,7 @@ impl Store {
         ensures fit { OnOk result (self.new.paged.failed ≡ false) }
         ensures same { OnOk result ((self.new.shown ≡ self.old.shown) × (self.new.known ≡ self.old.known) × (self.new.note ≡ self.old.note)) }
         ensures ends { OnOk result ((self.new.paged.log.db ≡ self.old.paged.log.db) × (self.new.paged.log.end ≡ self.old.paged.log.end) × (self.new.paged.log.head.kept ≡ self.old.paged.log.head.kept) × (self.new.paged.facts ≡ self.old.paged.facts)) }
+        ensures spare { OnOk result (KeepsSpare self.old.paged.log self.new.paged.log) }
         ensures stands { D.tells → (told : Told) → IsStore (D.disk dev.old) self.old told → OnOk result (IsStore (D.disk dev.new) self.new told) }
         ensures standing { D.tells → OnOk result (Standing (D.disk dev.new) self.new.paged) }
         ensures later { D.tells → (told : Told) → IsStore (D.disk dev.old) self.old told → OnOk result (self.old.paged.log.stored ≤ self.new.paged.log.stored) }

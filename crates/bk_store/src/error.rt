@@ -1,10 +1,11 @@
 // Why a call on a store gave nothing.
 ghost use Rattle.std.specs.Prelude.{◌≡◌};
 ghost use Rattle.bk_store.specs.Errors.{FromPaged};
-ghost use Rattle.bk_store.specs.declared.error.StoreError.TheVariants.{NoMemory};
+ghost use Rattle.bk_store.specs.declared.error.StoreError.TheVariants.{Fault, NoMemory};
 
+use bk_device::Failed;
 use bk_paged::PagedError;
-use bk_shown::TakeError;
+use bk_shown::{NotNext, TakeError};
 use std::alloc::{AllocError, AllocFailed};
 use thiserror::Error;
 
@@ -40,6 +41,22 @@ impl From<TakeError> for StoreError {
 
     fn from(_: TakeError) -> Self {
         StoreError::NoMemory
+    }
+}
+
+impl From<NotNext> for StoreError {
+    ghost from_gives = { λ _ e. e ≡ NoMemory };
+
+    fn from(_: NotNext) -> Self {
+        StoreError::NoMemory
+    }
+}
+
+impl From<Failed> for StoreError {
+    ghost from_gives = { λ _ e. e ≡ Fault };
+
+    fn from(_: Failed) -> Self {
+        StoreError::Fault
     }
 }
 

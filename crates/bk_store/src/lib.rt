@@ -4,10 +4,12 @@
 mod asking;
 mod calls;
 mod copying;
+mod ending;
 mod error;
 mod making;
 mod noting;
 mod recent;
+mod reserved;
 mod rolling;
 mod saying;
 mod store;
@@ -15,6 +17,7 @@ mod undoing;
 mod view;
 mod writing;
 
+pub use ending::{commit_bytes, end_bytes, undo_bytes};
 pub use error::StoreError;
 pub use noting::copy_tables;
 pub use recent::{Recent, told_behind};

@@ -1,6 +1,7 @@
 // What a store's note says.
 ghost use Rattle.std.specs.Prelude.{◌≡◌, ◌≤◌, ◌^◌, ◌<◌, ◌+◌, ◌⊎◌, List, false, true, length, IfOk, OnOk, IsErrOf};
 ghost use Rattle.bk_device.specs.Counts.{HasCause};
+ghost use Rattle.bk_log.specs.Log.{KeepsSpare};
 ghost use Rattle.bk_paged.specs.Paged.{Standing, Touches};
 ghost use Rattle.bk_shown.specs.Shown.{Shows};
 ghost use Rattle.std.specs.List.{AllByRecursion};
@@ -96,6 +97,7 @@ impl Store {
         ensures standing { D.tells → OnOk result (Standing (D.disk dev.new) self.new.paged) }
         ensures ends { OnOk result ((self.new.paged.log.db ≡ self.old.paged.log.db) × (self.new.paged.log.end ≡ self.old.paged.log.end) × (self.new.paged.log.stored ≡ self.old.paged.log.stored) × (self.new.paged.log.head.kept ≡ self.old.paged.log.head.kept)) }
         ensures files { OnOk result (self.new.paged.facts.files ≡ self.old.paged.facts.files) }
+        ensures spare { OnOk result (KeepsSpare self.old.paged.log self.new.paged.log) }
         ensures crash { D.tells → (told : Told) → IsStore (D.disk dev.old) self.old told → NotesOr self.old told note.now (D.disk dev.old) (D.disk dev.new) }
         ensures touches { D.tells → Touches self.old.paged (D.disk dev.old) (D.disk dev.new) }
         ensures cause { HasCause D.disk_faults D.tell_faults dev.old dev.new (IsErrOf result StoreError.Fault) }
@@ -118,6 +120,7 @@ impl Store {
         ensures standing { D.tells → OnOk result (Standing (D.disk dev.new) self.new.paged) }
         ensures ends { OnOk result ((self.new.paged.log.db ≡ self.old.paged.log.db) × (self.new.paged.log.end ≡ self.old.paged.log.end) × (self.new.paged.log.stored ≡ self.old.paged.log.stored) × (self.new.paged.log.head.kept ≡ self.old.paged.log.head.kept)) }
         ensures facts { OnOk result (self.new.paged.facts ≡ self.old.paged.facts) }
+        ensures spare { OnOk result (KeepsSpare self.old.paged.log self.new.paged.log) }
         ensures from { OnOk result (self.new.known.as_of.from ≡ self.old.shown.«end») }
         ensures crash { D.tells → (told : Told) → IsStore (D.disk dev.old) self.old told → Crashes self.old told (D.disk dev.old) (D.disk dev.new) }
         ensures touches { D.tells → Touches self.old.paged (D.disk dev.old) (D.disk dev.new) }
@@ -149,6 +152,7 @@ impl Store {
         ensures standing { D.tells → OnOk result (Standing (D.disk dev.new) self.new.paged) }
         ensures ends { OnOk result ((self.new.paged.log.db ≡ self.old.paged.log.db) × (self.new.paged.log.end ≡ self.old.paged.log.end + 1) × (self.new.paged.log.stored ≡ self.new.paged.log.end) × (self.new.paged.log.head.kept ≡ self.old.paged.log.head.kept)) }
         ensures files { OnOk result (self.new.paged.facts.files ≡ self.old.paged.facts.files) }
+        ensures spare { OnOk result (KeepsSpare self.old.paged.log self.new.paged.log) }
         ensures checkpoint { OnOk result (self.new.paged.facts.checkpoint ≡ self.new.paged.log.end) }
         ensures crash { D.tells → (told : Told) → IsStore (D.disk dev.old) self.old told → Crashes self.old (said told (at_end self.old 0 (checkpointed now))) (D.disk dev.old) (D.disk dev.new) }
         ensures touches { D.tells → Touches self.old.paged (D.disk dev.old) (D.disk dev.new) }
@@ -174,6 +178,7 @@ impl Store {
         ensures standing { D.tells → OnOk result (Standing (D.disk dev.new) self.new.paged) }
         ensures ends { OnOk result ((self.new.paged.log.db ≡ self.old.paged.log.db) × (self.new.paged.log.end ≡ self.old.paged.log.end) × (self.new.paged.log.stored ≡ self.old.paged.log.stored)) }
         ensures files { OnOk result (self.new.paged.facts.files ≡ self.old.paged.facts.files) }
+        ensures spare { OnOk result (KeepsSpare self.old.paged.log self.new.paged.log) }
         ensures kept { OnOk result (self.old.paged.log.head.kept ≤ self.new.paged.log.head.kept) }
         ensures left { OnOk result ((self.new.paged.log.head.kept ≡ self.old.paged.log.head.kept) ⊎ (self.new.paged.log.head.kept ≡ to)) }
         ensures cut { MayBeCut self.old to → OnOk result (self.new.paged.log.head.kept ≡ to) }
@@ -209,6 +214,7 @@ impl Store {
         ensures standing { D.tells → OnOk result (Standing (D.disk dev.new) self.new.paged) }
         ensures ends { OnOk result ((self.new.paged.log.db ≡ self.old.paged.log.db) × (self.new.paged.log.end ≡ self.old.paged.log.end + 1) × (self.new.paged.log.stored ≡ self.new.paged.log.end)) }
         ensures files { OnOk result (self.new.paged.facts.files ≡ self.old.paged.facts.files) }
+        ensures spare { OnOk result (KeepsSpare self.old.paged.log self.new.paged.log) }
         ensures kept { OnOk result (self.old.paged.log.head.kept ≤ self.new.paged.log.head.kept) }
         ensures left { OnOk result ((self.new.paged.log.head.kept ≡ self.old.paged.log.head.kept) ⊎ (self.new.paged.log.head.kept ≡ floor)) }
         ensures cut { D.tells → (told : Told) → IsStore (D.disk dev.old) self.old told → IsFloor self.old told floor → OnOk result (self.new.paged.log.head.kept ≡ floor) }

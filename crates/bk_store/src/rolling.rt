@@ -1,6 +1,7 @@
 // Rolling a transaction back.
 ghost use Rattle.std.specs.Prelude.{◌≡◌, ◌≤◌, false, OnOk, IsErrOf};
 ghost use Rattle.bk_device.specs.Counts.{HasCause};
+ghost use Rattle.bk_log.specs.Log.{KeepsSpare};
 ghost use Rattle.bk_paged.specs.Paged.{Standing, Touches};
 ghost use Rattle.bk_store.specs.Rolling.{IsUndone, rolled};
 ghost use Rattle.bk_store.specs.Store.{Crashes, IsStore};
@@ -28,6 +29,7 @@ impl Store {
         ensures standing { D.tells → OnOk result (Standing (D.disk dev.new) self.new.paged) }
         ensures ends { OnOk result ((self.new.paged.log.db ≡ self.old.paged.log.db) × (self.new.paged.log.head.kept ≡ self.old.paged.log.head.kept)) }
         ensures files { OnOk result (self.new.paged.facts.files ≡ self.old.paged.facts.files) }
+        ensures spare { OnOk result (KeepsSpare self.old.paged.log self.new.paged.log) }
         ensures later { D.tells → (told : Told) → IsStore (D.disk dev.old) self.old told → OnOk result (self.old.paged.log.stored ≤ self.new.paged.log.stored) }
         ensures same { OnOk result ((self.new.known ≡ self.old.known) × (self.new.note ≡ self.old.note)) }
         ensures crash { D.tells → (told : Told) → IsStore (D.disk dev.old) self.old told → Crashes self.old (rolled begin told) (D.disk dev.old) (D.disk dev.new) }
@@ -61,6 +63,7 @@ impl Store {
         ensures standing { D.tells → OnOk result (Standing (D.disk dev.new) self.new.paged) }
         ensures ends { OnOk result ((self.new.paged.log.db ≡ self.old.paged.log.db) × (self.new.paged.log.stored ≡ self.new.paged.log.end) × (self.new.paged.log.head.kept ≡ self.old.paged.log.head.kept)) }
         ensures files { OnOk result (self.new.paged.facts.files ≡ self.old.paged.facts.files) }
+        ensures spare { OnOk result (KeepsSpare self.old.paged.log self.new.paged.log) }
         ensures same { OnOk result ((self.new.known ≡ self.old.known) × (self.new.note ≡ self.old.note)) }
         ensures crash { D.tells → (told : Told) → IsStore (D.disk dev.old) self.old told → Crashes self.old (rolled begin told) (D.disk dev.old) (D.disk dev.new) }
         ensures touches { D.tells → Touches self.old.paged (D.disk dev.old) (D.disk dev.new) }

@@ -1,6 +1,7 @@
 // Saying a record behind the others.
 ghost use Rattle.std.specs.Prelude.{◌≡◌, ◌≤◌, ◌+◌, true, false, OnOk, IsErrOf};
 ghost use Rattle.bk_device.specs.Counts.{HasCause};
+ghost use Rattle.bk_log.specs.Log.{KeepsSpare};
 ghost use Rattle.bk_paged.specs.Appends.{MayAppend, MaySay, page_at};
 ghost use Rattle.bk_paged.specs.Names.{IsThere};
 ghost use Rattle.bk_paged.specs.Paged.{Standing, Touches};
@@ -24,14 +25,16 @@ pub(crate) const LAST_NUMBER: u64 = 1 << 62;
 
 // Whether the page of a cell is one of a data file.
 fn is_there(paged: &Paged, place: Place) -> bool
-    ensures { result ≡ true → IsThere paged.now.facts.files (page_at place) }
+    ensures yes { result ≡ true → IsThere paged.now.facts.files (page_at place) }
+    ensures no { result ≡ false → IsThere paged.now.facts.files (page_at place) → ⊥ }
 {
     place.page < paged.pages(place.file)
 }
 
 // Whether what a record sets may be set: a write's transaction began at the kept point or behind it, and the page is there.
 fn may_set(paged: &Paged, begin: Lsn, body: &Body) -> bool
-    ensures { result ≡ true → MaySay paged.now begin body.now }
+    ensures yes { result ≡ true → MaySay paged.now begin body.now }
+    ensures no { result ≡ false → MaySay paged.now begin body.now → ⊥ }
 {
     match body {
         Body::Write { place, .. } => paged.kept() <= begin && is_there(paged, *place),
@@ -42,9 +45,10 @@ fn may_set(paged: &Paged, begin: Lsn, body: &Body) -> bool
 }
 
 // Whether a record has the next number, and may be set.
-fn may_append(paged: &Paged, r: &Rec) -> bool
+pub(crate) fn may_append(paged: &Paged, r: &Rec) -> bool
     requires limits { KeepsLimits r.now.body }
-    ensures { result ≡ true → MayAppend paged.now r.now }
+    ensures yes { result ≡ true → MayAppend paged.now r.now }
+    ensures no { result ≡ false → MayAppend paged.now r.now → ⊥ }
 {
     r.lsn == paged.end()
         && r.lsn < LAST_NUMBER
@@ -67,6 +71,7 @@ impl Store {
         ensures standing { D.tells → OnOk result (Standing (D.disk dev.new) self.new.paged) }
         ensures ends { OnOk result ((self.new.paged.log.db ≡ self.old.paged.log.db) × (self.new.paged.log.end ≡ self.old.paged.log.end + 1) × (self.new.paged.log.head.kept ≡ self.old.paged.log.head.kept)) }
         ensures files { OnOk result (self.new.paged.facts.files ≡ self.old.paged.facts.files) }
+        ensures spare { OnOk result (KeepsSpare self.old.paged.log self.new.paged.log) }
         ensures later { D.tells → (told : Told) → IsStore (D.disk dev.old) self.old told → OnOk result (self.old.paged.log.stored ≤ self.new.paged.log.stored) }
         ensures same { OnOk result ((self.new.known ≡ self.old.known) × (self.new.note ≡ self.old.note)) }
         ensures crash { D.tells → (told : Told) → IsStore (D.disk dev.old) self.old told → Crashes self.old told (D.disk dev.old) (D.disk dev.new) }

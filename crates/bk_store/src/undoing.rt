@@ -1,6 +1,7 @@
 // Undoing the writes of a transaction, the last one first.
 ghost use Rattle.std.specs.Prelude.{◌≡◌, ◌≤◌, ◌<◌, ◌+◌, ◌^◌, None, false, option_map, IfOk, IfSome, OnOk, IsErrOf};
 ghost use Rattle.bk_device.specs.Counts.{HasCause};
+ghost use Rattle.bk_log.specs.Log.{KeepsSpare};
 ghost use Rattle.bk_paged.specs.Paged.{Standing, Touches};
 ghost use Rattle.bk_record.specs.Spelling.{KeepsLimits};
 ghost use Rattle.bk_store.specs.Store.{Crashes, IsStore};
@@ -43,7 +44,7 @@ fn undoing(write: &Written) -> Body
 }
 
 // What undoes a transaction's last pending write says, if it has one.
-fn undo_body(shown: &Shown, begin: Lsn) -> Option<Body>
+pub(crate) fn undo_body(shown: &Shown, begin: Lsn) -> Option<Body>
     ensures says { SaysUndoing begin shown.now.written.items result }
     ensures limits { IfSome result KeepsLimits }
 {
@@ -71,6 +72,7 @@ impl Store {
         ensures standing { D.tells → OnOk result (Standing (D.disk dev.new) self.new.paged) }
         ensures ends { OnOk result ((self.new.paged.log.db ≡ self.old.paged.log.db) × (self.new.paged.log.head.kept ≡ self.old.paged.log.head.kept) × (self.new.paged.log.end ≤ self.old.paged.log.end + 1)) }
         ensures files { OnOk result (self.new.paged.facts.files ≡ self.old.paged.facts.files) }
+        ensures spare { OnOk result (KeepsSpare self.old.paged.log self.new.paged.log) }
         ensures later { D.tells → (told : Told) → IsStore (D.disk dev.old) self.old told → OnOk result (self.old.paged.log.stored ≤ self.new.paged.log.stored) }
         ensures same { OnOk result ((self.new.known ≡ self.old.known) × (self.new.note ≡ self.old.note)) }
         ensures crash { D.tells → (told : Told) → IsStore (D.disk dev.old) self.old told → Crashes self.old told (D.disk dev.old) (D.disk dev.new) }

@@ -2,6 +2,7 @@
 ghost use Rattle.std.specs.Prelude.{◌≡◌, ◌+◌, None, Some, List, false, option_map, IfOk, IfSome, OnOk, IsErrOf};
 ghost use Rattle.bk_bytes.specs.Cell.{IsCell};
 ghost use Rattle.bk_device.specs.Counts.{HasCause};
+ghost use Rattle.bk_log.specs.Log.{KeepsSpare};
 ghost use Rattle.bk_paged.specs.Paged.{Standing, Touches};
 ghost use Rattle.bk_record.specs.Spelling.{KeepsLimits};
 ghost use Rattle.bk_shown.specs.Shown.{Shows};
@@ -81,6 +82,7 @@ impl Store {
         ensures place { D.tells → (told : Told) → IsStore (D.disk dev.old) self.old told → IfOk result (λ at. MayLieAt (files_of told) told.records table key at) }
         ensures ends { OnOk result ((self.new.paged.log.db ≡ self.old.paged.log.db) × (self.new.paged.log.end ≡ self.old.paged.log.end + 1) × (self.new.paged.log.head.kept ≡ self.old.paged.log.head.kept)) }
         ensures files { OnOk result (self.new.paged.facts.files ≡ self.old.paged.facts.files) }
+        ensures spare { OnOk result (KeepsSpare self.old.paged.log self.new.paged.log) }
         ensures same { OnOk result ((self.new.known ≡ self.old.known) × (self.new.note ≡ self.old.note)) }
         ensures crash { D.tells → (told : Told) → IsStore (D.disk dev.old) self.old told → Crashes self.old told (D.disk dev.old) (D.disk dev.new) }
         ensures touches { D.tells → Touches self.old.paged (D.disk dev.old) (D.disk dev.new) }

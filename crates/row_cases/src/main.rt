@@ -9,6 +9,7 @@ mod row_copied;
 mod row_logged;
 mod row_mix;
 mod row_noted;
+mod row_reserved;
 mod row_restored;
 mod row_session;
 mod row_shown;

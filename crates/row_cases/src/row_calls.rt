@@ -2,6 +2,7 @@
 ghost use Rattle.std.specs.Prelude.{◌≡◌, false, None, IfOk, OnOk, IfSome};
 
 use crate::row_copied::{add_extent, add_log, add_pages};
+use crate::row_reserved::call_reserved;
 use crate::row_staged::stage;
 use crate::words::name_of;
 use bk_ids::{Body, Guid, Mark, Place, Rec, RecoveryModel, VALUE_BYTES, Value};
@@ -19,7 +20,7 @@ fn value_of(alloc: Global, word: &str) -> Result<Option<Value>, AllocError> {
 }
 
 // The mark that a word names; none for an empty one.
-fn mark_of(alloc: Global, word: &str) -> Result<Option<Mark>, AllocError> {
+pub(crate) fn mark_of(alloc: Global, word: &str) -> Result<Option<Mark>, AllocError> {
     if word.is_empty() {
         return Ok(None);
     }
@@ -335,7 +336,7 @@ fn ask(
     }
 }
 
-// The call that words say: `begin`, `write ..`, `delete ..`, `undo BEGIN`, one that asks for something, or one that gives nothing.
+// The call that words say: `begin`, `write ..`, `delete ..`, `undo BEGIN`, one that asks for something, one by reserved room, or one that gives nothing.
 fn call_words(
     alloc: Global,
     device: &mut Untold,
@@ -351,6 +352,12 @@ fn call_words(
         "write" | "delete" => write(alloc, device, store, words, gave),
         "undo" => undo(alloc, device, store, words, gave),
         "extent" | "log" | "pages" | "stage" => ask(alloc, device, store, words, gave),
+        "reserve"
+        | "spare"
+        | "commit-reserved"
+        | "rollback-reserved"
+        | "undo-reserved"
+        | "end-reserved" => call_reserved(alloc, device, store, words, gave),
         _ => call_plain(alloc, device, store, words),
     }
 }

@@ -86,8 +86,10 @@ fn note_inside(mix: &mut Mix, words: &[&str]) -> Result<(), AllocError> {
         "begin" => note_begin(mix),
         "write" | "delete" => note_write(mix, begin, words),
         "undo" => note_undo(mix, begin),
-        "rollback" | "undo-all" => note_rollback(mix, begin),
-        "commit" | "say-commit" => { note_end(mix, begin, number(word(words, 2)), Deed::Commit) }
+        "rollback" | "undo-all" | "rollback-reserved" => note_rollback(mix, begin),
+        "commit" | "say-commit" | "commit-reserved" => {
+            note_end(mix, begin, number(word(words, 2)), Deed::Commit)
+        }
         _ => Ok(()),
     }
 }

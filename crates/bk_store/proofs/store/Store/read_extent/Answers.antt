@@ -1,4 +1,4 @@
-use Rattle.std.proofs.Common.{ℕ, ap, arith, map, sym, subst}
+use Rattle.std.proofs.Common.{ℕ, ◌∙◌, ap, arith, map, refl, sym, subst}
 use Rattle.bk_device.specs.Laws.{cause_then}
 use Rattle.bk_facts.specs.declared.facts.Facts.{Facts}
 use Rattle.bk_paged.specs.Holds.{IsStored}
@@ -18,6 +18,7 @@ pages-init g c = record {
       (λ t told is. moved-stands g.D.Device.disk c.args.dev.now c.at_rest.new.dev c.args.self.now told c.at_rest.ensures.same is) c.at_rest.ensures.crash c.clear.ensures.items;
   standing = λ t. subst (λ d. Standing (g.D.Device.disk d) c.args.self.now.paged) (sym c.at_rest.ensures.same) (c.requires.standing t);
   touches = λ t. unmoved-touches g.D.Device.disk c.args.dev.now c.at_rest.new.dev c.args.self.now.paged c.at_rest.ensures.same;
+  spare = record { bytes = refl; flushes = refl };
   cause = record { rose = λ none. absurd none; never_falls = omega (arith, ap g.D.Device.disk_faults c.at_rest.ensures.same); tell_faults = ap g.D.Device.tell_faults c.at_rest.ensures.same };
 }
 
@@ -44,6 +45,7 @@ pages-preserved g c = record {
   standing = c.in_ok-bytes.ensures.standing;
   touches = λ t.
       touches-then c.args.self.now.paged c.pages.self.paged c.pages.invariant.copying.ends.0 (ap (λ (f : Facts). f.files) c.pages.invariant.copying.ends.3) (c.pages.invariant.touches t) (c.copy_page.ensures.touches t);
+  spare = record { bytes = c.in_ok-bytes.ensures.spare.bytes ∙ c.pages.invariant.spare.bytes; flushes = c.in_ok-bytes.ensures.spare.flushes ∙ c.pages.invariant.spare.flushes };
   cause = cause_then c.pages.invariant.cause c.in_ok-bytes.ensures.cause (λ none. absurd none);
 }
 

@@ -7,7 +7,7 @@ use Rattle.bk_store.specs.Store.{IsStore}
 use Rattle.bk_store.specs.Writing.{UndoesLast}
 use Rattle.bk_store.specs.LiftLaws.{moved-stands}
 use Rattle.bk_store.specs.TouchLaws.{touches-then, unmoved-touches}
-use Rattle.bk_store.proofs.Rolled.{rolled-none, rolling-begins, rolling-crash, rolling-more}
+use Rattle.bk_store.proofs.Rolled.{own-few, rolled-none, rolling-begins, rolling-crash, rolling-more}
 use Rattle.bk_store.proofs.store.Store.undo_all.Goals as goal
 
 pub writes-init : goal.writes-init
@@ -17,6 +17,7 @@ writes-init g c = record {
   standing = λ t. subst (λ d. Standing (g.D.Device.disk d) c.args.self.now.paged) (sym c.at_rest.ensures.same) (c.requires.standing t);
   files = refl;
   touches = λ t. unmoved-touches g.D.Device.disk c.args.dev.now c.at_rest.new.dev c.args.self.now.paged c.at_rest.ensures.same;
+  spare = record { bytes = refl; flushes = refl };
   cause = record { rose = λ none. absurd none; never_falls = omega (arith, ap g.D.Device.disk_faults c.at_rest.ensures.same); tell_faults = ap g.D.Device.tell_faults c.at_rest.ensures.same };
 }
 
@@ -37,6 +38,7 @@ writes-preserved g c =
       standing = c.in_ok-undo_last.ensures.standing;
       files = c.in_ok-undo_last.ensures.files ∙ c.writes.invariant.files;
       touches = λ t. touches-then c.args.self.now.paged c.writes.self.paged c.writes.invariant.rolling.db c.writes.invariant.files (c.writes.invariant.touches t) (c.undo_last.ensures.touches t);
+      spare = record { bytes = c.in_ok-undo_last.ensures.spare.bytes ∙ c.writes.invariant.spare.bytes; flushes = c.in_ok-undo_last.ensures.spare.flushes ∙ c.writes.invariant.spare.flushes };
       cause = cause_then c.writes.invariant.cause c.in_ok-undo_last.ensures.cause (λ none. absurd none);
     }
 
@@ -61,7 +63,7 @@ returns-clause-crash g c t told is = (c.writes.invariant.rolling.there t told is
 pub returns-clause-undone : goal.returns-clause-undone
 returns-clause-undone g c t told is =
     let x = c.writes.invariant.rolling.there t told is in
-    (x.now, x.is, x.rest, rolled-none c.args.begin c.args.self.now c.writes.self told (g.D.Device.disk c.args.dev.now) (g.D.Device.disk c.writes.dev) c.writes.i x (omega (arith, c.writes-test.false, ap length c.written-i-end.ensures.same, ap (λ (s : Shown). length s.written.items) c.shown.ensures)))
+    (x.now, x.is, x.rest, rolled-none c.args.begin c.args.self.now c.writes.self told (g.D.Device.disk c.args.dev.now) (g.D.Device.disk c.writes.dev) c.writes.i x (omega (arith, own-few c.args.self.now c.args.begin, c.writes-test.false, ap length c.written-i-end.ensures.same, ap (λ (s : Shown). length s.written.items) c.shown.ensures)))
 
 pub returns-clause-later : goal.returns-clause-later
 returns-clause-later g c t told is = (c.writes.invariant.rolling.there t told is).later

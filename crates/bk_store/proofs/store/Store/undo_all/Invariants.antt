@@ -1,5 +1,6 @@
 use Rattle.std.specs.Prelude.{◌≡◌}
 use Rattle.bk_device.specs.Counts.{HasCause}
+use Rattle.bk_log.specs.Log.{KeepsSpare}
 use Rattle.bk_paged.specs.Paged.{Standing, Touches}
 use Rattle.bk_store.proofs.Rolled.{Rolling}
 use Rattle.bk_store.proofs.store.Store.undo_all.Given as goal
@@ -10,5 +11,6 @@ invariant-writes g l = record {
   standing : g.D.Device.tells → Standing (g.D.Device.disk l.dev) l.self.paged;
   files : l.self.paged.facts.files ≡ l.fn.self.paged.facts.files;
   touches : g.D.Device.tells → Touches l.fn.self.paged (g.D.Device.disk l.fn.dev) (g.D.Device.disk l.dev);
+  spare : KeepsSpare l.fn.self.paged.log l.self.paged.log;
   cause : HasCause g.D.Device.disk_faults g.D.Device.tell_faults l.fn.dev l.dev ⊥;
 }
