@@ -10,7 +10,7 @@ ghost use Rattle.bk_kept.specs.Keeps.{Keeps, ShowsLog, database_of};
 
 use crate::opens::own_open;
 use bk_ids::Lsn;
-use bk_kept::{Database, Kept};
+use bk_kept::{DatabaseView, InstanceView};
 use bk_shown::Written;
 use bk_world::{Open, TableSpec};
 
@@ -25,8 +25,8 @@ fn of_another(transactions: &[Open], session: u8, begin: Lsn) -> Option<&Open>
 
 /// The open transaction of another session that has written a row of a table, if there is one.
 pub fn holder<'a>(
-    kept: &Kept,
-    database: &'a Database,
+    kept: &InstanceView<'_>,
+    database: &DatabaseView<'a>,
     table: &TableSpec,
     key: u64,
 ) -> Option<&'a Open>
@@ -45,7 +45,7 @@ fn count_of(written: &[Written], begin: Lsn) -> usize
 }
 
 /// How many pending writes the current session's transaction has in a database: none where it has no transaction there.
-pub fn own_writes(kept: &Kept, database: &Database) -> usize
+pub fn own_writes(kept: &InstanceView<'_>, database: &DatabaseView<'_>) -> usize
     ensures { (w : World) → Keeps w kept.now → ShowsLog w.history database.now
         → result ≡ target.writes_of (log_of w.history (database_of database.now)) (target.own_open w (database_of database.now)) }
 {

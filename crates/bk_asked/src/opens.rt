@@ -13,13 +13,13 @@ ghost use Rattle.bk_kept.specs.Keeps.{IsKept, Keeps, database_of};
 ghost use Rattle.bk_kept.specs.Numbers.{CanEnd, LeaveNumbers};
 ghost use Rattle.bk_asked.specs.Asked.{held_of, least_in, least_with};
 
-use bk_kept::{Database, Kept};
+use bk_kept::{DatabaseView, InstanceView};
 use bk_world::Open;
 
 /// An open transaction, and the database in which it is open.
 #[derive(Clone, Copy)]
 pub struct Held<'a> {
-    pub database: &'a Database,
+    pub database: &'a DatabaseView<'a>,
     pub transaction: &'a Open,
 }
 
@@ -31,21 +31,21 @@ fn first_of(transactions: &[Open], session: u8) -> Option<&Open>
 }
 
 // The open transaction of a session in a database.
-fn open_of(database: &Database, session: u8) -> Option<&Open>
+fn open_of<'a>(database: &DatabaseView<'a>, session: u8) -> Option<&'a Open>
     ensures { option_map (λ t. t.now) result ≡ world.transaction_of database.now.transactions session }
 {
     first_of(database.transactions.as_slice(), session)
 }
 
 /// The open transaction of the current session in a database, if it has one there.
-pub fn own_open<'a>(kept: &Kept, database: &'a Database) -> Option<&'a Open>
+pub fn own_open<'a>(kept: &InstanceView<'_>, database: &DatabaseView<'a>) -> Option<&'a Open>
     ensures { (w : World) → Keeps w kept.now → option_map (λ t. t.now) result ≡ target.own_open w (database_of database.now) }
 {
     open_of(database, kept.session)
 }
 
 // The open transaction of a session, in whichever of some databases it is.
-fn held_among(databases: &[Database], session: u8) -> Option<Held<'_>>
+fn held_among<'a>(databases: &'a [DatabaseView<'a>], session: u8) -> Option<Held<'a>>
     ensures found { option_map held_of result ≡ world.held_in (map database_of databases.now) session }
     ensures kept { (history : RecordLines) → AllByRecursion (IsKept history) databases.now → IfSome result (λ h. IsKept history h.database.now) }
     ensures numbers { LeaveNumbers databases.now → IfSome result (λ h. CanEnd h.database.now) }
@@ -62,7 +62,7 @@ fn held_among(databases: &[Database], session: u8) -> Option<Held<'_>>
 }
 
 /// The open transaction of a session, in whichever database it is.
-pub fn held_by(kept: &Kept, session: u8) -> Option<Held<'_>>
+pub fn held_by<'a>(kept: &'a InstanceView<'a>, session: u8) -> Option<Held<'a>>
     ensures found { (w : World) → Keeps w kept.now → option_map held_of result ≡ world.held_in w.databases session }
     ensures kept { (w : World) → Keeps w kept.now → IfSome result (λ h. IsKept w.history h.database.now) }
     ensures numbers { LeaveNumbers kept.now.databases.items → IfSome result (λ h. CanEnd h.database.now) }
@@ -71,7 +71,7 @@ pub fn held_by(kept: &Kept, session: u8) -> Option<Held<'_>>
 }
 
 /// The open transaction of the current session, in whichever database it is.
-pub fn own_held(kept: &Kept) -> Option<Held<'_>>
+pub fn own_held<'a>(kept: &'a InstanceView<'a>) -> Option<Held<'a>>
     ensures found { (w : World) → Keeps w kept.now → option_map held_of result ≡ world.own_held w }
     ensures kept { (w : World) → Keeps w kept.now → IfSome result (λ h. IsKept w.history h.database.now) }
     ensures numbers { LeaveNumbers kept.now.databases.items → IfSome result (λ h. CanEnd h.database.now) }
@@ -105,14 +105,14 @@ fn least_of(transactions: &[Open], other: Option<u8>) -> Option<u8>
 }
 
 /// The least session that has an open transaction in a database, if one has.
-pub fn least_session(database: &Database) -> Option<u8>
+pub fn least_session(database: &DatabaseView<'_>) -> Option<u8>
     ensures { result ≡ checks.least_session (database_of database.now).transactions }
 {
     least_of(database.transactions.as_slice(), None)
 }
 
 // The least session that has an open transaction in some databases, if one has, from the last of them on.
-fn least_among(databases: &[Database]) -> Option<u8>
+fn least_among(databases: &[DatabaseView<'_>]) -> Option<u8>
     ensures { result ≡ fold (λ least d. least_with d.transactions least) None (reverse databases.now) }
 {
     let from_last = databases.iter().rev();
@@ -120,14 +120,14 @@ fn least_among(databases: &[Database]) -> Option<u8>
 }
 
 // The least session that has an open transaction in any database, if one has.
-fn least_open(kept: &Kept) -> Option<u8>
+fn least_open(kept: &InstanceView<'_>) -> Option<u8>
     ensures { (w : World) → Keeps w kept.now → result ≡ least_in w.databases }
 {
     least_among(&kept.databases)
 }
 
 /// An open transaction of the least session of all that have one: the one that is rolled back first where a run ends.
-pub fn first_held(kept: &Kept) -> Option<Held<'_>>
+pub fn first_held<'a>(kept: &'a InstanceView<'a>) -> Option<Held<'a>>
     ensures first { (w : World) → Keeps w kept.now → MatchOption result (AllByRecursion (λ db. db.transactions ≡ []) w.databases) (λ h. IsFirst w (held_of h)) }
     ensures kept { (w : World) → Keeps w kept.now → IfSome result (λ h. IsKept w.history h.database.now) }
     ensures numbers { LeaveNumbers kept.now.databases.items → IfSome result (λ h. CanEnd h.database.now) }

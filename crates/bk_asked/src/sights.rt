@@ -16,15 +16,15 @@ ghost use Rattle.bk_kept.specs.Keeps.{Keeps, ShowsLog, database_of};
 
 use crate::opens::own_open;
 use bk_ids::{Lsn, Value};
-use bk_kept::{Database, Kept};
+use bk_kept::{DatabaseView, InstanceView};
 use bk_shown::Written;
 use bk_world::TableSpec;
 use std::alloc::{AllocError, Global};
 
 /// The value of a row of a table as the current session sees it, if it sees one.
 pub fn seen_row<'a>(
-    kept: &Kept,
-    database: &'a Database,
+    kept: &InstanceView<'_>,
+    database: &DatabaseView<'a>,
     table: &TableSpec,
     key: u64,
 ) -> Option<&'a Value>
@@ -38,7 +38,12 @@ pub fn seen_row<'a>(
 }
 
 /// Whether the current session sees a row of a table with this key.
-pub fn sees_key(kept: &Kept, database: &Database, table: &TableSpec, key: u64) -> bool
+pub fn sees_key(
+    kept: &InstanceView<'_>,
+    database: &DatabaseView<'_>,
+    table: &TableSpec,
+    key: u64,
+) -> bool
     ensures { (w : World) → Keeps w kept.now → ShowsLog w.history database.now → result ≡ has_key (visible w (database_of database.now) table.now) key }
 {
     seen_row(kept, database, table, key).is_some()
@@ -141,8 +146,8 @@ fn lay_over(
 /// The rows of a table that the current session sees, their keys and values, by rising key.
 pub fn seen_rows(
     alloc: Global,
-    kept: &Kept,
-    database: &Database,
+    kept: &InstanceView<'_>,
+    database: &DatabaseView<'_>,
     table: &TableSpec,
 ) -> Result<Vec<(u64, Value)>, AllocError>
     ensures { IfOk result (λ rows. (w : World) → Keeps w kept.now → ShowsLog w.history database.now → rows.items ≡ visible w (database_of database.now) table.now) }

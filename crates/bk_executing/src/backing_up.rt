@@ -11,13 +11,13 @@ ghost use Rattle.bk_machine.specs.World.{World};
 ghost use Rattle.bk_media.specs.Names as names;
 
 use crate::following::follow;
+use crate::planning::plan_kept_backup;
 use bk_device::Device;
 use bk_ids::{Sequence, Text};
 use bk_instance::{ExecuteError, Instance};
 use bk_items::{BackupOptions, UnitName};
 use bk_machine::acts_of_statements;
 use bk_media::medium_file;
-use bk_media_plans::plan_backup;
 use bk_world::Reply;
 use std::alloc::Global;
 
@@ -57,7 +57,7 @@ pub(crate) fn backup<D: Device>(
 {
     acts_of_statements();
     let is_there = is_taken(instance.alloc, dev, disk.as_str())?;
-    let plan = plan_backup(
+    let plan = plan_kept_backup(
         &instance.kept,
         instance.alloc,
         line,

@@ -10,12 +10,12 @@ ghost use Rattle.bk_machine.specs.World.{World};
 
 use crate::backing_up::backup;
 use crate::following::follow;
+use crate::planning::plan_kept;
 use crate::restoring::restore;
 use bk_device::Device;
 use bk_instance::{ExecuteError, Instance};
 use bk_items::{ScriptEntry, ScriptItem};
 use bk_machine::acts_of_statements;
-use bk_planning::plan;
 use bk_world::Reply;
 
 /// Executes one statement at `now`, in milliseconds since 1970-01-01 00:00:00 UTC: what the machine may come to. What
@@ -79,6 +79,6 @@ fn execute_other<D: Device>(
     ensures cause { HasCause D.disk_faults D.tell_faults dev.old dev.new (IsErrOf result Fault) }
 {
     acts_of_statements();
-    let plan = plan(&instance.kept, instance.alloc, statement, now)?;
+    let plan = plan_kept(&instance.kept, instance.alloc, statement, now)?;
     follow(instance, dev, plan)
 }

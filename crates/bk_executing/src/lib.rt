@@ -5,6 +5,7 @@ mod backing_up;
 mod executing;
 mod first_set;
 mod following;
+mod planning;
 mod restoring;
 
 pub use executing::execute;

@@ -11,12 +11,13 @@ ghost use Rattle.bk_machine.specs.statements.Restore.{disk_path};
 
 use crate::first_set::first_set;
 use crate::following::follow;
+use crate::planning::plan_kept_restore;
 use bk_device::Device;
 use bk_ids::Text;
 use bk_instance::{ExecuteError, Instance};
 use bk_items::{RestoreOptions, RestoredUnits};
 use bk_machine::acts_of_statements;
-use bk_media_plans::{plan_restore, unbuilt_restore};
+use bk_media_plans::unbuilt_restore;
 use bk_world::Reply;
 
 // The path of a medium, empty where none is named.
@@ -56,7 +57,7 @@ pub(crate) fn restore<D: Device>(
         return follow(instance, dev, plan);
     }
     let first = first_set(instance.alloc, dev, path_of(disk))?;
-    let plan = plan_restore(
+    let plan = plan_kept_restore(
         &instance.kept,
         instance.alloc,
         line,

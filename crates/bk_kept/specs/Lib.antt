@@ -5,3 +5,5 @@ pub mod NumbersLaws
 pub mod Stored
 pub mod SetLaws
 pub mod BuiltLaws
+pub mod Views
+pub mod ViewsLaws

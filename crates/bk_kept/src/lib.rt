@@ -8,9 +8,12 @@ mod numbers;
 mod sessions;
 mod telling;
 mod transactions;
+mod viewing;
+mod views;
 
 pub use copying::{copy_file, copy_groups};
 pub use kept::{Database, Kept, Session};
 pub use numbers::used_up;
 pub use telling::is_simple;
 pub use transactions::copy_transactions;
+pub use views::{DatabaseView, InstanceView};

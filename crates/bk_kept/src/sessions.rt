@@ -7,6 +7,7 @@ ghost use Rattle.bk_machine.specs.World.{with_session};
 ghost use Rattle.bk_kept.specs.Keeps.{session_of};
 
 use crate::kept::{Kept, Session};
+use crate::views::InstanceView;
 use bk_ids::Text;
 use std::alloc::AllocError;
 
@@ -46,18 +47,9 @@ fn set_current(
 
 impl Kept {
     ghost use Rattle.std.specs.Prelude.{◌≡◌, OnOk, OnErr};
-    ghost use Rattle.std.specs.Option.{option_map};
     ghost use Rattle.bk_machine.specs.Acts.{turned, seated, done};
-    ghost use Rattle.bk_machine.specs.World.{World, current_name};
+    ghost use Rattle.bk_machine.specs.World.{World};
     ghost use Rattle.bk_kept.specs.Keeps.{Keeps};
-
-    /// The name of the current session's current database, as it was asked for.
-    pub fn current(&self) -> Option<&Text>
-        ensures { (w : World) → Keeps w self.now → option_map (λ name. name.now) result ≡ current_name w }
-    {
-        let session = session_numbered(&self.sessions, self.session)?;
-        session.current.as_ref()
-    }
 
     /// The current session's current database is the one of this name, or there is none. Where there is no memory, what is kept
     /// stands for the same worlds as before.
@@ -79,5 +71,20 @@ impl Kept {
         ensures databases { self.new.databases ≡ self.old.databases }
     {
         self.session = session;
+    }
+}
+
+impl<'a> InstanceView<'a> {
+    ghost use Rattle.std.specs.Prelude.{◌≡◌};
+    ghost use Rattle.std.specs.Option.{option_map};
+    ghost use Rattle.bk_machine.specs.World.{World, current_name};
+    ghost use Rattle.bk_kept.specs.Keeps.{Keeps};
+
+    /// The name of the current session's current database, as it was asked for.
+    pub fn current(&self) -> Option<&Text>
+        ensures { (w : World) → Keeps w self.now → option_map (λ name. name.now) result ≡ current_name w }
+    {
+        let session = session_numbered(self.sessions, self.session)?;
+        session.current.as_ref()
     }
 }

@@ -6,7 +6,7 @@ ghost use Rattle.std.specs.Option.{option_map};
 ghost use Rattle.bk_ids.specs.Name.{same_name};
 ghost use Rattle.bk_machine.specs.Acts as acts;
 
-use crate::kept::Database;
+use crate::views::DatabaseView;
 use bk_ids::RecoveryModel;
 use bk_world::TableSpec;
 
@@ -26,7 +26,7 @@ pub fn is_simple(model: RecoveryModel) -> bool
     matches!(model, RecoveryModel::Simple)
 }
 
-impl Database {
+impl<'a> DatabaseView<'a> {
     ghost use Rattle.std.specs.Prelude.{◌≡◌};
     ghost use Rattle.std.specs.Option.{option_map};
     ghost use Rattle.bk_machine.specs.Acts as acts;

@@ -1,8 +1,10 @@
 //! What is open in a database.
 
 ghost use Rattle.std.specs.Prelude.{◌≡◌, fold, min, reverse, IfOk};
+ghost use Rattle.bk_machine.specs.World as world;
 
 use crate::kept::Database;
+use crate::views::DatabaseView;
 use bk_ids::{Lsn, Sequence};
 use bk_world::Open;
 use std::alloc::{AllocError, Global};
@@ -26,6 +28,13 @@ fn least_of(transactions: &[Open], n: Lsn) -> Lsn
     from_last.fold(n, |least, t| t.begin.min(least))
 }
 
+// The least number of this one and the first records of transactions.
+fn least_open(transactions: &[Open], n: Lsn) -> Lsn
+    ensures { result ≡ world.least_begin transactions.now n }
+{
+    least_of(transactions, n)
+}
+
 impl Database {
     ghost use Rattle.std.specs.Prelude.{◌≡◌};
     ghost use Rattle.bk_machine.specs.World as world;
@@ -34,6 +43,18 @@ impl Database {
     pub fn least_begin(&self, n: Lsn) -> Lsn
         ensures { result ≡ world.least_begin self.now.transactions n }
     {
-        least_of(self.transactions.as_slice(), n)
+        least_open(self.transactions.as_slice(), n)
+    }
+}
+
+impl<'a> DatabaseView<'a> {
+    ghost use Rattle.std.specs.Prelude.{◌≡◌};
+    ghost use Rattle.bk_machine.specs.World as world;
+
+    /// The least number of this one and the first records of what is open in it.
+    pub fn least_begin(&self, n: Lsn) -> Lsn
+        ensures { result ≡ world.least_begin self.now.transactions n }
+    {
+        least_open(self.transactions.as_slice(), n)
     }
 }

@@ -28,6 +28,8 @@ use Rattle.bk_waiting.specs.Waiting.{WaitsFor}
 use Rattle.bk_world.specs.Pending.{Pending}
 use Rattle.bk_world.specs.Says.{rollback_said}
 use Rattle.bk_kept.specs.Stored.{IsDone}
+use Rattle.bk_kept.specs.Views.{IsSeen}
+use Rattle.bk_kept.specs.ViewsLaws.{seen-keeps}
 use Rattle.bk_plans.specs.declared.parts.Part.TheVariants as part
 use Rattle.bk_instance.specs.BehindLaws.{covers-behind, covers-itself}
 use Rattle.bk_loading.specs.Closing.{RollsAll, RollsBack, RollsFirst, RollsOne, StandsEnded, CutsEnd, Closed}
@@ -245,6 +247,11 @@ pub one-rolled : (laws : CloseLaws) (tells : Type 0) (old new : Instance) (befor
     → (tells → OnOk result (DoesPart old before (part.Stored stored) new after)) → OnOk result (RollsOne tells old before new after)
 one-rolled laws tells old new before after stored (Ok done) finds does = one-rolls laws tells old new before after stored finds.0 finds.1 does
 one-rolled laws tells old new before after stored (Err error) finds does = tt
+
+-- what rolls back what is seen first rolls back what is kept first
+pub rolls-seen : (k seen : Kept) (act : Option StoredAct) → IsSeen k seen → RollsFirst seen act → RollsFirst k act
+rolls-seen k seen None is none = λ w sound keeps. none w sound (seen-keeps k seen is w keeps)
+rolls-seen k seen (Some stored) is rolls = (rolls.0, λ w sound keeps. rolls.1 w sound (seen-keeps k seen is w keeps))
 
 pub held-rolls : (k : Kept) (held : HeldRef) (stored : StoredAct) → ((w : World) (held : Held) → IsSound w → IsFirst w held → MayDo w (rolls_back w held))
     → SaysOf held.database.now (rollback_said held.transaction.now.begin) (without_begin held.database.now.transactions held.transaction.now.begin) stored

@@ -21,7 +21,7 @@ use bk_asked::first_held;
 use bk_device::Device;
 use bk_home::Record;
 use bk_instance::{ExecuteError, Instance};
-use bk_kept::Kept;
+use bk_kept::{InstanceView, Kept};
 use bk_machine::{runs_are_closed, runs_are_closed_one_by_one, runs_begin_and_end_in_sound_worlds};
 use bk_planning::rollback_act;
 use bk_waiting::what_waits_is_joined;
@@ -38,8 +38,11 @@ fn count_open(kept: &Kept) -> u128
     count
 }
 
-// The act that rolls the first open transaction back, if one is open.
-fn rolling_back(alloc: Global, kept: &Kept) -> Result<Option<StoredAct>, AllocError>
+// The act that rolls the first open transaction back that is seen, if one is open.
+fn rolling_back_seen(
+    alloc: Global,
+    kept: &InstanceView<'_>,
+) -> Result<Option<StoredAct>, AllocError>
     requires { LeaveNumbers kept.now.databases.items }
     ensures act { IfOk result (RollsFirst kept.now) }
     ensures keeps { IfOk result (λ act. IfSome act KeepsAct) }
@@ -49,6 +52,17 @@ fn rolling_back(alloc: Global, kept: &Kept) -> Result<Option<StoredAct>, AllocEr
         Some(held) => Ok(Some(rollback_act(alloc, held.database, held.transaction)?)),
         None => Ok(None),
     }
+}
+
+// The act that rolls the first open transaction back, if one is open.
+fn rolling_back(alloc: Global, kept: &Kept) -> Result<Option<StoredAct>, AllocError>
+    requires { LeaveNumbers kept.now.databases.items }
+    ensures act { IfOk result (RollsFirst kept.now) }
+    ensures keeps { IfOk result (λ act. IfSome act KeepsAct) }
+{
+    let seen = kept.view(alloc)?;
+    let act = rolling_back_seen(alloc, &seen)?;
+    Ok(act)
 }
 
 // Rolls the first open transaction back, if one is open.

@@ -1,6 +1,6 @@
 // How what was open when an instance was left is undone.
 ghost use Rattle.std.specs.Option.{option_map};
-ghost use Rattle.std.specs.Prelude.{◌≡◌, ◌==◌, ◌&&◌, not, true, Some, slice_get, IfOk, IfSome, MatchOption, None, OnOk, IsErrOf};
+ghost use Rattle.std.specs.Prelude.{◌≡◌, ◌==◌, ◌&&◌, [], not, true, Some, slice_get, IfOk, IfSome, MatchOption, None, OnOk, IsErrOf};
 ghost use Rattle.bk_acts.specs.Spelling.{KeepsAct};
 ghost use Rattle.bk_acts.specs.declared.act.StoredAct.{StoredAct as StoredActOf};
 ghost use Rattle.bk_device.specs.Counts.{HasCause};
@@ -10,13 +10,18 @@ ghost use Rattle.bk_instance.specs.Stands.{IsReady, IsStored, IsOurs, ReservesNo
 ghost use Rattle.bk_instance.specs.Touched.{TouchesOwn};
 ghost use Rattle.bk_instance.specs.declared.error.ExecuteError.TheVariants.{Broken, Fault};
 ghost use Rattle.bk_kept.specs.Keeps.{Keeps, ShowsLog, database_of};
-ghost use Rattle.bk_kept.specs.Numbers.{LeaveNumbers};
-ghost use Rattle.bk_kept.specs.Stored.{drawn_by};
+ghost use Rattle.bk_kept.specs.Numbers.{CanSettle, LeaveNumbers};
+ghost use Rattle.bk_kept.specs.Stored.{IsDone, drawn_by};
 ghost use Rattle.bk_loading.specs.Loading.{IsSettledAt, SettlesAt, CutsSettling, RestsIdle, SettlesAll, SettlesNext};
+ghost use Rattle.bk_machine.specs.Acts.{logged};
+ghost use Rattle.bk_machine.specs.MayDo.{MayDo};
 ghost use Rattle.bk_machine.specs.Settled as settled;
 ghost use Rattle.bk_machine.specs.Sound.{IsSound};
-ghost use Rattle.bk_machine.specs.World.{World};
+ghost use Rattle.bk_machine.specs.World.{World, database_named, log_of};
 ghost use Rattle.bk_machine.specs.statements.Restore as restore;
+ghost use Rattle.bk_planning.specs.Undoing.{SaysOf};
+ghost use Rattle.bk_world.specs.Pending.{pending};
+ghost use Rattle.bk_world.specs.Says.{settle_said};
 
 use bk_acts::StoredAct;
 use bk_device::Device;
@@ -58,6 +63,20 @@ fn database_at(databases: &[Database], at: usize) -> Option<&Database>
     databases.get(at)
 }
 
+// The act by which all that is pending in a database is undone, the last write first, and no transaction of it is open any more.
+fn settling(alloc: Global, database: &Database) -> Result<StoredAct, AllocError>
+    requires { CanSettle database.now }
+    ensures says { IfOk result (SaysOf database.now settle_said []) }
+    ensures is_done { IfOk result (λ act. (w : World) → database_named w.databases database.now.name ≡ Some (database_of database.now) → ShowsLog w.history database.now
+        → MayDo w (logged database.now.name (settle_said (pending (log_of w.history (database_of database.now)))) [])
+        → IsDone w act (logged database.now.name (settle_said (pending (log_of w.history (database_of database.now)))) [])) }
+    ensures keeps { IfOk result KeepsAct }
+{
+    let seen = database.view();
+    let act = settle_act(alloc, &seen)?;
+    Ok(act)
+}
+
 // The act that settles the database at a place, if there is one and it needs it.
 fn settling_at(alloc: Global, kept: &Kept, at: usize) -> Result<Option<StoredAct>, AllocError>
     requires { LeaveNumbers kept.now.databases.items }
@@ -72,7 +91,7 @@ fn settling_at(alloc: Global, kept: &Kept, at: usize) -> Result<Option<StoredAct
     if !needs_settling(database) {
         return Ok(None);
     }
-    Ok(Some(settle_act(alloc, database)?))
+    Ok(Some(settling(alloc, database)?))
 }
 
 // Settles the database at a place, if there is one and it needs it. A crash leaves the world before that, or behind it.

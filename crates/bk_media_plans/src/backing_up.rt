@@ -10,7 +10,7 @@ ghost use Rattle.bk_plans.specs.Checking.{IsCheck};
 
 use bk_ids::{Sequence, Text};
 use bk_items::{BackupOptions, UnitName};
-use bk_kept::{Database, Kept, used_up};
+use bk_kept::{DatabaseView, InstanceView, used_up};
 use bk_plans::{Refusal, is_path, limit, named_or_refuse, online, outside, refuse_if};
 use bk_world::Rule;
 
@@ -48,14 +48,14 @@ fn is_whole_backup(units: &Sequence<UnitName>, options: &BackupOptions) -> bool
 // The database that `BACKUP DATABASE` on this line backs up, where a file is there at the path of its medium or not.
 #[tactic(auto, unfolding(bk_machine::specs::statements::Backup::check_backup))]
 pub(crate) fn check_backup<'a>(
-    kept: &'a Kept,
+    kept: &'a InstanceView<'a>,
     line: u32,
     name: &Text,
     units: &Sequence<UnitName>,
     disk: &Text,
     is_there: bool,
     options: &BackupOptions,
-) -> Result<&'a Database, Refusal>
+) -> Result<&'a DatabaseView<'a>, Refusal>
     ensures check { (w : World) → Keeps w kept.now → is_some (medium_at w.media disk.now) ≡ is_there
         → IsCheck (λ d. database_of d.now) result (backup.check_backup w line name.now units.now disk.now options.now) }
     ensures shows { (w : World) → Keeps w kept.now → IfOk result (λ d. ShowsLog w.history d.now) }

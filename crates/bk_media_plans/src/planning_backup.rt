@@ -25,7 +25,7 @@ use bk_acts::StoredAct;
 use bk_header::keeps;
 use bk_ids::{Body, Guid, Lsn, Sequence, Text};
 use bk_items::{BackupOptions, UnitName};
-use bk_kept::{Database, Kept, copy_transactions};
+use bk_kept::{DatabaseView, InstanceView, copy_transactions};
 use bk_machine::{
     acts_keep_worlds_sound, sets_hold_what_is_pending, statements_do_what_they_may,
     what_is_said_comes_last,
@@ -39,7 +39,7 @@ use std::alloc::{AllocError, Global};
 // The act by which a database says one record of no transaction.
 fn mark_act(
     alloc: Global,
-    database: &Database,
+    database: &DatabaseView<'_>,
     lsn: Lsn,
     body: Body,
 ) -> Result<StoredAct, AllocError>
@@ -60,7 +60,7 @@ fn mark_act(
 fn push_mark(
     alloc: Global,
     parts: &mut Vec<Part>,
-    database: &Database,
+    database: &DatabaseView<'_>,
     lsn: Lsn,
     body: Body,
 ) -> Result<(), AllocError>
@@ -82,7 +82,12 @@ fn push_medium(alloc: Global, parts: &mut Vec<Part>, disk: &Text) -> Result<(), 
 }
 
 // The set that a backup makes. `Unfit` comes only where the database fits no set.
-fn body_of(alloc: Global, database: &Database, set: Guid, time: u64) -> Result<SetBody, TakeError>
+fn body_of(
+    alloc: Global,
+    database: &DatabaseView<'_>,
+    set: Guid,
+    time: u64,
+) -> Result<SetBody, TakeError>
     ensures set { IfOk result (IsSet database.now set time) }
     ensures keeps { IfOk result KeepsBody }
     ensures unfit { IsErrOf result Unfit → (w : World) → MayMakeSet w database.now time → ⊥ }
@@ -96,7 +101,7 @@ fn body_of(alloc: Global, database: &Database, set: Guid, time: u64) -> Result<S
 // The header of that set, of its own. `Unfit` comes only where the database fits no set.
 fn kept_header(
     alloc: Global,
-    database: &Database,
+    database: &DatabaseView<'_>,
     set: Guid,
     time: u64,
 ) -> Result<Header, TakeError>
@@ -126,7 +131,7 @@ fn push(parts: &mut Vec<Part>, part: Part) -> Result<(), AllocError>
 fn push_set(
     alloc: Global,
     parts: &mut Vec<Part>,
-    database: &Database,
+    database: &DatabaseView<'_>,
     disk: &Text,
     set: Guid,
     time: u64,
@@ -144,7 +149,7 @@ fn push_set(
 fn push_base(
     alloc: Global,
     parts: &mut Vec<Part>,
-    database: &Database,
+    database: &DatabaseView<'_>,
     set: Guid,
     time: u64,
 ) -> Result<(), TakeError>
@@ -161,7 +166,7 @@ fn push_base(
 // The parts of a backup of a database by which a set of this GUID is made at a time. `Unfit` comes only where the database fits no set.
 fn backup_parts(
     alloc: Global,
-    database: &Database,
+    database: &DatabaseView<'_>,
     disk: &Text,
     set: Guid,
     time: u64,
@@ -188,9 +193,9 @@ fn backup_parts(
 
 // The plan of a backup of a database at a time. `Unfit` comes only where the database fits no set.
 fn backup(
-    kept: &Kept,
+    kept: &InstanceView<'_>,
     alloc: Global,
-    database: &Database,
+    database: &DatabaseView<'_>,
     disk: &Text,
     time: u64,
 ) -> Result<Plan, TakeError>
@@ -218,7 +223,7 @@ fn backup(
 /// What `BACKUP DATABASE` on this line comes to at `now`, in milliseconds since 1970-01-01 00:00:00 UTC, where a file is there at
 /// the path of its medium or not. `Unfit` comes only where the database fits no set: it is that of no sound world.
 pub fn plan_backup(
-    kept: &Kept,
+    kept: &InstanceView<'_>,
     alloc: Global,
     line: u32,
     database: &Text,

@@ -21,7 +21,7 @@ use crate::restoring::check_set;
 use bk_acts::StoredAct;
 use bk_ids::{Body, Guid, Lsn, Name, Text};
 use bk_items::{Ending, RestoreOptions, RestoredUnits};
-use bk_kept::Kept;
+use bk_kept::InstanceView;
 use bk_machine::{recoveries_undo_what_is_pending, sets_that_stay, statements_do_what_they_may};
 use bk_plans::{Part, Plan, Refusal, is_name, is_path, name_in, outside, refused, say, undo};
 use bk_record::Records;
@@ -251,7 +251,7 @@ fn parts_of(alloc: Global, name: &Name, branch: Guid, body: SetBody) -> Result<V
 }
 
 // The name of the database that is restored: as it is known, or as it is asked for.
-fn known_name(kept: &Kept, alloc: Global, asked: &Text) -> Result<Name, AllocError>
+fn known_name(kept: &InstanceView<'_>, alloc: Global, asked: &Text) -> Result<Name, AllocError>
     requires { checks.is_name asked.now ≡ true }
     ensures { IfOk result (IsKnown kept.now asked.now) }
 {
@@ -263,7 +263,7 @@ fn known_name(kept: &Kept, alloc: Global, asked: &Text) -> Result<Name, AllocErr
 
 // The parts of a restore of what is asked for, on the next GUID.
 fn parts_asked(
-    kept: &Kept,
+    kept: &InstanceView<'_>,
     alloc: Global,
     asked: &Text,
     body: SetBody,
@@ -286,7 +286,12 @@ fn parts_asked(
 }
 
 // The plan that restores a set.
-fn restoring(kept: &Kept, alloc: Global, asked: &Text, body: SetBody) -> Result<Plan, TakeError>
+fn restoring(
+    kept: &InstanceView<'_>,
+    alloc: Global,
+    asked: &Text,
+    body: SetBody,
+) -> Result<Plan, TakeError>
     requires named { checks.is_name asked.now ≡ true }
     requires is_body { IsBody body }
     ensures whole { IfOk result (RestoresWhole kept.now asked.now body) }
@@ -312,7 +317,7 @@ pub(crate) fn refusing(refusal: Refusal) -> Result<Plan, TakeError>
 
 // What a restore that is built comes to outside of a transaction, by the first set of its medium, or the rule by which that is refused.
 fn restore_first(
-    kept: &Kept,
+    kept: &InstanceView<'_>,
     alloc: Global,
     line: u32,
     database: &Text,
@@ -350,7 +355,7 @@ fn restore_first(
 /// refused. `Unfit` comes only where the set's log isn't what its path shows, or leaves no numbers for what its recovery says: in no
 /// sound world that finds the set first.
 pub fn plan_restore(
-    kept: &Kept,
+    kept: &InstanceView<'_>,
     alloc: Global,
     line: u32,
     database: &Text,

@@ -14,7 +14,7 @@ ghost use Rattle.bk_media_plans.specs.SetPaths as paths;
 ghost use Rattle.bk_media_plans.specs.SetPaths.{file_check};
 
 use bk_ids::Text;
-use bk_kept::{Database, Kept, used_up};
+use bk_kept::{DatabaseView, InstanceView, used_up};
 use bk_plans::{MOST_DATABASES, Refusal, in_use, is_in_use_by_others, limit, refuse_if, unused};
 use bk_world::{Header, HeaderFile, Limit, Rule, Status};
 use std::alloc::Global;
@@ -23,7 +23,7 @@ use std::alloc::Global;
 const MOST_BRANCHES: usize = 64;
 
 // The database isn't there, or no session has an open transaction in it.
-fn check_unused(named: Option<&Database>) -> Result<(), Refusal>
+fn check_unused(named: Option<&DatabaseView<'_>>) -> Result<(), Refusal>
     ensures { IsCheck (λ u. u) result (restore.check_unused (option_map (λ d. database_of d.now) named.entry)) }
 {
     match named {
@@ -33,7 +33,11 @@ fn check_unused(named: Option<&Database>) -> Result<(), Refusal>
 }
 
 // A set of another family, unless the database may be replaced.
-fn check_family(named: Option<&Database>, replace: bool, header: &Header) -> Result<(), Refusal>
+fn check_family(
+    named: Option<&DatabaseView<'_>>,
+    replace: bool,
+    header: &Header,
+) -> Result<(), Refusal>
     ensures { IsCheck (λ u. u) result (restore.check_family (option_map (λ d. database_of d.now) named.entry) replace header.now) }
 {
     match named {
@@ -48,7 +52,7 @@ fn check_family(named: Option<&Database>, replace: bool, header: &Header) -> Res
 }
 
 // Whether the end of a database's log isn't backed up, and would be lost with the database.
-fn has_tail(database: &Database) -> bool
+fn has_tail(database: &DatabaseView<'_>) -> bool
     ensures { (w : World) → ShowsLog w.history database.now → result ≡ restore.has_tail w (database_of database.now) }
 {
     matches!(database.status, Status::Online)
@@ -58,7 +62,7 @@ fn has_tail(database: &Database) -> bool
 }
 
 // The end of the log isn't backed up, unless the database may be replaced.
-fn check_tail(named: Option<&Database>, replace: bool) -> Result<(), Refusal>
+fn check_tail(named: Option<&DatabaseView<'_>>, replace: bool) -> Result<(), Refusal>
     ensures { (w : World) → IfSome named.entry (λ d. ShowsLog w.history d.now)
         → IsCheck (λ u. u) result (restore.check_tail w (option_map (λ d. database_of d.now) named.entry) replace) }
 {
@@ -72,7 +76,10 @@ fn check_tail(named: Option<&Database>, replace: bool) -> Result<(), Refusal>
 }
 
 // One database more than there may be, where the one that is restored isn't there.
-fn check_number(databases: &[Database], named: Option<&Database>) -> Result<(), Refusal>
+fn check_number(
+    databases: &[DatabaseView<'_>],
+    named: Option<&DatabaseView<'_>>,
+) -> Result<(), Refusal>
     ensures { IsCheck (λ u. u) result (restore.check_number (map database_of databases.now) (option_map (λ d. database_of d.now) named.entry)) }
 {
     match named {
@@ -92,7 +99,7 @@ fn stands(files: &[HeaderFile], path: &str) -> bool
 
 // The first file of a set whose path a database of another name uses.
 fn first_used<'a>(
-    databases: &[Database],
+    databases: &[DatabaseView<'_>],
     name: &str,
     files: &'a [HeaderFile],
 ) -> Option<&'a HeaderFile>
@@ -126,7 +133,7 @@ fn refuse_file(alloc: Global, found: Option<&HeaderFile>) -> Result<(), Refusal>
 // The paths of a set's files, which no database of another name may have.
 fn free_paths(
     alloc: Global,
-    databases: &[Database],
+    databases: &[DatabaseView<'_>],
     name: &str,
     files: &[HeaderFile],
 ) -> Result<(), Refusal>
@@ -143,7 +150,12 @@ fn different_paths(alloc: Global, files: &[HeaderFile]) -> Result<(), Refusal>
 }
 
 // Whether the files of a set may be used, its path can take a branch more, and numbers are left.
-fn check_header(kept: &Kept, alloc: Global, name: &Text, header: &Header) -> Result<(), Refusal>
+fn check_header(
+    kept: &InstanceView<'_>,
+    alloc: Global,
+    name: &Text,
+    header: &Header,
+) -> Result<(), Refusal>
     ensures { (w : World) → Keeps w kept.now → IsCheck (λ u. u) result (requests.check_header w name.now header.now) }
 {
     let files = header.files.as_slice();
@@ -157,7 +169,7 @@ fn check_header(kept: &Kept, alloc: Global, name: &Text, header: &Header) -> Res
 }
 
 // The database of this name, if there is one.
-fn named_in<'a>(kept: &'a Kept, name: &Text) -> Option<&'a Database>
+fn named_in<'a>(kept: &'a InstanceView<'a>, name: &Text) -> Option<&'a DatabaseView<'a>>
     ensures found { (w : World) → Keeps w kept.now → option_map (λ d. database_of d.now) result ≡ database_named w.databases name.now }
     ensures shows { (w : World) → Keeps w kept.now → IfSome result (λ d. ShowsLog w.history d.now) }
 {
@@ -168,7 +180,7 @@ fn named_in<'a>(kept: &'a Kept, name: &Text) -> Option<&'a Database>
 // Whether the set with this header may take the place of the database of this name, or come behind the others.
 #[tactic(auto, unfolding(bk_machine::specs::statements::Restore::check_set))]
 pub(crate) fn check_set(
-    kept: &Kept,
+    kept: &InstanceView<'_>,
     alloc: Global,
     name: &Text,
     replace: bool,

@@ -19,7 +19,7 @@ ghost use Rattle.bk_kept.specs.Stored.{Carries};
 
 use bk_header::keeps;
 use bk_ids::{Body, Guid, Lsn, Rec, Sequence, Text};
-use bk_kept::{Database, copy_file, copy_groups, used_up};
+use bk_kept::{DatabaseView, copy_file, copy_groups, used_up};
 use bk_machine::rows_lie_in_cells;
 use bk_record::Records;
 use bk_set::{SetBody, make};
@@ -74,7 +74,7 @@ fn base_lsn(base: Option<Base>) -> Lsn
 // The header of a full backup of a database whose checkpoint is its end, and whose stamp comes next.
 pub(crate) fn header_of(
     alloc: Global,
-    database: &Database,
+    database: &DatabaseView<'_>,
     set: Guid,
     time: u64,
 ) -> Result<Header, AllocError>
@@ -170,7 +170,7 @@ fn kept_body(
 // where a database of a sound world has numbers left.
 pub(crate) fn set_of(
     alloc: Global,
-    database: &Database,
+    database: &DatabaseView<'_>,
     set: Guid,
     time: u64,
 ) -> Result<Option<SetBody>, AllocError>
@@ -190,7 +190,7 @@ pub(crate) fn set_of(
     }
     let tables = copy_tables(alloc, database.shown.tables())?;
     let rows = database.shown.placed_rows(alloc)?;
-    let log = set_log(alloc, &database.live, end, set, time)?;
+    let log = set_log(alloc, database.live, end, set, time)?;
     let header = header_of(alloc, database, set, time)?;
     Ok(kept_body(header, tables, Sequence::new(rows), log))
 }

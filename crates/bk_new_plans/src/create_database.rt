@@ -19,7 +19,7 @@ use crate::new_storage::{are_named, check_in_use, storage_within};
 use bk_acts::StoredAct;
 use bk_ids::{Guid, Sequence, Text};
 use bk_items::{NewFile, NewGroup};
-use bk_kept::{Kept, used_up};
+use bk_kept::{InstanceView, used_up};
 use bk_machine::statements_do_what_they_may;
 use bk_plans::{
     LATEST, MOST_DATABASES, Plan, Refusal, is_system, limit, name_in, outside, refuse_if, refused,
@@ -30,7 +30,7 @@ use std::alloc::{AllocError, Global};
 
 // Whether files, filegroups and a log may be used, and GUIDs are left.
 #[tactic(auto, unfolding(bk_machine::specs::statements::CreateDatabase::check_free))]
-fn check_free(kept: &Kept, alloc: Global, storage: &Storage) -> Result<(), Refusal>
+fn check_free(kept: &InstanceView<'_>, alloc: Global, storage: &Storage) -> Result<(), Refusal>
     ensures check { (w : World) → Keeps w kept.now → IsCheck (λ u. storage.now) result (create.check_free w storage.now) }
     ensures left { IfOk result (λ u. checks.used_up kept.now.counter ≡ false) }
 {
@@ -40,7 +40,11 @@ fn check_free(kept: &Kept, alloc: Global, storage: &Storage) -> Result<(), Refus
 }
 
 // These files, filegroups and log, where they may be used.
-fn free_storage(kept: &Kept, alloc: Global, storage: Storage) -> Result<Storage, Refusal>
+fn free_storage(
+    kept: &InstanceView<'_>,
+    alloc: Global,
+    storage: Storage,
+) -> Result<Storage, Refusal>
     ensures check { (w : World) → Keeps w kept.now → IsCheck (λ s. s) result (create.check_free w storage) }
     ensures same { IfOk result (λ s. s ≡ storage) }
     ensures left { IfOk result (λ s. checks.used_up kept.now.counter ≡ false) }
@@ -55,14 +59,14 @@ fn free_storage(kept: &Kept, alloc: Global, storage: Storage) -> Result<Storage,
 }
 
 // Whether a name is a database's, or one that the server keeps for itself.
-fn is_taken(kept: &Kept, name: &Text) -> bool
+fn is_taken(kept: &InstanceView<'_>, name: &Text) -> bool
     ensures { (w : World) → Keeps w kept.now → result ≡ (checks.is_system name.now || is_some (database_named w.databases name.now)) }
 {
     is_system(name.as_str()) || kept.named(name.as_str()).is_some()
 }
 
 // Whether there are as many databases as there may be.
-fn is_full(kept: &Kept) -> bool
+fn is_full(kept: &InstanceView<'_>) -> bool
     ensures { (w : World) → Keeps w kept.now → result ≡ nat_le checks.most_databases (length w.databases) }
 {
     kept.databases.len() >= MOST_DATABASES
@@ -70,7 +74,7 @@ fn is_full(kept: &Kept) -> bool
 
 // The files, filegroups and log that a new database of this name gets.
 fn new_files_of(
-    kept: &Kept,
+    kept: &InstanceView<'_>,
     alloc: Global,
     name: &Text,
     primary: &[NewFile],
@@ -96,7 +100,7 @@ fn new_files_of(
 // The files, filegroups and log that `CREATE DATABASE` on this line makes.
 #[tactic(auto, unfolding(bk_machine::specs::statements::CreateDatabase::check_create_database))]
 fn check_create_database(
-    kept: &Kept,
+    kept: &InstanceView<'_>,
     alloc: Global,
     line: u32,
     name: &Text,
@@ -120,7 +124,7 @@ fn check_create_database(
 
 // A database of these files is made on the two next GUIDs.
 fn creation(
-    kept: &Kept,
+    kept: &InstanceView<'_>,
     alloc: Global,
     name: &Text,
     storage: Storage,
@@ -164,7 +168,7 @@ fn creation(
 
 /// What `CREATE DATABASE` on this line comes to at `now`, in milliseconds since 1970-01-01 00:00:00 UTC.
 pub fn plan_create_database(
-    kept: &Kept,
+    kept: &InstanceView<'_>,
     alloc: Global,
     line: u32,
     name: &Text,

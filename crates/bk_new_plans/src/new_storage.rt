@@ -14,7 +14,7 @@ use crate::log_name::log_names;
 use crate::new_files::{extents_in, has_too_many_files, new_files};
 use bk_ids::{Name, Sequence, Text};
 use bk_items::{NewFile, NewGroup};
-use bk_kept::Database;
+use bk_kept::DatabaseView;
 use bk_plans::{MOST_GROUPS, Refusal, is_in_use, is_name, is_path, name_in, refuse_if, taken};
 use bk_world::{FileSpec, Limit, Rule, Storage};
 use std::alloc::{AllocError, Global};
@@ -157,7 +157,7 @@ pub(crate) fn storage_within(
 // What is in use.
 
 // The first file whose path a file of a database has.
-fn used_file<'a>(databases: &[Database], files: &'a [FileSpec]) -> Option<&'a FileSpec>
+fn used_file<'a>(databases: &[DatabaseView<'_>], files: &'a [FileSpec]) -> Option<&'a FileSpec>
     ensures { option_map (λ f. f.now) result ≡ create.used_file (map database_of databases.now) files.now }
 {
     files
@@ -254,7 +254,7 @@ fn refuse_group(alloc: Global, found: Option<&Name>) -> Result<(), Refusal>
 #[tactic(auto, unfolding(bk_machine::specs::statements::CreateDatabase::check_in_use))]
 pub(crate) fn check_in_use(
     alloc: Global,
-    databases: &[Database],
+    databases: &[DatabaseView<'_>],
     storage: &Storage,
 ) -> Result<(), Refusal>
     ensures { IsCheck (λ u. u) result (create.check_in_use (map database_of databases.now) storage.now) }

@@ -16,7 +16,7 @@ ghost use Rattle.bk_world.specs.Says.{begin_said};
 use bk_acts::StoredAct;
 use bk_ids::{Body, DESCRIPTION_BYTES, Description, Mark, Sequence, Text};
 use bk_items::{Marking, NamedTransaction};
-use bk_kept::{Database, Kept, copy_transactions, used_up};
+use bk_kept::{DatabaseView, InstanceView, copy_transactions, used_up};
 use bk_machine::statements_do_what_they_may;
 use bk_plans::{
     Plan, Refusal, current_or_refuse, is_name, limit, logged, name_in, online, outside, refuse_if,
@@ -48,10 +48,10 @@ fn has_fit_texts(transaction: &Option<NamedTransaction>) -> bool
 // The database in which `BEGIN` on this line begins a transaction.
 #[tactic(auto, unfolding(bk_machine::specs::statements::Begin::check_begin))]
 fn check_begin<'a>(
-    kept: &'a Kept,
+    kept: &'a InstanceView<'a>,
     line: u32,
     transaction: &Option<NamedTransaction>,
-) -> Result<&'a Database, Refusal>
+) -> Result<&'a DatabaseView<'a>, Refusal>
     ensures check { (w : World) → Keeps w kept.now → IsCheck (λ d. database_of d.now) result (beginning.check_begin w line transaction.now) }
     ensures fit { IfOk result (λ d. beginning.has_fit_texts transaction.now ≡ true) }
     ensures left { IfOk result (λ d. checks.used_up d.now.shown.«end» ≡ false) }
@@ -105,7 +105,11 @@ fn mark_of(
 }
 
 // What is open in a database with one transaction more.
-fn with_one(alloc: Global, database: &Database, new: Open) -> Result<Sequence<Open>, AllocError>
+fn with_one(
+    alloc: Global,
+    database: &DatabaseView<'_>,
+    new: Open,
+) -> Result<Sequence<Open>, AllocError>
     ensures { IfOk result (λ ts. ts ≡ database.now.transactions ++ new ∷ []) }
 {
     match copy_transactions(alloc, database.transactions.as_slice()) {
@@ -123,9 +127,9 @@ fn with_one(alloc: Global, database: &Database, new: Open) -> Result<Sequence<Op
 
 // The act by which a transaction of the current session begins in a database.
 fn begin_act(
-    kept: &Kept,
+    kept: &InstanceView<'_>,
     alloc: Global,
-    database: &Database,
+    database: &DatabaseView<'_>,
     mark: Option<Mark>,
 ) -> Result<StoredAct, AllocError>
     ensures says { IfOk result (SaysNow database.now (begin_said database.now.shown.«end») (begun_in database.now kept.now.session mark)) }
@@ -149,7 +153,7 @@ fn begin_act(
 
 // What `BEGIN` on this line comes to, at any time.
 pub(crate) fn plan_begin(
-    kept: &Kept,
+    kept: &InstanceView<'_>,
     alloc: Global,
     line: u32,
     transaction: &Option<NamedTransaction>,

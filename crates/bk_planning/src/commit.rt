@@ -17,7 +17,7 @@ ghost use Rattle.bk_world.specs.Says.{commit_said};
 use crate::ending::{held_or_refuse, open_without};
 use bk_acts::StoredAct;
 use bk_ids::{Body, Lsn, Mark};
-use bk_kept::{Database, Kept};
+use bk_kept::{DatabaseView, InstanceView};
 use bk_machine::statements_do_what_they_may;
 use bk_plans::{Plan, logged, refused, said_time, say_one, stored};
 use bk_record::Records;
@@ -43,7 +43,7 @@ fn own_mark(alloc: Global, transaction: &Open) -> Result<Option<Mark>, AllocErro
 // The mark that the commit of a transaction gets: none where it has written nothing.
 fn mark_with(
     alloc: Global,
-    database: &Database,
+    database: &DatabaseView<'_>,
     transaction: &Open,
 ) -> Result<Option<Mark>, AllocError>
     ensures { (w : World) → ShowsLog w.history database.now
@@ -58,7 +58,7 @@ fn mark_with(
 // The record of a commit at a time.
 fn commit_record(
     alloc: Global,
-    database: &Database,
+    database: &DatabaseView<'_>,
     begin: Lsn,
     time: u64,
     mark: Option<Mark>,
@@ -76,7 +76,7 @@ fn commit_record(
 // The act by which a transaction is committed in a database at `now`.
 fn commit_act(
     alloc: Global,
-    database: &Database,
+    database: &DatabaseView<'_>,
     transaction: &Open,
     now: u64,
 ) -> Result<StoredAct, AllocError>
@@ -97,7 +97,11 @@ fn commit_act(
 }
 
 // What `COMMIT` comes to at `now`, in milliseconds since 1970-01-01 00:00:00 UTC, on any line.
-pub(crate) fn plan_commit(kept: &Kept, alloc: Global, now: u64) -> Result<Plan, AllocError>
+pub(crate) fn plan_commit(
+    kept: &InstanceView<'_>,
+    alloc: Global,
+    now: u64,
+) -> Result<Plan, AllocError>
     requires { LeaveNumbers kept.now.databases.items }
     ensures plans { IfOk result (λ plan. (line : ℕ) → Plans kept.now (λ w. Unit {0}) (record { item = script.Commit; line = line }) now plan) }
     ensures keeps { IfOk result KeepsPlan }

@@ -22,7 +22,7 @@ ghost use Rattle.bk_world.specs.declared.rule.Rule.TheVariants.{LimitReached};
 
 use bk_acts::StoredAct;
 use bk_ids::{Body, Name, Text};
-use bk_kept::{Database, Kept, copy_transactions, used_up};
+use bk_kept::{DatabaseView, InstanceView, copy_transactions, used_up};
 use bk_machine::statements_do_what_they_may;
 use bk_plans::{
     MOST_GROUPS, Plan, Refusal, current_or_refuse, is_name, limit, logged, name_in, online,
@@ -56,7 +56,7 @@ fn group_named(groups: &[Name], name: &str) -> Option<u8>
 }
 
 // The number of the filegroup in which a table is made: of the one that is named, or of PRIMARY.
-fn check_group(database: &Database, group: &Option<Text>) -> Result<u8, Refusal>
+fn check_group(database: &DatabaseView<'_>, group: &Option<Text>) -> Result<u8, Refusal>
     ensures { IsCheck (λ number. number) result (create.check_group (database_of database.now) group.now) }
 {
     match group {
@@ -69,7 +69,7 @@ fn check_group(database: &Database, group: &Option<Text>) -> Result<u8, Refusal>
 }
 
 // The number of a further table of a database, refused where it has 64.
-fn check_number(database: &Database) -> Result<u32, Refusal>
+fn check_number(database: &DatabaseView<'_>) -> Result<u32, Refusal>
     ensures check { (w : World) → ShowsLog w.history database.now
         → IsCheck (λ number. tt) result (checks.refuse_if (nat_le create.most_tables (length (tables_in w (database_of database.now)))) (LimitReached Tables)) }
     ensures number { (w : World) → ShowsLog w.history database.now → IfOk result (λ number. number ≡ length (tables_in w (database_of database.now)) + 1) }
@@ -87,14 +87,14 @@ fn check_number(database: &Database) -> Result<u32, Refusal>
 // Where a table is made: in a database, with a number, in a filegroup.
 #[derive(Clone, Copy)]
 struct Room<'a> {
-    database: &'a Database,
+    database: &'a DatabaseView<'a>,
     number: u32,
     group: u8,
 }
 
 // Where a table is made in a database.
 fn check_room<'a>(
-    database: &'a Database,
+    database: &'a DatabaseView<'a>,
     table: &Text,
     group: &Option<Text>,
 ) -> Result<Room<'a>, Refusal>
@@ -119,7 +119,7 @@ fn check_room<'a>(
 // Where `CREATE TABLE` on this line makes a table.
 #[tactic(auto, unfolding(bk_machine::specs::statements::CreateTable::check_create_table))]
 fn check_create_table<'a>(
-    kept: &'a Kept,
+    kept: &'a InstanceView<'a>,
     line: u32,
     table: &Text,
     group: &Option<Text>,
@@ -141,7 +141,7 @@ fn check_create_table<'a>(
 // The act by which a table is made at a time.
 fn table_act(
     alloc: Global,
-    database: &Database,
+    database: &DatabaseView<'_>,
     number: u32,
     group: u8,
     table: &Text,
@@ -170,7 +170,7 @@ fn table_act(
 // A table is made.
 fn table_plan(
     alloc: Global,
-    database: &Database,
+    database: &DatabaseView<'_>,
     number: u32,
     group: u8,
     table: &Text,
@@ -187,7 +187,7 @@ fn table_plan(
 
 // What `CREATE TABLE` on this line comes to.
 pub(crate) fn plan_create_table(
-    kept: &Kept,
+    kept: &InstanceView<'_>,
     alloc: Global,
     line: u32,
     table: &Text,

@@ -10,7 +10,7 @@ ghost use Rattle.bk_plans.specs.Planning.{KeepsPlan, Plans};
 
 use bk_acts::StoredAct;
 use bk_ids::Text;
-use bk_kept::{Database, Kept};
+use bk_kept::{DatabaseView, InstanceView};
 use bk_machine::statements_do_what_they_may;
 use bk_plans::{Plan, Refusal, named_or_refuse, outside, refused, stored, unused};
 use bk_world::Reply;
@@ -18,7 +18,10 @@ use std::alloc::{AllocError, Global};
 
 // The database that `DROP DATABASE` drops.
 #[tactic(auto, unfolding(bk_machine::specs::statements::DropDatabase::check_drop_database))]
-fn check_drop_database<'a>(kept: &'a Kept, name: &Text) -> Result<&'a Database, Refusal>
+fn check_drop_database<'a>(
+    kept: &'a InstanceView<'a>,
+    name: &Text,
+) -> Result<&'a DatabaseView<'a>, Refusal>
     ensures check { (w : World) → Keeps w kept.now → IsCheck (λ d. database_of d.now) result (dropping.check_drop_database w name.now) }
 {
     outside(kept)?;
@@ -29,7 +32,7 @@ fn check_drop_database<'a>(kept: &'a Kept, name: &Text) -> Result<&'a Database, 
 
 // What `DROP DATABASE` comes to, on any line and at any time.
 pub(crate) fn plan_drop_database(
-    kept: &Kept,
+    kept: &InstanceView<'_>,
     alloc: Global,
     name: &Text,
 ) -> Result<Plan, AllocError>

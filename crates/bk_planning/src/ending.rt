@@ -13,13 +13,13 @@ ghost use Rattle.bk_world.specs.declared.rule.Rule.TheVariants.{NoTransaction};
 
 use bk_asked::{Held, own_held};
 use bk_ids::{Lsn, Sequence};
-use bk_kept::{Database, Kept, copy_transactions};
+use bk_kept::{DatabaseView, InstanceView, copy_transactions};
 use bk_plans::Refusal;
 use bk_world::{Open, Rule};
 use std::alloc::{AllocError, Global};
 
 /// The open transaction of the current session, refused where it has none.
-pub(crate) fn held_or_refuse(kept: &Kept) -> Result<Held<'_>, Refusal>
+pub(crate) fn held_or_refuse<'a>(kept: &'a InstanceView<'a>) -> Result<Held<'a>, Refusal>
     ensures check { (w : World) → Keeps w kept.now → IsCheck held_of result (checks.or_refuse (world.own_held w) NoTransaction) }
     ensures shows { (w : World) → Keeps w kept.now → IfOk result (λ h. ShowsLog w.history h.database.now) }
     ensures numbers { LeaveNumbers kept.now.databases.items → IfOk result (λ h. CanEnd h.database.now) }
@@ -40,7 +40,7 @@ fn leave_out(transactions: &mut Vec<Open>, begin: Lsn)
 /// What is open in a database without the transaction that begins with this record.
 pub(crate) fn open_without(
     alloc: Global,
-    database: &Database,
+    database: &DatabaseView<'_>,
     begin: Lsn,
 ) -> Result<Sequence<Open>, AllocError>
     ensures { IfOk result (λ ts. ts ≡ world.without_begin database.now.transactions begin) }

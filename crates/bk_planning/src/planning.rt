@@ -12,7 +12,7 @@ use crate::rollback::plan_rollback;
 use crate::session::plan_session;
 use crate::use_database::plan_use;
 use bk_items::{ScriptEntry, ScriptItem};
-use bk_kept::Kept;
+use bk_kept::InstanceView;
 use bk_new_plans::plan_create_database;
 use bk_plans::Plan;
 use bk_row_plans::plan_rows;
@@ -21,7 +21,7 @@ use std::alloc::{AllocError, Global};
 
 /// What a statement comes to at `now`, in milliseconds since 1970-01-01 00:00:00 UTC, that reads no medium.
 pub fn plan(
-    kept: &Kept,
+    kept: &InstanceView<'_>,
     alloc: Global,
     statement: &ScriptEntry,
     now: u64,

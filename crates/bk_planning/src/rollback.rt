@@ -7,14 +7,14 @@ ghost use Rattle.bk_plans.specs.Planning.{KeepsPlan, Plans};
 
 use crate::ending::held_or_refuse;
 use crate::undoing::rollback_act;
-use bk_kept::Kept;
+use bk_kept::InstanceView;
 use bk_machine::statements_do_what_they_may;
 use bk_plans::{Plan, refused, stored};
 use bk_world::Reply;
 use std::alloc::{AllocError, Global};
 
 // What `ROLLBACK` comes to, on any line and at any time.
-pub(crate) fn plan_rollback(kept: &Kept, alloc: Global) -> Result<Plan, AllocError>
+pub(crate) fn plan_rollback(kept: &InstanceView<'_>, alloc: Global) -> Result<Plan, AllocError>
     requires { LeaveNumbers kept.now.databases.items }
     ensures plans { IfOk result (λ plan. (line now : ℕ) → Plans kept.now (λ w. Unit {0}) (record { item = script.Rollback; line = line }) now plan) }
     ensures keeps { IfOk result KeepsPlan }

@@ -7,7 +7,7 @@ ghost use Rattle.bk_machine.specs.statements.Session as seating;
 ghost use Rattle.bk_plans.specs.Checking.{IsCheck};
 ghost use Rattle.bk_plans.specs.Planning.{KeepsPlan, Plans};
 
-use bk_kept::Kept;
+use bk_kept::InstanceView;
 use bk_plans::{Plan, Refusal, refused};
 use bk_world::Rule;
 use std::alloc::AllocError;
@@ -27,7 +27,11 @@ fn check_session(line: u32, number: u64) -> Result<u8, Refusal>
 }
 
 // What `:session` on this line comes to, at any time.
-pub(crate) fn plan_session(kept: &Kept, line: u32, number: u64) -> Result<Plan, AllocError>
+pub(crate) fn plan_session(
+    kept: &InstanceView<'_>,
+    line: u32,
+    number: u64,
+) -> Result<Plan, AllocError>
     ensures plans { IfOk result (λ plan. (now : ℕ) → Plans kept.now (λ w. Unit {0}) (record { item = script.Session number; line = line }) now plan) }
     ensures keeps { IfOk result KeepsPlan }
 {

@@ -18,7 +18,7 @@ ghost use Rattle.bk_world.specs.Says.{rollback_said, settle_said};
 use crate::ending::open_without;
 use bk_acts::StoredAct;
 use bk_ids::{Body, Lsn, Sequence};
-use bk_kept::Database;
+use bk_kept::DatabaseView;
 use bk_plans::{logged, say, undo};
 use bk_record::Records;
 use bk_shown::Written;
@@ -49,7 +49,7 @@ fn rollback_records(
 /// The act by which an open transaction of a database is rolled back: its pending writes are undone, the last one first, and it ends.
 pub fn rollback_act(
     alloc: Global,
-    database: &Database,
+    database: &DatabaseView<'_>,
     transaction: &Open,
 ) -> Result<StoredAct, AllocError>
     requires { CanEnd database.now }
@@ -71,7 +71,7 @@ pub fn rollback_act(
 }
 
 /// The act by which all that is pending in a database is undone, the last write first, and no transaction of it is open any more.
-pub fn settle_act(alloc: Global, database: &Database) -> Result<StoredAct, AllocError>
+pub fn settle_act(alloc: Global, database: &DatabaseView<'_>) -> Result<StoredAct, AllocError>
     requires { CanSettle database.now }
     ensures says { IfOk result (SaysOf database.now settle_said []) }
     ensures is_done { IfOk result (λ act. (w : World) → database_named w.databases database.now.name ≡ Some (database_of database.now) → ShowsLog w.history database.now

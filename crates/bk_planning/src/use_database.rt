@@ -10,14 +10,14 @@ ghost use Rattle.bk_plans.specs.Checking.{IsCheck};
 ghost use Rattle.bk_plans.specs.Planning.{KeepsPlan, Plans};
 
 use bk_ids::Text;
-use bk_kept::Kept;
+use bk_kept::InstanceView;
 use bk_plans::{Plan, Refusal, is_system, outside, refused};
 use bk_world::Rule;
 use std::alloc::{AllocError, Global};
 
 // The name that `USE` sets outside of a transaction, if it sets one.
 #[tactic(auto, unfolding(bk_machine::specs::statements::Use::check_used))]
-fn check_used<'a>(kept: &Kept, name: &'a Text) -> Result<Option<&'a Text>, Refusal>
+fn check_used<'a>(kept: &InstanceView<'_>, name: &'a Text) -> Result<Option<&'a Text>, Refusal>
     ensures { (w : World) → Keeps w kept.now → IsCheck (λ found. option_map (λ n. n.now) found) result (using.check_used w name.now) }
 {
     if is_system(name.as_str()) {
@@ -31,7 +31,7 @@ fn check_used<'a>(kept: &Kept, name: &'a Text) -> Result<Option<&'a Text>, Refus
 
 // The name that `USE` sets, if it sets one.
 #[tactic(auto, unfolding(bk_machine::specs::statements::Use::check_use))]
-fn check_use<'a>(kept: &Kept, name: &'a Text) -> Result<Option<&'a Text>, Refusal>
+fn check_use<'a>(kept: &InstanceView<'_>, name: &'a Text) -> Result<Option<&'a Text>, Refusal>
     ensures { (w : World) → Keeps w kept.now → IsCheck (λ found. option_map (λ n. n.now) found) result (using.check_use w name.now) }
 {
     outside(kept)?;
@@ -50,7 +50,11 @@ fn copied(alloc: Global, text: Option<&Text>) -> Result<Option<Text>, AllocError
 }
 
 // What `USE` comes to, on any line and at any time.
-pub(crate) fn plan_use(kept: &Kept, alloc: Global, name: &Text) -> Result<Plan, AllocError>
+pub(crate) fn plan_use(
+    kept: &InstanceView<'_>,
+    alloc: Global,
+    name: &Text,
+) -> Result<Plan, AllocError>
     ensures plans { IfOk result (λ plan. (line now : ℕ) → Plans kept.now (λ w. Unit {0}) (record { item = script.Use name.now; line = line }) now plan) }
     ensures keeps { IfOk result KeepsPlan }
 {

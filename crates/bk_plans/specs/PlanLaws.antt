@@ -24,6 +24,8 @@ use Rattle.bk_plans.specs.Checking.{IsRefused}
 use Rattle.bk_kept.specs.Keeps.{Keeps}
 use Rattle.bk_plans.specs.Planned.{IsOne, IsRefusedBy}
 use Rattle.bk_plans.specs.Planning.{AreParts, Plans}
+use Rattle.bk_kept.specs.Views.{IsSeen}
+use Rattle.bk_kept.specs.ViewsLaws.{seen-keeps}
 use Rattle.bk_kept.specs.Stored.{IsCarried, IsDone, IsNumbered, IsTaken, MayDraw}
 
 -- What checks come to.
@@ -41,6 +43,15 @@ InEach k Known P = (w : World) → IsSound w → Keeps w k → Known w → P w
 -- what statements may do, they may do act by act
 abbrev pub DoWhatTheyMay : Type 0
 DoWhatTheyMay = (w : World) (s : ScriptEntry) (now : ℕ) (outcome : Outcome) → IsSound w → May w s now outcome → MayDoAll w outcome.acts
+
+-- what is planned over what is seen of what is kept is planned over what is kept
+pub plans-kept : (k seen : Kept) (Known : World → Type 0) (s : ScriptEntry) (now : ℕ) (plan : Plan) → IsSeen k seen → Plans seen Known s now plan → Plans k Known s now plan
+plans-kept k seen Known s now plan is plans = record {
+  outcome = plans.outcome;
+  replies = plans.replies;
+  may = λ w sound keeps known. plans.may w sound (seen-keeps k seen is w keeps) known;
+  acts = λ w sound keeps known. plans.acts w sound (seen-keeps k seen is w keeps) known;
+}
 
 -- what is stored of an act, beside what the statement may do
 pub record Stores (stored : StoredAct) (act : Act) (w : World) : Type 0 where

@@ -8,11 +8,14 @@ ghost use Rattle.bk_kept.specs.Keeps.{HoldsLive, Keeps, ShowsLog, database_of};
 ghost use Rattle.bk_plans.specs.Checking.{IsCheck};
 
 use crate::refusal::Refusal;
-use bk_kept::{Database, Kept};
+use bk_kept::{DatabaseView, InstanceView};
 use bk_world::Rule;
 
 /// The database of this name, in any case of ASCII letters, refused where there is none.
-pub fn named_or_refuse<'a>(kept: &'a Kept, name: &str) -> Result<&'a Database, Refusal>
+pub fn named_or_refuse<'a>(
+    kept: &'a InstanceView<'a>,
+    name: &str,
+) -> Result<&'a DatabaseView<'a>, Refusal>
     ensures check { (w : World) → Keeps w kept.now → IsCheck (λ d. database_of d.now) result (or_refuse (database_named w.databases name.now) NoSuchDatabase) }
     ensures shows { (w : World) → Keeps w kept.now → IfOk result (λ d. ShowsLog w.history d.now) }
     ensures live { (w : World) → Keeps w kept.now → IfOk result (λ d. HoldsLive w.history d.now) }
@@ -24,7 +27,7 @@ pub fn named_or_refuse<'a>(kept: &'a Kept, name: &str) -> Result<&'a Database, R
 }
 
 /// The current session's current database, refused where there is none.
-pub fn current_or_refuse(kept: &Kept) -> Result<&Database, Refusal>
+pub fn current_or_refuse<'a>(kept: &'a InstanceView<'a>) -> Result<&'a DatabaseView<'a>, Refusal>
     ensures check { (w : World) → Keeps w kept.now → IsCheck (λ d. database_of d.now) result (or_refuse (current_database w) NoSuchDatabase) }
     ensures shows { (w : World) → Keeps w kept.now → IfOk result (λ d. ShowsLog w.history d.now) }
 {

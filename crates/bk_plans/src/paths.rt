@@ -10,12 +10,12 @@ ghost use Rattle.bk_plans.specs.Paths as paths;
 
 use crate::refusal::Refusal;
 use bk_ids::Text;
-use bk_kept::Database;
+use bk_kept::DatabaseView;
 use bk_world::Rule;
 use std::alloc::Global;
 
 // Whether a data file of a database has a path.
-fn has_file(database: &Database, path: &str) -> bool
+fn has_file(database: &DatabaseView<'_>, path: &str) -> bool
     ensures { result ≡ paths.has_file database.now.files path.now }
 {
     let files = database.files.as_slice();
@@ -23,14 +23,14 @@ fn has_file(database: &Database, path: &str) -> bool
 }
 
 // Whether one of some databases has a file with a path.
-fn any_has_file(databases: &[Database], path: &str) -> bool
+fn any_has_file(databases: &[DatabaseView<'_>], path: &str) -> bool
     ensures { result ≡ list_any (λ d. paths.has_file d.files path.now) databases.now }
 {
     databases.iter().any(|database| has_file(database, path))
 }
 
 // Whether one of some databases of another name has a file with a path.
-fn any_other_has_file(databases: &[Database], name: &str, path: &str) -> bool
+fn any_other_has_file(databases: &[DatabaseView<'_>], name: &str, path: &str) -> bool
     ensures { result ≡ list_any (λ d. not (same_name d.name name.now) && paths.has_file d.files path.now) databases.now }
 {
     databases.iter().any(|database| {
@@ -39,14 +39,14 @@ fn any_other_has_file(databases: &[Database], name: &str, path: &str) -> bool
 }
 
 /// Whether a path of a data file is in use.
-pub fn is_in_use(databases: &[Database], path: &str) -> bool
+pub fn is_in_use(databases: &[DatabaseView<'_>], path: &str) -> bool
     ensures { result ≡ has_path (paths_of (map database_of databases.now)) path.now }
 {
     any_has_file(databases, path)
 }
 
 /// Whether a path of a data file is in use by a database of another name.
-pub fn is_in_use_by_others(databases: &[Database], name: &str, path: &str) -> bool
+pub fn is_in_use_by_others(databases: &[DatabaseView<'_>], name: &str, path: &str) -> bool
     ensures { result ≡ has_path (paths_of (others (map database_of databases.now) name.now)) path.now }
 {
     any_other_has_file(databases, name, path)

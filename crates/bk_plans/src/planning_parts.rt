@@ -18,7 +18,7 @@ use crate::parts::{Part, Plan};
 use crate::refusal::Refusal;
 use bk_acts::{StoredAct, said_law};
 use bk_ids::{Body, Lsn, Name, Rec, Sequence, Text};
-use bk_kept::Database;
+use bk_kept::DatabaseView;
 use bk_record::Records;
 use bk_world::{Open, Reply};
 use std::alloc::{AllocError, Global};
@@ -63,7 +63,7 @@ pub fn stored(alloc: Global, act: StoredAct, reply: Reply) -> Result<Plan, Alloc
 /// The act by which a database says these records at its end, and then these transactions are open.
 pub fn logged(
     alloc: Global,
-    database: &Database,
+    database: &DatabaseView<'_>,
     transactions: Sequence<Open>,
     records: Records,
 ) -> Result<StoredAct, AllocError>
@@ -95,7 +95,7 @@ pub fn name_in(alloc: Global, text: &Text) -> Result<Name, AllocError>
 
 /// The time of what a database says now: never below the last time in its log.
 #[tactic(auto, unfolding(bk_machine::specs::Acts::said_time, bk_machine::specs::World::log_of))]
-pub fn said_time(database: &Database, now: u64) -> u64
+pub fn said_time(database: &DatabaseView<'_>, now: u64) -> u64
     ensures { (w : World) → ShowsLog w.history database.now → result ≡ acts.said_time w (database_of database.now) now }
 {
     now.min(LATEST).max(database.shown.time())

@@ -1,16 +1,16 @@
 //! Checks that several statements make.
 
-ghost use Rattle.std.specs.Prelude.{◌≡◌, false, IfOk, Some};
+ghost use Rattle.std.specs.Prelude.{◌≡◌, false, IfNone, IfOk, Some};
 ghost use Rattle.std.specs.List.{list_any};
 ghost use Rattle.bk_machine.specs.Checks as checks;
 ghost use Rattle.bk_machine.specs.World.{World};
-ghost use Rattle.bk_world.specs.declared.database.Status.TheVariants.{Down};
+ghost use Rattle.bk_world.specs.declared.database.Status.TheVariants.{Down, Online};
 ghost use Rattle.bk_kept.specs.Keeps.{Keeps, database_of};
 ghost use Rattle.bk_plans.specs.Checking.{IsCheck};
 
 use crate::refusal::Refusal;
 use bk_asked::{least_session, own_held};
-use bk_kept::{Database, Kept};
+use bk_kept::{DatabaseView, InstanceView};
 use bk_world::{Limit, Rule, State, Status, StatusWord, Unit};
 
 /// How many databases an instance has at most.
@@ -43,14 +43,14 @@ pub fn limit(used_up: bool) -> Result<(), Refusal>
 }
 
 /// Refused inside a transaction of the current session.
-pub fn outside(kept: &Kept) -> Result<(), Refusal>
+pub fn outside(kept: &InstanceView<'_>) -> Result<(), Refusal>
     ensures { (w : World) → Keeps w kept.now → IsCheck (λ u. u) result (checks.outside w) }
 {
     refuse_if(own_held(kept).is_some(), Rule::InTransaction)
 }
 
 /// Refused where a session has an open transaction in the database.
-pub fn unused(database: &Database) -> Result<(), Refusal>
+pub fn unused(database: &DatabaseView<'_>) -> Result<(), Refusal>
     ensures { IsCheck (λ u. u) result (checks.unused (database_of database.now)) }
 {
     match least_session(database) {
@@ -107,7 +107,8 @@ fn word_when_down(units: &[Unit]) -> StatusWord
 
 // The word of a database that isn't online.
 fn word(status: &Status, units: &[Unit]) -> Option<StatusWord>
-    ensures { result ≡ checks.word_of status.now units.now }
+    ensures word { result ≡ checks.word_of status.now units.now }
+    ensures none { IfNone result (status.now ≡ Online) }
 {
     match status {
         Status::Online => None,
@@ -117,11 +118,12 @@ fn word(status: &Status, units: &[Unit]) -> Option<StatusWord>
 }
 
 /// The database, refused where it isn't online.
-pub fn online(database: &Database) -> Result<&Database, Refusal>
+pub fn online<'a>(database: &'a DatabaseView<'a>) -> Result<&'a DatabaseView<'a>, Refusal>
     ensures check { IsCheck (λ d. database_of d.now) result (checks.online (database_of database.now)) }
     ensures same { IfOk result (λ d. d.now ≡ database.now) }
+    ensures online { IfOk result (λ d. d.now.status ≡ Online) }
 {
-    match word(&database.status, database.units.as_slice()) {
+    match word(database.status, database.units.as_slice()) {
         Some(status) => Err(Refusal::Broken(Rule::NotOnline { status })),
         None => Ok(database),
     }

@@ -17,7 +17,7 @@ ghost use Rattle.bk_world.specs.Places.{place_of};
 ghost use Rattle.bk_world.specs.declared.rule.Rule.TheVariants.{GroupFull};
 
 use bk_ids::{Place, Text};
-use bk_kept::Database;
+use bk_kept::DatabaseView;
 use bk_machine::groups_are_full_where_no_cell_is_free;
 use bk_plans::Refusal;
 use bk_shown::placed_logs;
@@ -25,14 +25,14 @@ use bk_world::{Rule, TableSpec};
 use std::alloc::{AllocError, Global};
 
 // The cell of a row, if it has one.
-pub(crate) fn own_cell(database: &Database, table: &TableSpec, key: u64) -> Option<Place>
+pub(crate) fn own_cell(database: &DatabaseView<'_>, table: &TableSpec, key: u64) -> Option<Place>
     ensures { (w : World) → ShowsLog w.history database.now → result ≡ place_of (log_of w.history (database_of database.now)) (table.now.number, key) }
 {
     database.shown.find(table.number, key)
 }
 
 // The cell of a row of a table, or, where it has none, a free one of the table's group; `None` exactly where there is no such cell.
-fn cell_for(database: &Database, table: &TableSpec, key: u64) -> Option<Place>
+fn cell_for(database: &DatabaseView<'_>, table: &TableSpec, key: u64) -> Option<Place>
     ensures { (w : World) → ShowsLog w.history database.now → find (λ t. t.number == table.now.number) (tables_in w (database_of database.now)) ≡ Some table.now
         → MatchOption result ((at : Place) → ¬ MayPlace w (target_of database.now table.now) (table.now.number, key) at)
         (λ at. MayPlace w (target_of database.now table.now) (table.now.number, key) at) }
@@ -45,7 +45,7 @@ fn cell_for(database: &Database, table: &TableSpec, key: u64) -> Option<Place>
 }
 
 // The name of a filegroup of a database; no letters where it has no such group.
-fn group_name(alloc: Global, database: &Database, group: u8) -> Result<Text, AllocError>
+fn group_name(alloc: Global, database: &DatabaseView<'_>, group: u8) -> Result<Text, AllocError>
     ensures { IfOk result (λ name. name ≡ target.group_name (database_of database.now) group) }
 {
     let name = match database.groups.as_slice().get(usize::from(group)) {
@@ -56,7 +56,7 @@ fn group_name(alloc: Global, database: &Database, group: u8) -> Result<Text, All
 }
 
 // The refusal by a filegroup that is full.
-fn group_full(alloc: Global, database: &Database, group: u8) -> Refusal
+fn group_full(alloc: Global, database: &DatabaseView<'_>, group: u8) -> Refusal
     ensures { IsBrokenBy (GroupFull (target.group_name (database_of database.now) group)) result }
 {
     match group_name(alloc, database, group) {
@@ -68,7 +68,7 @@ fn group_full(alloc: Global, database: &Database, group: u8) -> Refusal
 // The cell of a row of a table, its own or a free one; refused where its group is full.
 pub(crate) fn check_room(
     alloc: Global,
-    database: &Database,
+    database: &DatabaseView<'_>,
     table: &TableSpec,
     key: u64,
 ) -> Result<Place, Refusal>

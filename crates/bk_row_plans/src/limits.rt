@@ -12,7 +12,7 @@ ghost use Rattle.bk_world.specs.declared.database.TableSpec.{TableSpec as Spec};
 
 use bk_asked::{holder, own_writes};
 use bk_ids::{Text, VALUE_BYTES};
-use bk_kept::{Database, Kept, used_up};
+use bk_kept::{DatabaseView, InstanceView, used_up};
 use bk_plans::{Refusal, limit, refuse_if};
 use bk_world::{Limit, Rule, TableSpec};
 
@@ -48,8 +48,8 @@ pub(crate) fn check_key(key: u64) -> Result<(), Refusal>
 
 // Refused where the open transaction of another session has written a row.
 pub(crate) fn check_lock(
-    kept: &Kept,
-    database: &Database,
+    kept: &InstanceView<'_>,
+    database: &DatabaseView<'_>,
     table: &TableSpec,
     key: u64,
 ) -> Result<(), Refusal>
@@ -65,14 +65,14 @@ pub(crate) fn check_lock(
 }
 
 // Whether the current session's transaction has as many writes in a database as it may have.
-fn has_all_writes(kept: &Kept, database: &Database) -> bool
+fn has_all_writes(kept: &InstanceView<'_>, database: &DatabaseView<'_>) -> bool
     ensures { (w : World) (table : Spec) → Keeps w kept.now → ShowsLog w.history database.now → result ≡ target.has_all_writes w (target_of database.now table) }
 {
     own_writes(kept, database) >= MOST_WRITES
 }
 
 // Refused where the current session's transaction has as many writes as it may have, or numbers are used up.
-fn check_more(kept: &Kept, database: &Database) -> Result<(), Refusal>
+fn check_more(kept: &InstanceView<'_>, database: &DatabaseView<'_>) -> Result<(), Refusal>
     ensures check { (w : World) (table : Spec) → Keeps w kept.now → ShowsLog w.history database.now → IsCheck (λ u. u) result (targets.check_more w (target_of database.now table)) }
     ensures left { IfOk result (λ u. checks.used_up database.now.shown.«end» ≡ false) }
 {
@@ -88,7 +88,11 @@ fn check_more(kept: &Kept, database: &Database) -> Result<(), Refusal>
 }
 
 // That is checked where a row is written.
-pub(crate) fn check_left(kept: &Kept, database: &Database, writes: bool) -> Result<(), Refusal>
+pub(crate) fn check_left(
+    kept: &InstanceView<'_>,
+    database: &DatabaseView<'_>,
+    writes: bool,
+) -> Result<(), Refusal>
     ensures check { (w : World) (table : Spec) → Keeps w kept.now → ShowsLog w.history database.now
         → IsCheck (λ u. u) result (targets.check_left w (target_of database.now table) writes) }
     ensures left { IfOk result (λ u. writes ≡ true → checks.used_up database.now.shown.«end» ≡ false) }

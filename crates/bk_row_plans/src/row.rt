@@ -19,7 +19,7 @@ ghost use Rattle.bk_world.specs.declared.reply.Reply.TheVariants.{Counted};
 use bk_acts::{StoredAct, said_law};
 use bk_ids::{Body, CellImage, Lsn, Place, Text, Value};
 use bk_images::{free_image, row_image};
-use bk_kept::{Database, copy_transactions};
+use bk_kept::{DatabaseView, copy_transactions};
 use bk_plans::{Plan, logged, said_time, say, say_one, stored};
 use bk_record::Records;
 use bk_world::{Open, Reply};
@@ -132,7 +132,7 @@ fn row_records(
 // The act by which one row is written in its cell at a time.
 fn row_act(
     alloc: Global,
-    database: &Database,
+    database: &DatabaseView<'_>,
     own: Option<&Open>,
     place: &Place,
     cells: Images,
@@ -157,7 +157,7 @@ fn row_act(
 /// One row is written in its cell, in the session's open transaction, or by one of its own.
 pub(crate) fn row_plan(
     alloc: Global,
-    database: &Database,
+    database: &DatabaseView<'_>,
     own: Option<&Open>,
     place: &Place,
     cells: Images,

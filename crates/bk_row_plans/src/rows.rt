@@ -27,7 +27,7 @@ use crate::tables::check_table;
 use bk_asked::{own_open, seen_row, sees_key};
 use bk_ids::{Place, Text, Value};
 use bk_items::RowStatement;
-use bk_kept::{Database, Kept};
+use bk_kept::{DatabaseView, InstanceView};
 use bk_machine::statements_do_what_they_may;
 use bk_plans::{Plan, Refusal, refuse_if, refused};
 use bk_shown::placed_logs;
@@ -36,9 +36,9 @@ use std::alloc::{AllocError, Global};
 
 // The cell of a row that is new in a table.
 fn check_new(
-    kept: &Kept,
+    kept: &InstanceView<'_>,
     alloc: Global,
-    database: &Database,
+    database: &DatabaseView<'_>,
     table: &TableSpec,
     key: u64,
 ) -> Result<Place, Refusal>
@@ -63,7 +63,7 @@ fn check_new(
 // A row that is put into a table, and its cell.
 #[derive(Clone, Copy)]
 struct NewRow<'a> {
-    database: &'a Database,
+    database: &'a DatabaseView<'a>,
     table: &'a TableSpec,
     place: Place,
 }
@@ -71,7 +71,7 @@ struct NewRow<'a> {
 // The row that `INSERT` puts into a table.
 #[tactic(auto, unfolding(bk_machine::specs::statements::Insert::check_insert))]
 fn check_insert<'a>(
-    kept: &'a Kept,
+    kept: &'a InstanceView<'a>,
     alloc: Global,
     table: &Text,
     key: u64,
@@ -98,7 +98,7 @@ fn check_insert<'a>(
 
 // What `INSERT` comes to.
 fn plan_insert(
-    kept: &Kept,
+    kept: &InstanceView<'_>,
     alloc: Global,
     table: &Text,
     key: u64,
@@ -128,8 +128,8 @@ struct SeenRow<'a> {
 
 // The row of a key, if it is seen.
 fn found_row<'a>(
-    kept: &Kept,
-    database: &'a Database,
+    kept: &InstanceView<'_>,
+    database: &'a DatabaseView<'a>,
     table: &TableSpec,
     key: u64,
 ) -> Option<SeenRow<'a>>
@@ -145,8 +145,8 @@ fn found_row<'a>(
 
 // The row of a key, if it is seen, as a statement may write it.
 fn check_write<'a>(
-    kept: &Kept,
-    database: &'a Database,
+    kept: &InstanceView<'_>,
+    database: &'a DatabaseView<'a>,
     table: &TableSpec,
     key: u64,
 ) -> Result<Option<SeenRow<'a>>, Refusal>
@@ -168,7 +168,7 @@ fn check_write<'a>(
 // A table, and the row of it that a statement writes, if it is seen.
 #[derive(Clone, Copy)]
 struct Found<'a> {
-    database: &'a Database,
+    database: &'a DatabaseView<'a>,
     table: &'a TableSpec,
     seen: Option<SeenRow<'a>>,
 }
@@ -176,7 +176,7 @@ struct Found<'a> {
 // The row that `UPDATE` writes.
 #[tactic(auto, unfolding(bk_machine::specs::statements::Update::check_update))]
 fn check_update<'a>(
-    kept: &'a Kept,
+    kept: &'a InstanceView<'a>,
     table: &Text,
     key: u64,
     value: &Text,
@@ -204,7 +204,7 @@ fn check_update<'a>(
 
 // What `UPDATE` comes to.
 fn plan_update(
-    kept: &Kept,
+    kept: &InstanceView<'_>,
     alloc: Global,
     table: &Text,
     key: u64,
@@ -238,7 +238,11 @@ fn plan_update(
 
 // The row that `DELETE` takes out of a table.
 #[tactic(auto, unfolding(bk_machine::specs::statements::Delete::check_delete))]
-fn check_delete<'a>(kept: &'a Kept, table: &Text, key: u64) -> Result<Found<'a>, Refusal>
+fn check_delete<'a>(
+    kept: &'a InstanceView<'a>,
+    table: &Text,
+    key: u64,
+) -> Result<Found<'a>, Refusal>
     ensures check { (w : World) → IsSound w → Keeps w kept.now → IsCheck (λ f. target_of f.database.now f.table.now) result (delete.check_delete w table.now key) }
     ensures low { IfOk result (λ f. key ≤ 9223372036854775807) }
     ensures left { IfOk result (λ f. IfSome f.seen (λ r. checks.used_up f.database.now.shown.«end» ≡ false)) }
@@ -260,7 +264,7 @@ fn check_delete<'a>(kept: &'a Kept, table: &Text, key: u64) -> Result<Found<'a>,
 
 // What `DELETE` comes to.
 fn plan_delete(
-    kept: &Kept,
+    kept: &InstanceView<'_>,
     alloc: Global,
     table: &Text,
     key: u64,
@@ -293,7 +297,7 @@ fn plan_delete(
 
 /// What a statement on the rows of a table comes to at `now`, in milliseconds since 1970-01-01 00:00:00 UTC.
 pub fn plan_rows(
-    kept: &Kept,
+    kept: &InstanceView<'_>,
     alloc: Global,
     line: u32,
     table: &Text,

@@ -13,7 +13,7 @@ ghost use Rattle.bk_plans.specs.Planning.{KeepsPlan, Plans};
 use crate::tables::check_table;
 use bk_asked::{seen_row, seen_rows};
 use bk_ids::{Sequence, Text, Value};
-use bk_kept::{Database, Kept};
+use bk_kept::{DatabaseView, InstanceView};
 use bk_plans::{Plan, refused};
 use bk_world::{Reply, TableSpec};
 use std::alloc::{AllocError, Global};
@@ -35,8 +35,8 @@ fn row_of(alloc: Global, key: u64, value: Option<&Value>) -> Result<Vec<(u64, Va
 // The rows of a table that are asked for, as the current session sees them: all of them, or the one of a key.
 fn asked_rows(
     alloc: Global,
-    kept: &Kept,
-    database: &Database,
+    kept: &InstanceView<'_>,
+    database: &DatabaseView<'_>,
     table: &TableSpec,
     key: Option<u64>,
 ) -> Result<Vec<(u64, Value)>, AllocError>
@@ -57,7 +57,7 @@ fn asked_rows(
 
 // What `SELECT` comes to.
 pub(crate) fn plan_select(
-    kept: &Kept,
+    kept: &InstanceView<'_>,
     alloc: Global,
     table: &Text,
     key: Option<u64>,

@@ -12,19 +12,19 @@ ghost use Rattle.bk_plans.specs.Checking.{IsCheck};
 ghost use Rattle.bk_row_plans.specs.Targets.{target_of};
 
 use bk_ids::Text;
-use bk_kept::{Database, Kept};
+use bk_kept::{DatabaseView, InstanceView};
 use bk_plans::{Refusal, current_or_refuse, online};
 use bk_world::{Rule, TableSpec};
 
 /// A table of a database.
 #[derive(Clone, Copy)]
 pub(crate) struct Target<'a> {
-    pub database: &'a Database,
+    pub database: &'a DatabaseView<'a>,
     pub table: &'a TableSpec,
 }
 
 // A table of a database by its name, refused where there is none.
-fn table_or_refuse<'a>(database: &'a Database, name: &str) -> Result<&'a TableSpec, Refusal>
+fn table_or_refuse<'a>(database: &'a DatabaseView<'a>, name: &str) -> Result<&'a TableSpec, Refusal>
     ensures { (w : World) → ShowsLog w.history database.now
         → IsCheck (λ t. t.now) result (or_refuse (table_named (tables_in w (database_of database.now)) name.now) NoSuchTable) }
 {
@@ -36,7 +36,10 @@ fn table_or_refuse<'a>(database: &'a Database, name: &str) -> Result<&'a TableSp
 
 // The table of this name in the current database, which is online.
 #[tactic(auto, unfolding(bk_machine::specs::statements::Target::check_table))]
-pub(crate) fn check_table<'a>(kept: &'a Kept, name: &Text) -> Result<Target<'a>, Refusal>
+pub(crate) fn check_table<'a>(
+    kept: &'a InstanceView<'a>,
+    name: &Text,
+) -> Result<Target<'a>, Refusal>
     ensures check { (w : World) → Keeps w kept.now → IsCheck (λ t. target_of t.database.now t.table.now) result (target.check_table w name.now) }
     ensures shows { (w : World) → Keeps w kept.now → IfOk result (λ t. ShowsLog w.history t.database.now) }
     ensures its { (w : World) → Keeps w kept.now → IfOk result (λ t. IsTarget w name.now (target_of t.database.now t.table.now)) }

@@ -1,9 +1,9 @@
-use Rattle.bk_loading.proofs.RolledBack.{held-rolls}
+use Rattle.bk_kept.specs.ViewsLaws.{seen-numbers}
+use Rattle.bk_loading.proofs.RolledBack.{rolls-seen}
 use Rattle.bk_loading.proofs.closing.rolling_back.Goals as goal
 
-pub returns-in_ok-rollback_act-in-Some-clause-act : goal.returns-in_ok-rollback_act-in-Some-clause-act
-returns-in_ok-rollback_act-in-Some-clause-act c =
-    held-rolls c.args.kept.now c.in-Some.held c.in_ok-rollback_act-in-Some.field-0 c.runs_are_closed_one_by_one.ensures.may c.in_ok-rollback_act-in-Some.ensures.says c.in_ok-rollback_act-in-Some.ensures.is_done c.in-Some.ensures.first c.in-Some.ensures.kept
+pub rolling_back_seen-requires : goal.rolling_back_seen-requires
+rolling_back_seen-requires c = seen-numbers c.args.kept.now c.in_ok-seen.seen c.in_ok-seen.ensures c.requires
 
-pub returns-in-None-clause-act : goal.returns-in-None-clause-act
-returns-in-None-clause-act c w sound keeps = c.in-None.ensures.first w keeps
+pub returns-clause-act : goal.returns-clause-act
+returns-clause-act c = rolls-seen c.args.kept.now c.in_ok-seen.seen c.in_ok-act.act c.in_ok-seen.ensures c.in_ok-act.ensures.act

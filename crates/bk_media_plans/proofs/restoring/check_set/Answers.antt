@@ -8,6 +8,7 @@ use Rattle.bk_machine.specs.statements.Restore.{check_family, check_number, chec
 use Rattle.bk_plans.specs.Checking.{IsCheck}
 use Rattle.bk_plans.specs.CheckingLaws.{passed-on}
 use Rattle.bk_media_plans.specs.Restoring.{check_header}
+use Rattle.bk_kept.specs.declared.kept.Kept.{Kept}
 use Rattle.bk_media_plans.proofs.restoring.check_set.Goals as goal
 
 pub returns : goal.returns
@@ -23,4 +24,4 @@ returns c = λ w keeps.
     (passed-on _ _ (check_unused o) _ tt c.in_ok-check_unused.ensures
     (passed-on _ _ (check_family o replace header) _ tt c.in_ok-check_family.ensures
     (passed-on _ _ (check_tail w o replace) _ tt (c.in_ok-check_tail.ensures w (c.named_in-named.ensures.shows w keeps))
-    (passed-on _ _ (check_number w.databases o) _ tt (ap (λ (dbs : List Database). check_number dbs o) (keeps.databases ∙ ap (map database_of) (sym c.deref.ensures.value)) ∙ c.in_ok-check_number.ensures) (c.check_header.ensures w keeps)))))
+    (passed-on _ _ (check_number w.databases o) _ tt (ap (λ (dbs : List Database). check_number dbs o) (keeps.databases ∙ ap (map database_of) (sym (c.deref.ensures.value ∙ ap (λ (k : Kept). k.databases.items) c.kept.view_is))) ∙ c.in_ok-check_number.ensures) (c.check_header.ensures w keeps)))))

@@ -6,6 +6,7 @@ use Rattle.bk_machine.specs.statements.Target.{row_said}
 use Rattle.bk_plans.specs.PlanLaws.{if-ok}
 use Rattle.bk_plans.specs.SaidLaws.{says-now}
 use Rattle.bk_world.specs.declared.transaction.Open.{Open}
+use Rattle.bk_kept.specs.declared.kept.Database.{Database as KeptDatabase}
 use Rattle.bk_row_plans.proofs.row.row_act.Goals as goal
 
 pub returns-in-Ok-clause-says : goal.returns-in-Ok-clause-says
@@ -15,6 +16,6 @@ returns-in-Ok-clause-says c =
     if-ok _ _ c.logged.result
     (λ act is change before cells.
     says-now d (row_said own d.shown.«end» c.args.place.now before change c.args.time) d.transactions act c.in-Ok.records
-    (is ∙ ap (λ (ts : List Open). Logged d.name ts c.in-Ok.records) (c.in_ok-transactions.ensures ∙ c.as_slice.ensures))
-    (subst (λ (n : ℕ). Spell c.in-Ok.records n (row_said own n c.args.place.now before change c.args.time)) c.end.ensures.same (c.in-Ok.ensures change before cells)))
+    (is ∙ ap (λ (ts : List Open). Logged d.name ts c.in-Ok.records) (c.in_ok-transactions.ensures ∙ c.as_slice.ensures ∙ ap (λ (x : KeptDatabase). x.transactions) c.database.view_is))
+    (subst (λ (n : ℕ). Spell c.in-Ok.records n (row_said own n c.args.place.now before change c.args.time)) (c.end.ensures.same ∙ ap (λ (d : KeptDatabase). d.shown.«end») c.database.view_is) (c.in-Ok.ensures change before cells)))
     c.logged.ensures.is

@@ -10,3 +10,6 @@ returns-in-Err-clause-check c = λ w sound keeps.
     refused-behind _ _ _ _ (c.in_ok-to.ensures.check w keeps)
     (refused-behind _ _ _ _ c.in_ok-check_value.ensures.check (c.in-Err.ensures.check w _ sound keeps (c.in_ok-to.ensures.shows w keeps) (c.in_ok-to.ensures.its w keeps))) in
     refused
+
+pub returns-in-Ok-clause-seen : goal.returns-in-Ok-clause-seen
+returns-in-Ok-clause-seen c = λ w sound keeps. c.in-Ok.ensures.seen w _ sound keeps (c.in_ok-to.ensures.shows w keeps) (c.in_ok-to.ensures.its w keeps)
