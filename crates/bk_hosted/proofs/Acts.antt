@@ -1,9 +1,10 @@
 -- Hosted databases behind acts of their world.
-use Rattle.std.proofs.Common.{◌≡◌, ℕ, zero, suc, ◌<◌, List, [], ◌∷◌, ◌++◌, map, length, get_or, Option, Some, refl, sym, ◌∙◌, ap, subst}
+use Rattle.std.proofs.Common.{◌≡◌, ℕ, zero, suc, ◌<◌, Bool, true, false, cond, ltb, List, [], ◌∷◌, ◌++◌, map, length, length-set, get_or, Option, Some, None, refl, sym, ◌∙◌, ap, subst}
 use Rattle.std.specs.Prelude.{remove, set, slice_get}
-use Rattle.std.specs.List.{AllByRecursion, position}
+use Rattle.std.specs.List.{AllByRecursion, position, position_or_len}
 use Rattle.std.proofs.lemmas.List.{map-append}
 use Rattle.std.proofs.lemmas.List.Quantifiers.{position-Some}
+use Rattle.bk_ids.specs.Name.{same_name}
 use Rattle.bk_ids.specs.declared.path.Branch.{Branch}
 use Rattle.bk_lemmas.specs.Lists.{all_at, all_both, all_mapped}
 use Rattle.bk_machine.specs.Acts.{Act, Recovery, based, based_on, created, done, dropped, goes_online, gone_on, gone_online, logged, medium_made, new_database, says, seated, set_sealed, turned}
@@ -66,24 +67,24 @@ records-counted history h is counts = subst (λ (rs : List Logged). Counts 1 rs 
 
 hosted-still : StaysRead → (w : World) (act : Act) → IsSound w → MayDo w act → (h : Hosted) → IsHosted w.history h → Counted w.history h → IsHosted (done w act).history h
 unfolding log_of
-hosted-still reads w act sound may h is counts = record { log = reads w act sound may h.spec.path (end_behind h.records) counts ∙ is.log; online = is.online }
+hosted-still reads w act sound may h is counts = record { log = reads w act sound may h.spec.path (end_behind h.records) counts ∙ is.log }
 
 -- all stay hosted behind an act
-all-still : StaysRead → (w : World) (act : Act) (hosted : List Hosted) → IsSound w → MayDo w act → Hosts w hosted → AllByRecursion (IsHosted (done w act).history) hosted
+pub all-still : StaysRead → (w : World) (act : Act) (hosted : List Hosted) → IsSound w → MayDo w act → Hosts w hosted → AllByRecursion (IsHosted (done w act).history) hosted
 all-still reads w act hosted sound may hosts =
     all_both (IsHosted w.history) (Counted w.history) (IsHosted (done w act).history) (λ h is counts. hosted-still reads w act sound may h is counts) hosted hosts.each (counted w hosted sound hosts)
 
 -- ---- one database
 
 -- the one at the place of a name
-record IsThere (w : World) (name : List ℕ) (hosted : List Hosted) (i : ℕ) (h : Hosted) : Type 0 where
-  at : h ≡ get_or hosted i h
-  inside : i < length hosted
-  named : database_named w.databases name ≡ Some (database_of h)
-  is : IsHosted w.history h
-  counts : Counted w.history h
+pub record IsThere (w : World) (name : List ℕ) (hosted : List Hosted) (i : ℕ) (h : Hosted) : Type 0 where
+  pub at : h ≡ get_or hosted i h
+  pub inside : i < length hosted
+  pub named : database_named w.databases name ≡ Some (database_of h)
+  pub is : IsHosted w.history h
+  pub counts : Counted w.history h
 
-is-there : (w : World) (name : List ℕ) (hosted : List Hosted) (i : ℕ) (h : Hosted) → IsSound w → Hosts w hosted → position (names name) hosted ≡ Some i → slice_get hosted i ≡ Some h → IsThere w name hosted i h
+pub is-there : (w : World) (name : List ℕ) (hosted : List Hosted) (i : ℕ) (h : Hosted) → IsSound w → Hosts w hosted → position (names name) hosted ≡ Some i → slice_get hosted i ≡ Some h → IsThere w name hosted i h
 is-there w name hosted i h sound hosts place there =
     let at : h ≡ get_or hosted i h = got-or hosted i h there in
     let inside : i < length hosted = (position-Some (names name) hosted i h place).0 in
@@ -95,8 +96,32 @@ is-there w name hosted i h sound hosts place there =
       counts = subst (Counted w.history) (sym at) (all_at (Counted w.history) hosted i h inside (counted w hosted sound hosts));
     }
 
+-- another one of the same name is found at its place
+pub same-place : (name : List ℕ) (hosted : List Hosted) (i : ℕ) (h new : Hosted) → new.spec.name ≡ h.spec.name → position (names name) hosted ≡ Some i → slice_get hosted i ≡ Some h → position (names name) (set hosted i new) ≡ Some i
+same-place name hosted i h new called place there =
+    ap (λ n. found n (length (set hosted i new))) (stays hosted i there) ∙ ap (found (position_or_len (names name) hosted)) (length-set hosted i new) ∙ place
+  where
+    found : ℕ → ℕ → Option ℕ
+    found n many = cond (ltb n many) (Some n) None
+
+    is-same : names name new ≡ names name h
+    is-same = ap (λ (called : List ℕ). same_name called name) called
+
+    stays : (hs : List Hosted) (k : ℕ) → slice_get hs k ≡ Some h → position_or_len (names name) (set hs k new) ≡ position_or_len (names name) hs
+    stays [] k at = absurd (cc)
+    stays (x ∷ hs) zero at = let own : x ≡ h = (cc) in here (names name x) refl (is-same ∙ ap (names name) (sym own))
+      where
+        here : (t : Bool) → names name x ≡ t → names name new ≡ names name x → position_or_len (names name) (new ∷ hs) ≡ position_or_len (names name) (x ∷ hs)
+        here true is same = let too : names name new ≡ true = same ∙ is in rw (is, too) refl
+        here false is same = let too : names name new ≡ false = same ∙ is in rw (is, too) refl
+    stays (x ∷ hs) (suc k) at = behind (names name x) refl (stays hs k at)
+      where
+        behind : (t : Bool) → names name x ≡ t → position_or_len (names name) (set hs k new) ≡ position_or_len (names name) hs → position_or_len (names name) (x ∷ set hs k new) ≡ position_or_len (names name) (x ∷ hs)
+        behind true is later = rw is refl
+        behind false is later = rw (is, later) refl
+
 -- one changes as in the world behind an act, and the others stay
-changed : StaysRead → (w : World) (act : Act) (name : List ℕ) (hosted : List Hosted) (i : ℕ) (h new : Hosted) (change : Database → Database) → IsSound w → MayDo w act → Hosts w hosted
+pub changed : StaysRead → (w : World) (act : Act) (name : List ℕ) (hosted : List Hosted) (i : ℕ) (h new : Hosted) (change : Database → Database) → IsSound w → MayDo w act → Hosts w hosted
     → position (names name) hosted ≡ Some i → h ≡ get_or hosted i h → (done w act).databases ≡ with_database w.databases name change → database_of new ≡ change (database_of h)
     → IsHosted (done w act).history new → Hosts (done w act) (set hosted i new)
 changed reads w act name hosted i h new change sound may hosts place at databases is its = record {
@@ -113,9 +138,9 @@ says-databases w db said ts = refl
 -- what is hosted of it behind that
 hosts-logged : StaysRead → SaidLast → (w : World) (name : List ℕ) (said : List Said) (ts : List Open) (hosted : List Hosted) (i : ℕ) (h new : Hosted) → IsSound w → Hosts w hosted
     → position (names name) hosted ≡ Some i → slice_get hosted i ≡ Some h → MayDo w (logged name said ts)
-    → (Counts 1 h.records (end_behind h.records) → database_of new ≡ gone_on (model h.records) said ts (database_of h)) → new.records ≡ more h.records (end_behind h.records) said → new.points.status ≡ h.points.status
+    → (Counts 1 h.records (end_behind h.records) → database_of new ≡ gone_on (model h.records) said ts (database_of h)) → new.records ≡ more h.records (end_behind h.records) said
     → Hosts (done w (logged name said ts)) (set hosted i new)
-hosts-logged reads last w name said ts hosted i h new sound hosts place there may becomes records status =
+hosts-logged reads last w name said ts hosted i h new sound hosts place there may becomes records =
     let here = is-there w name hosted i h sound hosts place there in
     let db : Database = database_of h in
     let own : MayLog w db said ts = held (λ d. MayLog w d said ts) (database_named w.databases name) db here.named may in
@@ -125,31 +150,31 @@ hosts-logged reads last w name said ts hosted i h new sound hosts place there ma
     let log : log_of (says w db said ts).history (database_of new) ≡ new.records =
     ap (λ (d : Database). log_of (says w db said ts).history d) its ∙ last w name db said ts sound.whole here.named own.says ∙ ap (λ (rs : List Logged). more rs db.end said) here.is.log ∙ sym records in
     let behind : IsHosted (done w (logged name said ts)).history new =
-    record { log = ap (λ (v : World). log_of v.history (database_of new)) same ∙ log; online = status ∙ here.is.online } in
+    record { log = ap (λ (v : World). log_of v.history (database_of new)) same ∙ log } in
     changed reads w (logged name said ts) h.spec.name hosted i h new (gone_on (model (log_of w.history db)) said ts) sound may hosts (own-position name hosted i h place here.at) here.at
     (ap (λ (v : World). v.databases) same ∙ says-databases w db said ts) its behind
 
 pub hosts-said : StaysRead → SaidLast → (w : World) (name : List ℕ) (said : List Said) (ts : List Open) (hosted : List Hosted) (i : ℕ) (h : Hosted) → IsSound w → Hosts w hosted
     → position (names name) hosted ≡ Some i → slice_get hosted i ≡ Some h → MayDo w (logged name said ts) → SaysNoCheckpoint said → Hosts (done w (logged name said ts)) (set hosted i (saying said ts h))
 hosts-said reads last w name said ts hosted i h sound hosts place there may none =
-    hosts-logged reads last w name said ts hosted i h (saying said ts h) sound hosts place there may (λ counts. saying-is (model h.records) h said ts none) refl refl
+    hosts-logged reads last w name said ts hosted i h (saying said ts h) sound hosts place there may (λ counts. saying-is (model h.records) h said ts none) refl
 
 pub hosts-checkpoint : StaysRead → SaidLast → (w : World) (name : List ℕ) (time : ℕ) (ts : List Open) (hosted : List Hosted) (i : ℕ) (h : Hosted) → IsSound w → Hosts w hosted
     → position (names name) hosted ≡ Some i → slice_get hosted i ≡ Some h → MayDo w (logged name (alone (checkpointed time)) ts)
     → Hosts (done w (logged name (alone (checkpointed time)) ts)) (set hosted i (saying (alone (checkpointed time)) ts (noting h)))
 hosts-checkpoint reads last w name time ts hosted i h sound hosts place there may =
     hosts-logged reads last w name (alone (checkpointed time)) ts hosted i h (saying (alone (checkpointed time)) ts (noting h)) sound hosts place there may
-    (λ counts. checkpoint-is h time ts counts) refl refl
+    (λ counts. checkpoint-is h time ts counts) refl
 
 -- another form of a database, which is the same in the world
 hosts-same : (w : World) (name : List ℕ) (hosted : List Hosted) (i : ℕ) (h new : Hosted) → IsSound w → Hosts w hosted → position (names name) hosted ≡ Some i → slice_get hosted i ≡ Some h
-    → (Counts 1 h.records (end_behind h.records) → database_of new ≡ database_of h) → new.records ≡ h.records → new.points.status ≡ h.points.status → Hosts w (set hosted i new)
-hosts-same w name hosted i h new sound hosts place there becomes records status =
+    → (Counts 1 h.records (end_behind h.records) → database_of new ≡ database_of h) → new.records ≡ h.records → Hosts w (set hosted i new)
+hosts-same w name hosted i h new sound hosts place there becomes records =
     let here = is-there w name hosted i h sound hosts place there in
     let its : database_of new ≡ database_of h = becomes (records-counted w.history h here.is here.counts) in
     record {
       same = hosts.same ∙ same-there hosted i h new here.at its;
-      each = all-set (IsHosted w.history) hosted i h new here.inside (λ _. record { log = ap (log_of w.history) its ∙ here.is.log ∙ sym records; online = status ∙ here.is.online }) hosts.each;
+      each = all-set (IsHosted w.history) hosted i h new here.inside (λ _. record { log = ap (log_of w.history) its ∙ here.is.log ∙ sym records }) hosts.each;
     }
   where
     same-there : (hs : List Hosted) (k : ℕ) (x put : Hosted) → x ≡ get_or hs k x → database_of put ≡ database_of x → map database_of hs ≡ map database_of (set hs k put)
@@ -159,10 +184,10 @@ hosts-same w name hosted i h new sound hosts place there becomes records status 
 
 -- the next checkpoint is noted: nothing is done to the world
 pub hosts-noted : (w : World) (name : List ℕ) (hosted : List Hosted) (i : ℕ) (h : Hosted) → IsSound w → Hosts w hosted → position (names name) hosted ≡ Some i → slice_get hosted i ≡ Some h → Hosts w (set hosted i (noting h))
-hosts-noted w name hosted i h sound hosts place there = hosts-same w name hosted i h (noting h) sound hosts place there (noting-is h) refl refl
+hosts-noted w name hosted i h sound hosts place there = hosts-same w name hosted i h (noting h) sound hosts place there (noting-is h) refl
 
 pub hosts-folded : (w : World) (name : List ℕ) (hosted : List Hosted) (i : ℕ) (h : Hosted) → IsSound w → Hosts w hosted → position (names name) hosted ≡ Some i → slice_get hosted i ≡ Some h → Hosts w (set hosted i (folding h))
-hosts-folded w name hosted i h sound hosts place there = hosts-same w name hosted i h (folding h) sound hosts place there (folding-is h) refl refl
+hosts-folded w name hosted i h sound hosts place there = hosts-same w name hosted i h (folding h) sound hosts place there (folding-is h) refl
 
 -- ---- a database is based on a set
 
@@ -180,7 +205,7 @@ unfolding log_of
 hosts-based reads w name header hosted i h sound hosts place there =
     let here = is-there w name hosted i h sound hosts place there in
     changed reads w (based name header) name hosted i h (basing header h) (based_on header) sound tt hosts place here.at (based-databases w name header) refl
-    (record { log = ap (λ (history : RecordLines). log_below history h.spec.path (end_behind h.records)) (based-history w name header) ∙ here.is.log; online = here.is.online })
+    (record { log = ap (λ (history : RecordLines). log_below history h.spec.path (end_behind h.records)) (based-history w name header) ∙ here.is.log })
 
 -- ---- databases come and go
 
@@ -210,7 +235,7 @@ created-log w c = rw (is_guid-refl c.branch) refl
 pub hosts-created : StaysRead → (w : World) (c : Creation) (hosted : List Hosted) → IsSound w → MayDo w (created c) → Hosts w hosted → Hosts (done w (created c)) (hosted ++ creating c ∷ [])
 hosts-created reads w c hosted sound may hosts = record {
   same = created-databases w c ∙ ap (λ dbs. dbs ++ new_database c ∷ []) hosts.same ∙ ap (λ db. map database_of hosted ++ db ∷ []) (sym (created-is c)) ∙ sym (map-append database_of hosted (creating c ∷ []));
-  each = all-more (IsHosted (done w (created c)).history) hosted (creating c) (all-still reads w (created c) hosted sound may hosts) (record { log = created-log w c; online = refl });
+  each = all-more (IsHosted (done w (created c)).history) hosted (creating c) (all-still reads w (created c) hosted sound may hosts) (record { log = created-log w c });
 }
 
 -- ---- acts that change no database

@@ -1,5 +1,5 @@
 -- What a crash leaves of hosted databases.
-use Rattle.std.proofs.Common.{◌≡◌, ◌≤◌, ℕ, zero, suc, ◌+◌, Bool, true, false, cond, List, [], ◌∷◌, map, None, Some, refl, sym, ◌∙◌, ap, subst, arith}
+use Rattle.std.proofs.Common.{◌≡◌, ◌≤◌, ℕ, zero, suc, ◌+◌, Bool, true, false, cond, List, [], ◌∷◌, ◌++◌, map, None, Some, refl, sym, ◌∙◌, ap, subst, arith, append-nil}
 use Rattle.std.specs.Prelude.{Contains}
 use Rattle.std.specs.Str.{bytes_eq}
 use Rattle.std.specs.List.{AllByRecursion, AllZip}
@@ -7,15 +7,16 @@ use Rattle.bk_ids.specs.Name.{same_name}
 use Rattle.bk_ids.specs.declared.path.Branch.{Branch}
 use Rattle.bk_known.specs.declared.known.DatabaseSpec.{DatabaseSpec}
 use Rattle.bk_lemmas.specs.Lists.{all_mapped}
-use Rattle.bk_machine.specs.Crash.{CutsRun, DatabaseLeft, Leaves, StatusLeft, WorldLeft, open_begins}
+use Rattle.bk_machine.specs.Crash.{CutsRun, DatabaseLeft, Leaves, OfflineLeft, StatusLeft, WorldLeft, open_begins}
 use Rattle.bk_machine.specs.NamedLaws.{apart-named}
 use Rattle.bk_machine.specs.Outcome.{Outcome}
 use Rattle.bk_machine.specs.Same.{SameMedia}
 use Rattle.bk_machine.specs.Sound.{AreDifferent, Differ, IsHeld, IsSoundReading, IsSoundSet, IsSoundSlot, IsWhole, IsWholeDatabase, SetIn}
 use Rattle.bk_machine.specs.Stays.{IsCutOf, IsFront, MayStay}
 use Rattle.bk_machine.specs.World.{Database, World, log_of}
+use Rattle.bk_machine.specs.statements.Restore.{is_online}
 use Rattle.bk_world.specs.declared.database.Status.{Status}
-use Rattle.bk_world.specs.declared.database.Status.TheVariants.{Online}
+use Rattle.bk_world.specs.declared.database.Status.TheVariants.{Down, Online, Standby}
 use Rattle.bk_world.specs.declared.header.Header.{Header}
 use Rattle.bk_world.specs.Cut.{end_behind, settled}
 use Rattle.bk_world.specs.Lines.{log_below}
@@ -23,8 +24,8 @@ use Rattle.bk_world.specs.Medium.{Reading, Slot, medium, medium_at, readable}
 use Rattle.bk_world.specs.Records.{Logged}
 use Rattle.bk_world.specs.SameLaws.{same_name-refl}
 use Rattle.bk_world.specs.Telling.{telling}
-use Rattle.bk_hosted.specs.Fronts.{AreFronts, IsFrontOf, settling}
-use Rattle.bk_hosted.specs.Hosted.{Hosted, Hosts, IsHosted, checkpoint_of, database_of, has_checkpoint, is_checkpoint}
+use Rattle.bk_hosted.specs.Fronts.{AreFronts, IsFrontOf, settled_by, settling}
+use Rattle.bk_hosted.specs.Hosted.{Hosted, Hosts, IsHosted, checkpoint_of, database_of, has_checkpoint, is_checkpoint, is_up}
 use Rattle.bk_hosted.specs.PointLaws.{checkpoint-same, has-behind, has-settled, kept-same, quiet-plain}
 
 -- ---- lists
@@ -133,32 +134,56 @@ module _ (before cut : World) (h f : Hosted) (is : IsHosted cut.history h) (fron
   lost-plain : AllByRecursion (λ (r : Logged). is_checkpoint r.deed ≡ false) front.lost
   lost-plain = all_mapped (λ (r : Logged). telling r.deed ≡ None) (λ (r : Logged). is_checkpoint r.deed ≡ false) (λ r quiet. quiet-plain r.deed quiet) front.lost front.quiet
 
-  -- settled it has the checkpoints of the whole log
-  has-same : has_checkpoint h.points.next_checkpoint (settled f.records) ≡ has_checkpoint h.points.next_checkpoint h.records
+  -- what is left of its log: settled where it can be used
+  abbrev left_log : List Logged
+  left_log = settled_by (is_up h) f.records
+
+  -- it has the checkpoints of the whole log
+  has-same : has_checkpoint h.points.next_checkpoint left_log ≡ has_checkpoint h.points.next_checkpoint h.records
   has-same =
-      has-settled h.points.next_checkpoint f.records
+      by (is_up h)
       ∙ sym (has-behind h.points.next_checkpoint f.records front.lost lost-plain)
       ∙ sym (ap (has_checkpoint h.points.next_checkpoint) front.splits)
+    where
+      by : (up : Bool) → has_checkpoint h.points.next_checkpoint (settled_by up f.records) ≡ has_checkpoint h.points.next_checkpoint f.records
+      by true = has-settled h.points.next_checkpoint f.records
+      by false = refl
 
   -- so it is the database that is left
-  settling-is : database_of (settling f) ≡ record (database_of h) { job = None; transactions = []; end = end_behind (settled f.records) }
+  settling-is : database_of (settling f) ≡ record (database_of h) { job = None; transactions = []; end = end_behind left_log }
   settling-is =
       ap (λ (g : Hosted). database_of (settling g)) front.same
-      ∙ ap (λ k. record (database_of h) { kept = k; checkpoint = checkpoint_of h.points (settled f.records); transactions = []; end = end_behind (settled f.records) }) (kept-same h.points (settled f.records) h.records has-same)
-      ∙ ap (λ c. record (database_of h) { checkpoint = c; transactions = []; end = end_behind (settled f.records) }) (checkpoint-same h.points (settled f.records) h.records has-same)
+      ∙ ap (λ k. record (database_of h) { kept = k; checkpoint = checkpoint_of h.points left_log; transactions = []; end = end_behind left_log }) (kept-same h.points left_log h.records has-same)
+      ∙ ap (λ c. record (database_of h) { checkpoint = c; transactions = []; end = end_behind left_log }) (checkpoint-same h.points left_log h.records has-same)
 
-  online : f.points.status ≡ Online
-  online = ap (λ (g : Hosted). g.points.status) front.same ∙ is.online
+  -- nothing is lost of one that is being restored
+  records-same : is_up h ≡ false → h.records ≡ f.records
+  records-same down = front.splits ∙ ap (λ (lost : List Logged). f.records ++ lost) (front.whole down) ∙ append-nil f.records
 
-  module _ (whole left : World) (new : Database) (one : DatabaseLeft before whole cut left (database_of h) new) (log : log_of left.history new ≡ settled f.records) where
-    ends : new.end ≡ end_behind (log_of left.history new)
-    ends = (subst (λ (s : Status). StatusLeft s before whole cut left (open_begins before (database_of h)) (database_of h) new) is.online one.log).end
+  module _ (whole left : World) (new : Database) (one : DatabaseLeft before whole cut left (database_of h) new) (settles : h.points.status ≡ Online → log_of left.history new ≡ settled f.records) where
+    -- its log, and its end behind that
+    record IsLeft (up : Bool) : Type 0 where
+      log : log_of left.history new ≡ settled_by up f.records
+      end : new.end ≡ end_behind (log_of left.history new)
 
-    left-is : new ≡ database_of (settling f)
-    left-is = one.same ∙ ap (λ n. record (database_of h) { job = None; transactions = []; end = n }) (ends ∙ ap end_behind log) ∙ sym settling-is
+    offline : is_up h ≡ false → OfflineLeft cut left (database_of h) new → IsLeft false
+    offline down still =
+        let log : log_of left.history new ≡ h.records = still.log ∙ is.log in
+        record { log = log ∙ records-same down; end = still.end ∙ ap end_behind (sym log) }
 
-    left-hosted : IsHosted left.history (settling f)
-    left-hosted = record { log = ap (log_of left.history) (sym left-is) ∙ log; online = online }
+    by-status : (s : Status) → h.points.status ≡ s → StatusLeft s before whole cut left (open_begins before (database_of h)) (database_of h) new → IsLeft (is_online s)
+    by-status Online is_online_is left = record { log = settles is_online_is; end = left.end }
+    by-status (Standby file) is_standby left = offline (ap is_online is_standby) left
+    by-status Down is_down left = offline (ap is_online is_down) left
+
+    is-left : IsLeft (is_up h)
+    is-left = by-status h.points.status refl one.log
+
+    pub left-is : new ≡ database_of (settling f)
+    left-is = one.same ∙ ap (λ n. record (database_of h) { job = None; transactions = []; end = n }) (is-left.end ∙ ap end_behind is-left.log) ∙ sym settling-is
+
+    pub left-hosted : IsHosted left.history (settling f)
+    left-hosted = record { log = ap (log_of left.history) (sym left-is) ∙ is-left.log ∙ ap (λ up. settled_by up f.records) (sym (ap is_up front.same)) }
 
 -- ---- all of them
 
@@ -178,7 +203,7 @@ left-each before whole cut left kept (h ∷ hs) [] news cuts each logs = absurd 
 left-each before whole cut left kept (h ∷ hs) (f ∷ fs) [] cuts each logs = absurd each
 left-each before whole cut left kept (h ∷ hs) (f ∷ fs) (n ∷ news) cuts each logs =
     let one : Cut before cut kept h f = cuts.0 in
-    let log : log_of left.history n ≡ settled f.records = logs.0 one.is.online ∙ ap settled one.records in
+    let log : h.points.status ≡ Online → log_of left.history n ≡ settled f.records = λ up. logs.0 up ∙ ap settled one.records in
     let rest = left-each before whole cut left kept hs fs news cuts.1 each.1 logs.1 in
     let here : n ≡ database_of (settling f) = left-is before cut h f one.is one.front whole left n each.0 log in (
       ap (λ (d : Database). d ∷ news) here ∙ ap (λ (ds : List Database). database_of (settling f) ∷ ds) rest.0,

@@ -4,14 +4,14 @@ use Rattle.std.specs.Prelude.{◌≡◌, ℕ, ◌==◌, ◌&&◌, ◌||◌, Bool
 use Rattle.std.specs.List.{AllByRecursion, list_any}
 use Rattle.bk_ids.specs.Name.{same_name}
 use Rattle.bk_known.specs.declared.known.DatabaseSpec.{DatabaseSpec}
-use Rattle.bk_machine.specs.Acts.{Recovery, common_base, creation_said, file_units, forked, is_simple, kept_after, online_files, online_units, units_in}
+use Rattle.bk_machine.specs.Acts.{Act, Recovery, common_base, creation_said, file_units, forked, is_simple, kept_after, online_files, online_units, recovered, restored, units_in}
 use Rattle.bk_machine.specs.World.{World, Database, log_of}
-use Rattle.bk_machine.specs.statements.Restore.{base_of}
+use Rattle.bk_machine.specs.statements.Restore.{base_of, is_online}
 use Rattle.bk_points.specs.declared.points.Points.{Points}
 use Rattle.bk_world.specs.declared.database.Creation.{Creation}
 use Rattle.bk_world.specs.declared.database.FileSpec.{FileSpec}
 use Rattle.bk_world.specs.declared.database.State.TheVariants as state
-use Rattle.bk_world.specs.declared.database.Status.TheVariants.{Online}
+use Rattle.bk_world.specs.declared.database.Status.TheVariants.{Down, Online}
 use Rattle.bk_world.specs.declared.database.Storage.{Storage}
 use Rattle.bk_world.specs.declared.database.Unit.{Unit as RestoreUnit}
 use Rattle.bk_world.specs.declared.header.Header.{Header}
@@ -24,7 +24,7 @@ use Rattle.bk_world.specs.Telling.{model}
 
 -- ---- one database
 
--- A database as its store and the instance's memory hold it.
+-- A database as its store and the instance's memory hold it. The files of one that is being restored hold no records: then these are what the machine knows of its path, up to where it is restored.
 pub record Hosted : Type 0 where
   pub spec : DatabaseSpec
   pub points : Points
@@ -75,10 +75,13 @@ database_of h = record {
   transactions = h.transactions;
 }
 
--- its records are the log of its path, and it is online
+-- its records are the log of its path
 pub record IsHosted (history : RecordLines) (h : Hosted) : Type 0 where
   pub log : log_of history (database_of h) ≡ h.records
-  pub online : h.points.status ≡ Online
+
+-- it can be used: it isn't being restored
+abbrev pub is_up : Hosted → Bool
+is_up h = is_online h.points.status
 
 -- the databases of a world are these
 pub record Hosts (w : World) (hosted : List Hosted) : Type 0 where
@@ -160,6 +163,34 @@ set_storage header = record { groups = header.groups; files = map (λ (file : He
 -- the log of a set
 abbrev pub set_log : World → Header → List Logged
 set_log w header = log_below w.history header.path header.last
+
+-- the points of a database that a set takes the place of: its files are Bad
+abbrev pub parked_points : Header → Points
+parked_points header = record {
+  next_checkpoint = 0;
+  next_kept = 0;
+  archive = header.last;
+  kept = header.last;
+  checkpoint = header.last;
+  chain = false;
+  began = false;
+  base = None;
+  status = Down;
+  units = file_units state.Bad header.files;
+}
+
+-- the database behind the first part of a whole restore: it has the set's log, up to the set's end
+abbrev pub parking : List Logged → List ℕ → Header → Hosted
+parking rs name header = record {
+  spec = record { name = name; family = header.family; path = header.path; storage = set_storage header };
+  points = parked_points header;
+  records = rs;
+  transactions = [];
+}
+
+-- what comes behind that part: its files are restored, and it is recovered
+abbrev pub bringing_up : List ℕ → Header → Recovery → List Act
+bringing_up name header r = restored name (base_of header) header.last ∷ recovered name r ∷ []
 
 -- the points of a database that went online at the end of a set whose log is this
 abbrev pub online_points : Header → List Logged → Points

@@ -1,11 +1,10 @@
 ghost use Rattle.std.specs.Prelude.{◌≡◌, ℕ, List, [], ◌∷◌, ◌++◌, Option, None, Some, remove, set, slice_get};
 ghost use Rattle.std.specs.List.{position};
-ghost use Rattle.bk_hosted.specs.Hosted.{Hosted, Hosts, SaysNoCheckpoint, basing, creating, folding, names, noting, restoring, saying, set_log};
-ghost use Rattle.bk_machine.specs.Acts.{Recovery, based, created, done, done_all, dropped, logged, medium_made, seated, set_sealed, turned};
+ghost use Rattle.bk_hosted.specs.Hosted.{Hosted, Hosts, SaysNoCheckpoint, basing, bringing_up, creating, folding, names, noting, parking, restoring, saying, set_log};
+ghost use Rattle.bk_machine.specs.Acts.{Recovery, based, created, done, done_all, dropped, logged, medium_made, replaced, seated, set_sealed, turned};
 ghost use Rattle.bk_machine.specs.MayDo.{MayDo, MayDoAll};
-ghost use Rattle.bk_machine.specs.Sound.{IsSound};
+ghost use Rattle.bk_machine.specs.Sound.{IsSound, IsSoundSet};
 ghost use Rattle.bk_machine.specs.World.{World, ended, opened};
-ghost use Rattle.bk_machine.specs.statements.Restore.{whole_restore};
 ghost use Rattle.bk_world.specs.declared.database.Creation.{Creation};
 ghost use Rattle.bk_world.specs.declared.header.Header.{Header};
 ghost use Rattle.bk_world.specs.declared.transaction.Open.{Open};
@@ -46,14 +45,16 @@ pub fn hosted_databases_follow_acts()
     what_is_said_comes_last();
 }
 
-/// A whole restore, in a sound world, puts a database in the place of the hosted one of its name, or behind the others: it has the log of the set, and what the recovery says behind it.
+/// A whole restore, in a sound world, first puts a database in the place of the hosted one of its name, or behind the others, with its files Bad. Brought up, that has the log of the set, and what the
+/// recovery says behind it.
 pub fn hosted_databases_follow_restores()
-    ensures replaced { (w : World) (name : List ℕ) (header : Header) (r : Recovery) (hosted : List Hosted) (i : ℕ) → IsSound w → Hosts w hosted
-        → MayDoAll w (whole_restore name header r) → r.at ≡ header.last → position (names name) hosted ≡ Some i
-        → Hosts (done_all w (whole_restore name header r)) (set hosted i (restoring (set_log w header) name header r)) }
-    ensures new { (w : World) (name : List ℕ) (header : Header) (r : Recovery) (hosted : List Hosted) → IsSound w → Hosts w hosted
-        → MayDoAll w (whole_restore name header r) → r.at ≡ header.last → position (names name) hosted ≡ None
-        → Hosts (done_all w (whole_restore name header r)) (hosted ++ restoring (set_log w header) name header r ∷ []) }
+    ensures replaced { (w : World) (name : List ℕ) (header : Header) (hosted : List Hosted) (i : ℕ) → IsSound w → Hosts w hosted → MayDo w (replaced name header)
+        → position (names name) hosted ≡ Some i → Hosts (done w (replaced name header)) (set hosted i (parking (set_log w header) name header)) }
+    ensures new { (w : World) (name : List ℕ) (header : Header) (hosted : List Hosted) → IsSound w → Hosts w hosted → MayDo w (replaced name header)
+        → position (names name) hosted ≡ None → Hosts (done w (replaced name header)) (hosted ++ parking (set_log w header) name header ∷ []) }
+    ensures brought_up { (w : World) (name : List ℕ) (header : Header) (r : Recovery) (hosted : List Hosted) (i : ℕ) → IsSound w → Hosts w hosted → IsSoundSet w header
+        → MayDoAll w (bringing_up name header r) → r.at ≡ header.last → position (names name) hosted ≡ Some i → slice_get hosted i ≡ Some (parking (set_log w header) name header)
+        → Hosts (done_all w (bringing_up name header r)) (set hosted i (restoring (set_log w header) name header r)) }
 {
     a_recovery_is_said_last();
     acts_keep_what_is_read();

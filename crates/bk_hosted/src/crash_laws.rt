@@ -1,7 +1,7 @@
-ghost use Rattle.std.specs.Prelude.{◌≡◌, ◌≤◌, ℕ, ◌+◌, true, List, [], ◌∷◌, ◌++◌, map};
+ghost use Rattle.std.specs.Prelude.{◌≡◌, ◌≤◌, ℕ, ◌+◌, true, false, List, [], ◌∷◌, ◌++◌, map};
 ghost use Rattle.std.specs.List.{AllByRecursion};
 ghost use Rattle.bk_hosted.specs.Fronts.{AreFronts, IsFrontOf, TellsLast, Waits, settling};
-ghost use Rattle.bk_hosted.specs.Hosted.{Hosted, Hosts, database_of};
+ghost use Rattle.bk_hosted.specs.Hosted.{Hosted, Hosts, database_of, is_up};
 ghost use Rattle.bk_items.specs.declared.item.ScriptEntry.{ScriptEntry};
 ghost use Rattle.bk_machine.specs.Acts.{Act};
 ghost use Rattle.bk_machine.specs.Closing.{AreClosing, closed_by};
@@ -41,10 +41,10 @@ pub fn crashes_leave_settled_fronts()
     runs_are_cut_in_whole_worlds();
 }
 
-/// Where an end of a database's records waits in memory, and what is open in it is of some transactions, a crash may lose that end.
+/// Where an end of a database's records waits in memory, and what is open in it is of some transactions, a crash may lose that end. Nothing is open in one that is being restored.
 pub fn what_waits_may_be_lost()
     ensures front { (begins : List ℕ) (h : Hosted) (records lost : List Logged) → h.records ≡ records ++ lost → AllByRecursion (Waits h.transactions) lost
-        → AllByRecursion (λ (t : Open). is_among begins t.begin ≡ true) h.transactions → NoLoadPends records → IsFrontOf begins h (record h { records = records }) }
+        → AllByRecursion (λ (t : Open). is_among begins t.begin ≡ true) h.transactions → NoLoadPends records → (is_up h ≡ false → h.transactions ≡ []) → IsFrontOf begins h (record h { records = records }) }
 {}
 
 /// Of what a database says in one act of a statement, or of a closing, only the last record tells an entry. So an act may be cut inside.
