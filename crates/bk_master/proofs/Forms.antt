@@ -1,17 +1,21 @@
 -- A record that is spelled is read back, and its bytes fit a control.
-use Rattle.std.proofs.Common.{◌≡◌, ◌≤◌, ◌<◌, ◌^◌, ◌+◌, ◌*◌, ℕ, zero, suc, Bool, true, false, List, [], ◌∷◌, ◌++◌, length, Option, Some, None, refl, sym, ap, subst, ◌∙◌, arith, lit<, length-append}
+use Rattle.std.proofs.Common.{◌≡◌, ◌≤◌, ◌<◌, ◌^◌, ◌+◌, ◌*◌, ℕ, zero, suc, Bool, true, false, List, [], ◌∷◌, ◌++◌, length, Option, Some, None, refl, sym, ap, subst, ◌∙◌, arith, append_assoc, lit<, length-append}
 use Rattle.std.specs.List.{AllByRecursion, flat_map}
 use Rattle.std.proofs.lemmas.List.{append-nil}
 use Rattle.std.proofs.lemmas.Str.{IsUtf8-nil}
 use Rattle.std.proofs.lemmas.Option.{same_Some}
-use Rattle.bk_bytes.specs.Field.{bytes_of}
+use Rattle.bk_bytes.specs.Field.{AreBytes, bytes_of}
 use Rattle.bk_bytes.specs.FieldLaws.{length-bytes_of}
 use Rattle.bk_bytes.specs.Codec.{IsCodec, IsString, number, converted}
-use Rattle.bk_bytes.specs.CodecLaws.{number-IsCodec, string-IsCodec, followed-IsCodec, converted-IsCodec, counted-IsCodec}
+use Rattle.bk_bytes.specs.CodecLaws.{AreBytes-after, bind_some, number-IsCodec, string-IsCodec, followed-IsCodec, converted-IsCodec, counted-IsCodec}
+use Rattle.bk_fields.specs.Guids.{guid_bytes, guid_form, guid_number}
+use Rattle.bk_fields.specs.Laws.{guid_form-IsCodec}
+use Rattle.bk_ids.specs.declared.guid.Guid.{Guid}
 use Rattle.bk_master.specs.declared.record.Entry.{Entry}
+use Rattle.bk_master.specs.declared.record.Own.{Own}
 use Rattle.bk_master.specs.declared.record.Record.{Record}
 use Rattle.bk_master.specs.declared.record.Unfinished.{Unfinished}
-use Rattle.bk_master.specs.Spelling.{HasPath, IsEntry, IsRecord, IsShort, IsShortPath, IsSmall, IsUnfinished, KeepsRecord, entry_bytes, entry_form, flag, flag_in, path_bytes, path_in, path_form, paths_bytes, read_record, record_bytes, record_form, text_bytes, unfinished_bytes, unfinished_form}
+use Rattle.bk_master.specs.Spelling.{HasPath, IsEntry, IsOwnPart, IsRecord, IsShort, IsShortPath, IsSmall, IsStaging, IsUnfinished, KeepsRecord, entry_bytes, entry_form, flag, flag_in, own_bytes, own_form, path_bytes, path_in, path_form, paths_bytes, read_record, record_bytes, record_form, staging_behind, staging_bytes, staging_form, text_bytes, unfinished_bytes, unfinished_form}
 
 path_takes : (text : List ℕ) → IsString 0 100 text → (path_bytes (path_in text) ≡ text) × HasPath (path_in text)
 path_takes [] fits = (refl, tt)
@@ -28,6 +32,48 @@ path_form-IsCodec = converted-IsCodec _ _ _ HasPath (string-IsCodec 0 100 (lit< 
   takes = λ text making fits e.
       subst (λ (m : Option (List ℕ)). (path_bytes m ≡ text) × HasPath m) (same_Some (path_in text) making e) (path_takes text fits);
   gives = λ making h. let is = path_gives making h in (ap (λ (m : Option (List ℕ)). Some m) is.0, is.1);
+})
+
+-- what is read behind a byte is spelled so with it
+staging_takes : (kind : ℕ) (bytes : List ℕ) (x : Option Guid) (rest : List ℕ) → AreBytes bytes → staging_behind kind bytes ≡ Some (x, rest) → (bytes_of 1 kind ++ bytes ≡ staging_bytes x ++ rest) × IsStaging x
+unfolding guid_form
+staging_takes zero bytes x rest are e =
+    subst (λ (p : Option Guid × List ℕ). (bytes_of 1 0 ++ bytes ≡ staging_bytes p.0 ++ p.1) × IsStaging p.0) (same_Some (None, bytes) (x, rest) e) (refl, tt)
+staging_takes (suc zero) bytes x rest are e =
+    let b = bind_some (guid_form.reading bytes) (λ g. Some (Some g.0, g.1)) (x, rest) e in
+    let t = guid_form-IsCodec.takes bytes b.0.0 b.0.1 are b.1 in
+    let whole : bytes_of 1 1 ++ bytes ≡ (bytes_of 1 1 ++ guid_form.spelling b.0.0) ++ b.0.1 = ap (λ (s : List ℕ). bytes_of 1 1 ++ s) t.0 ∙ sym (append_assoc (bytes_of 1 1) (guid_form.spelling b.0.0) b.0.1) in
+    subst (λ (p : Option Guid × List ℕ). (bytes_of 1 1 ++ bytes ≡ staging_bytes p.0 ++ p.1) × IsStaging p.0) (same_Some (Some b.0.0, b.0.1) (x, rest) b.2) (whole, t.1)
+staging_takes (suc (suc kind)) bytes x rest are e = absurd cc
+
+staging_form-IsCodec : IsCodec (Option Guid) staging_form
+unfolding staging_form guid_form
+staging_form-IsCodec = record { takes = takes; gives = gives }
+  where
+    takes : (bytes : List ℕ) (x : Option Guid) (rest : List ℕ) → AreBytes bytes → staging_form.reading bytes ≡ Some (x, rest) → (bytes ≡ staging_bytes x ++ rest) × IsStaging x
+    takes bytes x rest are e =
+        let b = bind_some ((number 1).reading bytes) (λ k. staging_behind k.0 k.1) (x, rest) e in
+        let kind = (number-IsCodec 1).takes bytes b.0.0 b.0.1 are b.1 in
+        let t = staging_takes b.0.0 b.0.1 x rest (AreBytes-after bytes (bytes_of 1 b.0.0) b.0.1 are kind.0) b.2 in
+        (kind.0 ∙ t.0, t.1)
+
+    behind : (kind : ℕ) (bytes : List ℕ) → kind < 256 ^ 1 → staging_form.reading (bytes_of 1 kind ++ bytes) ≡ staging_behind kind bytes
+    behind kind bytes small = rw ((number-IsCodec 1).gives kind bytes small) refl
+
+    gives : (x : Option Guid) (rest : List ℕ) → IsStaging x → staging_form.reading (staging_bytes x ++ rest) ≡ Some (x, rest)
+    gives None rest is = behind 0 rest (lit< tt)
+    gives (Some set) rest is =
+        let made : staging_behind 1 (guid_form.spelling set ++ rest) ≡ Some (Some set, rest) = rw (guid_form-IsCodec.gives set rest is) refl in
+        ap staging_form.reading (append_assoc (bytes_of 1 1) (guid_form.spelling set) rest) ∙ behind 1 (guid_form.spelling set ++ rest) (lit< tt) ∙ made
+
+own_form-IsCodec : IsCodec Own own_form
+unfolding own_form path_form staging_form
+own_form-IsCodec = converted-IsCodec _ _ _ IsOwnPart (followed-IsCodec _ _ (number-IsCodec 8) (λ _. followed-IsCodec _ _ (number-IsCodec 8) (λ _. followed-IsCodec _ _ path_form-IsCodec (λ _. staging_form-IsCodec)))) (record {
+  takes = λ x o fits e.
+      subst (λ (y : Own). ((y.number, (y.counter, (y.making, y.staging))) ≡ x) × IsOwnPart y)
+      (same_Some (record { number = x.0; counter = x.1.0; making = x.1.1.0; staging = x.1.1.1 }) o e)
+      (refl, record { number = fits.0; counter = fits.1.0; path = fits.1.1.0; staging = fits.1.1.1 });
+  gives = λ o h. (refl, (h.number, (h.counter, (h.path, h.staging))));
 })
 
 flag_takes : (n : ℕ) (b : Bool) → flag_in n ≡ Some b → (flag b ≡ n) × Unit {0}
@@ -59,20 +105,20 @@ unfinished_form-IsCodec = converted-IsCodec _ _ _ IsUnfinished (followed-IsCodec
 })
 
 record_form-IsCodec : IsCodec Record record_form
-unfolding record_form path_form entry_form unfinished_form
+unfolding record_form own_form path_form staging_form entry_form unfinished_form
 record_form-IsCodec =
     converted-IsCodec _ _ _ IsRecord
-    (followed-IsCodec _ _ (number-IsCodec 8) (λ _. followed-IsCodec _ _ (number-IsCodec 8) (λ _. followed-IsCodec _ _ path_form-IsCodec (λ _. followed-IsCodec _ _ (number-IsCodec 4) (λ _.
-    followed-IsCodec _ _ (counted-IsCodec 2 _ entry_form-IsCodec) (λ _. counted-IsCodec 2 _ unfinished_form-IsCodec)))))) (record {
+    (followed-IsCodec _ _ own_form-IsCodec (λ _. followed-IsCodec _ _ (number-IsCodec 4) (λ _.
+    followed-IsCodec _ _ (counted-IsCodec 2 _ entry_form-IsCodec) (λ _. counted-IsCodec 2 _ unfinished_form-IsCodec)))) (record {
       takes = λ x r fits e.
-          subst (λ (y : Record). ((y.number, (y.counter, (y.making, (y.next, (y.databases, y.unfinished))))) ≡ x) × IsRecord y)
-          (same_Some (record { number = x.0; counter = x.1.0; making = x.1.1.0; next = x.1.1.1.0; databases = x.1.1.1.1.0; unfinished = x.1.1.1.1.1 }) r e)
-          (refl, record { number = fits.0; counter = fits.1.0; path = fits.1.1.0; next = fits.1.1.1.0; databases = fits.1.1.1.1.0; unfinished = fits.1.1.1.1.1 });
-      gives = λ r h. (refl, (h.number, (h.counter, (h.path, (h.next, (h.databases, h.unfinished))))));
+          subst (λ (y : Record). ((y.own, (y.next, (y.databases, y.unfinished))) ≡ x) × IsRecord y)
+          (same_Some (record { own = x.0; next = x.1.0; databases = x.1.1.0; unfinished = x.1.1.1 }) r e)
+          (refl, record { own = fits.0; next = fits.1.0; databases = fits.1.1.0; unfinished = fits.1.1.1 });
+      gives = λ r h. (refl, (h.own, (h.next, (h.databases, h.unfinished))));
     })
 
 spelled : (r : Record) → record_form.spelling r ≡ record_bytes r
-unfolding record_form path_form entry_form unfinished_form record_bytes
+unfolding record_form own_form path_form staging_form entry_form unfinished_form record_bytes
 spelled r = refl
 
 -- what is spelled is read back
@@ -115,42 +161,53 @@ path_short : (making : Option (List ℕ)) → IsShort making → length (path_by
 path_short None short = omega arith
 path_short (Some path) short = short.1
 
+staging_short : (staging : Option Guid) → length (staging_bytes staging) ≤ 17
+staging_short None = omega (arith, length-bytes_of 1 0)
+staging_short (Some set) = omega (arith, length-append (bytes_of 1 1) (guid_bytes set), length-bytes_of 1 1, length-bytes_of 16 (guid_number set))
+
+own_short : (o : Own) → IsShort o.making → length (own_bytes o) ≤ 135
+own_short o short =
+    let path : List ℕ = path_bytes o.making in
+    let staging : List ℕ = staging_bytes o.staging in
+    omega (
+      arith,
+      length-append (bytes_of 8 o.number) (bytes_of 8 o.counter ++ ((bytes_of 2 (length path) ++ path) ++ staging)),
+      length-append (bytes_of 8 o.counter) ((bytes_of 2 (length path) ++ path) ++ staging),
+      length-append (bytes_of 2 (length path) ++ path) staging,
+      length-append (bytes_of 2 (length path)) path,
+      path_short o.making short,
+      staging_short o.staging,
+      length-bytes_of 8 o.number,
+      length-bytes_of 8 o.counter,
+      length-bytes_of 2 (length path),
+    )
+
 -- the bytes of a record fit a control
 pub record_fits : (r : Record) → KeepsRecord r → length (record_bytes r) ≤ 65536
 unfolding record_bytes
 record_fits r keeps =
-    let path : List ℕ = path_bytes r.making in
     let entries : List ℕ = flat_map entry_bytes r.databases in
     let stores : List ℕ = flat_map unfinished_bytes r.unfinished in
     let few = most_bytes entry_bytes (λ e. Unit {0}) 5 r.databases (λ e _. entry_short e) (any r.databases) in
     let small = most_bytes unfinished_bytes IsSmall 1638 r.unfinished unfinished_short keeps.small in
     let last = length-append (bytes_of 2 (length r.unfinished)) stores in
-    let fifth = length-append (bytes_of 2 (length r.databases)) entries in
+    let third = length-append (bytes_of 2 (length r.databases)) entries in
     let both = length-append (bytes_of 2 (length r.databases) ++ entries) (bytes_of 2 (length r.unfinished) ++ stores) in
-    let fourth = length-append (bytes_of 4 r.next) ((bytes_of 2 (length r.databases) ++ entries) ++ (bytes_of 2 (length r.unfinished) ++ stores)) in
-    let text = length-append (bytes_of 2 (length path)) path in
-    let third = length-append (bytes_of 2 (length path) ++ path) (bytes_of 4 r.next ++ ((bytes_of 2 (length r.databases) ++ entries) ++ (bytes_of 2 (length r.unfinished) ++ stores))) in
-    let second = length-append (bytes_of 8 r.counter) ((bytes_of 2 (length path) ++ path) ++ (bytes_of 4 r.next ++ ((bytes_of 2 (length r.databases) ++ entries) ++ (bytes_of 2 (length r.unfinished) ++ stores)))) in
-    let first = length-append (bytes_of 8 r.number) (bytes_of 8 r.counter ++ ((bytes_of 2 (length path) ++ path) ++ (bytes_of 4 r.next ++ ((bytes_of 2 (length r.databases) ++ entries) ++ (bytes_of 2 (length r.unfinished) ++ stores))))) in
+    let second = length-append (bytes_of 4 r.next) ((bytes_of 2 (length r.databases) ++ entries) ++ (bytes_of 2 (length r.unfinished) ++ stores)) in
+    let first = length-append (own_bytes r.own) (bytes_of 4 r.next ++ ((bytes_of 2 (length r.databases) ++ entries) ++ (bytes_of 2 (length r.unfinished) ++ stores))) in
     omega (
       arith,
       first,
       second,
-      third,
-      text,
-      fourth,
       both,
-      fifth,
+      third,
       last,
       few,
       small,
       keeps.few,
       keeps.one,
-      path_short r.making keeps.path,
-      length-bytes_of 8 r.number,
-      length-bytes_of 8 r.counter,
+      own_short r.own keeps.path,
       length-bytes_of 4 r.next,
-      length-bytes_of 2 (length path),
       length-bytes_of 2 (length r.databases),
       length-bytes_of 2 (length r.unfinished),
     )

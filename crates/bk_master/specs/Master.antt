@@ -6,6 +6,7 @@ use Rattle.bk_control.specs.Control.{IsControl, Kept as KeptControl}
 use Rattle.bk_control.specs.Slots.{control_of}
 use Rattle.bk_master.specs.declared.error.MasterError.{MasterError}
 use Rattle.bk_master.specs.declared.error.MasterError.TheVariants.{NotAnInstance, Broken, Fault, NoMemory}
+use Rattle.bk_master.specs.declared.record.Own.{Own}
 use Rattle.bk_master.specs.declared.record.Record.{Record}
 use Rattle.bk_master.specs.Spelling.{read_record}
 
@@ -38,9 +39,13 @@ pub record HoldsRecord (files : Files) (r : Record) : Type 0 where
   pub made : IsMade files
   pub is : record_of files ≡ Some r
 
+-- what an instance that was just made keeps beside its databases
+abbrev pub fresh_own : ℕ → Own
+fresh_own number = record { number = number; counter = 1; making = None; staging = None }
+
 -- the record of an instance that was just made
 abbrev pub fresh : ℕ → Record
-fresh number = record { number = number; counter = 1; making = None; next = 1; databases = []; unfinished = [] }
+fresh number = record { own = fresh_own number; next = 1; databases = []; unfinished = [] }
 
 -- a crash of what makes an instance leaves none, or a fresh one
 abbrev pub Makes : ℕ → Files → Type 0

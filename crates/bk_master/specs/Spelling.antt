@@ -1,11 +1,14 @@
--- How an instance's record is spelled: its number and the counter of GUIDs in eight bytes each; the path of the medium that is being made behind a length of two bytes, 0 where none is; the
--- number of the next store in four; how many databases there are in two, and of each the number of its store in four and in one byte whether it is stored, 1 or 0; and how many stores are being made or
+-- How an instance's record is spelled: its number and the counter of GUIDs in eight bytes each; the path of the medium that is being made behind a length of two bytes, 0 where none is; the GUID of
+-- the set that is being staged behind a byte of 1, or a byte of 0 where none is; the number of the next store in four; how many databases there are in two, and of each the number of its store in four and in one byte whether it is stored, 1 or 0; and how many stores are being made or
 -- removed in two, and of each its number in four, how many data files it has in two, and their paths, each behind a length of two. All numbers have the lowest byte first, and nothing stands behind them.
 use Rattle.std.specs.Prelude.{◌≤◌, ◌<◌, ◌^◌, ◌==◌, ℕ, zero, suc, Bool, true, false, List, [], ◌∷◌, ◌++◌, length, Option, Some, None, unwrap_or, if◌then◌else◌}
 use Rattle.std.specs.List.{AllByRecursion, flat_map}
 use Rattle.bk_bytes.specs.Field.{bytes_of}
-use Rattle.bk_bytes.specs.Codec.{◌>>=◌, Codec, IsString, number, string, followed, converted, counted}
+use Rattle.bk_bytes.specs.Codec.{◌>>=◌, Codec, IsString, number, number_at, string, followed, converted, counted}
+use Rattle.bk_fields.specs.Guids.{IsGuid, guid_bytes, guid_form}
+use Rattle.bk_ids.specs.declared.guid.Guid.{Guid}
 use Rattle.bk_master.specs.declared.record.Entry.{Entry}
+use Rattle.bk_master.specs.declared.record.Own.{Own}
 use Rattle.bk_master.specs.declared.record.Record.{Record}
 use Rattle.bk_master.specs.declared.record.Unfinished.{Unfinished}
 
@@ -26,7 +29,7 @@ IsSmall u = (length u.paths ≤ 16) × AllByRecursion IsShortPath u.paths
 
 -- a record that an instance may keep
 pub record KeepsRecord (r : Record) : Type 0 where
-  pub path : IsShort r.making
+  pub path : IsShort r.own.making
   pub few : length r.databases ≤ 16
   pub one : length r.unfinished ≤ 2
   pub small : AllByRecursion IsSmall r.unfinished
@@ -45,10 +48,19 @@ pub record IsUnfinished (u : Unfinished) : Type 0 where
   pub store : u.store < 2 ^ 32
   pub paths : (length u.paths < 256 ^ 2) × AllByRecursion (IsString 1 100) u.paths
 
+-- the GUID is one, if there is one
+abbrev pub IsStaging : Option Guid → Type 0
+IsStaging None = Unit {0}
+IsStaging (Some set) = IsGuid set
+
+pub record IsOwnPart (o : Own) : Type 0 where
+  pub number : o.number < 2 ^ 64
+  pub counter : o.counter < 2 ^ 64
+  pub path : HasPath o.making
+  pub staging : IsStaging o.staging
+
 pub record IsRecord (r : Record) : Type 0 where
-  pub number : r.number < 2 ^ 64
-  pub counter : r.counter < 2 ^ 64
-  pub path : HasPath r.making
+  pub own : IsOwnPart r.own
   pub next : r.next < 2 ^ 32
   pub databases : (length r.databases < 256 ^ 2) × AllByRecursion IsEntry r.databases
   pub unfinished : (length r.unfinished < 256 ^ 2) × AllByRecursion IsUnfinished r.unfinished
@@ -75,10 +87,18 @@ paths_bytes paths = bytes_of 2 (length paths) ++ flat_map text_bytes paths
 abbrev pub unfinished_bytes : Unfinished → List ℕ
 unfinished_bytes u = bytes_of 4 u.store ++ paths_bytes u.paths
 
+-- a byte of 1 and the GUID, or a byte of 0 where there is none
+abbrev pub staging_bytes : Option Guid → List ℕ
+staging_bytes None = bytes_of 1 0
+staging_bytes (Some set) = bytes_of 1 1 ++ guid_bytes set
+
+abbrev pub own_bytes : Own → List ℕ
+own_bytes o = bytes_of 8 o.number ++ (bytes_of 8 o.counter ++ (text_bytes (path_bytes o.making) ++ staging_bytes o.staging))
+
 -- the bytes of a record
 unfoldable pub record_bytes : Record → List ℕ
-record_bytes r = bytes_of 8 r.number ++ (bytes_of 8 r.counter ++ (text_bytes (path_bytes r.making) ++ (bytes_of 4 r.next
-    ++ ((bytes_of 2 (length r.databases) ++ flat_map entry_bytes r.databases) ++ (bytes_of 2 (length r.unfinished) ++ flat_map unfinished_bytes r.unfinished)))))
+record_bytes r = own_bytes r.own
+    ++ (bytes_of 4 r.next ++ ((bytes_of 2 (length r.databases) ++ flat_map entry_bytes r.databases) ++ (bytes_of 2 (length r.unfinished) ++ flat_map unfinished_bytes r.unfinished)))
 
 -- ---- how it is read
 
@@ -90,6 +110,30 @@ path_in (byte ∷ path) = Some (byte ∷ path)
 -- a path of at most 100 bytes behind its length, or a length of 0
 unfoldable pub path_form : Codec (Option (List ℕ))
 path_form = converted (string 0 100) (λ text. Some (path_in text)) path_bytes HasPath
+
+-- what stands behind the byte
+abbrev pub staging_behind : ℕ → List ℕ → Option (Option Guid × List ℕ)
+staging_behind zero bytes = Some (None, bytes)
+staging_behind (suc zero) bytes = do
+  set ← guid_form.reading bytes
+  Some (Some set.0, set.1)
+staging_behind (suc (suc kind)) bytes = None
+
+-- a GUID behind a byte of 1, or a byte of 0
+unfoldable pub staging_form : Codec (Option Guid)
+staging_form = record {
+  spelling = staging_bytes;
+  Fits = IsStaging;
+  reading = λ bytes. do
+    kind ← number_at 1 bytes
+    staging_behind kind.0 kind.1;
+}
+
+unfoldable pub own_form : Codec Own
+own_form = converted (followed (number 8) (λ _. followed (number 8) (λ _. followed path_form (λ _. staging_form))))
+    (λ x. Some (record { number = x.0; counter = x.1.0; making = x.1.1.0; staging = x.1.1.1 }))
+    (λ o. (o.number, (o.counter, (o.making, o.staging))))
+    IsOwnPart
 
 -- 1 or 0
 abbrev pub flag_in : ℕ → Option Bool
@@ -110,10 +154,9 @@ unfinished_form = converted (followed (number 4) (λ _. counted 2 (string 1 100)
     IsUnfinished
 
 unfoldable pub record_form : Codec Record
-record_form = converted
-    (followed (number 8) (λ _. followed (number 8) (λ _. followed path_form (λ _. followed (number 4) (λ _. followed (counted 2 entry_form) (λ _. counted 2 unfinished_form))))))
-    (λ x. Some (record { number = x.0; counter = x.1.0; making = x.1.1.0; next = x.1.1.1.0; databases = x.1.1.1.1.0; unfinished = x.1.1.1.1.1 }))
-    (λ r. (r.number, (r.counter, (r.making, (r.next, (r.databases, r.unfinished))))))
+record_form = converted (followed own_form (λ _. followed (number 4) (λ _. followed (counted 2 entry_form) (λ _. counted 2 unfinished_form))))
+    (λ x. Some (record { own = x.0; next = x.1.0; databases = x.1.1.0; unfinished = x.1.1.1 }))
+    (λ r. (r.own, (r.next, (r.databases, r.unfinished))))
     IsRecord
 
 -- the record that all of these bytes spell

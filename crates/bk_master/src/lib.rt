@@ -12,4 +12,4 @@ mod writing;
 
 pub use error::MasterError;
 pub use master::Master;
-pub use record::{Entry, Record, Unfinished};
+pub use record::{Entry, Own, Record, Unfinished};

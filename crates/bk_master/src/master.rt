@@ -10,7 +10,7 @@ ghost use Rattle.bk_master.specs.Spelling.{KeepsRecord};
 use crate::error::MasterError;
 use crate::making::{is_made, make_control, mark_made};
 use crate::opening::{load_control, recorded};
-use crate::record::Record;
+use crate::record::{Own, Record};
 use crate::writing::spell_record;
 use bk_control::Control;
 use bk_device::Device;
@@ -42,9 +42,12 @@ fn first_record(alloc: Global, number: u64) -> Record
     ensures { result ≡ fresh number }
 {
     Record {
-        number,
-        counter: 1,
-        making: None,
+        own: Own {
+            number,
+            counter: 1,
+            making: None,
+            staging: None,
+        },
         next: 1,
         databases: Sequence::new(Vec::new(alloc)),
         unfinished: Sequence::new(Vec::new(alloc)),
@@ -52,7 +55,7 @@ fn first_record(alloc: Global, number: u64) -> Record
 }
 
 impl Master {
-    /// Opens the own files of an instance. Where the instance isn't made it is made, with this number, a counter of 1 and no database; `sqlbak.made` is written last, so a crash leaves an
+    /// Opens the own files of an instance. Where the instance isn't made it is made, with this number, a counter of 1 and no database, where nothing is made or staged; `sqlbak.made` is written last, so a crash leaves an
     /// instance that isn't made or one that is whole. Where it is made nothing is changed.
     ///
     /// `NotAnInstance` is answered exactly where it is made and the control file holds no control, `Broken` only where the control holds no record. `NoMemory` may come after files were

@@ -1,11 +1,12 @@
 // Reading a record.
-ghost use Rattle.bk_bytes.specs.Codec.{counted, string, times};
-ghost use Rattle.bk_master.specs.Spelling.{entry_form, path_form, read_record, record_form, unfinished_form};
+ghost use Rattle.bk_bytes.specs.Codec.{Gives, counted, string, times};
+ghost use Rattle.bk_master.specs.Spelling.{entry_form, own_form, path_form, read_record, record_form, staging_form, unfinished_form};
 ghost use Rattle.bk_reading.specs.Reading.{Reads};
 
-use crate::record::{Entry, Record, Unfinished};
+use crate::record::{Entry, Own, Record, Unfinished};
 use bk_bytes::{split_str, split_u8, split_u16, split_u32, split_u64};
-use bk_ids::{Sequence, Text};
+use bk_fields::split_guid;
+use bk_ids::{Guid, Sequence, Text};
 use bk_reading::Unread;
 use std::alloc::Global;
 
@@ -21,6 +22,44 @@ fn read_path(alloc: Global, bytes: &[u8]) -> Result<(Option<Text>, &[u8]), Unrea
     }
     let path = Text::new(String::from_str(alloc, path)?);
     Ok((Some(path), rest))
+}
+
+#[tactic(auto, unfolding(crate::specs::Spelling::staging_form))]
+fn split_staging(bytes: &[u8]) -> Option<(Option<Guid>, &[u8])>
+    ensures { Gives (λ x. (x.0, x.1.now)) result (staging_form.reading bytes.now) }
+{
+    let (kind, rest) = split_u8(bytes)?;
+    match kind {
+        0 => Some((None, rest)),
+        1 => {
+            let (set, rest) = split_guid(rest)?;
+            Some((Some(set), rest))
+        }
+        _ => None,
+    }
+}
+
+#[tactic(auto, unfolding(crate::specs::Spelling::own_form))]
+fn read_own(alloc: Global, bytes: &[u8]) -> Result<(Own, &[u8]), Unread>
+    ensures { Reads (λ x. (x.0, x.1.now)) result (own_form.reading bytes.now) }
+{
+    let Some((number, rest)) = split_u64(bytes) else {
+        return Err(Unread::Unspelled);
+    };
+    let Some((counter, rest)) = split_u64(rest) else {
+        return Err(Unread::Unspelled);
+    };
+    let (making, rest) = read_path(alloc, rest)?;
+    let Some((staging, rest)) = split_staging(rest) else {
+        return Err(Unread::Unspelled);
+    };
+    let own = Own {
+        number,
+        counter,
+        making,
+        staging,
+    };
+    Ok((own, rest))
 }
 
 #[tactic(auto, unfolding(crate::specs::Spelling::entry_form))]
@@ -147,22 +186,14 @@ fn read_all_unfinished(alloc: Global, bytes: &[u8]) -> Result<(Sequence<Unfinish
 fn read_front(alloc: Global, bytes: &[u8]) -> Result<(Record, &[u8]), Unread>
     ensures { Reads (λ x. (x.0, x.1.now)) result (record_form.reading bytes.now) }
 {
-    let Some((number, rest)) = split_u64(bytes) else {
-        return Err(Unread::Unspelled);
-    };
-    let Some((counter, rest)) = split_u64(rest) else {
-        return Err(Unread::Unspelled);
-    };
-    let (making, rest) = read_path(alloc, rest)?;
+    let (own, rest) = read_own(alloc, bytes)?;
     let Some((next, rest)) = split_u32(rest) else {
         return Err(Unread::Unspelled);
     };
     let (databases, rest) = read_entries(alloc, rest)?;
     let (unfinished, rest) = read_all_unfinished(alloc, rest)?;
     let record = Record {
-        number,
-        counter,
-        making,
+        own,
         next,
         databases,
         unfinished,

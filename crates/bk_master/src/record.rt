@@ -1,4 +1,4 @@
-use bk_ids::{Sequence, Text};
+use bk_ids::{Guid, Sequence, Text};
 
 /// A database of an instance.
 #[derive(Clone, Copy, Debug, PartialEq, Eq)]
@@ -18,15 +18,24 @@ pub struct Unfinished {
     pub paths: Sequence<Text>,
 }
 
-/// What an instance keeps of itself.
+/// What an instance keeps of itself beside its databases.
 #[derive(Debug, Drop)]
-pub struct Record {
+pub struct Own {
     /// The instance's number.
     pub number: u64,
     /// The low number of the next GUID that isn't reserved yet.
     pub counter: u64,
     /// The path of the medium that is being made, if one is: 1 to 100 bytes.
     pub making: Option<Text>,
+    /// The set whose extents and log are being staged in a file of their own, if one is.
+    pub staging: Option<Guid>,
+}
+
+/// What an instance keeps of itself.
+#[derive(Debug, Drop)]
+pub struct Record {
+    /// What isn't of its databases.
+    pub own: Own,
     /// The number of the next store that is made.
     pub next: u32,
     /// The databases, in their order: at most 16.

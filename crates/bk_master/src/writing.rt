@@ -3,11 +3,12 @@ ghost use Rattle.std.specs.Prelude.{◌≡◌, ◌≤◌, ◌<◌, ◌^◌, ◌+
 ghost use Rattle.std.specs.List.{AllByRecursion, flat_map};
 ghost use Rattle.bk_bytes.specs.Codec.{IsString};
 ghost use Rattle.bk_bytes.specs.Field.{bytes_of};
-ghost use Rattle.bk_master.specs.Spelling.{HasPath, IsEntry, IsRecord, IsShort, IsShortPath, IsSmall, IsUnfinished, KeepsRecord, entry_bytes, path_bytes, paths_bytes, read_record, record_bytes, text_bytes, unfinished_bytes};
+ghost use Rattle.bk_master.specs.Spelling.{HasPath, IsEntry, IsOwnPart, IsShort, IsShortPath, IsSmall, IsStaging, IsUnfinished, KeepsRecord, entry_bytes, own_bytes, path_bytes, paths_bytes, read_record, record_bytes, staging_bytes, text_bytes, unfinished_bytes};
 
-use crate::record::{Entry, Record, Unfinished};
+use crate::record::{Entry, Own, Record, Unfinished};
 use bk_bytes::{append_text, append_u8, append_u16, append_u32, append_u64};
-use bk_ids::Text;
+use bk_fields::append_guid;
+use bk_ids::{Guid, Text};
 use std::alloc::{AllocError, Global};
 
 fn append_path(out: &mut Vec<u8>, making: &Option<Text>) -> Result<(), AllocError>
@@ -19,6 +20,32 @@ fn append_path(out: &mut Vec<u8>, making: &Option<Text>) -> Result<(), AllocErro
         Some(path) => append_text(out, path.as_str().as_bytes()),
         None => append_text(out, &[]),
     }
+}
+
+fn append_staging(out: &mut Vec<u8>, staging: Option<Guid>) -> Result<(), AllocError>
+    ensures ok { OnOk result (out.new.items ≡ out.old.items ++ staging_bytes staging) }
+    ensures fits { OnOk result (IsStaging staging) }
+{
+    match staging {
+        Some(set) => {
+            append_u8(out, 1)?;
+            append_guid(out, set)?;
+        }
+        None => append_u8(out, 0)?,
+    }
+    Ok(())
+}
+
+fn append_own(out: &mut Vec<u8>, own: &Own) -> Result<(), AllocError>
+    requires { IsShort own.now.making }
+    ensures ok { OnOk result (out.new.items ≡ out.old.items ++ own_bytes own.now) }
+    ensures fits { OnOk result (IsOwnPart own.now) }
+{
+    append_u64(out, own.number)?;
+    append_u64(out, own.counter)?;
+    append_path(out, &own.making)?;
+    append_staging(out, own.staging)?;
+    Ok(())
 }
 
 fn append_entry(out: &mut Vec<u8>, entry: &Entry) -> Result<(), AllocError>
@@ -94,9 +121,7 @@ pub fn spell_record(alloc: Global, kept: &Record) -> Result<Vec<u8>, AllocError>
     ensures short { IfOk result (λ bytes. vec_len bytes ≤ 65536) }
 {
     let mut bytes = Vec::new(alloc);
-    append_u64(&mut bytes, kept.number)?;
-    append_u64(&mut bytes, kept.counter)?;
-    append_path(&mut bytes, &kept.making)?;
+    append_own(&mut bytes, &kept.own)?;
     append_u32(&mut bytes, kept.next)?;
     append_entries(&mut bytes, kept.databases.as_slice())?;
     append_all_unfinished(&mut bytes, kept.unfinished.as_slice())?;

@@ -1,5 +1,6 @@
 -- The record with one database more is put.
-use Rattle.std.proofs.Common.{◌≡◌, ◌<◌, ◌⊎◌, ℕ, zero, suc, List, [], ◌∷◌, ◌++◌, length, Option, None, refl, inl, inr, sym, subst, arith}
+use Rattle.bk_stores.specs.ListLaws.{mapped-more}
+use Rattle.std.proofs.Common.{◌≡◌, ◌<◌, ◌⊎◌, ℕ, zero, suc, List, [], ◌∷◌, ◌++◌, length, Option, None, refl, inl, inr, sym, subst, arith, Bool, ap}
 use Rattle.std.proofs.lemmas.List.{length-append}
 use Rattle.std.specs.Prelude.{slice_get}
 use Rattle.bk_device.specs.Compose.{effect_weaken}
@@ -13,13 +14,13 @@ use Rattle.bk_paged.specs.Names.{IsOwn}
 use Rattle.bk_store.specs.Store.{Kept as KeptStore}
 use Rattle.bk_store.specs.Told.{Told}
 use Rattle.bk_stores.specs.AddLaws.{added-entries, added-slots}
-use Rattle.bk_stores.specs.Making.{Adds, Creates, MayAdd, sealed_more}
+use Rattle.bk_stores.specs.Making.{Adds, Creates, MayAdd, sealed_more, more_stored}
 use Rattle.bk_stores.specs.NumberLaws.{added-numbers}
 use Rattle.bk_stores.specs.Records.{rested}
 use Rattle.bk_stores.specs.StandLaws.{master-keeps, master-wide, slots-left, standing-kept}
 use Rattle.bk_stores.specs.Standing.{AreStanding, Joins}
 use Rattle.bk_stores.specs.StandingLaws.{more-beside, put-standing}
-use Rattle.bk_stores.specs.Stores.{AreStores, IsAt, Kept, LeavesEntry, SlotsStand, StandFor, its_files, sealed_by, sealed_of}
+use Rattle.bk_stores.specs.Stores.{AreStores, IsAt, Kept, LeavesEntry, SlotsStand, StandFor, its_files, sealed_by, sealed_of, fixed_of}
 
 -- all of the new one's records count as durable
 sealed-same : (slots : List (Option KeptStore)) (tolds : List Told) (slot : Option KeptStore) (new : Told) (i : ℕ) → length slots ≡ length tolds → sealed_by slot new ≡ length new.records
@@ -44,17 +45,22 @@ more-left a image s tolds x slot new is may mine i e t at =
     let left = slots-left a image entries slots all (added-count s.slots tolds slot new is.standing.count) stand i e t at (mine e.store (its_files e t)) in
     subst (λ (n : ℕ). LeavesEntry e n t image) (sealed-same s.slots tolds slot new i is.standing.count may.sealed) left
 
+-- the own part stays, and one more is stored or not
+pub more-fixed : (r : Record) (x : Entry) → fixed_of (rested r (r.databases ++ x ∷ [])) ≡ more_stored (fixed_of r) x.is_stored
+more-fixed r x = ap (λ (bs : List Bool). record { own = r.own; stored = bs }) (mapped-more (λ (e : Entry). e.is_stored) r.databases x)
+
 pub added-crash : (s : Kept) (tolds : List Told) (x : Entry) (slot : Option KeptStore) (new : Told) (next : Record) {a b : Disk} → Adds s x.store → next ≡ rested s.master.record (s.master.record.databases ++ x ∷ []) → AreStores a s tolds → MayAdd a s tolds x slot new
-    → Effect IsOfMaster (λ image. HoldsRecord image s.master.record ⊎ HoldsRecord image next) a b → Creates s tolds new a b
+    → Effect IsOfMaster (λ image. HoldsRecord image s.master.record ⊎ HoldsRecord image next) a b → Creates s tolds x.is_stored new a b
 added-crash s tolds x slot new next {a} {b} adds same is may effect =
     let r : Record = s.master.record in
     let later : Record = rested r (r.databases ++ x ∷ []) in
     let few : length r.databases < 16 = let few' = adds.few in let count = adds.count in omega (arith, few', count) in
     effect_weaken (λ image here. elim here.0 [
-      | inl old ↦ inl (record { «record» = r; is_record = old; entries = is.standing.entries; each = λ i e t at. slots-left a image r.databases s.slots tolds is.standing.count is.standing.stand i e t at (here.1 e.store (its_files e t)) })
+      | inl old ↦ inl (record { «record» = r; is_record = old; is_fixed = refl; entries = is.standing.entries; each = λ i e t at. slots-left a image r.databases s.slots tolds is.standing.count is.standing.stand i e t at (here.1 e.store (its_files e t)) })
       | inr put ↦ inr (record {
         «record» = later;
         is_record = subst (HoldsRecord image) same put;
+        is_fixed = more-fixed r x;
         entries = added-entries r tolds x new adds.below few is.standing.entries may.apart;
         each = more-left a image s tolds x slot new is may here.1;
       })

@@ -1,5 +1,5 @@
 -- What is there of stores is removed that a record names as being made or removed.
-use Rattle.std.proofs.Common.{◌≡◌, ◌⊎◌, ℕ, List, map, Some, inl, inr, sym, subst}
+use Rattle.std.proofs.Common.{◌≡◌, ◌⊎◌, ℕ, List, map, Some, inl, inr, sym, subst, refl}
 use Rattle.std.specs.Prelude.{slice_get}
 use Rattle.bk_device.specs.Compose.{durable_kept, effect_follow, effect_widen, keeps_by_effect}
 use Rattle.bk_device.specs.Disk.{Disk, Files}
@@ -19,7 +19,7 @@ use Rattle.bk_stores.specs.Loading.{IsOfAny}
 use Rattle.bk_stores.specs.NameLaws.{own-apart}
 use Rattle.bk_stores.specs.SlotLaws.{slot-kept}
 use Rattle.bk_stores.specs.StandLaws.{free-apart, master-apart, slots-left}
-use Rattle.bk_stores.specs.Stores.{AreEntries, AreStores, IsAt, IsOfEntry, IsOurs, Kept, LeavesStores, at_paths, its_files, sealed_at}
+use Rattle.bk_stores.specs.Stores.{AreEntries, AreStores, IsAt, IsOfEntry, IsOurs, Kept, LeavesStores, at_paths, its_files, sealed_at, fixed_of}
 
 -- ---- names
 
@@ -59,12 +59,13 @@ any-stands s tolds is effect =
       };
     }
 
-pub any-crash : (s : Kept) (tolds : List Told) {P : Files → Type 0} {a b : Disk} → AreStores a s tolds → Effect (IsOfAny s.master.record.unfinished) P a b → Effect IsOurs (LeavesStores (sealed_at s tolds) tolds) a b
+pub any-crash : (s : Kept) (tolds : List Told) {P : Files → Type 0} {a b : Disk} → AreStores a s tolds → Effect (IsOfAny s.master.record.unfinished) P a b → Effect IsOurs (LeavesStores (fixed_of s.master.record) (sealed_at s tolds) tolds) a b
 any-crash s tolds {a = a} is effect =
     let r : Record = s.master.record in
     effect_widen (λ name its. inr (its.1.store, at_paths its.1.paths, any-own r.unfinished name its)) (λ image here left. record {
       «record» = r;
       is_record = master_left image is.master (λ name master. left name (λ its. any-master r.unfinished name master its) (inl master));
+      is_fixed = refl;
       entries = is.standing.entries;
       each = λ i e t at. slots-left a image r.databases s.slots tolds is.standing.count is.standing.stand i e t at
           (λ name own. left name (λ its. any-entry r tolds i e t name is.standing.entries at own its) (inr (e.store, its_files e t, own)));

@@ -6,18 +6,19 @@ use Rattle.bk_device.specs.Disk.{Disk, Files}
 use Rattle.bk_device.specs.Effects.{Effect}
 use Rattle.bk_filling.specs.Removing.{IsPart}
 use Rattle.bk_master.specs.declared.record.Entry.{Entry}
+use Rattle.bk_master.specs.declared.record.Own.{Own}
 use Rattle.bk_master.specs.declared.record.Record.{Record}
 use Rattle.bk_master.specs.declared.record.Unfinished.{Unfinished}
 use Rattle.bk_side.specs.Names.{data_file as data_name}
 use Rattle.bk_store.specs.Store.{Kept as KeptStore}
 use Rattle.bk_store.specs.Told.{Told}
-use Rattle.bk_stores.specs.Making.{Drops, MaySwap, Swaps}
+use Rattle.bk_stores.specs.Making.{Drops, MaySwap, Swaps, less_stored, set_stored}
 use Rattle.bk_stores.specs.NumberLaws.{less-new, number-small, swapped-new}
 use Rattle.bk_stores.specs.Records.{IsApart, left_out, swapped, unfinished_at}
 use Rattle.bk_stores.specs.StandLaws.{own-crash, own-stands}
 use Rattle.bk_stores.specs.Standing.{AreNumbered, AreStanding, AreUnused, IsNew}
 use Rattle.bk_stores.specs.StandingLaws.{aside-standing, unused-less}
-use Rattle.bk_stores.specs.Stores.{AreEntries, AreStores, IsOurs, Kept, LeavesEntry, LeavesStores, at_paths, sealed_at, sealed_of}
+use Rattle.bk_stores.specs.Stores.{AreEntries, AreStores, IsOurs, Kept, LeavesEntry, LeavesStores, at_paths, sealed_at, sealed_of, fixed_of, Fixed}
 use Rattle.bk_stores.proofs.Created.{parts-named}
 use Rattle.bk_stores.proofs.Swapped.{sealed-set}
 
@@ -28,29 +29,33 @@ aside-apart r tolds n paths same is = λ i e t at. is.aside i 0 e t (unfinished_
 pub aside-stands : (s : Kept) (tolds : List Told) (n : ℕ) (paths : List (List ℕ)) {P : Files → Type 0} {a b : Disk} → s.master.record.unfinished ≡ unfinished_at n paths ∷ [] → n < s.master.record.next → AreStores a s tolds → Effect (IsPart n (map data_name paths)) P a b → AreStores b s tolds
 aside-stands s tolds n paths same below is effect = own-stands s tolds n (at_paths paths) is (aside-apart s.master.record tolds n paths same is.standing.entries) below (parts-named n paths effect)
 
-pub aside-crash : (s : Kept) (tolds : List Told) (n : ℕ) (paths : List (List ℕ)) {P : Files → Type 0} {a b : Disk} → s.master.record.unfinished ≡ unfinished_at n paths ∷ [] → AreStores a s tolds → Effect (IsPart n (map data_name paths)) P a b → Effect IsOurs (LeavesStores (sealed_at s tolds) tolds) a b
+pub aside-crash : (s : Kept) (tolds : List Told) (n : ℕ) (paths : List (List ℕ)) {P : Files → Type 0} {a b : Disk} → s.master.record.unfinished ≡ unfinished_at n paths ∷ [] → AreStores a s tolds → Effect (IsPart n (map data_name paths)) P a b → Effect IsOurs (LeavesStores (fixed_of s.master.record) (sealed_at s tolds) tolds) a b
 aside-crash s tolds n paths same is effect = own-crash s tolds n (at_paths paths) is (aside-apart s.master.record tolds n paths same is.standing.entries) (parts-named n paths effect)
 
 -- ---- what follows
 
 -- what follows a removal leaves the databases that are left
-pub drops-then : (s then : Kept) (tolds : List Told) (at : ℕ) (a b c : Disk) → then.slots ≡ remove s.slots at → Drops s tolds at a b → Effect IsOurs (LeavesStores (sealed_at then (remove tolds at)) (remove tolds at)) b c → Drops s tolds at a c
-drops-then s then tolds at a b c slots first second =
+pub drops-then : (s then : Kept) (tolds : List Told) (at : ℕ) (a b c : Disk) → fixed_of then.master.record ≡ less_stored (fixed_of s.master.record) at → then.slots ≡ remove s.slots at → Drops s tolds at a b
+    → Effect IsOurs (LeavesStores (fixed_of then.master.record) (sealed_at then (remove tolds at)) (remove tolds at)) b c → Drops s tolds at a c
+drops-then s then tolds at a b c own slots first second =
     let rest : List Told = remove tolds at in
-    let same : Effect IsOurs (LeavesStores (λ i. sealed_of (slice_get (remove s.slots at) i) (slice_get rest i)) rest) b c =
-    subst (λ (sl : List (Option KeptStore)). Effect IsOurs (LeavesStores (λ i. sealed_of (slice_get sl i) (slice_get rest i)) rest) b c) slots second in
+    let same : Effect IsOurs (LeavesStores (less_stored (fixed_of s.master.record) at) (λ i. sealed_of (slice_get (remove s.slots at) i) (slice_get rest i)) rest) b c =
+    subst (λ (sl : List (Option KeptStore)). Effect IsOurs (LeavesStores (less_stored (fixed_of s.master.record) at) (λ i. sealed_of (slice_get sl i) (slice_get rest i)) rest) b c) slots
+    (subst (λ (o : Fixed). Effect IsOurs (LeavesStores o (sealed_at then rest) rest) b c) own second) in
     effect_then first (effect_weaken (λ image here. inr here) same)
 
 -- what follows a swap leaves the databases with the new one
-pub swaps-then : (s then : Kept) (tolds : List Told) (at : ℕ) (told new : Told) (x : Entry) (slot : Option KeptStore) (paths : List (List ℕ)) (a b c : Disk) → then.slots ≡ set s.slots at slot → AreStores a s tolds → MaySwap a s tolds at told x slot new paths → Swaps s tolds at new a b
-    → Effect IsOurs (LeavesStores (sealed_at then (set tolds at new)) (set tolds at new)) b c → Swaps s tolds at new a c
-swaps-then s then tolds at told new x slot paths a b c slots is may first second =
+pub swaps-then : (s then : Kept) (tolds : List Told) (at : ℕ) (told new : Told) (x : Entry) (slot : Option KeptStore) (paths : List (List ℕ)) (a b c : Disk) → fixed_of then.master.record ≡ set_stored (fixed_of s.master.record) at x.is_stored → then.slots ≡ set s.slots at slot → AreStores a s tolds → MaySwap a s tolds at told x slot new paths → Swaps s tolds at x.is_stored new a b
+    → Effect IsOurs (LeavesStores (fixed_of then.master.record) (sealed_at then (set tolds at new)) (set tolds at new)) b c → Swaps s tolds at x.is_stored new a c
+swaps-then s then tolds at told new x slot paths a b c own slots is may first second =
     let all : List Told = set tolds at new in
-    let same : Effect IsOurs (LeavesStores (λ i. sealed_of (slice_get (set s.slots at slot) i) (slice_get all i)) all) b c =
-    subst (λ (sl : List (Option KeptStore)). Effect IsOurs (LeavesStores (λ i. sealed_of (slice_get sl i) (slice_get all i)) all) b c) slots second in
+    let same : Effect IsOurs (LeavesStores (set_stored (fixed_of s.master.record) at x.is_stored) (λ i. sealed_of (slice_get (set s.slots at slot) i) (slice_get all i)) all) b c =
+    subst (λ (sl : List (Option KeptStore)). Effect IsOurs (LeavesStores (set_stored (fixed_of s.master.record) at x.is_stored) (λ i. sealed_of (slice_get sl i) (slice_get all i)) all) b c) slots
+    (subst (λ (o : Fixed). Effect IsOurs (LeavesStores o (sealed_at then all) all) b c) own second) in
     effect_then first (effect_weaken (λ image here. inr (record {
       «record» = here.«record»;
       is_record = here.is_record;
+      is_fixed = here.is_fixed;
       entries = here.entries;
       each = λ i f u it. subst (λ (n : ℕ). LeavesEntry f n u image) (sealed-set s.slots tolds at slot new i may.sealed) (here.each i f u it);
     })) same)

@@ -1,5 +1,5 @@
 -- The files of a store that is named as one that is being made are touched.
-use Rattle.std.proofs.Common.{◌≡◌, ◌≤◌, ◌<◌, ◌^◌, ◌⊎◌, ℕ, List, [], ◌∷◌, ◌++◌, length, map, Option, Some, None, Result, Ok, Err, false, refl, sym, ap, subst, ◌∙◌, arith}
+use Rattle.std.proofs.Common.{◌≡◌, ◌≤◌, ◌<◌, ◌^◌, ◌⊎◌, ℕ, List, [], ◌∷◌, ◌++◌, length, map, Option, Some, None, Result, Ok, Err, false, refl, sym, ap, subst, ◌∙◌, arith, Bool}
 use Rattle.std.proofs.lemmas.List.{length-map}
 use Rattle.std.proofs.lemmas.List.Elements.{recursion_from_All}
 use Rattle.std.specs.List.{AllByRecursion}
@@ -12,6 +12,7 @@ use Rattle.bk_filling.specs.Removing.{IsPart}
 use Rattle.bk_ids.specs.declared.guid.Guid.{Guid}
 use Rattle.bk_known.specs.declared.known.DatabaseSpec.{DatabaseSpec}
 use Rattle.bk_master.specs.declared.record.Entry.{Entry}
+use Rattle.bk_master.specs.declared.record.Own.{Own}
 use Rattle.bk_master.specs.declared.record.Record.{Record}
 use Rattle.bk_master.specs.Spelling.{IsShortPath}
 use Rattle.bk_paged.specs.Names.{IsOwn, names_of}
@@ -22,13 +23,13 @@ use Rattle.bk_store.specs.Store.{IsStore, Kept as KeptStore}
 use Rattle.bk_store.specs.Told.{Told, data_file}
 use Rattle.bk_storage.specs.Storage.{HasPath}
 use Rattle.bk_stores.specs.AddLaws.{fresh-apart, named-at}
-use Rattle.bk_stores.specs.Making.{Creates, MayAdd}
+use Rattle.bk_stores.specs.Making.{Creates, MayAdd, more_stored}
 use Rattle.bk_stores.specs.NumberLaws.{begun-new}
 use Rattle.bk_stores.specs.Records.{AreSmall, IsApart, SharesNone, begun, stored_entry}
 use Rattle.bk_stores.specs.StandLaws.{own-crash, own-stands}
 use Rattle.bk_stores.specs.Standing.{AreNumbered, AreStanding, AreUnused, IsStanding, Joins}
 use Rattle.bk_stores.specs.StandingLaws.{aside-standing, unused-named}
-use Rattle.bk_stores.specs.Stores.{AreEntries, AreStores, IsOurs, Kept, LeavesStores, at_paths, sealed_at, sealed_of}
+use Rattle.bk_stores.specs.Stores.{AreEntries, AreStores, IsOurs, Kept, LeavesStores, at_paths, sealed_at, sealed_of, fixed_of, Fixed}
 use Rattle.bk_world.specs.declared.database.FileSpec.{FileSpec}
 
 -- an absent file holds no control
@@ -68,10 +69,10 @@ pub beside-stands : (s then : Kept) (tolds : List Told) (paths : List (List ℕ)
 beside-stands s then tolds paths files same small entries shares is effect = own-stands then tolds s.master.record.next files is (begun-apart s then tolds paths files same small entries shares) (begun-below s then paths same) effect
 
 pub beside-crash : (s then : Kept) (tolds : List Told) (paths : List (List ℕ)) (files : List DataFile) {P : Files → Type 0} {a b : Disk} → then.master.record ≡ begun s.master.record paths → then.slots ≡ s.slots → s.master.record.next < 2 ^ 32 → AreEntries s.master.record tolds
-    → SharesNone s.master.record.databases tolds files → AreStores a then tolds → Effect (IsOwn s.master.record.next files) P a b → Effect IsOurs (LeavesStores (sealed_at s tolds) tolds) a b
+    → SharesNone s.master.record.databases tolds files → AreStores a then tolds → Effect (IsOwn s.master.record.next files) P a b → Effect IsOurs (LeavesStores (fixed_of s.master.record) (sealed_at s tolds) tolds) a b
 beside-crash s then tolds paths files {a = a} {b = b} same slots small entries shares is effect =
-    subst (λ (sl : List (Option KeptStore)). Effect IsOurs (LeavesStores (λ i. sealed_of (slice_get sl i) (slice_get tolds i)) tolds) a b) slots
-    (own-crash then tolds s.master.record.next files is (begun-apart s then tolds paths files same small entries shares) effect)
+    subst (λ (sl : List (Option KeptStore)). Effect IsOurs (LeavesStores (fixed_of s.master.record) (λ i. sealed_of (slice_get sl i) (slice_get tolds i)) tolds) a b) slots
+    (subst (λ (o : Fixed). Effect IsOurs (LeavesStores o (sealed_at then tolds) tolds) a b) (ap fixed_of same) (own-crash then tolds s.master.record.next files is (begun-apart s then tolds paths files same small entries shares) effect))
 
 -- ---- it is added
 
@@ -85,9 +86,11 @@ may-add s then tolds paths spec time branch store d same small entries shares fi
   apart = begun-apart s then tolds paths (map data_file spec.storage.files) same small entries shares;
 }
 
-pub creates-as : (s then : Kept) (tolds : List Told) (new : Told) (a b : Disk) → then.slots ≡ s.slots → Creates then tolds new a b → Creates s tolds new a b
-creates-as s then tolds new a b slots effect =
-    subst (λ (sl : List (Option KeptStore)). Effect IsOurs (λ image. LeavesStores (λ i. sealed_of (slice_get sl i) (slice_get tolds i)) tolds image ⊎ LeavesStores (λ i. sealed_of (slice_get (sl ++ None ∷ []) i) (slice_get (tolds ++ new ∷ []) i)) (tolds ++ new ∷ []) image) a b) slots effect
+pub creates-as : (s then : Kept) (tolds : List Told) (stored : Bool) (new : Told) (a b : Disk) → fixed_of then.master.record ≡ fixed_of s.master.record → then.slots ≡ s.slots → Creates then tolds stored new a b → Creates s tolds stored new a b
+creates-as s then tolds stored new a b own slots effect =
+    let As : Fixed → List (Option KeptStore) → Type 0 = λ o sl. Effect IsOurs (λ image.
+    LeavesStores o (λ i. sealed_of (slice_get sl i) (slice_get tolds i)) tolds image ⊎ LeavesStores (more_stored o stored) (λ i. sealed_of (slice_get (sl ++ None ∷ []) i) (slice_get (tolds ++ new ∷ []) i)) (tolds ++ new ∷ []) image) a b in
+    subst (λ (sl : List (Option KeptStore)). As (fixed_of s.master.record) sl) slots (subst (λ (o : Fixed). As o then.slots) own effect)
 
 -- ---- paths
 

@@ -7,5 +7,6 @@ mod LeftOut
 mod Loaded
 mod Named
 mod Opened
+mod Owned
 mod Rested
 mod Swapped

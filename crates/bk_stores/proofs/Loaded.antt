@@ -7,9 +7,10 @@ use Rattle.bk_device.specs.Compose.{durable_kept, effect_of_nothing, effect_wide
 use Rattle.bk_device.specs.Disk.{Disk, Files, IsDurable, IsSettled}
 use Rattle.bk_device.specs.Effects.{Effect, MayLeaveOwn}
 use Rattle.bk_device.specs.Laws.{durable_by_nothing}
+use Rattle.bk_master.specs.declared.record.Own.{Own}
 use Rattle.bk_master.specs.declared.record.Record.{Record}
 use Rattle.bk_master.specs.Laws.{holds_same, one_record, own_made}
-use Rattle.bk_master.specs.Master.{AreDurable, HoldsRecord, IsMaster, IsOwn as IsOfMaster, Kept as KeptMaster, Makes, fresh, made_file, control_file}
+use Rattle.bk_master.specs.Master.{AreDurable, HoldsRecord, IsMade, IsMaster, IsNotMade, IsOwn as IsOfMaster, Kept as KeptMaster, Makes, fresh, fresh_own, made_file, control_file}
 use Rattle.bk_store.specs.Store.{Kept as KeptStore}
 use Rattle.bk_store.specs.Told.{Told}
 use Rattle.bk_stores.specs.ListLaws.{got, got-inside, got-none}
@@ -17,7 +18,7 @@ use Rattle.bk_stores.specs.Loading.{HoldsInstance, Opens, shut}
 use Rattle.bk_stores.specs.SlotLaws.{entry-same}
 use Rattle.bk_stores.specs.Standing.{AreDifferent, AreShut}
 use Rattle.bk_stores.specs.StandLaws.{master-apart, master-keeps}
-use Rattle.bk_stores.specs.Stores.{AreEntries, AreStores, HoldsEntry, HoldsStores, IsOurs, IsSlot, LeavesStores, its_files, sealed_at, sealed_of}
+use Rattle.bk_stores.specs.Stores.{AreEntries, AreStores, HoldsEntry, HoldsStores, IsOurs, IsSlot, LeavesStores, its_files, sealed_at, sealed_of, Fixed, fixed_of}
 
 -- ---- files that hold an instance
 
@@ -28,30 +29,30 @@ stores-same f g r tolds same is = record {
   each = λ i e t at. entry-same e t f g (λ name own. same name (inr (e.store, its_files e t, own))) (is.each i e t at);
 }
 
-pub instance-same : (f g : Files) (tolds : List Told) → ((name : List ℕ) → IsOurs name → g name ≡ f name) → HoldsInstance f tolds → HoldsInstance g tolds
-instance-same f g tolds same is = elim is [
-  | inl none ↦ inl (same made_file (inl own_made) ∙ none.0, none.1)
-  | inr some ↦ inr (some.0, stores-same f g some.0 tolds same some.1)
+pub instance-same : (number : ℕ) (fixed : Fixed) (f g : Files) (tolds : List Told) → ((name : List ℕ) → IsOurs name → g name ≡ f name) → HoldsInstance number fixed f tolds → HoldsInstance number fixed g tolds
+instance-same number fixed f g tolds same is = elim is [
+  | inl none ↦ inl (same made_file (inl own_made) ∙ none.0, none.1, none.2)
+  | inr some ↦ inr (some.0, some.1, stores-same f g some.0 tolds same some.2)
 ]
 
 -- where nothing is pending, each crash leaves it
-settled-image : (a : Disk) (tolds : List Told) (image : Files) → IsSettled a → HoldsInstance a.files tolds → MayLeaveOwn IsOurs a image → HoldsInstance image tolds
-settled-image a tolds image settled is mine = instance-same a.files image tolds (λ name ours. settled name (image name) (mine name ours)) is
+settled-image : (number : ℕ) (fixed : Fixed) (a : Disk) (tolds : List Told) (image : Files) → IsSettled a → HoldsInstance number fixed a.files tolds → MayLeaveOwn IsOurs a image → HoldsInstance number fixed image tolds
+settled-image number fixed a tolds image settled is mine = instance-same number fixed a.files image tolds (λ name ours. settled name (image name) (mine name ours)) is
 
 pub settled-moved : {a b : Disk} → ChangesNothing a b → IsSettled a → IsSettled b
 settled-moved call settled name = durable_by_nothing name call (settled name)
 
-pub instance-moved : {a b : Disk} (tolds : List Told) → ChangesNothing a b → HoldsInstance a.files tolds → HoldsInstance b.files tolds
-instance-moved {a} {b} tolds call is = instance-same a.files b.files tolds (λ name ours. call.files name) is
+pub instance-moved : {a b : Disk} (number : ℕ) (fixed : Fixed) (tolds : List Told) → ChangesNothing a b → HoldsInstance number fixed a.files tolds → HoldsInstance number fixed b.files tolds
+instance-moved {a} {b} number fixed tolds call is = instance-same number fixed a.files b.files tolds (λ name ours. call.files name) is
 
 -- ---- crashes
 
-pub opens-nothing : {a b : Disk} (tolds : List Told) → IsSettled a → HoldsInstance a.files tolds → ChangesNothing a b → Opens tolds a b
-opens-nothing {a} tolds settled is call = effect_of_nothing (λ image mine. settled-image a tolds image settled is mine) call
+pub opens-nothing : {a b : Disk} (number : ℕ) (fixed : Fixed) (tolds : List Told) → IsSettled a → HoldsInstance number fixed a.files tolds → ChangesNothing a b → Opens number fixed tolds a b
+opens-nothing {a} number fixed tolds settled is call = effect_of_nothing (λ image mine. settled-image number fixed a tolds image settled is mine) call
 
-pub opens-synced : {a b : Disk} (tolds : List Told) → IsSettled a → HoldsInstance a.files tolds → Effect IsOfMaster (MayLeaveOwn IsOfMaster a) a b → Opens tolds a b
-opens-synced {a} tolds settled is effect =
-    effect_widen (λ name own. inl own) (λ image here left. settled-image a tolds image settled is (λ name ours. elim ours [
+pub opens-synced : {a b : Disk} (number : ℕ) (fixed : Fixed) (tolds : List Told) → IsSettled a → HoldsInstance number fixed a.files tolds → Effect IsOfMaster (MayLeaveOwn IsOfMaster a) a b → Opens number fixed tolds a b
+opens-synced {a} number fixed tolds settled is effect =
+    effect_widen (λ name its. inl its) (λ image here left. settled-image number fixed a tolds image settled is (λ name ours. elim ours [
       | inl master ↦ here name master
       | inr store ↦ left name (λ master. master-apart store.0 store.1 name master store.2) (inr store)
     ])) effect
@@ -71,11 +72,11 @@ fresh-entries number = record {
 fresh-stores : (image : Files) (number : ℕ) → HoldsRecord image (fresh number) → HoldsStores image (fresh number) []
 fresh-stores image number is = record { is_record = is; entries = fresh-entries number; each = λ i e t at. absurd (got-none i e at.0) }
 
-pub opens-made : {a b : Disk} (tolds : List Told) (number : ℕ) → tolds ≡ [] → Effect IsOfMaster (Makes number) a b → Opens tolds a b
-opens-made tolds number none effect =
-    effect_widen (λ name own. inl own) (λ image here left. elim here [
-      | inl not_made ↦ inl (not_made, none)
-      | inr made ↦ inr (fresh number, subst (λ (ts : List Told). HoldsStores image (fresh number) ts) (sym none) (fresh-stores image number made))
+pub opens-made : {a b : Disk} (number : ℕ) (fixed : Fixed) (tolds : List Told) → fixed ≡ fixed_of (fresh number) → tolds ≡ [] → Effect IsOfMaster (Makes number) a b → Opens number fixed tolds a b
+opens-made number fixed tolds new none effect =
+    effect_widen (λ name its. inl its) (λ image here left. elim here [
+      | inl not_made ↦ inl (not_made, new, none)
+      | inr made ↦ inr (fresh number, sym new, subst (λ (ts : List Told). HoldsStores image (fresh number) ts) (sym none) (fresh-stores image number made))
     ]) effect
 
 -- ---- no store is open
@@ -101,9 +102,10 @@ shut-stands a m tolds settled master is = record {
 }
 
 -- what a crash leaves of them is an instance with the same databases
-pub shut-leaves : (m : KeptMaster) (tolds : List Told) (image : Files) → length tolds ≡ length m.record.databases → LeavesStores (sealed_at (shut m) tolds) tolds image → HoldsInstance image tolds
-shut-leaves m tolds image count left = inr (
+pub shut-leaves : (number : ℕ) (fixed : Fixed) (m : KeptMaster) (tolds : List Told) (image : Files) → length tolds ≡ length m.record.databases → LeavesStores fixed (sealed_at (shut m) tolds) tolds image → HoldsInstance number fixed image tolds
+shut-leaves number fixed m tolds image count left = inr (
   left.«record»,
+  left.is_fixed,
   record {
     is_record = left.is_record;
     entries = left.entries;
@@ -162,3 +164,12 @@ entries-differ r tolds is = λ i j e f differ first second.
     let t = got tolds i (let inside = got-inside r.databases i e first in omega (arith, inside, is.count)) in
     let u = got tolds j (let inside = got-inside r.databases j f second in omega (arith, inside, is.count)) in
     (is.apart i j e f t.0 u.0 differ (first, t.1) (second, u.1)).differ
+
+-- ---- the own part
+
+-- that of an instance that is made, or was just made, is its record's
+pub opened-own : (number : ℕ) (fixed : Fixed) (tolds : List Told) (image : Files) (m : KeptMaster) → HoldsInstance number fixed image tolds → (IsNotMade image → m.record ≡ fresh number) → (IsMade image → HoldsRecord image m.record) → fixed_of m.record ≡ fixed
+opened-own number fixed tolds image m is made loaded = elim is [
+  | inl none ↦ ap fixed_of (made none.0) ∙ sym none.1
+  | inr some ↦ ap fixed_of (one_record (loaded some.2.is_record.made) some.2.is_record) ∙ some.1
+]

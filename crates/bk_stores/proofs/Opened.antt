@@ -14,7 +14,7 @@ use Rattle.bk_stores.specs.ChangeLaws.{changed-crash, changed-stands}
 use Rattle.bk_stores.specs.ListLaws.{got, got-inside}
 use Rattle.bk_stores.specs.SlotLaws.{entry-stored}
 use Rattle.bk_stores.specs.Standing.{AreUnused}
-use Rattle.bk_stores.specs.Stores.{AreStores, HoldsBy, IsAt, IsOfEntry, IsOpen, IsOurs, IsShut, Kept, LeavesStores, files_by, its_files, sealed_at}
+use Rattle.bk_stores.specs.Stores.{AreStores, HoldsBy, IsAt, IsOfEntry, IsOpen, IsOurs, IsShut, Kept, LeavesStores, files_by, its_files, sealed_at, fixed_of}
 
 its-data : (e : Entry) (told : Told) → e.is_stored ≡ true → its_files e told ≡ data_files told
 its-data e told stored = ap (λ (b : Bool). files_by b told) stored
@@ -34,7 +34,7 @@ opened-stands s tolds at e told store is here stored effect number fit stands =
     changed-stands s tolds at e told (settled told) (Some store) is here refl (as-entry e told stored effect) (record { number = number; stored = stored; fit = fit; store = stands })
 
 pub opened-crash : (s : Kept) (tolds : List Told) (at : ℕ) (e : Entry) (told : Told) {a b : Disk} → AreStores a s tolds → IsAt s.master.record.databases tolds at e told → e.is_stored ≡ true → slice_get s.slots at ≡ Some None → Recovers e.store told a b
-    → Effect IsOurs (LeavesStores (sealed_at s tolds) (set tolds at (settled told))) a b
+    → Effect IsOurs (LeavesStores (fixed_of s.master.record) (sealed_at s tolds) (set tolds at (settled told))) a b
 opened-crash s tolds at e told is here stored shut effect =
     changed-crash s tolds at e told (settled told) None is here shut refl (λ image leaves. entry-stored e e.store (length told.records) (settled told) image refl stored leaves) (as-entry e told stored effect)
 

@@ -10,16 +10,16 @@ use Rattle.bk_stores.specs.Records.{rested}
 use Rattle.bk_stores.specs.StandLaws.{entries-rest, put-crash, put-stands}
 use Rattle.bk_stores.specs.Standing.{AreStanding}
 use Rattle.bk_stores.specs.StandingLaws.{put-standing}
-use Rattle.bk_stores.specs.Stores.{AreEntries, AreStores, IsOurs, Kept, LeavesStores, sealed_at}
+use Rattle.bk_stores.specs.Stores.{AreEntries, AreStores, IsOurs, Kept, LeavesStores, sealed_at, fixed_of}
 
 rested-entries : (r : Record) (tolds : List Told) → AreEntries r tolds → AreEntries (rested r r.databases) tolds
 rested-entries r tolds is = entries-rest r (rested r r.databases) tolds (record { path = is.keeps.path; few = is.keeps.few; one = omega arith; small = tt }) refl (omega arith) refl is
 
 pub rested-crash : (s : Kept) (tolds : List Told) (next : Record) {a b : Disk} → next ≡ rested s.master.record s.master.record.databases → AreStores a s tolds → Effect IsOfMaster (λ image. HoldsRecord image s.master.record ⊎ HoldsRecord image next) a b
-    → Effect IsOurs (LeavesStores (sealed_at s tolds) tolds) a b
+    → Effect IsOurs (LeavesStores (fixed_of s.master.record) (sealed_at s tolds) tolds) a b
 rested-crash s tolds next {a} {b} same is effect =
     let r : Record = s.master.record in
-    put-crash s tolds (rested r r.databases) is refl (rested-entries r tolds is.standing.entries) (subst (λ (n : Record). Effect IsOfMaster (λ image. HoldsRecord image r ⊎ HoldsRecord image n) a b) same effect)
+    put-crash s tolds (rested r r.databases) is refl refl (rested-entries r tolds is.standing.entries) (subst (λ (n : Record). Effect IsOfMaster (λ image. HoldsRecord image r ⊎ HoldsRecord image n) a b) same effect)
 
 pub rested-stands : (s : Kept) (tolds : List Told) (m : KeptMaster) {P : Files → Type 0} {a b : Disk} → m.record ≡ rested s.master.record s.master.record.databases → AreStores a s tolds → IsMaster b m → Effect IsOfMaster P a b → AreStores b (record s { master = m }) tolds
 rested-stands s tolds m same is master effect =

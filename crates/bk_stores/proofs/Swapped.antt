@@ -1,5 +1,5 @@
 -- The record in which another store is that of a database is put.
-use Rattle.std.proofs.Common.{◌≡◌, ◌<◌, ◌⊎◌, ℕ, zero, suc, List, [], ◌∷◌, length, set, Option, Some, None, refl, inl, inr, sym, subst, ◌∙◌}
+use Rattle.std.proofs.Common.{◌≡◌, ◌<◌, ◌⊎◌, ℕ, zero, suc, List, [], ◌∷◌, length, set, Option, Some, None, refl, inl, inr, sym, subst, ◌∙◌, Bool, ap}
 use Rattle.std.proofs.lemmas.List.{length-set}
 use Rattle.std.specs.Prelude.{slice_get}
 use Rattle.bk_device.specs.Compose.{effect_weaken}
@@ -10,14 +10,14 @@ use Rattle.bk_master.specs.declared.record.Record.{Record}
 use Rattle.bk_master.specs.Master.{HoldsRecord, IsMaster, IsOwn as IsOfMaster, Kept as KeptMaster}
 use Rattle.bk_store.specs.Store.{Kept as KeptStore}
 use Rattle.bk_store.specs.Told.{Told}
-use Rattle.bk_stores.specs.ListLaws.{got-inside}
-use Rattle.bk_stores.specs.Making.{MaySwap, Swaps}
+use Rattle.bk_stores.specs.ListLaws.{got-inside, mapped-set}
+use Rattle.bk_stores.specs.Making.{MaySwap, Swaps, set_stored}
 use Rattle.bk_stores.specs.NumberLaws.{swapped-numbers}
 use Rattle.bk_stores.specs.Records.{AreSmall, swapped}
 use Rattle.bk_stores.specs.StandLaws.{master-keeps, master-wide, slots-left, standing-kept}
 use Rattle.bk_stores.specs.Standing.{AreStanding, Joins}
 use Rattle.bk_stores.specs.StandingLaws.{put-standing, swapped-beside}
-use Rattle.bk_stores.specs.Stores.{AreStores, Kept, LeavesEntry, StandFor, its_files, sealed_by, sealed_of}
+use Rattle.bk_stores.specs.Stores.{AreStores, Kept, LeavesEntry, StandFor, its_files, sealed_by, sealed_of, fixed_of}
 use Rattle.bk_stores.specs.SwapLaws.{swapped-entries, swapped-slots}
 
 -- all of the new one's records count as durable
@@ -48,16 +48,21 @@ swapped-standing a s tolds at told new e x slot paths small may there is =
       free = is.standing.free;
     }
 
+-- the own part stays, and the other one is stored or not
+pub set-fixed : (r : Record) (at : ℕ) (x : Entry) (store : ℕ) (paths : List (List ℕ)) → fixed_of (swapped r at x store paths) ≡ set_stored (fixed_of r) at x.is_stored
+set-fixed r at x store paths = ap (λ (bs : List Bool). record { own = r.own; stored = bs }) (mapped-set (λ (e : Entry). e.is_stored) r.databases at x)
+
 pub swapped-crash : (s : Kept) (tolds : List Told) (at : ℕ) (told new : Told) (e x : Entry) (slot : Option KeptStore) (paths : List (List ℕ)) (next : Record) {a b : Disk} → AreSmall paths → next ≡ swapped s.master.record at x e.store paths → slice_get s.master.record.databases at ≡ Some e
-    → AreStores a s tolds → MaySwap a s tolds at told x slot new paths → Effect IsOfMaster (λ image. HoldsRecord image s.master.record ⊎ HoldsRecord image next) a b → Swaps s tolds at new a b
+    → AreStores a s tolds → MaySwap a s tolds at told x slot new paths → Effect IsOfMaster (λ image. HoldsRecord image s.master.record ⊎ HoldsRecord image next) a b → Swaps s tolds at x.is_stored new a b
 swapped-crash s tolds at told new e x slot paths next {a} {b} small same there is may effect =
     let r : Record = s.master.record in
     let stand = swapped-standing a s tolds at told new e x slot paths small may there is in
     effect_weaken (λ image here. elim here.0 [
-      | inl old ↦ inl (record { «record» = r; is_record = old; entries = is.standing.entries; each = λ i f u it. slots-left a image r.databases s.slots tolds is.standing.count is.standing.stand i f u it (here.1 f.store (its_files f u)) })
+      | inl old ↦ inl (record { «record» = r; is_record = old; is_fixed = refl; entries = is.standing.entries; each = λ i f u it. slots-left a image r.databases s.slots tolds is.standing.count is.standing.stand i f u it (here.1 f.store (its_files f u)) })
       | inr put ↦ inr (record {
         «record» = swapped r at x e.store paths;
         is_record = subst (HoldsRecord image) same put;
+        is_fixed = set-fixed r at x e.store paths;
         entries = stand.entries;
         each = λ i f u it. subst (λ (n : ℕ). LeavesEntry f n u image) (sealed-set s.slots tolds at slot new i may.sealed)
             (slots-left a image (set r.databases at x) (set s.slots at slot) (set tolds at new) stand.count stand.stand i f u it (here.1 f.store (its_files f u)));

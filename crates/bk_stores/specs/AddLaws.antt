@@ -66,7 +66,7 @@ at-more entries tolds x new i e t count at = elim (got-more entries x e i at.0) 
   ]
 ]
 
-pub added-keeps : (r : Record) (x : Entry) → length r.databases < 16 → IsShort r.making → KeepsRecord (rested r (r.databases ++ x ∷ []))
+pub added-keeps : (r : Record) (x : Entry) → length r.databases < 16 → IsShort r.own.making → KeepsRecord (rested r (r.databases ++ x ∷ []))
 added-keeps r x few short = record { path = short; few = omega (arith, few, length-append r.databases (x ∷ [])); one = omega arith; small = tt }
 
 pub added-entries : (r : Record) (tolds : List Told) (x : Entry) (new : Told) → x.store < r.next → length r.databases < 16 → AreEntries r tolds → IsApart r.databases tolds x.store (its_files x new) → AreEntries (rested r (r.databases ++ x ∷ [])) (tolds ++ new ∷ [])

@@ -13,7 +13,7 @@ use Rattle.bk_stores.specs.ListLaws.{got-inside, got-one, got-other, got-set, sa
 use Rattle.bk_stores.specs.NameLaws.{own-apart}
 use Rattle.bk_stores.specs.SlotLaws.{slot-kept}
 use Rattle.bk_stores.specs.StandLaws.{entries-set, master-apart, own-keeps-free, own-keeps-master, own-wide, slots-left}
-use Rattle.bk_stores.specs.Stores.{AreStores, IsAt, IsOfEntry, IsOurs, IsSlot, its_files, Kept, LeavesEntry, LeavesStores, SlotsStand, sealed_at, sealed_by, sealed_of}
+use Rattle.bk_stores.specs.Stores.{AreStores, IsAt, IsOfEntry, IsOurs, IsSlot, its_files, Kept, LeavesEntry, LeavesStores, SlotsStand, sealed_at, sealed_by, sealed_of, fixed_of}
 use Rattle.bk_device.specs.Compose.{keeps_by_effect}
 
 -- an entry of the databases of which one has changed is the one that has, or another
@@ -57,12 +57,13 @@ changed-stands s tolds at e t new slot is here same effect its = record {
 
 -- where others are left as they may be, and of it a front of what it has become, files hold fronts of all
 pub changed-left : {a : Disk} (s : Kept) (tolds : List Told) (at : ℕ) (e : Entry) (t new : Told) (slot : Option KeptStore) (image : Files) → AreStores a s tolds → IsAt s.master.record.databases tolds at e t → slice_get s.slots at ≡ Some slot → data_files new ≡ data_files t
-    → LeavesEntry e (sealed_by slot t) new image → ((name : List ℕ) → (IsOfEntry e t name → ⊥) → IsOurs name → a.may name (image name)) → LeavesStores (sealed_at s tolds) (set tolds at new) image
+    → LeavesEntry e (sealed_by slot t) new image → ((name : List ℕ) → (IsOfEntry e t name → ⊥) → IsOurs name → a.may name (image name)) → LeavesStores (fixed_of s.master.record) (sealed_at s tolds) (set tolds at new) image
 changed-left {a = a} s tolds at e t new slot image is here filled same leaves left =
     let sealed_here : sealed_at s tolds at ≡ sealed_by slot t = ap (λ (o : Option (Option KeptStore)). sealed_of o (slice_get tolds at)) filled ∙ ap (λ (o : Option Told). sealed_of (Some slot) o) here.1 in
     record {
       «record» = s.master.record;
       is_record = master_left image is.master (λ name master. left name (λ own. master-apart e.store (its_files e t) name master own) (inl master));
+      is_fixed = refl;
       entries = entries-set s.master.record tolds at e t new here same is.standing.entries;
       each = λ i f u there. elim (at-set s.master.record.databases tolds at e t new here i f u there) [
         | inl one ↦
@@ -75,16 +76,16 @@ changed-left {a = a} s tolds at e t new slot image is here filled same leaves le
 
 -- a crash meanwhile leaves the others, and of it a front of what it has become
 pub changed-crash : {P : Files → Type 0} {a b : Disk} (s : Kept) (tolds : List Told) (at : ℕ) (e : Entry) (t new : Told) (slot : Option KeptStore) → AreStores a s tolds → IsAt s.master.record.databases tolds at e t → slice_get s.slots at ≡ Some slot → data_files new ≡ data_files t
-    → ((image : Files) → P image → LeavesEntry e (sealed_by slot t) new image) → Effect (IsOfEntry e t) P a b → Effect IsOurs (LeavesStores (sealed_at s tolds) (set tolds at new)) a b
+    → ((image : Files) → P image → LeavesEntry e (sealed_by slot t) new image) → Effect (IsOfEntry e t) P a b → Effect IsOurs (LeavesStores (fixed_of s.master.record) (sealed_at s tolds) (set tolds at new)) a b
 changed-crash s tolds at e t new slot is here filled same leads effect =
     effect_weaken (λ image left. changed-left s tolds at e t new slot image is here filled same (leads image left.0) left.1) (own-wide e.store (its_files e t) effect)
 
 -- where a crash leaves of it a front of what it was, or of what it has become, it leaves the databases as before, or with this one changed
 pub changed-either : {P : Files → Type 0} {a b : Disk} (s : Kept) (tolds : List Told) (at : ℕ) (e : Entry) (t new : Told) (slot : Option KeptStore) → AreStores a s tolds → IsAt s.master.record.databases tolds at e t → slice_get s.slots at ≡ Some slot → data_files new ≡ data_files t
     → ((image : Files) → P image → LeavesEntry e (sealed_by slot t) t image ⊎ LeavesEntry e (sealed_by slot t) new image) → Effect (IsOfEntry e t) P a b
-    → Effect IsOurs (λ image. LeavesStores (sealed_at s tolds) tolds image ⊎ LeavesStores (sealed_at s tolds) (set tolds at new) image) a b
+    → Effect IsOurs (λ image. LeavesStores (fixed_of s.master.record) (sealed_at s tolds) tolds image ⊎ LeavesStores (fixed_of s.master.record) (sealed_at s tolds) (set tolds at new) image) a b
 changed-either s tolds at e t new slot is here filled same leads effect =
     effect_weaken (λ image left. elim (leads image left.0) [
-      | inl before ↦ inl (subst (λ (ts : List Told). LeavesStores (sealed_at s tolds) ts image) (set-same tolds at t here.1) (changed-left s tolds at e t t slot image is here filled refl before left.1))
+      | inl before ↦ inl (subst (λ (ts : List Told). LeavesStores (fixed_of s.master.record) (sealed_at s tolds) ts image) (set-same tolds at t here.1) (changed-left s tolds at e t t slot image is here filled refl before left.1))
       | inr after ↦ inr (changed-left s tolds at e t new slot image is here filled same after left.1)
     ]) (own-wide e.store (its_files e t) effect)

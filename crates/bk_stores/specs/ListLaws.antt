@@ -1,5 +1,5 @@
 -- Elements of lists by their places.
-use Rattle.std.proofs.Common.{◌≡◌, ◌<◌, ◌⊎◌, ℕ, zero, suc, List, [], ◌∷◌, ◌++◌, length, set, Some, refl, inl, inr, sym, ap, ◌∙◌, arith}
+use Rattle.std.proofs.Common.{◌≡◌, ◌<◌, ◌⊎◌, ℕ, zero, suc, List, [], ◌∷◌, ◌++◌, length, set, Some, refl, inl, inr, sym, ap, ◌∙◌, arith, map, remove}
 use Rattle.std.specs.Prelude.{slice_get}
 
 -- a place of an element is inside
@@ -74,3 +74,20 @@ same-place zero zero = inl refl
 same-place zero (suc j) = inr (λ same. omega (arith, same))
 same-place (suc i) zero = inr (λ same. omega (arith, same))
 same-place (suc i) (suc j) = elim (same-place i j) [ inl same ↦ inl (ap suc same) | inr differ ↦ inr (λ same. differ (omega (arith, same))) ]
+
+-- what is mapped of lists that change
+
+pub mapped-more : {A B : Type 0} (f : A → B) (xs : List A) (x : A) → map f (xs ++ x ∷ []) ≡ map f xs ++ f x ∷ []
+mapped-more f [] x = refl
+mapped-more f (a ∷ xs) x = ap (λ (ys : List _). f a ∷ ys) (mapped-more f xs x)
+
+pub mapped-less : {A B : Type 0} (f : A → B) (xs : List A) (i : ℕ) → map f (remove xs i) ≡ remove (map f xs) i
+mapped-less f [] zero = refl
+mapped-less f [] (suc i) = refl
+mapped-less f (a ∷ xs) zero = refl
+mapped-less f (a ∷ xs) (suc i) = ap (λ (ys : List _). f a ∷ ys) (mapped-less f xs i)
+
+pub mapped-set : {A B : Type 0} (f : A → B) (xs : List A) (i : ℕ) (x : A) → map f (set xs i x) ≡ set (map f xs) i (f x)
+mapped-set f [] i x = refl
+mapped-set f (a ∷ xs) zero x = refl
+mapped-set f (a ∷ xs) (suc i) x = ap (λ (ys : List _). f a ∷ ys) (mapped-set f xs i x)

@@ -1,8 +1,9 @@
 -- The records that an instance puts while stores are made and removed.
-use Rattle.std.specs.Prelude.{◌≡◌, ◌≤◌, ◌+◌, ◌∷◌, ℕ, true, List, [], length, remove, set}
+use Rattle.std.specs.Prelude.{◌≡◌, ◌≤◌, ◌+◌, ◌∷◌, ℕ, true, false, List, [], length, remove, set}
 use Rattle.std.specs.List.{AllByRecursion}
 use Rattle.bk_facts.specs.declared.facts.DataFile.{DataFile}
 use Rattle.bk_master.specs.declared.record.Entry.{Entry}
+use Rattle.bk_master.specs.declared.record.Own.{Own}
 use Rattle.bk_master.specs.declared.record.Record.{Record}
 use Rattle.bk_master.specs.declared.record.Unfinished.{Unfinished}
 use Rattle.bk_master.specs.Spelling.{IsShortPath}
@@ -22,9 +23,17 @@ begun r paths = record r { next = r.next + 1; unfinished = unfinished_at r.next 
 abbrev pub rested : Record → List Entry → Record
 rested r entries = record r { databases = entries; unfinished = [] }
 
+-- the same record with another own part
+abbrev pub owned : Record → Own → Record
+owned r own = record r { own = own }
+
 -- the entry of a store of this number, with its pages and its log
 abbrev pub stored_entry : ℕ → Entry
 stored_entry number = record { store = number; is_stored = true }
+
+-- the entry of a store of this number, of which its note alone tells
+abbrev pub parked_entry : ℕ → Entry
+parked_entry number = record { store = number; is_stored = false }
 
 -- paths that a record may name: at most 16, each of 1 to 100 bytes
 pub record AreSmall (paths : List (List ℕ)) : Type 0 where

@@ -27,6 +27,7 @@ note-same : (db : ℕ) (told : Told) (f g : Files) → ((name : List ℕ) → Is
 note-same db told f g same is = record {
   known = is.known;
   noted = is.noted;
+  from = is.from;
   log = is.log;
   log_is = log_same db is.log (ap control_of (same (control_file db) (inl (inl refl)))) (λ n. ap sealed (same (segment_file db n) (inl (inr (n, refl))))) is.log_is;
   same_note = is.same_note;

@@ -7,6 +7,7 @@ use Rattle.bk_device.specs.Disk.{Disk, Files}
 use Rattle.bk_device.specs.Effects.{Effect, KeepsFiles, MayLeaveOwn}
 use Rattle.bk_facts.specs.declared.facts.DataFile.{DataFile}
 use Rattle.bk_master.specs.declared.record.Entry.{Entry}
+use Rattle.bk_master.specs.declared.record.Own.{Own}
 use Rattle.bk_master.specs.declared.record.Record.{Record}
 use Rattle.bk_master.specs.Laws.{master_kept, master_left}
 use Rattle.bk_master.specs.Master.{HoldsRecord, IsMaster, IsOwn as IsOfMaster, Kept as KeptMaster}
@@ -22,7 +23,7 @@ use Rattle.bk_stores.specs.Records.{IsApart}
 use Rattle.bk_stores.specs.ListLaws.{got, got-inside, got-none, got-one, got-other, got-set, same-place}
 use Rattle.bk_stores.specs.NameLaws.{own-apart}
 use Rattle.bk_stores.specs.SlotLaws.{slot-kept, slot-left}
-use Rattle.bk_stores.specs.Stores.{AreEntries, AreStores, at_paths, IsAt, IsFree, IsOfEntry, IsOurs, files_by, its_files, Kept, LeavesEntry, LeavesStores, SlotsStand, StandFor, sealed_at, sealed_by, sealed_of}
+use Rattle.bk_stores.specs.Stores.{AreEntries, AreStores, at_paths, IsAt, IsFree, IsOfEntry, IsOurs, files_by, its_files, Kept, LeavesEntry, LeavesStores, SlotsStand, StandFor, sealed_at, sealed_by, sealed_of, fixed_of, Fixed}
 
 -- ---- names
 
@@ -148,20 +149,22 @@ own-wide db files effect = effect_widen (λ name own. inr (db, files, own)) (λ 
 
 -- where a store's files are touched that is none of the entries', a crash leaves the record and each database
 pub own-leaves : (db : ℕ) (files : List DataFile) (a : Disk) (image : Files) (s : Kept) (tolds : List Told) → AreStores a s tolds → ((i : ℕ) (e : Entry) (t : Told) → IsAt s.master.record.databases tolds i e t → AreApart db files e.store (its_files e t))
-    → ((name : List ℕ) → (IsOwn db files name → ⊥) → IsOurs name → a.may name (image name)) → LeavesStores (sealed_at s tolds) tolds image
+    → ((name : List ℕ) → (IsOwn db files name → ⊥) → IsOurs name → a.may name (image name)) → LeavesStores (fixed_of s.master.record) (sealed_at s tolds) tolds image
 own-leaves db files a image s tolds is apart left = record {
   «record» = s.master.record;
   is_record = master_left image is.master (λ name master. left name (λ own. master-apart db files name master own) (inl master));
+  is_fixed = refl;
   entries = is.standing.entries;
   each = λ i e t at. slots-left a image s.master.record.databases s.slots tolds is.standing.count is.standing.stand i e t at
       (λ name own. left name (λ its. own-apart db files e.store (its_files e t) (apart i e t at) name its own) (inr (e.store, its_files e t, own)));
 }
 
 -- nothing is done
-pub rest-crash : (a : Disk) (s : Kept) (tolds : List Told) → AreStores a s tolds → Effect IsOurs (LeavesStores (sealed_at s tolds) tolds) a a
+pub rest-crash : (a : Disk) (s : Kept) (tolds : List Told) → AreStores a s tolds → Effect IsOurs (LeavesStores (fixed_of s.master.record) (sealed_at s tolds) tolds) a a
 rest-crash a s tolds is = effect_none a (λ image mine. record {
   «record» = s.master.record;
   is_record = master_left image is.master (λ name master. mine name (inl master));
+  is_fixed = refl;
   entries = is.standing.entries;
   each = λ i e t at. slots-left a image s.master.record.databases s.slots tolds is.standing.count is.standing.stand i e t at (λ name own. mine name (inr (e.store, its_files e t, own)));
 })
@@ -182,15 +185,21 @@ put-stands {a = a} {b = b} s tolds m is master effect same later entries =
       };
     }
 
-pub put-crash : {a b : Disk} (s : Kept) (tolds : List Told) (next : Record) → AreStores a s tolds → next.databases ≡ s.master.record.databases → AreEntries next tolds
-    → Effect IsOfMaster (λ image. HoldsRecord image s.master.record ⊎ HoldsRecord image next) a b → Effect IsOurs (LeavesStores (sealed_at s tolds) tolds) a b
-put-crash {a = a} s tolds next is same entries effect =
+-- a crash leaves them with the own part that was, or with that of the other record
+pub put-either : {a b : Disk} (s : Kept) (tolds : List Told) (next : Record) → AreStores a s tolds → next.databases ≡ s.master.record.databases → AreEntries next tolds → Effect IsOfMaster (λ image. HoldsRecord image s.master.record ⊎ HoldsRecord image next) a b
+    → Effect IsOurs (λ image. LeavesStores (fixed_of s.master.record) (sealed_at s tolds) tolds image ⊎ LeavesStores (fixed_of next) (sealed_at s tolds) tolds image) a b
+put-either {a = a} s tolds next is same entries effect =
     let left : (image : Files) → ((db : ℕ) (files : List DataFile) → MayLeaveOwn (IsOwn db files) a image) → (i : ℕ) (e : Entry) (t : Told) → IsAt s.master.record.databases tolds i e t → LeavesEntry e (sealed_at s tolds i) t image =
     λ image mine i e t at. slots-left a image s.master.record.databases s.slots tolds is.standing.count is.standing.stand i e t at (mine e.store (its_files e t)) in
     effect_weaken (λ image here. elim here.0 [
-      | inl old ↦ record { «record» = s.master.record; is_record = old; entries = is.standing.entries; each = left image here.1 }
-      | inr new ↦ record { «record» = next; is_record = new; entries = entries; each = λ i e t at. left image here.1 i e t (ap (λ (es : List Entry). slice_get es i) (sym same) ∙ at.0, at.1) }
+      | inl old ↦ inl (record { «record» = s.master.record; is_record = old; is_fixed = refl; entries = is.standing.entries; each = left image here.1 })
+      | inr new ↦ inr (record { «record» = next; is_record = new; is_fixed = refl; entries = entries; each = λ i e t at. left image here.1 i e t (ap (λ (es : List Entry). slice_get es i) (sym same) ∙ at.0, at.1) })
     ]) (master-wide effect)
+
+pub put-crash : {a b : Disk} (s : Kept) (tolds : List Told) (next : Record) → AreStores a s tolds → next.databases ≡ s.master.record.databases → fixed_of next ≡ fixed_of s.master.record → AreEntries next tolds
+    → Effect IsOfMaster (λ image. HoldsRecord image s.master.record ⊎ HoldsRecord image next) a b → Effect IsOurs (LeavesStores (fixed_of s.master.record) (sealed_at s tolds) tolds) a b
+put-crash s tolds next is same own entries effect =
+    effect_weaken (λ image here. elim here [ inl old ↦ old | inr new ↦ subst (λ (o : Fixed). LeavesStores o (sealed_at s tolds) tolds image) own new ]) (put-either s tolds next is same entries effect)
 
 -- ---- something is done to the files of a store that is no entry's
 
@@ -205,5 +214,5 @@ own-stands s tolds db files is apart below effect = record {
   };
 }
 
-pub own-crash : {P : Files → Type 0} {a b : Disk} (s : Kept) (tolds : List Told) (db : ℕ) (files : List DataFile) → AreStores a s tolds → IsApart s.master.record.databases tolds db files → Effect (IsOwn db files) P a b → Effect IsOurs (LeavesStores (sealed_at s tolds) tolds) a b
+pub own-crash : {P : Files → Type 0} {a b : Disk} (s : Kept) (tolds : List Told) (db : ℕ) (files : List DataFile) → AreStores a s tolds → IsApart s.master.record.databases tolds db files → Effect (IsOwn db files) P a b → Effect IsOurs (LeavesStores (fixed_of s.master.record) (sealed_at s tolds) tolds) a b
 own-crash {a = a} s tolds db files is apart effect = effect_weaken (λ image here. own-leaves db files a image s tolds is apart here.1) (own-wide db files effect)

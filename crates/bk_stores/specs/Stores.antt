@@ -6,6 +6,7 @@ use Rattle.bk_facts.specs.declared.facts.DataFile.{DataFile}
 use Rattle.bk_known.specs.declared.known.Known.{Known}
 use Rattle.bk_known.specs.Known.{known_bytes}
 use Rattle.bk_master.specs.declared.record.Entry.{Entry}
+use Rattle.bk_master.specs.declared.record.Own.{Own}
 use Rattle.bk_master.specs.declared.record.Record.{Record}
 use Rattle.bk_master.specs.declared.record.Unfinished.{Unfinished}
 use Rattle.bk_master.specs.Master.{HoldsRecord, IsMaster, IsOwn as IsOfMaster, Kept as KeptMaster}
@@ -15,17 +16,19 @@ use Rattle.bk_segments.specs.Files.{LogIs, Logged, AreDurable as LogsAreDurable}
 use Rattle.bk_store.specs.Store.{IsStore, sealed_in, Kept as KeptStore}
 use Rattle.bk_store.specs.Told.{HoldsRecords, IsNoted, Told, data_files, front_of}
 use Rattle.bk_stores.specs.Beside.{AreApart}
+use Rattle.bk_world.specs.Cut.{end_behind}
 
 -- ---- one database
 
--- Files hold a description alone, in the note of a log without records.
+-- Files hold a description alone, as of the end of the database's records, in the note of a log without records.
 pub record HoldsNote (db : ℕ) (told : Told) (image : Files) : Type 0 where
   pub known : Known
   pub noted : IsNoted known told
+  pub from : known.as_of.from ≡ end_behind told.records
   pub log : Logged
   pub log_is : LogIs image db log
   pub same_note : log.note ≡ known_bytes known ++ told.note
-  pub none : told.records ≡ []
+  pub none : log.records ≡ []
 
 -- files hold a database with its pages and its log, or its description alone
 abbrev pub HoldsBy : Bool → ℕ → Told → Files → Type 0
@@ -93,16 +96,25 @@ pub record AreEntries (r : Record) (tolds : List Told) : Type 0 where
   pub apart : (i j : ℕ) (e f : Entry) (t u : Told) → (i ≡ j → ⊥) → IsAt r.databases tolds i e t → IsAt r.databases tolds j f u → AreApart e.store (its_files e t) f.store (its_files f u)
   pub aside : (i k : ℕ) (e : Entry) (t : Told) (u : Unfinished) → IsAt r.databases tolds i e t → slice_get r.unfinished k ≡ Some u → AreApart u.store (at_paths u.paths) e.store (its_files e t)
 
+-- What of a record a crash leaves as it is: its own part, and which of the databases are stored.
+pub record Fixed : Type 0 where
+  pub own : Own
+  pub stored : List Bool
+
+abbrev pub fixed_of : Record → Fixed
+fixed_of r = record { own = r.own; stored = map (λ (e : Entry). e.is_stored) r.databases }
+
 -- files hold these databases
 pub record HoldsStores (image : Files) (r : Record) (tolds : List Told) : Type 0 where
   pub is_record : HoldsRecord image r
   pub entries : AreEntries r tolds
   pub each : (i : ℕ) (e : Entry) (t : Told) → IsAt r.databases tolds i e t → HoldsEntry e t image
 
--- files hold fronts of their records, of each at least so many
-pub record LeavesStores (least : ℕ → ℕ) (tolds : List Told) (image : Files) : Type 0 where
+-- files hold fronts of their records, of each at least so many, under a record with this own part, and with these of them stored
+pub record LeavesStores (fixed : Fixed) (least : ℕ → ℕ) (tolds : List Told) (image : Files) : Type 0 where
   pub «record» : Record
   pub is_record : HoldsRecord image «record»
+  pub is_fixed : fixed_of «record» ≡ fixed
   pub entries : AreEntries «record» tolds
   pub each : (i : ℕ) (e : Entry) (t : Told) → IsAt «record».databases tolds i e t → LeavesEntry e (least i) t image
 

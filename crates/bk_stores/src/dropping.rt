@@ -7,10 +7,10 @@ ghost use Rattle.bk_master.specs.Master.{IsMaster};
 ghost use Rattle.bk_master.specs.Spelling.{KeepsRecord};
 ghost use Rattle.bk_store.specs.Told.{Told};
 ghost use Rattle.bk_stores.specs.Errors.{IsTrouble};
-ghost use Rattle.bk_stores.specs.Making.{Drops, MayRemove};
+ghost use Rattle.bk_stores.specs.Making.{Drops, MayRemove, less_stored};
 ghost use Rattle.bk_stores.specs.Records.{AreSmall, left_out, rested};
 ghost use Rattle.bk_stores.specs.Standing.{AreStanding, AreUnused};
-ghost use Rattle.bk_stores.specs.Stores.{AreStores, IsOurs, IsReady, LeavesStores, at_paths, sealed_at};
+ghost use Rattle.bk_stores.specs.Stores.{AreStores, IsOurs, IsReady, LeavesStores, at_paths, fixed_of, sealed_at};
 
 use crate::error::StoresError;
 use crate::records::{left_record, rested_record, store_at};
@@ -56,11 +56,12 @@ impl Stores {
         requires count { length self.old.slots ≡ length self.old.master.record.databases }
         requires master { D.tells → IsMaster (D.disk dev.old) self.old.master }
         ensures ready { OnOk result (IsReady self.new) }
+        ensures fixed { OnOk result (fixed_of self.new.master.record ≡ fixed_of self.old.master.record) }
         ensures slots { OnOk result (self.new.slots ≡ self.old.slots) }
         ensures standing { D.tells → AreStanding (D.disk dev.old) self.old → OnOk result (AreStanding (D.disk dev.new) self.new) }
         ensures stands { D.tells → (tolds : List Told) → AreStores (D.disk dev.old) self.old tolds → OnOk result (AreStores (D.disk dev.new) self.new tolds) }
         ensures master { D.tells → OnOk result (IsMaster (D.disk dev.new) self.new.master) }
-        ensures crash { D.tells → (tolds : List Told) → AreStores (D.disk dev.old) self.old tolds → Effect IsOurs (LeavesStores (sealed_at self.old tolds) tolds) (D.disk dev.old) (D.disk dev.new) }
+        ensures crash { D.tells → (tolds : List Told) → AreStores (D.disk dev.old) self.old tolds → Effect IsOurs (LeavesStores (fixed_of self.old.master.record) (sealed_at self.old tolds) tolds) (D.disk dev.old) (D.disk dev.new) }
         ensures trouble { IfErr result IsTrouble }
         ensures cause { HasCause D.disk_faults D.tell_faults dev.old dev.new (IsErrOf result StoresError.Fault) }
     {
@@ -86,6 +87,7 @@ impl Stores {
         requires standing { D.tells → AreStanding (D.disk dev.old) self.old }
         requires unused { D.tells → AreUnused (set self.old.slots at None) (at_paths paths.now) }
         ensures ready { OnOk result (IsReady self.new) }
+        ensures fixed { OnOk result (fixed_of self.new.master.record ≡ less_stored (fixed_of self.old.master.record) at) }
         ensures slots { OnOk result (self.new.slots ≡ remove self.old.slots at) }
         ensures standing { D.tells → OnOk result (AreStanding (D.disk dev.new) self.new) }
         ensures stands { D.tells → (tolds : List Told) (told : Told) → AreStores (D.disk dev.old) self.old tolds → MayRemove self.old tolds at told paths.now → OnOk result (AreStores (D.disk dev.new) self.new (remove tolds at)) }

@@ -8,6 +8,7 @@ mod loading;
 mod making;
 mod numbers;
 mod opening;
+mod owning;
 mod records;
 mod stores;
 mod swapping;

@@ -10,7 +10,7 @@ ghost use Rattle.bk_stores.specs.Errors.{IsTrouble};
 ghost use Rattle.bk_store.specs.Told.{Told};
 ghost use Rattle.bk_stores.specs.Loading.{HoldsInstance, IsOfAny, Opens, shut};
 ghost use Rattle.bk_stores.specs.Standing.{AreDifferent, AreNumbered, AreShut, AreStanding, LieBelow, LieUnder};
-ghost use Rattle.bk_stores.specs.Stores.{AreEntries, AreStores, IsOurs, IsReady, LeavesStores, sealed_at};
+ghost use Rattle.bk_stores.specs.Stores.{AreEntries, AreStores, Fixed, IsOurs, IsReady, LeavesStores, fixed_of, sealed_at};
 
 use crate::error::StoresError;
 use crate::numbers::are_numbered;
@@ -26,10 +26,11 @@ use std::alloc::{AllocError, Global};
 fn open_master<D: Device>(alloc: Global, dev: &mut D, number: u64) -> Result<Master, StoresError>
     ensures fit { IfOk result (λ m. m.failed ≡ false) }
     ensures master { D.tells → IfOk result (λ m. IsMaster (D.disk dev.new) m) }
-    ensures stands { D.tells → IsSettled (D.disk dev.old) → (tolds : List Told) → HoldsInstance (D.disk dev.old).files tolds → IfOk result (λ m. AreStores (D.disk dev.new) (shut m) tolds) }
+    ensures stands { D.tells → IsSettled (D.disk dev.old) → (fixed : Fixed) (tolds : List Told) → HoldsInstance number fixed (D.disk dev.old).files tolds → IfOk result (λ m. AreStores (D.disk dev.new) (shut m) tolds) }
+    ensures fixed { D.tells → (fixed : Fixed) (tolds : List Told) → HoldsInstance number fixed (D.disk dev.old).files tolds → IfOk result (λ m. fixed_of m.record ≡ fixed) }
     ensures not_an_instance { D.tells → IsErrOf result StoresError.NotAnInstance → IsNoInstance (D.disk dev.old).files }
-    ensures broken { D.tells → IsErrOf result StoresError.Broken → (tolds : List Told) → HoldsInstance (D.disk dev.old).files tolds → ⊥ }
-    ensures crash { D.tells → IsSettled (D.disk dev.old) → (tolds : List Told) → HoldsInstance (D.disk dev.old).files tolds → Opens tolds (D.disk dev.old) (D.disk dev.new) }
+    ensures broken { D.tells → IsErrOf result StoresError.Broken → (fixed : Fixed) (tolds : List Told) → HoldsInstance number fixed (D.disk dev.old).files tolds → ⊥ }
+    ensures crash { D.tells → IsSettled (D.disk dev.old) → (fixed : Fixed) (tolds : List Told) → HoldsInstance number fixed (D.disk dev.old).files tolds → Opens number fixed tolds (D.disk dev.old) (D.disk dev.new) }
     ensures cause { HasCause D.disk_faults D.tell_faults dev.old dev.new (IsErrOf result StoresError.Fault) }
 {
     sync_own(dev)?;
@@ -72,7 +73,7 @@ fn keeps(record: &Record) -> bool
     ensures all { KeepsRecord «record».now → result ≡ true }
 {
     let unfinished = record.unfinished.as_slice();
-    is_making_short(&record.making)
+    is_making_short(&record.own.making)
         && record.databases.as_slice().len() <= 16
         && unfinished.len() <= 2
         && unfinished.iter().all(is_small)
@@ -133,10 +134,11 @@ impl Stores {
         requires count { length self.old.slots ≡ length self.old.master.record.databases }
         requires master { D.tells → IsMaster (D.disk dev.old) self.old.master }
         ensures ready { OnOk result (IsReady self.new) }
+        ensures fixed { OnOk result (fixed_of self.new.master.record ≡ fixed_of self.old.master.record) }
         ensures slots { OnOk result (self.new.slots ≡ self.old.slots) }
         ensures standing { D.tells → AreNumbered self.old.master.record → AreShut self.old.slots → OnOk result (AreStanding (D.disk dev.new) self.new) }
         ensures stands { D.tells → (tolds : List Told) → AreStores (D.disk dev.old) self.old tolds → OnOk result (AreStores (D.disk dev.new) self.new tolds) }
-        ensures crash { D.tells → (tolds : List Told) → AreStores (D.disk dev.old) self.old tolds → Effect IsOurs (LeavesStores (sealed_at self.old tolds) tolds) (D.disk dev.old) (D.disk dev.new) }
+        ensures crash { D.tells → (tolds : List Told) → AreStores (D.disk dev.old) self.old tolds → Effect IsOurs (LeavesStores (fixed_of self.old.master.record) (sealed_at self.old tolds) tolds) (D.disk dev.old) (D.disk dev.new) }
         ensures still { D.tells → self.old.master.record.unfinished ≡ [] → ChangesNothing (D.disk dev.old) (D.disk dev.new) }
         ensures trouble { IfErr result IsTrouble }
         ensures cause { HasCause D.disk_faults D.tell_faults dev.old dev.new (IsErrOf result StoresError.Fault) }
@@ -154,10 +156,11 @@ impl Stores {
         requires fit { self.old.master.failed ≡ false }
         requires master { D.tells → IsMaster (D.disk dev.old) self.old.master }
         ensures ready { OnOk result (IsReady self.new) }
+        ensures fixed { OnOk result (fixed_of self.new.master.record ≡ fixed_of self.old.master.record) }
         ensures slots { OnOk result (self.new.slots ≡ replicate (length self.new.slots) None) }
         ensures standing { D.tells → OnOk result (AreStanding (D.disk dev.new) self.new) }
         ensures stands { D.tells → (tolds : List Told) → AreStores (D.disk dev.old) (shut self.old.master) tolds → OnOk result (AreStores (D.disk dev.new) self.new tolds) }
-        ensures crash { D.tells → (tolds : List Told) → AreStores (D.disk dev.old) (shut self.old.master) tolds → Effect IsOurs (LeavesStores (sealed_at (shut self.old.master) tolds) tolds) (D.disk dev.old) (D.disk dev.new) }
+        ensures crash { D.tells → (tolds : List Told) → AreStores (D.disk dev.old) (shut self.old.master) tolds → Effect IsOurs (LeavesStores (fixed_of self.old.master.record) (sealed_at (shut self.old.master) tolds) tolds) (D.disk dev.old) (D.disk dev.new) }
         ensures broken { IsErrOf result StoresError.Broken → (tolds : List Told) → AreEntries self.old.master.record tolds → ⊥ }
         ensures not_an_instance { IsErrOf result StoresError.NotAnInstance → ⊥ }
         ensures cause { HasCause D.disk_faults D.tell_faults dev.old dev.new (IsErrOf result StoresError.Fault) }
@@ -170,7 +173,7 @@ impl Stores {
     }
 
     /// Opens what an instance keeps of its stores, or makes an instance with this number where none is made; what was being made or removed is removed. No store is open then. A crash leaves the databases
-    /// that there were.
+    /// that there were, and the record's own part, which is as it was.
     ///
     /// `NotAnInstance` is answered only where an instance is made and its control file holds no control, and `Broken` only where it is made and its control holds no record, or one that doesn't keep its limits:
     /// 16 databases, and two stores that are being made or removed, each with 16 data files at paths of 1 to 100 bytes; each store with a number of its own below the next one. `NoMemory` may come after files
@@ -179,10 +182,11 @@ impl Stores {
         ensures ready { IfOk result IsReady }
         ensures shut { IfOk result (λ s. s.slots ≡ replicate (length s.slots) None) }
         ensures standing { D.tells → IfOk result (λ s. AreStanding (D.disk dev.new) s) }
-        ensures stands { D.tells → IsSettled (D.disk dev.old) → (tolds : List Told) → HoldsInstance (D.disk dev.old).files tolds → IfOk result (λ s. AreStores (D.disk dev.new) s tolds) }
+        ensures stands { D.tells → IsSettled (D.disk dev.old) → (fixed : Fixed) (tolds : List Told) → HoldsInstance number fixed (D.disk dev.old).files tolds → IfOk result (λ s. AreStores (D.disk dev.new) s tolds) }
+        ensures fixed { D.tells → (fixed : Fixed) (tolds : List Told) → HoldsInstance number fixed (D.disk dev.old).files tolds → IfOk result (λ s. fixed_of s.master.record ≡ fixed) }
         ensures not_an_instance { D.tells → IsErrOf result StoresError.NotAnInstance → IsNoInstance (D.disk dev.old).files }
-        ensures broken { D.tells → IsErrOf result StoresError.Broken → IsSettled (D.disk dev.old) → (tolds : List Told) → HoldsInstance (D.disk dev.old).files tolds → ⊥ }
-        ensures crash { D.tells → IsSettled (D.disk dev.old) → (tolds : List Told) → HoldsInstance (D.disk dev.old).files tolds → Opens tolds (D.disk dev.old) (D.disk dev.new) }
+        ensures broken { D.tells → IsErrOf result StoresError.Broken → IsSettled (D.disk dev.old) → (fixed : Fixed) (tolds : List Told) → HoldsInstance number fixed (D.disk dev.old).files tolds → ⊥ }
+        ensures crash { D.tells → IsSettled (D.disk dev.old) → (fixed : Fixed) (tolds : List Told) → HoldsInstance number fixed (D.disk dev.old).files tolds → Opens number fixed tolds (D.disk dev.old) (D.disk dev.new) }
         ensures cause { HasCause D.disk_faults D.tell_faults dev.old dev.new (IsErrOf result StoresError.Fault) }
     {
         let master = open_master(alloc, dev, number)?;

@@ -1,18 +1,18 @@
 // Making a database.
-ghost use Rattle.std.specs.Prelude.{◌≡◌, ◌≤◌, ◌<◌, ◌+◌, ◌^◌, ◌∷◌, ◌++◌, false, [], List, None, Some, length, map, IfErr, IfOk, OnOk, IsErrOf};
+ghost use Rattle.std.specs.Prelude.{◌≡◌, ◌≤◌, ◌<◌, ◌+◌, ◌^◌, ◌∷◌, ◌++◌, false, [], List, None, Some, length, map, true, IfErr, IfOk, OnOk, IsErrOf};
 ghost use Rattle.bk_device.specs.Counts.{HasCause};
 ghost use Rattle.bk_control.specs.Slots.{control_of};
 ghost use Rattle.bk_device.specs.Disk.{IsDurable};
 ghost use Rattle.bk_device.specs.Effects.{Effect};
-ghost use Rattle.bk_segments.specs.Files.{control_file};
+ghost use Rattle.bk_segments.specs.Files.{control_file, AreDurable as LogsAreDurable};
 ghost use Rattle.bk_store.specs.Making.{MayDescribe, founded};
 ghost use Rattle.bk_store.specs.Store.{Kept as KeptStore};
 ghost use Rattle.bk_store.specs.Told.{Told, data_file, data_files};
 ghost use Rattle.bk_stores.specs.Errors.{IsTrouble};
-ghost use Rattle.bk_stores.specs.Making.{Adds, Creates, IsSealed, MayAdd};
+ghost use Rattle.bk_stores.specs.Making.{Adds, Creates, IsSealed, MayAdd, more_stored};
 ghost use Rattle.bk_stores.specs.Records.{AreSmall, IsApart, SharesNone, begun, rested};
 ghost use Rattle.bk_stores.specs.Standing.{AreStanding, AreUnused, Joins};
-ghost use Rattle.bk_stores.specs.Stores.{AreStores, IsOurs, IsReady, IsSlot, LeavesStores, at_paths, its_files, sealed_at};
+ghost use Rattle.bk_stores.specs.Stores.{AreStores, IsOurs, IsReady, IsSlot, LeavesStores, at_paths, fixed_of, its_files, sealed_at};
 
 use crate::error::StoresError;
 use crate::records::{added_record, begin_record, paths_of};
@@ -26,7 +26,8 @@ use bk_store::Store;
 use std::alloc::Global;
 
 impl Stores {
-    /// Names the store of the next number as one that is being made, with data files at these paths, at most 16. Where no database has one of these, a crash leaves the databases that were there.
+    /// Names the store of the next number as one that is being made, with data files at these paths, at most 16. Where no database has one of these, a crash leaves the databases that were there. Nothing is pending in the log that
+    /// the store is to have.
     ///
     /// Only `Fault` and `NoMemory` are answered.
     pub fn begin_store<D: Device>(
@@ -43,8 +44,9 @@ impl Stores {
         ensures slots { OnOk result (self.new.slots ≡ self.old.slots) }
         ensures few { OnOk result (self.old.master.record.next < 2 ^ 32) }
         ensures standing { D.tells → OnOk result (AreStanding (D.disk dev.new) self.new) }
+        ensures free { D.tells → (tolds : List Told) → AreStores (D.disk dev.old) self.old tolds → OnOk result (LogsAreDurable self.old.master.record.next (D.disk dev.new)) }
         ensures stands { D.tells → (tolds : List Told) → AreStores (D.disk dev.old) self.old tolds → SharesNone self.old.master.record.databases tolds (at_paths paths.now) → OnOk result (AreStores (D.disk dev.new) self.new tolds) }
-        ensures crash { D.tells → (tolds : List Told) → AreStores (D.disk dev.old) self.old tolds → SharesNone self.old.master.record.databases tolds (at_paths paths.now) → Effect IsOurs (LeavesStores (sealed_at self.old tolds) tolds) (D.disk dev.old) (D.disk dev.new) }
+        ensures crash { D.tells → (tolds : List Told) → AreStores (D.disk dev.old) self.old tolds → SharesNone self.old.master.record.databases tolds (at_paths paths.now) → Effect IsOurs (LeavesStores (fixed_of self.old.master.record) (sealed_at self.old tolds) tolds) (D.disk dev.old) (D.disk dev.new) }
         ensures trouble { IfErr result IsTrouble }
         ensures cause { HasCause D.disk_faults D.tell_faults dev.old dev.new (IsErrOf result StoresError.Fault) }
     {
@@ -69,10 +71,11 @@ impl Stores {
         requires standing { D.tells → AreStanding (D.disk dev.old) self.old }
         requires joins { D.tells → Joins (D.disk dev.old) self.old.master.record.databases self.old.slots entry slot }
         ensures ready { OnOk result (IsReady self.new) }
+        ensures fixed { OnOk result (fixed_of self.new.master.record ≡ more_stored (fixed_of self.old.master.record) entry.is_stored) }
         ensures slots { OnOk result (self.new.slots ≡ self.old.slots ++ slot ∷ []) }
         ensures standing { D.tells → OnOk result (AreStanding (D.disk dev.new) self.new) }
         ensures stands { D.tells → (tolds : List Told) (new : Told) → AreStores (D.disk dev.old) self.old tolds → MayAdd (D.disk dev.old) self.old tolds entry slot new → OnOk result (AreStores (D.disk dev.new) self.new (tolds ++ new ∷ [])) }
-        ensures crash { D.tells → (tolds : List Told) (new : Told) → AreStores (D.disk dev.old) self.old tolds → MayAdd (D.disk dev.old) self.old tolds entry slot new → Creates self.old tolds new (D.disk dev.old) (D.disk dev.new) }
+        ensures crash { D.tells → (tolds : List Told) (new : Told) → AreStores (D.disk dev.old) self.old tolds → MayAdd (D.disk dev.old) self.old tolds entry slot new → Creates self.old tolds entry.is_stored new (D.disk dev.old) (D.disk dev.new) }
         ensures trouble { IfErr result IsTrouble }
         ensures cause { HasCause D.disk_faults D.tell_faults dev.old dev.new (IsErrOf result StoresError.Fault) }
     {
@@ -101,7 +104,7 @@ impl Stores {
         ensures none { D.tells → OnOk result ((control_of ((D.disk dev.new).files (control_file self.old.master.record.next)) ≡ None) × IsDurable (D.disk dev.new) (control_file self.old.master.record.next)) }
         ensures standing { D.tells → OnOk result (AreStanding (D.disk dev.new) self.new) }
         ensures stands { D.tells → (tolds : List Told) → AreStores (D.disk dev.old) self.old tolds → SharesNone self.old.master.record.databases tolds (map data_file spec.now.storage.files) → OnOk result (AreStores (D.disk dev.new) self.new tolds) }
-        ensures crash { D.tells → (tolds : List Told) → AreStores (D.disk dev.old) self.old tolds → SharesNone self.old.master.record.databases tolds (map data_file spec.now.storage.files) → Effect IsOurs (LeavesStores (sealed_at self.old tolds) tolds) (D.disk dev.old) (D.disk dev.new) }
+        ensures crash { D.tells → (tolds : List Told) → AreStores (D.disk dev.old) self.old tolds → SharesNone self.old.master.record.databases tolds (map data_file spec.now.storage.files) → Effect IsOurs (LeavesStores (fixed_of self.old.master.record) (sealed_at self.old tolds) tolds) (D.disk dev.old) (D.disk dev.new) }
         ensures trouble { IfErr result IsTrouble }
         ensures cause { HasCause D.disk_faults D.tell_faults dev.old dev.new (IsErrOf result StoresError.Fault) }
     {
@@ -133,10 +136,11 @@ impl Stores {
         requires standing { D.tells → AreStanding (D.disk dev.old) self.old }
         requires unused { D.tells → AreUnused self.old.slots (at_paths (map (λ f. f.path) spec.storage.files)) }
         ensures ready { OnOk result (IsReady self.new) }
+        ensures fixed { OnOk result (fixed_of self.new.master.record ≡ more_stored (fixed_of self.old.master.record) true) }
         ensures opens { OnOk result ((s : KeptStore) × (self.new.slots ≡ self.old.slots ++ Some s ∷ []) × IsSealed s) }
         ensures standing { D.tells → OnOk result (AreStanding (D.disk dev.new) self.new) }
         ensures stands { D.tells → (tolds : List Told) → AreStores (D.disk dev.old) self.old tolds → SharesNone self.old.master.record.databases tolds (map data_file spec.storage.files) → OnOk result (AreStores (D.disk dev.new) self.new (tolds ++ founded spec time branch ∷ [])) }
-        ensures crash { D.tells → (tolds : List Told) → AreStores (D.disk dev.old) self.old tolds → SharesNone self.old.master.record.databases tolds (map data_file spec.storage.files) → Creates self.old tolds (founded spec time branch) (D.disk dev.old) (D.disk dev.new) }
+        ensures crash { D.tells → (tolds : List Told) → AreStores (D.disk dev.old) self.old tolds → SharesNone self.old.master.record.databases tolds (map data_file spec.storage.files) → Creates self.old tolds true (founded spec time branch) (D.disk dev.old) (D.disk dev.new) }
         ensures trouble { IfErr result IsTrouble }
         ensures cause { HasCause D.disk_faults D.tell_faults dev.old dev.new (IsErrOf result StoresError.Fault) }
     {

@@ -2,12 +2,12 @@
 ghost use Rattle.std.specs.Prelude.{◌≡◌, ◌<◌, ◌∷◌, ◌++◌, ◌+◌, ◌^◌, [], Some, length, map, slice_get, IfErr, IfOk, IsErrOf};
 ghost use Rattle.bk_master.specs.declared.record.Entry.{Entry as Entries};
 ghost use Rattle.bk_stores.specs.Errors.{IsTrouble};
-ghost use Rattle.bk_stores.specs.Records.{begun, left_out, rested, swapped, unfinished_at};
+ghost use Rattle.bk_stores.specs.Records.{begun, left_out, owned, rested, swapped, unfinished_at};
 ghost use Rattle.bk_stores.specs.declared.error.StoresError.TheVariants.{Fault};
 
 use crate::error::StoresError;
 use bk_ids::{Sequence, Text};
-use bk_master::{Entry, Record, Unfinished};
+use bk_master::{Entry, Own, Record, Unfinished};
 use bk_world::FileSpec;
 use std::alloc::{AllocError, Global};
 
@@ -41,6 +41,39 @@ fn copy_making(alloc: Global, making: &Option<Text>) -> Result<Option<Text>, All
         Some(path) => Ok(Some(path.copy(alloc)?)),
         None => Ok(None),
     }
+}
+
+// What a record keeps beside its databases, of its own.
+fn copy_own(alloc: Global, own: &Own) -> Result<Own, AllocError>
+    ensures { IfOk result (λ copy. copy ≡ own.now) }
+{
+    Ok(Own {
+        number: own.number,
+        counter: own.counter,
+        making: copy_making(alloc, &own.making)?,
+        staging: own.staging,
+    })
+}
+
+// A store that is being made or removed, of its own.
+fn copy_one(alloc: Global, it: &Unfinished) -> Result<Unfinished, AllocError>
+    ensures { IfOk result (λ copy. copy ≡ it.now) }
+{
+    Ok(Unfinished {
+        store: it.store,
+        paths: Sequence::new(copy_paths(alloc, it.paths.as_slice())?),
+    })
+}
+
+// Stores that are being made or removed, of their own.
+fn copy_unfinished(alloc: Global, unfinished: &[Unfinished]) -> Result<Vec<Unfinished>, AllocError>
+    ensures { IfOk result (λ copy. copy.items ≡ unfinished.now) }
+{
+    let mut copy = Vec::new(alloc);
+    for it in unfinished {
+        copy.push(copy_one(alloc, it)?)?;
+    }
+    Ok(copy)
 }
 
 // One store that is being made or removed.
@@ -83,9 +116,7 @@ fn with_parts(
     ensures { IfOk result (λ r. r ≡ record old.now { next = next; databases = databases.items; unfinished = unfinished }) }
 {
     Ok(Record {
-        number: old.number,
-        counter: old.counter,
-        making: copy_making(alloc, &old.making)?,
+        own: copy_own(alloc, &old.own)?,
         next,
         databases: Sequence::new(databases),
         unfinished,
@@ -175,4 +206,18 @@ pub(crate) fn swapped_record(
     let mut databases = copy_entries(alloc, old.databases.as_slice())?;
     databases[at] = entry;
     with_parts(alloc, old, old.next, databases, unfinished)
+}
+
+/// The record with another own part.
+pub(crate) fn owned_record(alloc: Global, old: &Record, own: Own) -> Result<Record, AllocError>
+    ensures { IfOk result (λ r. r ≡ owned old.now own) }
+{
+    let databases = copy_entries(alloc, old.databases.as_slice())?;
+    let unfinished = copy_unfinished(alloc, old.unfinished.as_slice())?;
+    Ok(Record {
+        own,
+        next: old.next,
+        databases: Sequence::new(databases),
+        unfinished: Sequence::new(unfinished),
+    })
 }

@@ -5,10 +5,10 @@ ghost use Rattle.bk_master.specs.declared.record.Entry.{Entry as Entries};
 ghost use Rattle.bk_master.specs.Spelling.{KeepsRecord};
 ghost use Rattle.bk_store.specs.Told.{Told};
 ghost use Rattle.bk_stores.specs.Errors.{IsTrouble};
-ghost use Rattle.bk_stores.specs.Making.{MaySwap, Swaps};
+ghost use Rattle.bk_stores.specs.Making.{MaySwap, Swaps, set_stored};
 ghost use Rattle.bk_stores.specs.Records.{AreSmall, swapped};
 ghost use Rattle.bk_stores.specs.Standing.{AreStanding, AreUnused, Joins};
-ghost use Rattle.bk_stores.specs.Stores.{AreStores, IsReady, at_paths};
+ghost use Rattle.bk_stores.specs.Stores.{AreStores, IsReady, at_paths, fixed_of};
 
 use crate::error::StoresError;
 use crate::records::{store_at, swapped_record};
@@ -44,7 +44,7 @@ impl Stores {
         ensures slots { OnOk result (self.new.slots ≡ set self.old.slots at slot) }
         ensures standing { D.tells → OnOk result (AreStanding (D.disk dev.new) self.new) }
         ensures stands { D.tells → (tolds : List Told) (told new : Told) → AreStores (D.disk dev.old) self.old tolds → MaySwap (D.disk dev.old) self.old tolds at told entry slot new paths.now → OnOk result (AreStores (D.disk dev.new) self.new (set tolds at new)) }
-        ensures crash { D.tells → (tolds : List Told) (told new : Told) → AreStores (D.disk dev.old) self.old tolds → MaySwap (D.disk dev.old) self.old tolds at told entry slot new paths.now → Swaps self.old tolds at new (D.disk dev.old) (D.disk dev.new) }
+        ensures crash { D.tells → (tolds : List Told) (told new : Told) → AreStores (D.disk dev.old) self.old tolds → MaySwap (D.disk dev.old) self.old tolds at told entry slot new paths.now → Swaps self.old tolds at entry.is_stored new (D.disk dev.old) (D.disk dev.new) }
         ensures trouble { IfErr result IsTrouble }
         ensures cause { HasCause D.disk_faults D.tell_faults dev.old dev.new (IsErrOf result StoresError.Fault) }
     {
@@ -78,10 +78,11 @@ impl Stores {
         requires joins { D.tells → Joins (D.disk dev.old) self.old.master.record.databases (set self.old.slots at None) entry slot }
         requires unused { D.tells → AreUnused (set self.old.slots at slot) (at_paths paths.now) }
         ensures ready { OnOk result (IsReady self.new) }
+        ensures fixed { OnOk result (fixed_of self.new.master.record ≡ set_stored (fixed_of self.old.master.record) at entry.is_stored) }
         ensures slots { OnOk result (self.new.slots ≡ set self.old.slots at slot) }
         ensures standing { D.tells → OnOk result (AreStanding (D.disk dev.new) self.new) }
         ensures stands { D.tells → (tolds : List Told) (told new : Told) → AreStores (D.disk dev.old) self.old tolds → MaySwap (D.disk dev.old) self.old tolds at told entry slot new paths.now → OnOk result (AreStores (D.disk dev.new) self.new (set tolds at new)) }
-        ensures crash { D.tells → (tolds : List Told) (told new : Told) → AreStores (D.disk dev.old) self.old tolds → MaySwap (D.disk dev.old) self.old tolds at told entry slot new paths.now → Swaps self.old tolds at new (D.disk dev.old) (D.disk dev.new) }
+        ensures crash { D.tells → (tolds : List Told) (told new : Told) → AreStores (D.disk dev.old) self.old tolds → MaySwap (D.disk dev.old) self.old tolds at told entry slot new paths.now → Swaps self.old tolds at entry.is_stored new (D.disk dev.old) (D.disk dev.new) }
         ensures trouble { IfErr result IsTrouble }
         ensures cause { HasCause D.disk_faults D.tell_faults dev.old dev.new (IsErrOf result StoresError.Fault) }
     {

@@ -1,4 +1,6 @@
+use Rattle.std.proofs.Common.{inl, inr}
 use Rattle.std.proofs.lemmas.Result.{err_from_is_err_and}
+use Rattle.bk_device.specs.Laws.{durable_by_nothing}
 use Rattle.bk_master.specs.Laws.{record_is_instance}
 use Rattle.bk_master.proofs.Steps.{made_moved, no_instance_moved, broken_moved, load_crash}
 use Rattle.bk_master.proofs.master.Master.load.Goals as goal
@@ -9,6 +11,15 @@ returns-in_err-master-clause-broken g c t =
     let call = c.is_made.ensures.effect t in
     let made = made_moved call (c.in_ok-is_made.ensures.made t c.if-branch.true) in
     rw (p.1, p.2) (λ is. broken_moved call (c.in_err-master.ensures.broken t made is))
+
+pub returns-in_ok-master-clause-stands : goal.returns-in_ok-master-clause-stands
+returns-in_ok-master-clause-stands g c t before =
+    let call = c.is_made.ensures.effect t in
+    let made = c.in_ok-is_made.ensures.made t c.if-branch.true in
+    elim before [
+      | inl none ↦ absurd (made none)
+      | inr durable ↦ c.in_ok-master.ensures.stands t (made_moved call made) (λ name own. durable_by_nothing name call (durable name own))
+    ]
 
 pub returns-in_ok-master-clause-no_instance : goal.returns-in_ok-master-clause-no_instance
 returns-in_ok-master-clause-no_instance g c t no_instance =

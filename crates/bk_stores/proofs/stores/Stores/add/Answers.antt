@@ -24,7 +24,7 @@ returns-in_err-put-clause-crash g c t tolds new is may =
     let its = subst (λ (k : Kept). MayAdd a k tolds c.args.entry c.args.slot new) (sym c.self.view_is) may in
     let adds = subst (λ (k : Kept). Adds k c.args.entry.store) (sym c.self.view_is) c.requires.adds in
     let next_is : c.in_ok-next.next ≡ rested c.self.inside.master.record (c.self.inside.master.record.databases ++ c.args.entry ∷ []) = search rules in
-    subst (λ (k : Kept). Creates k tolds new a b) c.self.view_is (added-crash s tolds c.args.entry c.args.slot new c.in_ok-next.next adds next_is here its (c.put.ensures.crash t))
+    subst (λ (k : Kept). Creates k tolds c.args.entry.is_stored new a b) c.self.view_is (added-crash s tolds c.args.entry c.args.slot new c.in_ok-next.next adds next_is here its (c.put.ensures.crash t))
 
 pub returns-clause-stands : goal.returns-clause-stands
 returns-clause-stands g c t tolds new is may =
@@ -48,7 +48,7 @@ returns-clause-crash g c t tolds new is may =
     let its = subst (λ (k : Kept). MayAdd a k tolds c.args.entry c.args.slot new) (sym c.self.view_is) may in
     let adds = subst (λ (k : Kept). Adds k c.args.entry.store) (sym c.self.view_is) c.requires.adds in
     let next_is : c.in_ok-next.next ≡ rested c.self.inside.master.record (c.self.inside.master.record.databases ++ c.args.entry ∷ []) = search rules in
-    subst (λ (k : Kept). Creates k tolds new a b) c.self.view_is (added-crash s tolds c.args.entry c.args.slot new c.in_ok-next.next adds next_is here its (c.put.ensures.crash t))
+    subst (λ (k : Kept). Creates k tolds c.args.entry.is_stored new a b) c.self.view_is (added-crash s tolds c.args.entry c.args.slot new c.in_ok-next.next adds next_is here its (c.put.ensures.crash t))
 
 pub returns-clause-standing : goal.returns-clause-standing
 returns-clause-standing g c t =

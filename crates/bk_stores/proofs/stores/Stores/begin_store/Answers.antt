@@ -2,12 +2,13 @@ use Rattle.std.proofs.Common.{rules, ◌≡◌, ◌∙◌, ◌<◌, ◌^◌, sym
 use Rattle.bk_device.specs.Effects.{Effect}
 use Rattle.bk_master.specs.declared.record.Record.{Record}
 use Rattle.bk_master.specs.Spelling.{KeepsRecord}
+use Rattle.bk_segments.specs.Files.{AreDurable as LogsAreDurable}
 use Rattle.bk_stores.specs.AddLaws.{begun-keeps}
 use Rattle.bk_stores.specs.Records.{SharesNone, begun}
 use Rattle.bk_stores.specs.StandLaws.{rest-crash}
 use Rattle.bk_stores.specs.Standing.{AreStanding}
-use Rattle.bk_stores.specs.Stores.{AreStores, IsOurs, Kept, LeavesStores, at_paths, sealed_at}
-use Rattle.bk_stores.proofs.Begun.{begun-crash, begun-put, begun-stands}
+use Rattle.bk_stores.specs.Stores.{AreStores, IsOurs, Kept, LeavesStores, at_paths, sealed_at, fixed_of}
+use Rattle.bk_stores.proofs.Begun.{begun-crash, begun-free, begun-put, begun-stands}
 use Rattle.bk_stores.proofs.stores.Stores.begin_store.Goals as goal
 
 pub returns-in_err-next-clause-crash : goal.returns-in_err-next-clause-crash
@@ -27,7 +28,7 @@ returns-in_err-put-clause-crash g c t tolds is shares =
     let none = subst (λ (k : Kept). SharesNone k.master.record.databases tolds (at_paths c.args.paths.now)) (sym c.self.view_is) shares in
     let next_is : c.in_ok-next.next ≡ begun c.self.inside.master.record c.args.paths.now = search rules in
     let few : c.self.inside.master.record.next < 2 ^ 32 = search rules in
-    subst (λ (k : Kept). Effect IsOurs (LeavesStores (sealed_at k tolds) tolds) a b) c.self.view_is (begun-crash s tolds c.args.paths.now c.in_ok-next.next few c.requires.small next_is here none (c.put.ensures.crash t))
+    subst (λ (k : Kept). Effect IsOurs (LeavesStores (fixed_of k.master.record) (sealed_at k tolds) tolds) a b) c.self.view_is (begun-crash s tolds c.args.paths.now c.in_ok-next.next few c.requires.small next_is here none (c.put.ensures.crash t))
 
 pub returns-clause-stands : goal.returns-clause-stands
 returns-clause-stands g c t tolds is shares =
@@ -48,7 +49,7 @@ returns-clause-crash g c t tolds is shares =
     let none = subst (λ (k : Kept). SharesNone k.master.record.databases tolds (at_paths c.args.paths.now)) (sym c.self.view_is) shares in
     let next_is : c.in_ok-next.next ≡ begun c.self.inside.master.record c.args.paths.now = search rules in
     let few : c.self.inside.master.record.next < 2 ^ 32 = search rules in
-    subst (λ (k : Kept). Effect IsOurs (LeavesStores (sealed_at k tolds) tolds) a b) c.self.view_is (begun-crash s tolds c.args.paths.now c.in_ok-next.next few c.requires.small next_is here none (c.put.ensures.crash t))
+    subst (λ (k : Kept). Effect IsOurs (LeavesStores (fixed_of k.master.record) (sealed_at k tolds) tolds) a b) c.self.view_is (begun-crash s tolds c.args.paths.now c.in_ok-next.next few c.requires.small next_is here none (c.put.ensures.crash t))
 
 pub returns-clause-standing : goal.returns-clause-standing
 returns-clause-standing g c t =
@@ -58,3 +59,11 @@ returns-clause-standing g c t =
     let next_is : c.in_ok-next.next ≡ begun c.self.inside.master.record c.args.paths.now = search rules in
     let small : c.put.new.self.record.next < 2 ^ 32 = subst (λ (n : Record). n.next < 2 ^ 32) (sym c.in_ok-put.ensures.put) c.in_ok-next.ensures.small in
     begun-put s c.args.paths.now c.put.new.self (c.in_ok-put.ensures.put ∙ next_is) small here (c.in_ok-put.ensures.stands t) (c.put.ensures.crash t)
+
+pub returns-clause-free : goal.returns-clause-free
+returns-clause-free g c t tolds is =
+    let a = g.D.Device.disk c.args.dev.now in
+    let s : Kept = record { master = c.self.inside.master; slots = c.self.inside.slots.items } in
+    let here = subst (λ (k : Kept). AreStores a k tolds) (sym c.self.view_is) is in
+    let few : s.master.record.next < 2 ^ 32 = search rules in
+    subst (λ (k : Kept). LogsAreDurable k.master.record.next (g.D.Device.disk c.put.new.dev)) c.self.view_is (begun-free s tolds few here (c.put.ensures.crash t))

@@ -1,17 +1,18 @@
-use Rattle.std.proofs.Common.{rules, List, [], ◌∷◌, ◌++◌, Option, ap, ◌≡◌, ◌<◌, ◌^◌, ◌∙◌, ◌⊎◌, ℕ, map, Some, inl, sym, subst}
+use Rattle.std.proofs.Common.{rules, List, [], ◌∷◌, ◌++◌, Option, ap, ◌≡◌, ◌<◌, ◌^◌, ◌∙◌, ◌⊎◌, ℕ, map, Some, inl, sym, subst, true}
 use Rattle.bk_device.specs.Compose.{effect_then, effect_weaken}
 use Rattle.bk_device.specs.Disk.{IsDurable}
 use Rattle.bk_device.specs.Effects.{Effect}
+use Rattle.bk_master.specs.declared.record.Record.{Record}
 use Rattle.bk_paged.specs.Making.{HoldsNone}
 use Rattle.bk_paged.specs.Names.{IsOwn}
 use Rattle.bk_segments.specs.Files.{control_file}
 use Rattle.bk_store.specs.Making.{Makes, founded}
 use Rattle.bk_store.specs.Store.{Kept as KeptStore}
 use Rattle.bk_store.specs.Told.{LeavesRecords, data_file}
-use Rattle.bk_stores.specs.Making.{IsSealed, MayAdd}
+use Rattle.bk_stores.specs.Making.{IsSealed, MayAdd, more_stored}
 use Rattle.bk_stores.specs.Records.{begun, stored_entry}
 use Rattle.bk_stores.specs.Standing.{Joins}
-use Rattle.bk_stores.specs.Stores.{AreStores}
+use Rattle.bk_stores.specs.Stores.{AreStores, fixed_of}
 use Rattle.bk_stores.proofs.Created.{on-ok, beside-crash, beside-standing, beside-stands, creates-as, may-add, may-join, unused-files}
 use Rattle.bk_stores.proofs.stores.Stores.create.Goals as goal
 
@@ -64,6 +65,12 @@ add-requires-clause-joins g c t =
     may-join s then paths c.args.spec c.args.time c.args.branch store d begun_is slots_are (c.requires.standing t).numbers (unused-files s.slots files (c.requires.unused t)) c.in_ok-store.ensures.fit number (c.in_ok-store.ensures.stands t) in
     subst (λ (n : ℕ). Joins d then.master.record.databases then.slots (stored_entry n) (Some store)) (sym number_is) joins
 
+pub returns-clause-fixed : goal.returns-clause-fixed
+returns-clause-fixed g c =
+    let paths = map (λ f. f.path) c.args.spec.storage.files in
+    let begun_is : c.make_way.new.self.master.record ≡ begun c.args.self.now.master.record paths = search rules in
+    on-ok c.add.result (λ same. same ∙ ap (λ (x : Record). more_stored (fixed_of x) true) begun_is) c.add.ensures.fixed
+
 pub returns-clause-opens : goal.returns-clause-opens
 returns-clause-opens g c =
     let slots_are : c.make_way.new.self.slots ≡ c.args.self.now.slots = search rules in
@@ -113,7 +120,7 @@ returns-clause-crash g c t tolds is shares =
     let may : MayAdd (disk c.create.new.dev) c.make_way.new.self tolds (stored_entry c.in_ok-number.number) (Some store) new = subst (λ (n : ℕ). MayAdd (disk c.create.new.dev) c.make_way.new.self tolds (stored_entry n) (Some store) new) (sym number_is) may_add in
     effect_then (effect_weaken (λ image left. inl left) (effect_then (c.make_way.ensures.crash t tolds is shares)
     (beside-crash c.args.self.now c.make_way.new.self tolds paths (map data_file files) begun_is slots_are few entries shares here effect)))
-    (creates-as c.args.self.now c.make_way.new.self tolds new (disk c.create.new.dev) (disk c.add.new.dev) slots_are (c.add.ensures.crash t tolds new between may))
+    (creates-as c.args.self.now c.make_way.new.self tolds true new (disk c.create.new.dev) (disk c.add.new.dev) (ap fixed_of begun_is) slots_are (c.add.ensures.crash t tolds new between may))
 
 pub create-requires-clause-durable : goal.create-requires-clause-durable
 create-requires-clause-durable g c t =

@@ -1,36 +1,43 @@
-use Rattle.std.proofs.Common.{rules}
+use Rattle.std.proofs.Common.{rules, ◌∙◌, subst}
 use Rattle.std.specs.Prelude.{IsErrOf}
 use Rattle.bk_device.specs.Compose.{effect_then, effect_weaken}
+use Rattle.bk_device.specs.Effects.{Effect}
+use Rattle.bk_master.specs.declared.record.Own.{Own}
 use Rattle.bk_stores.specs.Loading.{shut}
-use Rattle.bk_stores.specs.Stores.{AreStores}
+use Rattle.bk_stores.specs.Stores.{AreStores, IsOurs, LeavesStores, sealed_at, Fixed}
 use Rattle.bk_stores.specs.declared.error.StoresError.TheVariants.{Broken}
 use Rattle.bk_stores.proofs.Loaded.{shut-leaves}
 use Rattle.bk_stores.proofs.stores.Stores.load.Goals as goal
 
 pub returns-in_err-master-clause-broken : goal.returns-in_err-master-clause-broken
-returns-in_err-master-clause-broken g c t broken settled tolds is =
+returns-in_err-master-clause-broken g c t broken settled fixed tolds is =
     let its : IsErrOf c.open_master.result Broken = search rules in
-    c.open_master.ensures.broken t its tolds is
+    c.open_master.ensures.broken t its fixed tolds is
 
 pub returns-in_err-settle_in-clause-broken : goal.returns-in_err-settle_in-clause-broken
-returns-in_err-settle_in-clause-broken g c t broken settled tolds is =
+returns-in_err-settle_in-clause-broken g c t broken settled fixed tolds is =
     let its : IsErrOf c.settle_in.result Broken = search rules in
-    let here : AreStores (g.D.Device.disk c.open_master.new.dev) (shut c.in_ok-master.master) tolds = c.in_ok-master.ensures.stands t settled tolds is in
+    let here : AreStores (g.D.Device.disk c.open_master.new.dev) (shut c.in_ok-master.master) tolds = c.in_ok-master.ensures.stands t settled fixed tolds is in
     c.settle_in.ensures.broken its tolds here.standing.entries
 
 pub returns-in_err-settle_in-clause-crash : goal.returns-in_err-settle_in-clause-crash
-returns-in_err-settle_in-clause-crash g c t settled tolds is =
-    let here : AreStores (g.D.Device.disk c.open_master.new.dev) (shut c.in_ok-master.master) tolds = c.in_ok-master.ensures.stands t settled tolds is in
-    effect_then (c.open_master.ensures.crash t settled tolds is)
-    (effect_weaken (λ image left. shut-leaves c.in_ok-master.master tolds image here.standing.entries.count left) (c.settle_in.ensures.crash t tolds here))
+returns-in_err-settle_in-clause-crash g c t settled fixed tolds is =
+    let here : AreStores (g.D.Device.disk c.open_master.new.dev) (shut c.in_ok-master.master) tolds = c.in_ok-master.ensures.stands t settled fixed tolds is in
+    effect_then (c.open_master.ensures.crash t settled fixed tolds is)
+    (effect_weaken (λ image left. shut-leaves c.args.number fixed c.in_ok-master.master tolds image here.standing.entries.count left)
+    (subst (λ (o : Fixed). Effect IsOurs (LeavesStores o (sealed_at (shut c.in_ok-master.master) tolds) tolds) (g.D.Device.disk c.open_master.new.dev) (g.D.Device.disk c.settle_in.new.dev)) (c.in_ok-master.ensures.fixed t fixed tolds is) (c.settle_in.ensures.crash t tolds here)))
 
 pub returns-clause-stands : goal.returns-clause-stands
-returns-clause-stands g c t settled tolds is =
-    let here : AreStores (g.D.Device.disk c.open_master.new.dev) (shut c.in_ok-master.master) tolds = c.in_ok-master.ensures.stands t settled tolds is in
+returns-clause-stands g c t settled fixed tolds is =
+    let here : AreStores (g.D.Device.disk c.open_master.new.dev) (shut c.in_ok-master.master) tolds = c.in_ok-master.ensures.stands t settled fixed tolds is in
     c.in_ok-settle_in.ensures.stands t tolds here
 
 pub returns-clause-crash : goal.returns-clause-crash
-returns-clause-crash g c t settled tolds is =
-    let here : AreStores (g.D.Device.disk c.open_master.new.dev) (shut c.in_ok-master.master) tolds = c.in_ok-master.ensures.stands t settled tolds is in
-    effect_then (c.open_master.ensures.crash t settled tolds is)
-    (effect_weaken (λ image left. shut-leaves c.in_ok-master.master tolds image here.standing.entries.count left) (c.settle_in.ensures.crash t tolds here))
+returns-clause-crash g c t settled fixed tolds is =
+    let here : AreStores (g.D.Device.disk c.open_master.new.dev) (shut c.in_ok-master.master) tolds = c.in_ok-master.ensures.stands t settled fixed tolds is in
+    effect_then (c.open_master.ensures.crash t settled fixed tolds is)
+    (effect_weaken (λ image left. shut-leaves c.args.number fixed c.in_ok-master.master tolds image here.standing.entries.count left)
+    (subst (λ (o : Fixed). Effect IsOurs (LeavesStores o (sealed_at (shut c.in_ok-master.master) tolds) tolds) (g.D.Device.disk c.open_master.new.dev) (g.D.Device.disk c.settle_in.new.dev)) (c.in_ok-master.ensures.fixed t fixed tolds is) (c.settle_in.ensures.crash t tolds here)))
+
+pub returns-clause-fixed : goal.returns-clause-fixed
+returns-clause-fixed g c t fixed tolds is = c.in_ok-settle_in.ensures.fixed ∙ c.in_ok-master.ensures.fixed t fixed tolds is

@@ -24,7 +24,7 @@ returns-in_err-put-clause-crash g c t tolds told new is may =
     let e : Entry = c.store_at-number.ensures.0 in
     let there : slice_get s.master.record.databases c.args.at ≡ Some e = search rules in
     let next_is : c.in_ok-next.next ≡ swapped s.master.record c.args.at c.args.entry e.store c.args.paths.now = search rules in
-    subst (λ (k : Kept). Swaps k tolds c.args.at new a b) c.self.view_is (swapped-crash s tolds c.args.at told new e c.args.entry c.args.slot c.args.paths.now c.in_ok-next.next c.requires.small next_is there here its (c.put.ensures.crash t))
+    subst (λ (k : Kept). Swaps k tolds c.args.at c.args.entry.is_stored new a b) c.self.view_is (swapped-crash s tolds c.args.at told new e c.args.entry c.args.slot c.args.paths.now c.in_ok-next.next c.requires.small next_is there here its (c.put.ensures.crash t))
 
 pub returns-clause-stands : goal.returns-clause-stands
 returns-clause-stands g c t tolds told new is may =
@@ -50,7 +50,7 @@ returns-clause-crash g c t tolds told new is may =
     let e : Entry = c.store_at-number.ensures.0 in
     let there : slice_get s.master.record.databases c.args.at ≡ Some e = search rules in
     let next_is : c.in_ok-next.next ≡ swapped s.master.record c.args.at c.args.entry e.store c.args.paths.now = search rules in
-    subst (λ (k : Kept). Swaps k tolds c.args.at new a b) c.self.view_is (swapped-crash s tolds c.args.at told new e c.args.entry c.args.slot c.args.paths.now c.in_ok-next.next c.requires.small next_is there here its (c.put.ensures.crash t))
+    subst (λ (k : Kept). Swaps k tolds c.args.at c.args.entry.is_stored new a b) c.self.view_is (swapped-crash s tolds c.args.at told new e c.args.entry c.args.slot c.args.paths.now c.in_ok-next.next c.requires.small next_is there here its (c.put.ensures.crash t))
 
 pub returns-clause-standing : goal.returns-clause-standing
 returns-clause-standing g c t =

@@ -5,8 +5,10 @@ use Rattle.bk_master.specs.declared.record.Record.{Record}
 use Rattle.bk_master.specs.Spelling.{KeepsRecord}
 use Rattle.bk_stores.specs.LessLaws.{length-less-same, less-keeps}
 use Rattle.bk_stores.specs.Records.{left_out, unfinished_at}
-use Rattle.bk_stores.specs.Stores.{AreStores}
+use Rattle.bk_stores.specs.Stores.{AreStores, fixed_of}
+use Rattle.bk_stores.proofs.LeftOut.{less-fixed}
 use Rattle.bk_stores.proofs.Aside.{aside-crash, aside-stands, drops-then, left-aside}
+use Rattle.bk_stores.proofs.Created.{on-ok}
 use Rattle.bk_stores.proofs.stores.Stores.remove.Goals as goal
 
 pub returns-in_err-number-clause-crash : goal.returns-in_err-number-clause-crash
@@ -19,8 +21,9 @@ returns-in_err-remove_parts-clause-crash g c t tolds told is may =
     let n = c.in_ok-number.number in
     let unfinished : then.master.record.unfinished ≡ unfinished_at n c.args.paths.now ∷ [] = search rules in
     let slots : then.slots ≡ remove c.args.self.now.slots c.args.at = search rules in
+    let own = ap fixed_of c.in_ok-number.ensures.record.3 ∙ less-fixed c.args.self.now.master.record c.args.at c.in_ok-number.number c.args.paths.now in
     let here = c.in_ok-number.ensures.stands t tolds told is may in
-    drops-then c.args.self.now then tolds c.args.at (disk c.args.dev.now) (disk c.leave_out.new.dev) (disk c.remove_parts.new.dev) slots (c.leave_out.ensures.crash t tolds told is may)
+    drops-then c.args.self.now then tolds c.args.at (disk c.args.dev.now) (disk c.leave_out.new.dev) (disk c.remove_parts.new.dev) own slots (c.leave_out.ensures.crash t tolds told is may)
     (aside-crash then (remove tolds c.args.at) n c.args.paths.now unfinished here (c.remove_parts.ensures.crash t))
 
 pub rest-requires-clause-keeps : goal.rest-requires-clause-keeps
@@ -64,6 +67,9 @@ returns-clause-standing g c t =
     let slots : then.slots ≡ remove s.slots c.args.at = search rules in
     c.rest.ensures.standing t (left-aside s then c.args.at it.0 n c.args.paths.now it.1 it.2 same slots c.requires.inside (c.requires.standing t).numbers (c.requires.unused t) (c.in_ok-number.ensures.standing t) (c.remove_parts.ensures.crash t))
 
+pub returns-clause-fixed : goal.returns-clause-fixed
+returns-clause-fixed g c = on-ok c.rest.result (λ same. same ∙ ap fixed_of c.in_ok-number.ensures.record.3 ∙ less-fixed c.args.self.now.master.record c.args.at c.in_ok-number.number c.args.paths.now) c.rest.ensures.fixed
+
 pub returns-clause-stands : goal.returns-clause-stands
 returns-clause-stands g c t tolds told is may =
     let disk = g.D.Device.disk in
@@ -89,5 +95,6 @@ returns-clause-crash g c t tolds told is may =
     let here = c.in_ok-number.ensures.stands t tolds told is may in
     let after : AreStores (disk c.remove_parts.new.dev) then (remove tolds c.args.at) = aside-stands then (remove tolds c.args.at) n c.args.paths.now unfinished below here (c.remove_parts.ensures.crash t) in
     let slots : then.slots ≡ remove c.args.self.now.slots c.args.at = search rules in
-    drops-then c.args.self.now then tolds c.args.at (disk c.args.dev.now) (disk c.leave_out.new.dev) (disk c.rest.new.dev) slots (c.leave_out.ensures.crash t tolds told is may)
+    let own = ap fixed_of it.3 ∙ less-fixed c.args.self.now.master.record c.args.at c.in_ok-number.number c.args.paths.now in
+    drops-then c.args.self.now then tolds c.args.at (disk c.args.dev.now) (disk c.leave_out.new.dev) (disk c.rest.new.dev) own slots (c.leave_out.ensures.crash t tolds told is may)
     (effect_then (aside-crash then (remove tolds c.args.at) n c.args.paths.now unfinished here (c.remove_parts.ensures.crash t)) (c.rest.ensures.crash t (remove tolds c.args.at) after))

@@ -3,7 +3,7 @@ use Rattle.bk_device.specs.Effects.{Effect}
 use Rattle.bk_stores.specs.Records.{rested}
 use Rattle.bk_stores.specs.StandLaws.{rest-crash}
 use Rattle.bk_stores.specs.Standing.{AreStanding}
-use Rattle.bk_stores.specs.Stores.{AreStores, IsOurs, Kept, LeavesStores, sealed_at}
+use Rattle.bk_stores.specs.Stores.{AreStores, IsOurs, Kept, LeavesStores, sealed_at, fixed_of}
 use Rattle.bk_stores.proofs.Rested.{rested-crash, rested-put, rested-stands}
 use Rattle.bk_stores.proofs.stores.Stores.rest.Goals as goal
 
@@ -17,7 +17,7 @@ returns-in_err-put-clause-crash g c t tolds is =
     let s : Kept = record { master = c.self.inside.master; slots = c.self.inside.slots.items } in
     let here = subst (λ (k : Kept). AreStores a k tolds) (sym c.self.view_is) is in
     let next_is : c.in_ok-next.next ≡ rested c.self.inside.master.record c.self.inside.master.record.databases = search rules in
-    subst (λ (k : Kept). Effect IsOurs (LeavesStores (sealed_at k tolds) tolds) a b) c.self.view_is (rested-crash s tolds c.in_ok-next.next next_is here (c.put.ensures.crash t))
+    subst (λ (k : Kept). Effect IsOurs (LeavesStores (fixed_of k.master.record) (sealed_at k tolds) tolds) a b) c.self.view_is (rested-crash s tolds c.in_ok-next.next next_is here (c.put.ensures.crash t))
 
 pub returns-clause-stands : goal.returns-clause-stands
 returns-clause-stands g c t tolds is =
@@ -34,7 +34,7 @@ returns-clause-crash g c t tolds is =
     let s : Kept = record { master = c.self.inside.master; slots = c.self.inside.slots.items } in
     let here = subst (λ (k : Kept). AreStores a k tolds) (sym c.self.view_is) is in
     let next_is : c.in_ok-next.next ≡ rested c.self.inside.master.record c.self.inside.master.record.databases = search rules in
-    subst (λ (k : Kept). Effect IsOurs (LeavesStores (sealed_at k tolds) tolds) a b) c.self.view_is (rested-crash s tolds c.in_ok-next.next next_is here (c.put.ensures.crash t))
+    subst (λ (k : Kept). Effect IsOurs (LeavesStores (fixed_of k.master.record) (sealed_at k tolds) tolds) a b) c.self.view_is (rested-crash s tolds c.in_ok-next.next next_is here (c.put.ensures.crash t))
 
 pub returns-clause-standing : goal.returns-clause-standing
 returns-clause-standing g c t is =

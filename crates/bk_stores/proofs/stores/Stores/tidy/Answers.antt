@@ -7,7 +7,7 @@ use Rattle.bk_stores.specs.Loading.{IsOfAny}
 use Rattle.bk_stores.specs.StandLaws.{rest-crash}
 use Rattle.bk_stores.specs.Standing.{AreStanding}
 use Rattle.bk_stores.specs.StandingLaws.{shut-beside}
-use Rattle.bk_stores.specs.Stores.{AreStores, IsOurs, Kept, LeavesStores, sealed_at}
+use Rattle.bk_stores.specs.Stores.{AreStores, IsOurs, Kept, LeavesStores, sealed_at, fixed_of}
 use Rattle.bk_stores.proofs.Any.{any-crash, any-keeps-master, any-stands}
 use Rattle.bk_stores.proofs.stores.Stores.tidy.Goals as goal
 
@@ -23,7 +23,7 @@ returns-in_err-remove_all-clause-crash g c t tolds is =
     let us_are : c.as_slice-2.result.now ≡ s.master.record.unfinished = search rules in
     let effect : Effect (IsOfAny s.master.record.unfinished) (λ _. Unit {0}) a b = subst (λ (us : List Unfinished). Effect (IsOfAny us) (λ _. Unit {0}) a b) us_are (c.remove_all.ensures.crash t) in
     let here = subst (λ (k : Kept). AreStores a k tolds) (sym c.self.view_is) is in
-    subst (λ (k : Kept). Effect IsOurs (LeavesStores (sealed_at k tolds) tolds) a b) c.self.view_is (any-crash s tolds here effect)
+    subst (λ (k : Kept). Effect IsOurs (LeavesStores (fixed_of k.master.record) (sealed_at k tolds) tolds) a b) c.self.view_is (any-crash s tolds here effect)
 
 pub rest-requires-clause-master : goal.rest-requires-clause-master
 rest-requires-clause-master g c t =
@@ -58,7 +58,7 @@ returns-clause-crash g c t tolds is =
     let effect : Effect (IsOfAny s.master.record.unfinished) (λ _. Unit {0}) a b = subst (λ (us : List Unfinished). Effect (IsOfAny us) (λ _. Unit {0}) a b) us_are (c.remove_all.ensures.crash t) in
     let here = subst (λ (k : Kept). AreStores a k tolds) (sym c.self.view_is) is in
     let after : AreStores b c.args.self.now tolds = subst (λ (k : Kept). AreStores b k tolds) c.self.view_is (any-stands s tolds here effect) in
-    effect_then (subst (λ (k : Kept). Effect IsOurs (LeavesStores (sealed_at k tolds) tolds) a b) c.self.view_is (any-crash s tolds here effect)) (c.rest.ensures.crash t tolds after)
+    effect_then (subst (λ (k : Kept). Effect IsOurs (LeavesStores (fixed_of k.master.record) (sealed_at k tolds) tolds) a b) c.self.view_is (any-crash s tolds here effect)) (c.rest.ensures.crash t tolds after)
 
 pub returns-then-is_empty-clause-standing : goal.returns-then-is_empty-clause-standing
 returns-then-is_empty-clause-standing g c t numbers shut = record { master = c.requires.master t; numbers = numbers; stores = shut-beside c.args.self.now.master.record.databases c.args.self.now.slots shut }
