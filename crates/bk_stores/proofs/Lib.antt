@@ -6,7 +6,9 @@ mod Created
 mod LeftOut
 mod Loaded
 mod Named
+mod Noted
 mod Opened
 mod Owned
+mod Parked
 mod Rested
 mod Swapped

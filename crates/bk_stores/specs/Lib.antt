@@ -9,6 +9,7 @@ pub mod SlotLaws
 pub mod StandLaws
 pub mod AddLaws
 pub mod Making
+pub mod Parking
 pub mod LessLaws
 pub mod ChangeLaws
 pub mod Standing

@@ -36,7 +36,8 @@ master-apart db files name master own =
       | inr side ↦ elim (own_letter db files name side) [ inl b ↦ absurd (omega (arith, first, b)) | inr p ↦ absurd (omega (arith, first, p)) ]
     ]
 
-none-data : (name : List ℕ) → IsData (names_of []) name → ⊥
+-- no name is that of a data file where there is none
+pub none-data : (name : List ℕ) → IsData (names_of []) name → ⊥
 none-data name its = none its.0 its.1
   where
     none : (file : ℕ) → name_of (names_of []) file ≡ Some name → ⊥

@@ -1,12 +1,14 @@
 // Why a call on the stores of an instance gave nothing.
 ghost use Rattle.std.specs.Prelude.{◌≡◌};
-ghost use Rattle.bk_stores.specs.Errors.{FromFill, FromMaster, FromOpen, FromStore};
+ghost use Rattle.bk_stores.specs.Errors.{FromFill, FromLog, FromMaster, FromNote, FromOpen, FromStore};
 ghost use Rattle.bk_stores.specs.declared.error.StoresError.TheVariants.{Fault, NoMemory};
 
 use bk_device::Failed;
 use bk_filling::FillError;
 use bk_master::MasterError;
+use bk_reading::Unread;
 use bk_reopening::OpenError;
+use bk_segments::LogError;
 use bk_store::StoreError;
 use std::alloc::{AllocError, AllocFailed};
 use thiserror::Error;
@@ -95,6 +97,29 @@ impl From<OpenError> for StoresError {
             OpenError::Foreign => StoresError::Broken,
             OpenError::Fault => StoresError::Fault,
             OpenError::NoMemory => StoresError::NoMemory,
+        }
+    }
+}
+
+impl From<LogError> for StoresError {
+    ghost from_gives = { FromLog };
+
+    fn from(error: LogError) -> Self {
+        match error {
+            LogError::Foreign => StoresError::Broken,
+            LogError::Fault => StoresError::Fault,
+            LogError::NoMemory => StoresError::NoMemory,
+        }
+    }
+}
+
+impl From<Unread> for StoresError {
+    ghost from_gives = { FromNote };
+
+    fn from(error: Unread) -> Self {
+        match error {
+            Unread::Unspelled => StoresError::Broken,
+            Unread::NoMemory => StoresError::NoMemory,
         }
     }
 }
