@@ -1,20 +1,19 @@
 -- What a crash leaves of hosted databases, from what it leaves of their stores.
-use Rattle.std.proofs.Common.{◌≡◌, ◌≤◌, ◌<◌, ℕ, zero, suc, Bool, true, false, List, [], ◌∷◌, drop, length, take, Some, refl, sym, ap, subst, ◌∙◌, arith}
+use Rattle.std.proofs.Common.{◌≡◌, ◌≤◌, ◌<◌, ℕ, zero, suc, Bool, true, false, List, [], ◌∷◌, drop, length, map, take, Some, refl, sym, ap, subst, ◌∙◌, arith}
 use Rattle.std.specs.Prelude.{slice_get}
 use Rattle.std.specs.List.{AllByRecursion, AllZip}
 use Rattle.std.proofs.lemmas.List.{take-append-drop}
 use Rattle.bk_device.specs.Disk.{Files}
 use Rattle.bk_facts.specs.declared.facts.DataFile.{DataFile}
 use Rattle.bk_hosted.specs.Fronts.{Waits}
-use Rattle.bk_hosted.specs.Hosted.{Hosted}
+use Rattle.bk_hosted.specs.Hosted.{Hosted, is_up}
 use Rattle.bk_master.specs.declared.record.Entry.{Entry}
 use Rattle.bk_master.specs.declared.record.Record.{Record}
 use Rattle.bk_store.specs.Told.{Told, front_of}
-use Rattle.bk_stores.specs.Stores.{AreEntries, HoldsBy, HoldsEntry, IsAt, LeavesEntry, LeavesStores, at_paths, files_by, its_files}
+use Rattle.bk_stores.specs.Stores.{AreEntries, Fixed, HoldsEntry, IsAt, LeavesEntry, LeavesStores, at_paths, files_by, its_files}
 use Rattle.bk_stores.specs.Beside.{AreApart}
-use Rattle.bk_stores.specs.ListLaws.{got, got-inside}
 use Rattle.bk_world.specs.Records.{Logged}
-use Rattle.bk_hosting.specs.Hosting.{HasRecord, LosesWaiting, LeavesHosted, Tells}
+use Rattle.bk_hosting.specs.Hosting.{AreOf, HasRecord, LosesWaiting, LeavesHosted, Tells}
 
 -- ---- records
 
@@ -126,21 +125,8 @@ zip-length R [] (b ∷ ys) zip = absurd zip
 zip-length R (a ∷ xs) [] zip = absurd zip
 zip-length R (a ∷ xs) (b ∷ ys) zip = ap suc (zip-length R xs ys zip.1)
 
--- a front with a record isn't that of a description alone
-is-stored : (e : Entry) (k : ℕ) (t : Told) (image : Files) → 1 ≤ k → 1 ≤ length t.records → HoldsEntry e (front_of k t) image → e.is_stored ≡ true
-is-stored e k t image some records holds = by e.is_stored refl holds
-  where
-    nonempty : (rs : List Logged) (n : ℕ) → 1 ≤ n → 1 ≤ length rs → take n rs ≡ [] → ⊥
-    nonempty [] n some full none = absurd (omega (arith, full))
-    nonempty (r ∷ rs) zero some full none = absurd (omega (arith, some))
-    nonempty (r ∷ rs) (suc n) some full none = cc (none)
-
-    by : (b : Bool) → e.is_stored ≡ b → HoldsBy b e.store (front_of k t) image → e.is_stored ≡ true
-    by true is held = is
-    by false is held = absurd (nonempty t.records k some records held.none)
-
 -- a front of some records, of which there are any, has one
-some-taken : {X : Type 0} (xs : List X) (n : ℕ) → 1 ≤ n → 1 ≤ length xs → 1 ≤ length (take n xs)
+pub some-taken : {X : Type 0} (xs : List X) (n : ℕ) → 1 ≤ n → 1 ≤ length xs → 1 ≤ length (take n xs)
 some-taken [] n some full = absurd (omega (arith, full))
 some-taken (x ∷ xs) zero some full = absurd (omega (arith, some))
 some-taken (x ∷ xs) (suc n) some full = omega arith
@@ -156,8 +142,16 @@ record IsGood (h : Hosted) (k : ℕ) (f : Hosted) : Type 0 where
   loses : LosesWaiting h f
   some : HasRecord f
 
-module _ (least : ℕ → ℕ) (tolds : List Told) (hosted : List Hosted) (image : Files) (left : LeavesStores least tolds image) (tells : AllZip Tells tolds hosted)
-    (may : (i : ℕ) (h : Hosted) → slice_get hosted i ≡ Some h → MayLose (least i) h) where
+-- fronts can be used where their databases can
+ups-lost : (hs fs : List Hosted) → AllZip LosesWaiting hs fs → map is_up hs ≡ map is_up fs
+ups-lost [] [] zip = refl
+ups-lost [] (f ∷ fs) zip = absurd zip
+ups-lost (h ∷ hs) [] zip = absurd zip
+ups-lost (h ∷ hs) (f ∷ fs) zip =
+    ap (λ up. up ∷ map is_up hs) (sym (ap is_up zip.0.same)) ∙ ap (λ (ups : List Bool). is_up f ∷ ups) (ups-lost hs fs zip.1)
+
+module _ (fixed : Fixed) (least : ℕ → ℕ) (tolds : List Told) (hosted : List Hosted) (image : Files) (left : LeavesStores fixed least tolds image) (stored : AreOf fixed hosted)
+    (tells : AllZip Tells tolds hosted) (may : (i : ℕ) (h : Hosted) → slice_get hosted i ≡ Some h → MayLose (least i) h) where
   abbrev entries : List Entry
   entries = left.«record».databases
 
@@ -167,7 +161,6 @@ module _ (least : ℕ → ℕ) (tolds : List Told) (hosted : List Hosted) (image
   front-left : (i : ℕ) (e : Entry) (t : Told) (h : Hosted) → IsAt entries tolds i e t → slice_get hosted i ≡ Some h → Leaves IsGood image e t h
   front-left i e t h at there =
       let its : LeavesEntry e (least i) t image = left.each i e t at in
-      let k : ℕ = its.0 in
       let loses : MayLose (least i) h = may i h there in
       let tell : Tells t h = zip-got Tells tolds hosted tells i t h at.1 there in
       record {
@@ -181,23 +174,13 @@ module _ (least : ℕ → ℕ) (tolds : List Told) (hosted : List Hosted) (image
         holds = its.2;
       }
 
-  stored-left : (i : ℕ) (e : Entry) → slice_get entries i ≡ Some e → e.is_stored ≡ true
-  stored-left i e there =
-      let inside : i < length tolds = let lt = got-inside entries i e there in let same = left.entries.count in omega (arith, lt, same) in
-      let told = got tolds i inside in
-      let host = got hosted i (let lt = inside in let same = zip-length Tells tolds hosted tells in omega (arith, lt, same)) in
-      let its : LeavesEntry e (least i) told.0 image = left.each i e told.0 (there, told.1) in
-      let loses : MayLose (least i) host.0 = may i host.0 host.1 in
-      let tell : Tells told.0 host.0 = zip-got Tells tolds hosted tells i told.0 host.0 told.1 host.1 in
-      is-stored e its.0 told.0 image (let low = loses.first in let le = its.1 in omega (arith, low, le)) (subst (λ (rs : List Logged). 1 ≤ length rs) (sym tell.records) loses.some) its.2
-
   loses-each : (hs fs : List Hosted) → AllZip (λ (h f : Hosted). (k : ℕ) × IsGood h k f) hs fs → AllZip LosesWaiting hs fs × AllByRecursion HasRecord fs
   loses-each [] [] zip = (tt, tt)
   loses-each [] (f ∷ fs) zip = absurd zip
   loses-each (h ∷ hs) [] zip = absurd zip
   loses-each (h ∷ hs) (f ∷ fs) zip = let rest = loses-each hs fs zip.1 in ((zip.0.1.loses, rest.0), (zip.0.1.some, rest.1))
 
-  pub leaves-hosted : LeavesHosted hosted image
+  pub leaves-hosted : LeavesHosted fixed.own hosted image
   leaves-hosted =
       let all : Collected IsGood image entries tolds hosted = collect IsGood image entries tolds hosted left.entries.count (zip-length Tells tolds hosted tells) front-left in
       let good = loses-each hosted all.fronts all.good in (
@@ -205,9 +188,10 @@ module _ (least : ℕ → ℕ) (tolds : List Told) (hosted : List Hosted) (image
         good.0,
         record {
           «record» = left.«record»;
+          is_own = ap (λ (f : Fixed). f.own) left.is_fixed;
           tolds = all.news;
           holds = record { is_record = left.is_record; entries = fronts-entries left.«record» tolds all.news all.count all.same left.entries; each = all.each };
-          stored = all-got (λ (e : Entry). e.is_stored ≡ true) entries stored-left;
+          stored = ap (λ (f : Fixed). f.stored) left.is_fixed ∙ stored ∙ ups-lost hosted all.fronts good.0;
           tells = all.tells;
           some = good.1;
         },

@@ -7,6 +7,7 @@ mod SaidHosted
 mod NotedHosted
 mod Checked
 mod MadeHosted
+mod Parked
 mod DroppedHosted
 mod Noted
 mod Opening

@@ -1,5 +1,5 @@
 -- Lists that change at one place together.
-use Rattle.std.proofs.Common.{◌≡◌, ℕ, zero, suc, List, [], ◌∷◌, ◌++◌, map, Some, refl, ap, subst}
+use Rattle.std.proofs.Common.{◌≡◌, ◌∙◌, ℕ, zero, suc, List, [], ◌∷◌, ◌++◌, map, Some, refl, sym, ap, subst}
 pub use Rattle.std.proofs.lemmas.List.{map-set, set-set}
 use Rattle.std.specs.Prelude.{remove, set, slice_get}
 use Rattle.std.specs.List.{AllByRecursion, AllZip}
@@ -28,6 +28,18 @@ zip-beside R [] (b ∷ ys) i y zip there = absurd zip
 zip-beside R (a ∷ xs) [] i y zip there = absurd zip
 zip-beside R (a ∷ xs) (b ∷ ys) zero y zip there = let same : b ≡ y = cc (there) in (a, refl, subst (R a) same zip.0)
 zip-beside R (a ∷ xs) (b ∷ ys) (suc i) y zip there = zip-beside R xs ys i y zip.1 there
+
+-- what is mapped of an element
+pub got-mapped : {A B : Type 0} (f : A → B) (xs : List A) (i : ℕ) (x : A) → slice_get xs i ≡ Some x → slice_get (map f xs) i ≡ Some (f x)
+got-mapped f [] i x there = absurd (cc (there))
+got-mapped f (a ∷ xs) zero x there = let same : a ≡ x = cc (there) in ap (λ y. Some (f y)) same
+got-mapped f (a ∷ xs) (suc i) x there = got-mapped f xs i x there
+
+-- another element of which the same is mapped
+pub map-same : {A B : Type 0} (f : A → B) (xs : List A) (i : ℕ) (x y : A) → slice_get xs i ≡ Some x → f y ≡ f x → map f (set xs i y) ≡ map f xs
+map-same f [] i x y there same = refl
+map-same f (a ∷ xs) zero x y there same = let own : a ≡ x = cc (there) in ap (λ b. b ∷ map f xs) (same ∙ ap f (sym own))
+map-same f (a ∷ xs) (suc i) x y there same = ap (λ (bs : List _). f a ∷ bs) (map-same f xs i x y there same)
 
 -- ---- one more, and one less
 

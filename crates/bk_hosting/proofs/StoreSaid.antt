@@ -15,7 +15,7 @@ use Rattle.bk_stores.specs.ListLaws.{got, got-inside, got-set}
 use Rattle.bk_stores.specs.SlotLaws.{entry-stored}
 use Rattle.bk_stores.specs.Standing.{AreStanding}
 use Rattle.bk_stores.specs.StandingLaws.{given, lent-called, taken}
-use Rattle.bk_stores.specs.Stores.{AreStores, IsAt, IsOfEntry, IsOpen, IsOurs, Kept, LeavesStores, files_by, sealed_at}
+use Rattle.bk_stores.specs.Stores.{AreStores, IsAt, IsOfEntry, IsOpen, IsOurs, Kept, LeavesStores, fixed_of, files_by, sealed_at}
 use Rattle.bk_hosting.specs.Hosting.{IsOpenAt}
 use Rattle.bk_hosting.specs.Saying.{NotesOn}
 use Rattle.bk_hosting.proofs.Lists.{set-set}
@@ -53,7 +53,7 @@ pub record Called (P : Files → Type 0) (a b : Disk) (store then : KeptStore) (
   pub crash : Effect (IsOwn store.paged.log.db (data_files told)) P a b
 
 pub store-crash : (a b : Disk) (s : Kept) (tolds : List Told) (at : ℕ) (told new : Told) (store : KeptStore) → AreStores a s tolds → slice_get tolds at ≡ Some told → slice_get s.slots at ≡ Some (Some store) → data_files new ≡ data_files told
-    → Crashes store new a b → Effect IsOurs (LeavesStores (sealed_at s tolds) (set tolds at new)) a b
+    → Crashes store new a b → Effect IsOurs (LeavesStores (fixed_of s.master.record) (sealed_at s tolds) (set tolds at new)) a b
 store-crash a b s tolds at told new store is here filled same crash =
     let here' = open-at a s tolds at told store is here filled in
     let effect : Effect (IsOwn store.paged.log.db (data_files told)) (λ image. LeavesRecords store.paged.log.db (sealed_in store) new image) a b =

@@ -3,6 +3,7 @@
 use Rattle.std.specs.Prelude.{◌⊎◌, ℕ, List, set}
 use Rattle.bk_device.specs.Disk.{Files}
 use Rattle.bk_hosted.specs.Hosted.{Hosted, awaiting, saying}
+use Rattle.bk_master.specs.declared.record.Own.{Own}
 use Rattle.bk_store.specs.Told.{Told}
 use Rattle.bk_world.specs.Cut.{end_behind}
 use Rattle.bk_world.specs.Records.{checkpointed, numbered}
@@ -23,5 +24,5 @@ abbrev pub checked : Hosted → ℕ → ℕ → Hosted
 checked h time kept = saying (alone (checkpointed time)) h.transactions (to_check h kept)
 
 -- a crash leaves the databases as before, or one with a checkpoint noted, or made
-abbrev pub LeavesChecked : List Hosted → ℕ → Hosted → ℕ → ℕ → Files → Type 0
-LeavesChecked hosted at h time kept image = LeavesHosted hosted image ⊎ (LeavesHosted (set hosted at (to_check h kept)) image ⊎ LeavesHosted (set hosted at (checked h time kept)) image)
+abbrev pub LeavesChecked : Own → List Hosted → ℕ → Hosted → ℕ → ℕ → Files → Type 0
+LeavesChecked own hosted at h time kept image = LeavesHosted own hosted image ⊎ (LeavesHosted own (set hosted at (to_check h kept)) image ⊎ LeavesHosted own (set hosted at (checked h time kept)) image)

@@ -2,4 +2,5 @@ pub mod Hosting
 pub mod Saying
 pub mod Checkpointing
 pub mod Making
+pub mod Parking
 pub mod Loading

@@ -8,7 +8,7 @@ use Rattle.bk_points.specs.Points.{IsPoints, points_bytes}
 use Rattle.bk_shown.specs.Shown.{AreNext}
 use Rattle.bk_store.specs.Store.{Kept as KeptStore}
 use Rattle.bk_store.specs.Told.{Told, files_of}
-use Rattle.bk_stores.specs.Stores.{IsOurs, Kept as KeptStores, LeavesStores, sealed_at}
+use Rattle.bk_stores.specs.Stores.{IsOurs, Kept as KeptStores, LeavesStores, fixed_of, sealed_at}
 use Rattle.bk_undo.specs.Spelled.{spelled}
 use Rattle.bk_world.specs.Records.{Logged}
 
@@ -28,7 +28,7 @@ pub record SealsUpTo (lasting : Bool) (s then : KeptStore) : Type 0 where
 
 -- a crash leaves fronts of the databases that there were, or of these with another in a place
 abbrev pub NotesOn : KeptStores → List Told → ℕ → Told → Disk → Disk → Type 0
-NotesOn s tolds at new old after = Effect IsOurs (λ image. LeavesStores (sealed_at s tolds) tolds image ⊎ LeavesStores (sealed_at s tolds) (set tolds at new) image) old after
+NotesOn s tolds at new old after = Effect IsOurs (λ image. LeavesStores (fixed_of s.master.record) (sealed_at s tolds) tolds image ⊎ LeavesStores (fixed_of s.master.record) (sealed_at s tolds) (set tolds at new) image) old after
 
 -- a database whose note spells these points
 abbrev pub pointing : Told → Points → Told
@@ -37,4 +37,4 @@ pointing told points = record told { note = points_bytes points }
 -- so where its note spells these points, which have a spelling
 abbrev pub NotesPoints : KeptStores → List Told → ℕ → Told → Points → Disk → Disk → Type 0
 NotesPoints s tolds at told points old after =
-    Effect IsOurs (λ image. LeavesStores (sealed_at s tolds) tolds image ⊎ (IsPoints points × LeavesStores (sealed_at s tolds) (set tolds at (pointing told points)) image)) old after
+    Effect IsOurs (λ image. LeavesStores (fixed_of s.master.record) (sealed_at s tolds) tolds image ⊎ (IsPoints points × LeavesStores (fixed_of s.master.record) (sealed_at s tolds) (set tolds at (pointing told points)) image)) old after

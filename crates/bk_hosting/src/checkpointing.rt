@@ -1,15 +1,16 @@
 // A checkpoint of a hosted database.
-ghost use Rattle.std.specs.Prelude.{◌≡◌, ◌≤◌, ◌<◌, ◌+◌, ◌^◌, false, List, None, Some, length, set, slice_get, OnOk, IsErrOf};
+ghost use Rattle.std.specs.Prelude.{◌≡◌, ◌≤◌, ◌<◌, ◌+◌, ◌^◌, false, List, None, Some, length, set, slice_get, IfErr, OnOk, IsErrOf};
 ghost use Rattle.bk_device.specs.Counts.{HasCause};
 ghost use Rattle.bk_device.specs.Effects.{Effect};
 ghost use Rattle.bk_hosted.specs.Hosted.{Hosted};
 ghost use Rattle.bk_paged.specs.Paged.{Standing, Touches};
 ghost use Rattle.bk_store.specs.Store.{Crashes, IsStore, Kept as KeptStore};
 ghost use Rattle.bk_store.specs.Told.{Told};
+ghost use Rattle.bk_stores.specs.Errors.{IsTrouble};
 ghost use Rattle.bk_stores.specs.Standing.{AreStanding};
-ghost use Rattle.bk_stores.specs.Stores.{AreStores, IsOurs, IsReady as AreReady, LeavesStores, sealed_at};
+ghost use Rattle.bk_stores.specs.Stores.{AreStores, IsOurs, IsReady as AreReady, LeavesStores, fixed_of, sealed_at};
 ghost use Rattle.bk_hosting.specs.Checkpointing.{LeavesChecked, checked, marked};
-ghost use Rattle.bk_hosting.specs.Hosting.{IsHosting, IsOpenAt, IsReady};
+ghost use Rattle.bk_hosting.specs.Hosting.{IsHosting, IsOpenAt, IsReady, own_of};
 
 use crate::hosting::Hosting;
 use crate::noting::points_on;
@@ -64,7 +65,8 @@ fn mark_on<D: Device>(
     ensures standing { D.tells → OnOk result (AreStanding (D.disk dev.new) stores.new) }
     ensures stands { D.tells → (tolds : List Told) (told : Told) → AreStores (D.disk dev.old) stores.old tolds → slice_get tolds at ≡ Some told → OnOk result (AreStores (D.disk dev.new) stores.new (set tolds at (marked told time))) }
     ensures crash { D.tells → (tolds : List Told) (told : Told) → AreStores (D.disk dev.old) stores.old tolds → slice_get tolds at ≡ Some told
-        → Effect IsOurs (LeavesStores (sealed_at stores.old tolds) (set tolds at (marked told time))) (D.disk dev.old) (D.disk dev.new) }
+        → Effect IsOurs (LeavesStores (fixed_of stores.old.master.record) (sealed_at stores.old tolds) (set tolds at (marked told time))) (D.disk dev.old) (D.disk dev.new) }
+    ensures trouble { IfErr result IsTrouble }
     ensures cause { HasCause D.disk_faults D.tell_faults dev.old dev.new (IsErrOf result StoresError.Fault) }
 {
     let Some(mut store) = stores.take(at) else {
@@ -99,7 +101,7 @@ impl Hosting {
     /// holds then, and its record is said; all that the database has said is durable then, and so is each page. Then its log is cut there, where nothing below is needed. A crash leaves the databases as before,
     /// but for what waited, or this one with the checkpoint noted, or with its record.
     ///
-    /// Where there is no number for the record the call ends as if memory were wanting.
+    /// Only `Fault` and `NoMemory` are answered. Where there is no number for the record, or the database is being restored, the call ends as if memory were wanting.
     pub fn checkpoint<D: Device>(
         &mut self,
         alloc: Global,
@@ -112,9 +114,11 @@ impl Hosting {
         requires inside { at < length self.old.states }
         requires standing { D.tells → AreStanding (D.disk dev.old) self.old.stores }
         ensures ready { OnOk result (IsReady self.new) }
+        ensures own { OnOk result (own_of self.new ≡ own_of self.old) }
         ensures standing { D.tells → OnOk result (AreStanding (D.disk dev.new) self.new.stores) }
         ensures stands { D.tells → (hosted : List Hosted) (h : Hosted) → IsHosting (D.disk dev.old) self.old hosted → slice_get hosted at ≡ Some h → OnOk result (IsHosting (D.disk dev.new) self.new (set hosted at (checked h time kept))) }
-        ensures crash { D.tells → (hosted : List Hosted) (h : Hosted) → IsHosting (D.disk dev.old) self.old hosted → slice_get hosted at ≡ Some h → Effect IsOurs (LeavesChecked hosted at h time kept) (D.disk dev.old) (D.disk dev.new) }
+        ensures crash { D.tells → (hosted : List Hosted) (h : Hosted) → IsHosting (D.disk dev.old) self.old hosted → slice_get hosted at ≡ Some h → Effect IsOurs (LeavesChecked (own_of self.old) hosted at h time kept) (D.disk dev.old) (D.disk dev.new) }
+        ensures trouble { IfErr result IsTrouble }
         ensures cause { HasCause D.disk_faults D.tell_faults dev.old dev.new (IsErrOf result StoresError.Fault) }
     {
         let Some(store) = self.stores.store(at) else {

@@ -2,6 +2,7 @@
 ghost use Rattle.bk_hosting.specs.Hosting.{Kept};
 
 use bk_ids::Sequence;
+use bk_known::Known;
 use bk_points::Points;
 use bk_stores::Stores;
 use bk_world::Open;
@@ -14,9 +15,11 @@ pub struct State {
     pub points: Points,
     /// What is open in it, in the order in which it began.
     pub transactions: Sequence<Open>,
+    /// What is known of it as of its end, while it is being restored: its store isn't open then.
+    pub known: Option<Known>,
 }
 
-/// The databases of an instance on its device, in their order: each an open store, and what is kept beside it.
+/// The databases of an instance on its device, in their order: each an open store, and what is kept beside it; of one that is being restored only that.
 ///
 /// Once a call that took the value by `&mut` has answered an error it is no longer used.
 #[derive(Drop)]

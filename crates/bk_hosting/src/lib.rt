@@ -8,6 +8,7 @@ mod loading;
 mod logging;
 mod making;
 mod noting;
+mod parking;
 mod saying;
 mod states;
 

@@ -1,15 +1,16 @@
 // A hosted database says something.
-ghost use Rattle.std.specs.Prelude.{◌≡◌, ◌<◌, List, Some, length, set, slice_get, OnOk, IsErrOf};
+ghost use Rattle.std.specs.Prelude.{◌≡◌, ◌<◌, true, List, Some, length, set, slice_get, IfErr, OnOk, IsErrOf};
 ghost use Rattle.std.specs.List.{AllByRecursion};
 ghost use Rattle.bk_device.specs.Counts.{HasCause};
 ghost use Rattle.bk_device.specs.Effects.{Effect};
 ghost use Rattle.bk_hosted.specs.Hosted.{Hosted, saying};
 ghost use Rattle.bk_ids.specs.declared.record.Rec.{Rec as Recs};
 ghost use Rattle.bk_record.specs.Spelling.{KeepsLimits};
+ghost use Rattle.bk_stores.specs.Errors.{IsTrouble};
 ghost use Rattle.bk_stores.specs.Standing.{AreStanding};
 ghost use Rattle.bk_stores.specs.Stores.{IsOurs};
 ghost use Rattle.bk_world.specs.Records.{Said};
-ghost use Rattle.bk_hosting.specs.Hosting.{IsHosting, IsReady, LeavesSaid, MaySayNow};
+ghost use Rattle.bk_hosting.specs.Hosting.{IsHosting, IsReady, IsSealedAt, LeavesSaid, MaySayNow, own_of};
 
 use crate::hosting::Hosting;
 use crate::saying::say_on;
@@ -23,7 +24,7 @@ impl Hosting {
     /// The database at this place, which counts from 0, says these records at its end, and then these transactions are open. Where it is to last, all that it has said is durable then; else it waits in
     /// memory. A crash leaves the databases as before, but for what waited, or this one with a front of what it says.
     ///
-    /// Where they may not come next the call ends as if memory were wanting.
+    /// Only `Fault` and `NoMemory` are answered. Where the records may not come next, or the database is being restored, the call ends as if memory were wanting.
     pub fn log<D: Device>(
         &mut self,
         alloc: Global,
@@ -38,13 +39,19 @@ impl Hosting {
         requires limits { AllByRecursion (λ (r : Recs). KeepsLimits r.body) records.now }
         requires standing { D.tells → AreStanding (D.disk dev.old) self.old.stores }
         ensures ready { OnOk result (IsReady self.new) }
+        ensures own { OnOk result (own_of self.new ≡ own_of self.old) }
+        ensures lasts { lasting ≡ true → OnOk result (IsSealedAt self.new.stores.slots at) }
         ensures standing { D.tells → OnOk result (AreStanding (D.disk dev.new) self.new.stores) }
         ensures stands { D.tells → (hosted : List Hosted) (h : Hosted) (said : List Said) → IsHosting (D.disk dev.old) self.old hosted → slice_get hosted at ≡ Some h → MaySayNow h said transactions records.now lasting
             → OnOk result (IsHosting (D.disk dev.new) self.new (set hosted at (saying said transactions h))) }
         ensures crash { D.tells → (hosted : List Hosted) (h : Hosted) (said : List Said) → IsHosting (D.disk dev.old) self.old hosted → slice_get hosted at ≡ Some h → MaySayNow h said transactions records.now lasting
-            → Effect IsOurs (LeavesSaid hosted at h said transactions) (D.disk dev.old) (D.disk dev.new) }
+            → Effect IsOurs (LeavesSaid (own_of self.old) hosted at h said transactions) (D.disk dev.old) (D.disk dev.new) }
+        ensures trouble { IfErr result IsTrouble }
         ensures cause { HasCause D.disk_faults D.tell_faults dev.old dev.new (IsErrOf result StoresError.Fault) }
     {
+        if !self.is_open(at) {
+            return Err(StoresError::NoMemory);
+        }
         say_on(&mut self.stores, alloc, dev, at, records, lasting)?;
         self.states[at].transactions = transactions;
         Ok(())

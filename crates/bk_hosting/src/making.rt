@@ -6,11 +6,11 @@ ghost use Rattle.bk_hosted.specs.Hosted.{Hosted, first_points};
 ghost use Rattle.bk_store.specs.Making.{MayDescribe};
 ghost use Rattle.bk_master.specs.Spelling.{IsShortPath};
 ghost use Rattle.bk_stores.specs.Records.{AreSmall};
-ghost use Rattle.bk_store.specs.Store.{Kept as KeptStore};
+ghost use Rattle.bk_stores.specs.Errors.{IsTrouble};
 ghost use Rattle.bk_stores.specs.Standing.{AreStanding, AreUnused};
 ghost use Rattle.bk_stores.specs.Stores.{IsOurs, at_paths};
-ghost use Rattle.bk_hosting.specs.Hosting.{IsHosting, IsReady, LeavesEither};
-ghost use Rattle.bk_hosting.specs.Making.{HaveNoFile, newly};
+ghost use Rattle.bk_hosting.specs.Hosting.{IsHosting, IsReady, LeavesEither, own_of};
+ghost use Rattle.bk_hosting.specs.Making.{ArePathsAt, HaveNoFile, newly};
 
 use crate::hosting::{Hosting, State};
 use bk_device::Device;
@@ -24,7 +24,7 @@ use std::alloc::{AllocError, Global};
 
 // What is kept of a database that was just made with these files.
 pub(crate) fn first_state(alloc: Global, files: &[FileSpec]) -> Result<State, AllocError>
-    ensures { IfOk result (λ s. s ≡ record { points = first_points files.now; transactions = [] }) }
+    ensures { IfOk result (λ s. s ≡ record { points = first_points files.now; transactions = []; known = None }) }
 {
     let mut units = Vec::new(alloc);
     for file in files {
@@ -47,6 +47,7 @@ pub(crate) fn first_state(alloc: Global, files: &[FileSpec]) -> Result<State, Al
             units: Sequence::new(units),
         },
         transactions: Sequence::new(Vec::new(alloc)),
+        known: None,
     })
 }
 
@@ -79,7 +80,7 @@ fn are_small(paths: &[Text]) -> bool
 impl Hosting {
     // What is kept of one more database with these files, where there is room for it, and no open store has one of them.
     fn room_for(&self, alloc: Global, files: &[FileSpec]) -> Result<State, StoresError>
-        ensures state { IfOk result (λ s. s ≡ record { points = first_points files.now; transactions = [] }) }
+        ensures state { IfOk result (λ s. s ≡ record { points = first_points files.now; transactions = []; known = None }) }
         ensures few { OnOk result (length self.now.stores.slots < 16) }
         ensures unused { OnOk result (AreUnused self.now.stores.slots (at_paths (map (λ f. f.path) files.now))) }
         ensures memory { IfErr result (λ e. e ≡ StoresError.NoMemory) }
@@ -91,15 +92,15 @@ impl Hosting {
         Ok(first_state(alloc, files)?)
     }
 
-    // The paths of the data files of the database at this place.
-    fn paths_at(&self, alloc: Global, at: usize) -> Result<Vec<Text>, StoresError>
+    /// The paths of the data files of the database at this place: none while it is being restored.
+    pub(crate) fn paths_at(&self, alloc: Global, at: usize) -> Result<Vec<Text>, StoresError>
         requires inside { at < length self.now.stores.slots }
         ensures small { IfOk result (λ paths. AreSmall paths.items) }
-        ensures paths { IfOk result (λ paths. (s : KeptStore) × (slice_get self.now.stores.slots at ≡ Some (Some s)) × (paths.items ≡ map (λ f. f.path) s.paged.facts.files)) }
+        ensures paths { IfOk result (λ paths. ArePathsAt self.now.stores.slots at paths.items) }
         ensures memory { IfErr result (λ e. e ≡ StoresError.NoMemory) }
     {
         let Some(store) = self.stores.store(at) else {
-            return Err(StoresError::NoMemory);
+            return Ok(Vec::new(alloc));
         };
         let paths = data_paths(alloc, store.files())?;
         if !are_small(&paths) {
@@ -112,7 +113,7 @@ impl Hosting {
     /// nothing is open in it. Pages are kept in so many frames, at least one. Where no database has a data file at one of its paths, a crash leaves the databases as before, but for what waits, or these and the
     /// new one.
     ///
-    /// Where there are 16 databases, or one has a data file at one of these paths, or two of these are one, the call ends as if memory were wanting.
+    /// Only `Fault` and `NoMemory` are answered. Where there are 16 databases, or one has a data file at one of these paths, or two of these are one, the call ends as if memory were wanting.
     pub fn create<D: Device>(
         &mut self,
         alloc: Global,
@@ -127,9 +128,11 @@ impl Hosting {
         requires may { MayDescribe spec }
         requires standing { D.tells → AreStanding (D.disk dev.old) self.old.stores }
         ensures ready { OnOk result (IsReady self.new) }
+        ensures own { OnOk result (own_of self.new ≡ own_of self.old) }
         ensures standing { D.tells → OnOk result (AreStanding (D.disk dev.new) self.new.stores) }
         ensures stands { D.tells → (hosted : List Hosted) → IsHosting (D.disk dev.old) self.old hosted → HaveNoFile hosted spec → OnOk result (IsHosting (D.disk dev.new) self.new (hosted ++ newly spec time branch ∷ [])) }
-        ensures crash { D.tells → (hosted : List Hosted) → IsHosting (D.disk dev.old) self.old hosted → HaveNoFile hosted spec → Effect IsOurs (LeavesEither hosted (hosted ++ newly spec time branch ∷ [])) (D.disk dev.old) (D.disk dev.new) }
+        ensures crash { D.tells → (hosted : List Hosted) → IsHosting (D.disk dev.old) self.old hosted → HaveNoFile hosted spec → Effect IsOurs (LeavesEither (own_of self.old) hosted (hosted ++ newly spec time branch ∷ [])) (D.disk dev.old) (D.disk dev.new) }
+        ensures trouble { IfErr result IsTrouble }
         ensures cause { HasCause D.disk_faults D.tell_faults dev.old dev.new (IsErrOf result StoresError.Fault) }
     {
         let state = self.room_for(alloc, spec.storage.files.as_slice())?;
@@ -138,7 +141,8 @@ impl Hosting {
         Ok(())
     }
 
-    /// Drops the database at this place, which counts from 0, with its files; the others move up. A crash leaves all databases, but for what waits, or those without it.
+    /// Drops the database at this place, which counts from 0, with its files; the others move up. A crash leaves all databases, but for what waits, or those without it. Only `Fault` and `NoMemory` are
+    /// answered.
     pub fn drop<D: Device>(
         &mut self,
         alloc: Global,
@@ -149,9 +153,11 @@ impl Hosting {
         requires inside { at < length self.old.states }
         requires standing { D.tells → AreStanding (D.disk dev.old) self.old.stores }
         ensures ready { OnOk result (IsReady self.new) }
+        ensures own { OnOk result (own_of self.new ≡ own_of self.old) }
         ensures standing { D.tells → OnOk result (AreStanding (D.disk dev.new) self.new.stores) }
         ensures stands { D.tells → (hosted : List Hosted) → IsHosting (D.disk dev.old) self.old hosted → at < length hosted → OnOk result (IsHosting (D.disk dev.new) self.new (remove hosted at)) }
-        ensures crash { D.tells → (hosted : List Hosted) → IsHosting (D.disk dev.old) self.old hosted → at < length hosted → Effect IsOurs (LeavesEither hosted (remove hosted at)) (D.disk dev.old) (D.disk dev.new) }
+        ensures crash { D.tells → (hosted : List Hosted) → IsHosting (D.disk dev.old) self.old hosted → at < length hosted → Effect IsOurs (LeavesEither (own_of self.old) hosted (remove hosted at)) (D.disk dev.old) (D.disk dev.new) }
+        ensures trouble { IfErr result IsTrouble }
         ensures cause { HasCause D.disk_faults D.tell_faults dev.old dev.new (IsErrOf result StoresError.Fault) }
     {
         let paths = self.paths_at(alloc, at)?;

@@ -6,9 +6,10 @@ ghost use Rattle.bk_hosted.specs.Hosted.{Hosted, based_points, basing, folding};
 ghost use Rattle.bk_points.specs.Points.{IsPoints, KeepsPoints, points_bytes};
 ghost use Rattle.bk_store.specs.Store.{sealed_in, Kept as KeptStore};
 ghost use Rattle.bk_store.specs.Told.{Told};
+ghost use Rattle.bk_stores.specs.Errors.{IsTrouble};
 ghost use Rattle.bk_stores.specs.Standing.{AreStanding};
 ghost use Rattle.bk_stores.specs.Stores.{AreStores, IsOurs, IsReady as AreReady, LeavesStores, sealed_at};
-ghost use Rattle.bk_hosting.specs.Hosting.{IsHosting, IsOpenAt, IsReady, LeavesEither};
+ghost use Rattle.bk_hosting.specs.Hosting.{IsHosting, IsOpenAt, IsReady, LeavesEither, own_of};
 ghost use Rattle.bk_hosting.specs.Saying.{NotesOn, NotesPoints, pointing};
 
 use crate::hosting::Hosting;
@@ -30,8 +31,8 @@ fn have_spelling(points: &Points) -> bool
     stands && points.units.as_slice().len() <= 256
 }
 
-// A note that says these points.
-fn note_of(alloc: Global, points: &Points) -> Result<Vec<u8>, StoresError>
+/// A note that says these points.
+pub(crate) fn note_of(alloc: Global, points: &Points) -> Result<Vec<u8>, StoresError>
     ensures note { IfOk result (λ note. note.items ≡ points_bytes points.now) }
     ensures spelled { OnOk result (IsPoints points.now) }
     ensures short { IfOk result (λ note. length note.items ≤ 12288) }
@@ -61,6 +62,7 @@ fn note_on<D: Device>(
     ensures standing { D.tells → OnOk result (AreStanding (D.disk dev.new) stores.new) }
     ensures stands { D.tells → (tolds : List Told) (told : Told) → AreStores (D.disk dev.old) stores.old tolds → slice_get tolds at ≡ Some told → OnOk result (AreStores (D.disk dev.new) stores.new (set tolds at (record told { note = note.now }))) }
     ensures crash { D.tells → (tolds : List Told) (told : Told) → AreStores (D.disk dev.old) stores.old tolds → slice_get tolds at ≡ Some told → NotesOn stores.old tolds at (record told { note = note.now }) (D.disk dev.old) (D.disk dev.new) }
+    ensures trouble { IfErr result IsTrouble }
     ensures cause { HasCause D.disk_faults D.tell_faults dev.old dev.new (IsErrOf result StoresError.Fault) }
 {
     let Some(mut store) = stores.take(at) else {
@@ -92,6 +94,7 @@ pub(crate) fn points_on<D: Device>(
         → OnOk result (AreStores (D.disk dev.new) stores.new (set tolds at (pointing told points.now))) }
     ensures crash { D.tells → (tolds : List Told) (told : Told) → AreStores (D.disk dev.old) stores.old tolds → slice_get tolds at ≡ Some told
         → NotesPoints stores.old tolds at told points.now (D.disk dev.old) (D.disk dev.new) }
+    ensures trouble { IfErr result IsTrouble }
     ensures cause { HasCause D.disk_faults D.tell_faults dev.old dev.new (IsErrOf result StoresError.Fault) }
 {
     let note = note_of(alloc, points)?;
@@ -118,7 +121,7 @@ impl Hosting {
     /// The database at this place, which counts from 0, is based on this set: a differential would be. Where no log backup could come before, its log chain begins with the set. A crash leaves the databases as
     /// before, but for what waited, or with this one based on the set.
     ///
-    /// Where there is no room for its points in a note the call ends as if memory were wanting.
+    /// Only `Fault` and `NoMemory` are answered. Where there is no room for its points in a note, or the database is being restored, the call ends as if memory were wanting.
     pub fn base<D: Device>(
         &mut self,
         alloc: Global,
@@ -130,12 +133,17 @@ impl Hosting {
         requires inside { at < length self.old.states }
         requires standing { D.tells → AreStanding (D.disk dev.old) self.old.stores }
         ensures ready { OnOk result (IsReady self.new) }
+        ensures own { OnOk result (own_of self.new ≡ own_of self.old) }
         ensures standing { D.tells → OnOk result (AreStanding (D.disk dev.new) self.new.stores) }
         ensures stands { D.tells → (hosted : List Hosted) (h : Hosted) → IsHosting (D.disk dev.old) self.old hosted → slice_get hosted at ≡ Some h → OnOk result (IsHosting (D.disk dev.new) self.new (set hosted at (basing header.now (folding h)))) }
         ensures crash { D.tells → (hosted : List Hosted) (h : Hosted) → IsHosting (D.disk dev.old) self.old hosted → slice_get hosted at ≡ Some h
-            → Effect IsOurs (LeavesEither hosted (set hosted at (basing header.now (folding h)))) (D.disk dev.old) (D.disk dev.new) }
+            → Effect IsOurs (LeavesEither (own_of self.old) hosted (set hosted at (basing header.now (folding h)))) (D.disk dev.old) (D.disk dev.new) }
+        ensures trouble { IfErr result IsTrouble }
         ensures cause { HasCause D.disk_faults D.tell_faults dev.old dev.new (IsErrOf result StoresError.Fault) }
     {
+        if !self.is_open(at) {
+            return Err(StoresError::NoMemory);
+        }
         base_points(&mut self.states[at].points, header);
         points_on(&mut self.stores, alloc, dev, at, &self.states[at].points)?;
         Ok(())

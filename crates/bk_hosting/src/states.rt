@@ -60,8 +60,12 @@ fn reaches<D: Device>(
     Ok(is_checkpoint(&bytes))
 }
 
-// The points that a note spells, or those of a database that was just made with these files.
-fn noted_points(alloc: Global, note: &[u8], files: &[FileSpec]) -> Result<Points, StoresError>
+/// The points that a note spells, or those of a database that was just made with these files.
+pub(crate) fn noted_points(
+    alloc: Global,
+    note: &[u8],
+    files: &[FileSpec],
+) -> Result<Points, StoresError>
     ensures points { (points : KeptPoints) → IsNoteOf note.now files.now points → IfOk result (λ p. p ≡ points) }
     ensures broken { IsErrOf result StoresError.Broken → (points : KeptPoints) → IsNoteOf note.now files.now points → ⊥ }
     ensures no_fault { IsErrOf result StoresError.Fault → ⊥ }
@@ -98,7 +102,7 @@ pub(crate) fn read_state<D: Device>(
 ) -> Result<State, StoresError>
     requires sealed { IsSealed store.now }
     requires standing { D.tells → Standing (D.disk dev.old) store.now.paged }
-    ensures state { D.tells → (told : Told) (h : Hosted) → IsStore (D.disk dev.old) store.now told → Tells told h → IfOk result (λ s. s ≡ record { points = folded h.points h.records; transactions = [] }) }
+    ensures state { D.tells → (told : Told) (h : Hosted) → IsStore (D.disk dev.old) store.now told → Tells told h → IfOk result (λ s. s ≡ record { points = folded h.points h.records; transactions = []; known = None }) }
     ensures effect { D.tells → ChangesNothing (D.disk dev.old) (D.disk dev.new) }
     ensures broken { D.tells → IsErrOf result StoresError.Broken → (told : Told) (h : Hosted) → IsStore (D.disk dev.old) store.now told → Tells told h → ⊥ }
     ensures not_an_instance { IsErrOf result StoresError.NotAnInstance → ⊥ }
@@ -110,5 +114,6 @@ pub(crate) fn read_state<D: Device>(
     Ok(State {
         points,
         transactions: Sequence::new(Vec::new(alloc)),
+        known: None,
     })
 }

@@ -24,6 +24,7 @@ returns-clause-slots g c = (
   c.say_lasting-said.new.store,
   given-slots c.args.stores.now c.take.new.self c.give.new.self c.args.at c.say_lasting-said.new.store c.take.ensures.master c.take.ensures.slots c.give.ensures.master c.give.ensures.slots,
   c.in_ok-said.ensures.fit,
+  λ lasts. record { fit = c.in_ok-said.ensures.fit; all = c.in_ok-said.ensures.all lasts },
 )
 
 pub returns-clause-standing : goal.returns-clause-standing

@@ -1,12 +1,13 @@
-use Rattle.std.proofs.Common.{rules, ◌≡◌, ◌∙◌, List, [], ◌∷◌, ◌++◌, map, inl, sym, ap, subst}
+use Rattle.std.proofs.Common.{rules, ◌≡◌, ◌∙◌, List, [], ◌∷◌, ◌++◌, map, None, inl, sym, ap, subst}
 use Rattle.bk_device.specs.Compose.{effect_weaken}
 use Rattle.bk_hosted.specs.Hosted.{first_points}
 use Rattle.bk_stores.specs.Standing.{AreUnused}
 use Rattle.bk_stores.specs.Stores.{at_paths}
 use Rattle.bk_world.specs.declared.database.FileSpec.{FileSpec}
 use Rattle.bk_hosting.specs.declared.hosting.State.{State}
-use Rattle.bk_hosting.specs.Hosting.{IsHosting, Kept}
-use Rattle.bk_hosting.proofs.Checked.{rest-hosted}
+use Rattle.bk_hosting.specs.Hosting.{IsHosting, Kept, LeavesEither}
+use Rattle.bk_hosting.specs.Making.{newly}
+use Rattle.bk_hosting.proofs.Checked.{as-viewed, rest-hosted}
 use Rattle.bk_hosting.proofs.MadeHosted.{made-crash, made-hosting, shares-none}
 use Rattle.bk_hosting.proofs.hosting.Hosting.create.Goals as goal
 
@@ -27,7 +28,7 @@ returns-in_err-create-clause-crash g c = λ tells hosted is none.
     let a = g.D.Device.disk c.args.dev.now in
     let x : Kept = record { stores = c.self.inside.stores; states = c.self.inside.states.items } in
     let is' : IsHosting a x hosted = subst (λ (k : Kept). IsHosting a k hosted) (sym c.self.view_is) is in
-    made-crash a (g.D.Device.disk c.create.new.dev) x hosted c.args.spec c.args.time c.args.branch is' (c.create.ensures.crash tells is'.tolds is'.stores (shares-none a x hosted c.args.spec is' none))
+    as-viewed (λ own. LeavesEither own hosted (hosted ++ newly c.args.spec c.args.time c.args.branch ∷ [])) x c.args.self.now c.self.view_is (made-crash a (g.D.Device.disk c.create.new.dev) x hosted c.args.spec c.args.time c.args.branch is' (c.create.ensures.crash tells is'.tolds is'.stores (shares-none a x hosted c.args.spec is' none)))
 
 pub returns-clause-stands : goal.returns-clause-stands
 returns-clause-stands g c = λ tells hosted is none.
@@ -35,9 +36,9 @@ returns-clause-stands g c = λ tells hosted is none.
     let x : Kept = record { stores = c.self.inside.stores; states = c.self.inside.states.items } in
     let is' : IsHosting a x hosted = subst (λ (k : Kept). IsHosting a k hosted) (sym c.self.view_is) is in
     let opens = c.in_ok-create.ensures.opens in
-    let state : c.in_ok-state.state ≡ record { points = first_points c.args.spec.storage.files; transactions = [] } = search rules in
+    let state : c.in_ok-state.state ≡ record { points = first_points c.args.spec.storage.files; transactions = []; known = None } = search rules in
     let pushed : c.push.new.self.items ≡ c.self.inside.states.items ++ c.in_ok-state.state ∷ [] = search rules in
-    made-hosting a (g.D.Device.disk c.create.new.dev) x (record { stores = c.create.new.self; states = c.push.new.self.items }) hosted c.args.spec c.args.time c.args.branch opens.0 is' opens.1 opens.2
+    made-hosting a (g.D.Device.disk c.create.new.dev) x (record { stores = c.create.new.self; states = c.push.new.self.items }) hosted c.args.spec c.args.time c.args.branch opens.0 is' opens.1 opens.2 c.in_ok-create.ensures.fixed
     (c.in_ok-create.ensures.stands tells is'.tolds is'.stores (shares-none a x hosted c.args.spec is' none))
     (pushed ∙ ap (λ (s : State). c.self.inside.states.items ++ s ∷ []) state)
 
@@ -46,4 +47,4 @@ returns-clause-crash g c = λ tells hosted is none.
     let a = g.D.Device.disk c.args.dev.now in
     let x : Kept = record { stores = c.self.inside.stores; states = c.self.inside.states.items } in
     let is' : IsHosting a x hosted = subst (λ (k : Kept). IsHosting a k hosted) (sym c.self.view_is) is in
-    made-crash a (g.D.Device.disk c.create.new.dev) x hosted c.args.spec c.args.time c.args.branch is' (c.create.ensures.crash tells is'.tolds is'.stores (shares-none a x hosted c.args.spec is' none))
+    as-viewed (λ own. LeavesEither own hosted (hosted ++ newly c.args.spec c.args.time c.args.branch ∷ [])) x c.args.self.now c.self.view_is (made-crash a (g.D.Device.disk c.create.new.dev) x hosted c.args.spec c.args.time c.args.branch is' (c.create.ensures.crash tells is'.tolds is'.stores (shares-none a x hosted c.args.spec is' none)))

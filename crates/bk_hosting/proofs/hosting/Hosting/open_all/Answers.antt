@@ -1,17 +1,28 @@
-use Rattle.std.proofs.Common.{rules, ◌≤◌, length}
+use Rattle.std.proofs.Common.{rules, ◌≡◌, ◌≤◌, ◌∙◌, ℕ, List, length, refl, subst}
 use Rattle.std.specs.Prelude.{IsErrOf}
 use Rattle.bk_device.specs.Compose.{effect_then}
+use Rattle.bk_device.specs.Disk.{Disk}
+use Rattle.bk_device.specs.Effects.{Effect}
+use Rattle.bk_hosted.specs.Hosted.{Hosted}
+use Rattle.bk_master.specs.declared.record.Own.{Own}
+use Rattle.bk_stores.specs.Stores.{IsOurs}
+use Rattle.bk_hosting.specs.Loading.{LeavesUndoing}
 use Rattle.bk_stores.specs.declared.error.StoresError.TheVariants.{Broken}
 use Rattle.bk_hosting.proofs.Loaded.{all-hosting, all-ready}
 use Rattle.bk_hosting.proofs.Opening.{rest-undoing}
 use Rattle.bk_hosting.proofs.hosting.Hosting.open_all.Goals as goal
+
+-- an own part that is the same
+next-crash : {a b : Disk} {one other : Own} (number : ℕ) (hosted : List Hosted) → other ≡ one → Effect IsOurs (LeavesUndoing number other hosted) a b → Effect IsOurs (LeavesUndoing number one hosted) a b
+next-crash {a} {b} number hosted same effect = subst (λ (o : Own). Effect IsOurs (LeavesUndoing number o hosted) a b) same effect
 
 pub stores-init : goal.stores-init
 stores-init g c = record {
   partly = c.requires.partly;
   standing = λ tells. c.requires.standing tells;
   opening = λ tells hosted is. is;
-  crash = λ tells hosted is. rest-undoing (g.D.Device.disk c.args.dev.now) c.args.self.now hosted is c.requires.partly;
+  own = refl;
+  crash = λ tells number hosted is. rest-undoing (g.D.Device.disk c.args.dev.now) c.args.self.now hosted is c.requires.partly number;
   cause = search rules;
 }
 
@@ -20,12 +31,13 @@ stores-preserved g c = record {
   partly = c.in_ok-open_next.ensures.partly;
   standing = λ tells. c.in_ok-open_next.ensures.standing tells;
   opening = λ tells hosted is. c.in_ok-open_next.ensures.stands tells hosted (c.stores.invariant.opening tells hosted is);
-  crash = λ tells hosted is. effect_then (c.stores.invariant.crash tells hosted is) (c.open_next.ensures.crash tells hosted (c.stores.invariant.opening tells hosted is));
+  own = c.in_ok-open_next.ensures.own ∙ c.stores.invariant.own;
+  crash = λ tells number hosted is. effect_then (c.stores.invariant.crash tells number hosted is) (next-crash number hosted c.stores.invariant.own (c.open_next.ensures.crash tells number hosted (c.stores.invariant.opening tells hosted is)));
   cause = search rules;
 }
 
 pub returns-in_err-open_next-clause-crash : goal.returns-in_err-open_next-clause-crash
-returns-in_err-open_next-clause-crash g c = λ tells hosted is. effect_then (c.stores.invariant.crash tells hosted is) (c.open_next.ensures.crash tells hosted (c.stores.invariant.opening tells hosted is))
+returns-in_err-open_next-clause-crash g c = λ tells number hosted is. effect_then (c.stores.invariant.crash tells number hosted is) (next-crash number hosted c.stores.invariant.own (c.open_next.ensures.crash tells number hosted (c.stores.invariant.opening tells hosted is)))
 
 pub returns-in_err-open_next-clause-broken : goal.returns-in_err-open_next-clause-broken
 returns-in_err-open_next-clause-broken g c = λ tells broken hosted is.

@@ -1,9 +1,10 @@
-use Rattle.std.proofs.Common.{◌-◌, List, length}
+use Rattle.std.proofs.Common.{◌≡◌, ◌-◌, ℕ, List, length}
 use Rattle.bk_device.specs.Counts.{HasCause}
 use Rattle.bk_device.specs.Effects.{Effect}
 use Rattle.bk_hosted.specs.Hosted.{Hosted}
 use Rattle.bk_stores.specs.Standing.{AreStanding}
 use Rattle.bk_stores.specs.Stores.{IsOurs}
+use Rattle.bk_hosting.specs.Hosting.{own_of}
 use Rattle.bk_hosting.specs.Loading.{IsOpening, IsPartly, LeavesUndoing}
 use Rattle.bk_hosting.proofs.hosting.Hosting.open_all.Given as goal
 
@@ -12,7 +13,8 @@ invariant-stores g l = record {
   partly : IsPartly l.self;
   standing : g.D.Device.tells → AreStanding (g.D.Device.disk l.dev) l.self.stores;
   opening : g.D.Device.tells → (hosted : List Hosted) → IsOpening (g.D.Device.disk l.fn.dev) l.fn.self hosted → IsOpening (g.D.Device.disk l.dev) l.self hosted;
-  crash : g.D.Device.tells → (hosted : List Hosted) → IsOpening (g.D.Device.disk l.fn.dev) l.fn.self hosted → Effect IsOurs (LeavesUndoing hosted) (g.D.Device.disk l.fn.dev) (g.D.Device.disk l.dev);
+  own : own_of l.self ≡ own_of l.fn.self;
+  crash : g.D.Device.tells → (number : ℕ) (hosted : List Hosted) → IsOpening (g.D.Device.disk l.fn.dev) l.fn.self hosted → Effect IsOurs (LeavesUndoing number (own_of l.fn.self) hosted) (g.D.Device.disk l.fn.dev) (g.D.Device.disk l.dev);
   cause : HasCause g.D.Device.disk_faults g.D.Device.tell_faults l.fn.dev l.dev ⊥;
 }
 

@@ -6,4 +6,4 @@ pub returns-clause-paths : goal.returns-clause-paths
 returns-clause-paths c =
     let filled : slice_get c.args.self.now.stores.slots c.args.at ≡ Some (Some c.in-Some.store.now) = search rules in
     let paths : c.in_ok-paths.paths.items ≡ map (λ f. f.path) c.in-Some.store.now.paged.facts.files = search rules in
-    (c.in-Some.store.now, filled, paths)
+    (Some c.in-Some.store.now, filled, paths)
