@@ -1,10 +1,9 @@
 -- Hosted databases behind acts of their world.
-use Rattle.std.proofs.Common.{◌≡◌, ℕ, zero, suc, ◌<◌, Bool, true, false, cond, ltb, List, [], ◌∷◌, ◌++◌, map, length, length-set, get_or, Option, Some, None, refl, sym, ◌∙◌, ap, subst}
+use Rattle.std.proofs.Common.{◌≡◌, ℕ, zero, suc, ◌<◌, List, [], ◌∷◌, ◌++◌, map, length, get_or, Option, Some, refl, sym, ◌∙◌, ap, subst}
 use Rattle.std.specs.Prelude.{remove, set, slice_get}
-use Rattle.std.specs.List.{AllByRecursion, position, position_or_len}
+use Rattle.std.specs.List.{AllByRecursion, position}
 use Rattle.std.proofs.lemmas.List.{map-append}
 use Rattle.std.proofs.lemmas.List.Quantifiers.{position-Some}
-use Rattle.bk_ids.specs.Name.{same_name}
 use Rattle.bk_ids.specs.declared.path.Branch.{Branch}
 use Rattle.bk_lemmas.specs.Lists.{all_at, all_both, all_mapped}
 use Rattle.bk_machine.specs.Acts.{Act, Recovery, based, based_on, created, done, dropped, goes_online, gone_on, gone_online, logged, medium_made, new_database, says, seated, set_sealed, turned}
@@ -22,7 +21,7 @@ use Rattle.bk_world.specs.SameLaws.{is_guid-refl}
 use Rattle.bk_world.specs.Says.{alone}
 use Rattle.bk_world.specs.Telling.{model}
 use Rattle.bk_hosted.specs.Hosted.{Hosted, Hosts, IsHosted, SaysNoCheckpoint, basing, creating, database_of, folding, names, noting, saying}
-use Rattle.bk_hosted.proofs.Places.{all-more, all-removed, all-set, got-or, named-at, own-position, with-at, without-at}
+use Rattle.bk_hosted.specs.PlaceLaws.{all-more, all-removed, all-set, got-or, named-at, own-position, with-at, without-at}
 use Rattle.bk_hosted.specs.PointLaws.{checkpoint-is, folding-is, noting-is, saying-is}
 
 -- ---- what the machine's laws say
@@ -96,29 +95,12 @@ is-there w name hosted i h sound hosts place there =
       counts = subst (Counted w.history) (sym at) (all_at (Counted w.history) hosted i h inside (counted w hosted sound hosts));
     }
 
--- another one of the same name is found at its place
-pub same-place : (name : List ℕ) (hosted : List Hosted) (i : ℕ) (h new : Hosted) → new.spec.name ≡ h.spec.name → position (names name) hosted ≡ Some i → slice_get hosted i ≡ Some h → position (names name) (set hosted i new) ≡ Some i
-same-place name hosted i h new called place there =
-    ap (λ n. found n (length (set hosted i new))) (stays hosted i there) ∙ ap (found (position_or_len (names name) hosted)) (length-set hosted i new) ∙ place
-  where
-    found : ℕ → ℕ → Option ℕ
-    found n many = cond (ltb n many) (Some n) None
-
-    is-same : names name new ≡ names name h
-    is-same = ap (λ (called : List ℕ). same_name called name) called
-
-    stays : (hs : List Hosted) (k : ℕ) → slice_get hs k ≡ Some h → position_or_len (names name) (set hs k new) ≡ position_or_len (names name) hs
-    stays [] k at = absurd (cc)
-    stays (x ∷ hs) zero at = let own : x ≡ h = (cc) in here (names name x) refl (is-same ∙ ap (names name) (sym own))
-      where
-        here : (t : Bool) → names name x ≡ t → names name new ≡ names name x → position_or_len (names name) (new ∷ hs) ≡ position_or_len (names name) (x ∷ hs)
-        here true is same = let too : names name new ≡ true = same ∙ is in rw (is, too) refl
-        here false is same = let too : names name new ≡ false = same ∙ is in rw (is, too) refl
-    stays (x ∷ hs) (suc k) at = behind (names name x) refl (stays hs k at)
-      where
-        behind : (t : Bool) → names name x ≡ t → position_or_len (names name) (set hs k new) ≡ position_or_len (names name) hs → position_or_len (names name) (x ∷ set hs k new) ≡ position_or_len (names name) (x ∷ hs)
-        behind true is later = rw is refl
-        behind false is later = rw (is, later) refl
+-- and it is whole
+pub whole-there : (w : World) (name : List ℕ) (hosted : List Hosted) (i : ℕ) (h : Hosted) → IsSound w → Hosts w hosted → position (names name) hosted ≡ Some i → slice_get hosted i ≡ Some h → IsWholeDatabase w (database_of h)
+whole-there w name hosted i h sound hosts place there =
+    let all : AllByRecursion (IsWholeDatabase w) (map database_of hosted) = subst (AllByRecursion (IsWholeDatabase w)) hosts.same sound.whole.databases in
+    subst (λ (g : Hosted). IsWholeDatabase w (database_of g)) (sym (got-or hosted i h there))
+    (all_at (λ (g : Hosted). IsWholeDatabase w (database_of g)) hosted i h (position-Some (names name) hosted i h place).0 (mapped-all (IsWholeDatabase w) database_of hosted all))
 
 -- one changes as in the world behind an act, and the others stay
 pub changed : StaysRead → (w : World) (act : Act) (name : List ℕ) (hosted : List Hosted) (i : ℕ) (h new : Hosted) (change : Database → Database) → IsSound w → MayDo w act → Hosts w hosted
@@ -131,7 +113,7 @@ changed reads w act name hosted i h new change sound may hosts place at database
 
 -- ---- a database says something
 
-says-databases : (w : World) (db : Database) (said : List Said) (ts : List Open) → (says w db said ts).databases ≡ with_database w.databases db.name (gone_on (model (log_of w.history db)) said ts)
+pub says-databases : (w : World) (db : Database) (said : List Said) (ts : List Open) → (says w db said ts).databases ≡ with_database w.databases db.name (gone_on (model (log_of w.history db)) said ts)
 unfolding says
 says-databases w db said ts = refl
 

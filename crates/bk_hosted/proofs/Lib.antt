@@ -1,5 +1,5 @@
-mod Places
 mod Acts
+mod Sayings
 mod Restores
 mod Crashes
 mod Waiting

@@ -17,8 +17,8 @@ use Rattle.bk_world.specs.Records.{Logged, more, numbered}
 use Rattle.bk_world.specs.SettledLaws.{end-more}
 use Rattle.bk_world.specs.Telling.{model}
 use Rattle.bk_hosted.specs.Hosted.{Hosted, Hosts, IsHosted, bringing_up, database_of, has_checkpoint, names, parking, restoring, set_log}
-use Rattle.bk_hosted.proofs.Acts.{RecoveredLast, StaysRead, all-still, changed, is-there, same-place}
-use Rattle.bk_hosted.proofs.Places.{all-more, all-set, new-at, new-none}
+use Rattle.bk_hosted.proofs.Acts.{RecoveredLast, StaysRead, all-still, changed, is-there}
+use Rattle.bk_hosted.specs.PlaceLaws.{all-more, all-set, new-at, new-none, same-place}
 use Rattle.bk_hosted.specs.PointLaws.{has-below, has-joined}
 
 -- ---- what the machine's laws say

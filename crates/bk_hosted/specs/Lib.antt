@@ -1,3 +1,4 @@
 pub mod Hosted
 pub mod Fronts
 pub mod PointLaws
+pub mod PlaceLaws

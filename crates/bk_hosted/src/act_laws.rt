@@ -1,6 +1,6 @@
-ghost use Rattle.std.specs.Prelude.{◌≡◌, ℕ, List, [], ◌∷◌, ◌++◌, Option, None, Some, remove, set, slice_get};
+ghost use Rattle.std.specs.Prelude.{◌≡◌, ℕ, true, List, [], ◌∷◌, ◌++◌, Option, None, Some, remove, set, slice_get};
 ghost use Rattle.std.specs.List.{position};
-ghost use Rattle.bk_hosted.specs.Hosted.{Hosted, Hosts, SaysNoCheckpoint, basing, bringing_up, creating, folding, names, noting, parking, restoring, saying, set_log};
+ghost use Rattle.bk_hosted.specs.Hosted.{Hosted, Hosts, SaysNoCheckpoint, basing, bringing_up, creating, folding, is_up, names, noting, parking, restoring, saying, set_log};
 ghost use Rattle.bk_machine.specs.Acts.{Recovery, based, created, done, done_all, dropped, logged, medium_made, replaced, seated, set_sealed, turned};
 ghost use Rattle.bk_machine.specs.MayDo.{MayDo, MayDoAll};
 ghost use Rattle.bk_machine.specs.Sound.{IsSound, IsSoundSet};
@@ -8,6 +8,7 @@ ghost use Rattle.bk_machine.specs.World.{World, ended, opened};
 ghost use Rattle.bk_world.specs.declared.database.Creation.{Creation};
 ghost use Rattle.bk_world.specs.declared.header.Header.{Header};
 ghost use Rattle.bk_world.specs.declared.transaction.Open.{Open};
+ghost use Rattle.bk_world.specs.Lines.{Grew};
 ghost use Rattle.bk_world.specs.Records.{Said, checkpointed};
 ghost use Rattle.bk_world.specs.Says.{alone};
 
@@ -16,12 +17,17 @@ use bk_machine::{
     what_is_said_comes_last,
 };
 
-/// An act of a sound world does to its hosted databases what it does to the world: what one says comes behind its records, a checkpoint once it is noted as the next one. That by itself changes
+/// An act of a sound world does to its hosted databases what it does to the world: what one says comes behind its records, also where that is a front of what it may say, a checkpoint once it is noted as the next one. That by itself changes
 /// nothing, nor does taking in what was noted; one is based on a set; one comes or goes. Acts on sessions and media leave them, and so do the beginning and the end of a run.
 pub fn hosted_databases_follow_acts()
     ensures said { (w : World) (name : List ℕ) (said : List Said) (transactions : List Open) (hosted : List Hosted) (i : ℕ) (h : Hosted) → IsSound w → Hosts w hosted
         → position (names name) hosted ≡ Some i → slice_get hosted i ≡ Some h → MayDo w (logged name said transactions) → SaysNoCheckpoint said
         → Hosts (done w (logged name said transactions)) (set hosted i (saying said transactions h)) }
+    ensures front { (w : World) (name : List ℕ) (said : List Said) (transactions : List Open) (hosted : List Hosted) (i : ℕ) (h : Hosted) → IsSound w → Hosts w hosted
+        → position (names name) hosted ≡ Some i → slice_get hosted i ≡ Some h → is_up h ≡ true → SaysNoCheckpoint said
+        → Hosts (done w (logged name said transactions)) (set hosted i (saying said transactions h)) }
+    ensures grows { (w : World) (name : List ℕ) (said : List Said) (transactions : List Open) (hosted : List Hosted) (i : ℕ) (h : Hosted) → IsSound w → Hosts w hosted
+        → position (names name) hosted ≡ Some i → slice_get hosted i ≡ Some h → is_up h ≡ true → Grew w.history (done w (logged name said transactions)).history }
     ensures noted { (w : World) (name : List ℕ) (hosted : List Hosted) (i : ℕ) (h : Hosted) → IsSound w → Hosts w hosted
         → position (names name) hosted ≡ Some i → slice_get hosted i ≡ Some h → Hosts w (set hosted i (noting h)) }
     ensures folded { (w : World) (name : List ℕ) (hosted : List Hosted) (i : ℕ) (h : Hosted) → IsSound w → Hosts w hosted

@@ -1,8 +1,15 @@
 use Rattle.bk_hosted.proofs.Acts.{hosts-based, hosts-checkpoint, hosts-created, hosts-dropped, hosts-ended, hosts-folded, hosts-medium, hosts-noted, hosts-opened, hosts-said, hosts-sealed, hosts-seated, hosts-turned}
+use Rattle.bk_hosted.proofs.Sayings.{hosts-saying, says-grows}
 use Rattle.bk_hosted.proofs.act_laws.hosted_databases_follow_acts.Goals as goal
 
 pub returns-clause-said : goal.returns-clause-said
 returns-clause-said c = hosts-said c.acts_keep_what_is_read.ensures.act c.what_is_said_comes_last.ensures.log
+
+pub returns-clause-front : goal.returns-clause-front
+returns-clause-front c = hosts-saying
+
+pub returns-clause-grows : goal.returns-clause-grows
+returns-clause-grows c = says-grows
 
 pub returns-clause-noted : goal.returns-clause-noted
 returns-clause-noted c = hosts-noted

@@ -1,5 +1,5 @@
--- The first hosted database of a name: what is done to it is done to it in the world.
-use Rattle.std.proofs.Common.{◌≡◌, ◌<◌, ◌+◌, ℕ, zero, suc, Bool, true, false, cond, List, [], ◌∷◌, ◌++◌, map, length, get_or, Some, None, refl, sym, ◌∙◌, ap, ltb, arith}
+-- The first hosted database of a name: it is the one of the world, and what is done to it is done to it there.
+use Rattle.std.proofs.Common.{◌≡◌, ◌<◌, ◌+◌, ℕ, zero, suc, Bool, true, false, cond, List, [], ◌∷◌, ◌++◌, map, length, length-set, get_or, Option, Some, None, refl, sym, ◌∙◌, ap, subst, ltb, arith}
 use Rattle.std.specs.Prelude.{set, slice_get}
 use Rattle.std.specs.List.{AllByRecursion, position, position_or_len, remove}
 use Rattle.std.proofs.lemmas.Bool.{lt-ltb}
@@ -8,8 +8,9 @@ use Rattle.std.proofs.lemmas.List.Quantifiers.{position-Some}
 use Rattle.std.specs.Str.{bytes_eq}
 use Rattle.std.proofs.lemmas.Slice.Eq.{bytes_eq-Decides}
 use Rattle.bk_ids.specs.Name.{lowered, same_name}
-use Rattle.bk_machine.specs.World.{Database, database_named, with_database, with_new_database, without_database}
-use Rattle.bk_hosted.specs.Hosted.{Hosted, database_of, names}
+use Rattle.bk_lemmas.specs.Lists.{all_at}
+use Rattle.bk_machine.specs.World.{World, Database, database_named, with_database, with_new_database, without_database}
+use Rattle.bk_hosted.specs.Hosted.{Hosted, Hosts, IsHosted, database_of, names}
 
 -- A name that is there.
 
@@ -158,3 +159,34 @@ pub got-or : (ds : List Hosted) (i : ℕ) (x : Hosted) → slice_get ds i ≡ So
 got-or [] i x there = absurd (cc)
 got-or (d ∷ ds) zero x there = let same : d ≡ x = (cc) in sym same
 got-or (d ∷ ds) (suc i) x there = got-or ds i x there
+
+-- another one of the same name is found at its place
+pub same-place : (name : List ℕ) (hosted : List Hosted) (i : ℕ) (h new : Hosted) → new.spec.name ≡ h.spec.name → position (names name) hosted ≡ Some i → slice_get hosted i ≡ Some h → position (names name) (set hosted i new) ≡ Some i
+same-place name hosted i h new called place there =
+    ap (λ n. found n (length (set hosted i new))) (stays hosted i there) ∙ ap (found (position_or_len (names name) hosted)) (length-set hosted i new) ∙ place
+  where
+    found : ℕ → ℕ → Option ℕ
+    found n many = cond (ltb n many) (Some n) None
+
+    is-same : names name new ≡ names name h
+    is-same = ap (λ (called : List ℕ). same_name called name) called
+
+    stays : (hs : List Hosted) (k : ℕ) → slice_get hs k ≡ Some h → position_or_len (names name) (set hs k new) ≡ position_or_len (names name) hs
+    stays [] k at = absurd (cc)
+    stays (x ∷ hs) zero at = let own : x ≡ h = (cc) in here (names name x) refl (is-same ∙ ap (names name) (sym own))
+      where
+        here : (t : Bool) → names name x ≡ t → names name new ≡ names name x → position_or_len (names name) (new ∷ hs) ≡ position_or_len (names name) (x ∷ hs)
+        here true is same = let too : names name new ≡ true = same ∙ is in rw (is, too) refl
+        here false is same = let too : names name new ≡ false = same ∙ is in rw (is, too) refl
+    stays (x ∷ hs) (suc k) at = behind (names name x) refl (stays hs k at)
+      where
+        behind : (t : Bool) → names name x ≡ t → position_or_len (names name) (set hs k new) ≡ position_or_len (names name) hs → position_or_len (names name) (x ∷ set hs k new) ≡ position_or_len (names name) (x ∷ hs)
+        behind true is later = rw is refl
+        behind false is later = rw (is, later) refl
+
+-- the database of a world that has a name is the hosted one at its place
+pub named-there : (w : World) (name : List ℕ) (hosted : List Hosted) (i : ℕ) (h : Hosted) → Hosts w hosted → position (names name) hosted ≡ Some i → slice_get hosted i ≡ Some h → (database_named w.databases name ≡ Some (database_of h)) × IsHosted w.history h
+named-there w name hosted i h hosts place there =
+    let at : h ≡ get_or hosted i h = got-or hosted i h there in
+    let inside : i < length hosted = (position-Some (names name) hosted i h place).0 in
+    (ap (λ dbs. database_named dbs name) hosts.same ∙ named-at name hosted i h place at, subst (IsHosted w.history) (sym at) (all_at (IsHosted w.history) hosted i h inside hosts.each))
