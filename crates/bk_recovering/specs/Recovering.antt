@@ -1,15 +1,19 @@
 -- A database that is made of a set, and recovered.
 -- SQL Server: "Complete Database Restores (Full Recovery Model)"; "Restore and Recovery Overview", undo.
-use Rattle.std.specs.Prelude.{◌≡◌, ℕ, List, None}
+use Rattle.std.specs.Prelude.{◌≡◌, ◌⊎◌, ℕ, List, None}
 use Rattle.bk_arriving.specs.Sets.{AreWhole, arriving_of, pages_of}
 use Rattle.bk_body.specs.Body.{Body}
+use Rattle.bk_device.specs.Disk.{Disk}
+use Rattle.bk_device.specs.Effects.{Effect}
 use Rattle.bk_facts.specs.declared.facts.DataFile.{DataFile}
 use Rattle.bk_ids.specs.declared.record.Rec.{Rec}
 use Rattle.bk_known.specs.declared.known.Known.{Known}
+use Rattle.bk_paged.specs.Names.{IsOwn}
 use Rattle.bk_record.specs.Log.{IsLog}
 use Rattle.bk_reopening.specs.Reopening.{settled}
 use Rattle.bk_restored.specs.Restored.{SufficesTold}
 use Rattle.bk_shown.specs.Shown.{IsNext}
+use Rattle.bk_store.specs.Store.{Kept as KeptStore}
 use Rattle.bk_store.specs.Told.{Told, files_of}
 use Rattle.bk_undo.specs.Spelled.{spelled}
 use Rattle.bk_volume.specs.Stored.{IsOf, Stored}
@@ -28,3 +32,7 @@ pub record Makes (bytes : List ℕ) (set : Stored) (files : List DataFile) (db c
 pub record EndsWith (told : Told) (r : Logged) (last : Rec) : Type 0 where
   pub next : IsNext (files_of told) (settled told).records r
   pub spelled_is : spelled r ≡ last
+
+-- The files of this number alone were touched: with these data files, or with those that the store found in its note. Where a set makes a database with these they are the same.
+abbrev pub TouchesWith : ℕ → List DataFile → KeptStore → Disk → Disk → Type 0
+TouchesWith db files s old new = Effect (λ name. IsOwn db files name ⊎ IsOwn db s.paged.facts.files name) (λ _. Unit {0}) old new

@@ -13,7 +13,7 @@ ghost use Rattle.bk_segments.specs.Files.{AreDurable as LogsAreDurable};
 ghost use Rattle.bk_store.specs.Store.{Crashes, IsStore};
 ghost use Rattle.bk_store.specs.Told.{Told, said};
 ghost use Rattle.bk_world.specs.Records.{Logged};
-ghost use Rattle.bk_recovering.specs.Recovering.{EndsWith, Makes};
+ghost use Rattle.bk_recovering.specs.Recovering.{EndsWith, Makes, TouchesWith};
 
 use crate::error::RecoverError;
 use bk_arriving::arrive;
@@ -47,6 +47,7 @@ fn open_set<R: Threads + Sync, D: Device>(
     ensures fit { IfOk result (λ s. s.paged.failed ≡ false) }
     ensures standing { D.tells → IfOk result (λ s. Standing (D.disk dev.new) s.paged) }
     ensures ends { IfOk result (λ s. (s.paged.log.db ≡ db) × (s.paged.log.stored ≡ s.paged.log.«end»)) }
+    ensures touches { D.tells → IfOk result (λ s. TouchesWith db files.items s (D.disk dev.old) (D.disk dev.new)) }
     ensures stands { D.tells → LogsAreDurable db (D.disk dev.old) → (told : Told) → Makes (contents ((D.disk dev.old).files medium.now.name)) set.now files.items db checkpoint note.now known.now told → IfOk result (λ s. IsStore (D.disk dev.new) s (settled told)) }
     ensures unfit { D.tells → LogsAreDurable db (D.disk dev.old) → (told : Told) → Makes (contents ((D.disk dev.old).files medium.now.name)) set.now files.items db checkpoint note.now known.now told → IsErrOf result RecoverError.Unfit → ⊥ }
     ensures crash { D.tells → LogsAreDurable db (D.disk dev.old) → (told : Told) → Makes (contents ((D.disk dev.old).files medium.now.name)) set.now files.items db checkpoint note.now known.now told
@@ -71,6 +72,7 @@ fn say_last<D: Device>(
     ensures fit { OnOk result (store.new.paged.failed ≡ false) }
     ensures standing { D.tells → OnOk result (Standing (D.disk dev.new) store.new.paged) }
     ensures ends { OnOk result ((store.new.paged.log.db ≡ store.old.paged.log.db) × (store.new.paged.log.stored ≡ store.new.paged.log.«end»)) }
+    ensures files { OnOk result (store.new.paged.facts.files ≡ store.old.paged.facts.files) }
     ensures stands { D.tells → (told : Told) (r : Logged) → IsStore (D.disk dev.old) store.old (settled told) → EndsWith told r last.now → OnOk result (IsStore (D.disk dev.new) store.new (said (settled told) r)) }
     ensures touches { D.tells → Touches store.old.paged (D.disk dev.old) (D.disk dev.new) }
     ensures cause { HasCause D.disk_faults D.tell_faults dev.old dev.new (IsErrOf result StoreError.Fault) }
@@ -83,7 +85,7 @@ fn say_last<D: Device>(
 /// Makes the database of this number of a full set that was opened on a medium, in place of what was there, with these data files, the number of its latest checkpoint, what is known of it, and these bytes, at most 12,288,
 /// as the note of the layer above; opens it, which undoes what was pending in the backup, and says this record behind that, which is durable then.
 ///
-/// `Unfit` is answered only where the set makes no database with these data files. After an error the files of this number may hold anything. The medium's file isn't touched.
+/// `Unfit` is answered only where the set makes no database with these data files. Where it makes one, only files of this number are touched, and a crash may leave anything there. After an error they may hold anything.
 pub fn recover<R: Threads + Sync, D: Device>(
     rt: &R,
     alloc: Global,
@@ -105,6 +107,7 @@ pub fn recover<R: Threads + Sync, D: Device>(
     ensures fit { IfOk result (λ s. s.paged.failed ≡ false) }
     ensures standing { D.tells → IfOk result (λ s. Standing (D.disk dev.new) s.paged) }
     ensures ends { IfOk result (λ s. (s.paged.log.db ≡ db) × (s.paged.log.stored ≡ s.paged.log.«end»)) }
+    ensures touches { D.tells → IfOk result (λ s. TouchesWith db files.items s (D.disk dev.old) (D.disk dev.new)) }
     ensures stands { D.tells → LogsAreDurable db (D.disk dev.old) → (told : Told) (r : Logged) → Makes (contents ((D.disk dev.old).files medium.now.name)) set.now files.items db checkpoint note.now known.now told → EndsWith told r last.now
         → IfOk result (λ s. IsStore (D.disk dev.new) s (said (settled told) r)) }
     ensures unfit { D.tells → LogsAreDurable db (D.disk dev.old) → (told : Told) → Makes (contents ((D.disk dev.old).files medium.now.name)) set.now files.items db checkpoint note.now known.now told → IsErrOf result RecoverError.Unfit → ⊥ }

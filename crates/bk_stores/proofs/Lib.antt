@@ -2,6 +2,7 @@ mod Added
 mod Any
 mod Aside
 mod Begun
+mod Brought
 mod Created
 mod LeftOut
 mod Loaded

@@ -6,6 +6,8 @@ use Rattle.bk_master.specs.declared.error.MasterError.{MasterError}
 use Rattle.bk_master.specs.declared.error.MasterError.TheVariants as master
 use Rattle.bk_reading.specs.declared.unread.Unread.{Unread}
 use Rattle.bk_reading.specs.declared.unread.Unread.TheVariants as unread
+use Rattle.bk_recovering.specs.declared.error.RecoverError.{RecoverError}
+use Rattle.bk_recovering.specs.declared.error.RecoverError.TheVariants as recovering
 use Rattle.bk_reopening.specs.declared.error.OpenError.{OpenError}
 use Rattle.bk_reopening.specs.declared.error.OpenError.TheVariants as opening
 use Rattle.bk_segments.specs.declared.error.LogError.{LogError}
@@ -34,6 +36,11 @@ abbrev pub FromOpen : OpenError → StoresError → Type 0
 FromOpen opening.Foreign e = e ≡ Broken
 FromOpen opening.Fault e = e ≡ Fault
 FromOpen opening.NoMemory e = e ≡ NoMemory
+
+abbrev pub FromRecover : RecoverError → StoresError → Type 0
+FromRecover recovering.Unfit e = e ≡ Broken
+FromRecover recovering.Fault e = e ≡ Fault
+FromRecover recovering.NoMemory e = e ≡ NoMemory
 
 abbrev pub FromLog : LogError → StoresError → Type 0
 FromLog log.Foreign e = e ≡ Broken

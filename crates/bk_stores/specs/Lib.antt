@@ -10,6 +10,7 @@ pub mod StandLaws
 pub mod AddLaws
 pub mod Making
 pub mod Parking
+pub mod Bringing
 pub mod LessLaws
 pub mod ChangeLaws
 pub mod Standing

@@ -7,6 +7,7 @@ use Rattle.bk_device.specs.Effects.{Effect, KeepsFiles}
 use Rattle.bk_facts.specs.declared.facts.DataFile.{DataFile}
 use Rattle.bk_master.specs.declared.record.Entry.{Entry}
 use Rattle.bk_master.specs.declared.record.Record.{Record}
+use Rattle.bk_master.specs.Laws.{master_kept}
 use Rattle.bk_master.specs.Master.{IsMaster, IsOwn as IsOfMaster, Kept as KeptMaster}
 use Rattle.bk_paged.specs.Names.{IsOwn, names_of, paths_of}
 use Rattle.bk_paged.specs.Paged.{Standing, Touches}
@@ -18,7 +19,7 @@ use Rattle.bk_stores.specs.LessLaws.{got-place, place, place-one, place-other}
 use Rattle.bk_stores.specs.ListLaws.{got-before, got-inside, got-last, got-more, got-other, got-set, same-place, set-there}
 use Rattle.bk_stores.specs.NameLaws.{own-apart}
 use Rattle.bk_stores.specs.NumberLaws.{number-small}
-use Rattle.bk_stores.specs.StandLaws.{master-keeps, own-keeps-master}
+use Rattle.bk_stores.specs.StandLaws.{master-apart, master-keeps, own-keeps-master}
 use Rattle.bk_stores.specs.Standing.{AreNumbered, AreShut, AreStanding, AreUnused, IsLent, IsNew, IsStanding, IsStandingAt, Joins, StandBeside}
 use Rattle.bk_stores.specs.StoreLaws.{physical-kept}
 use Rattle.bk_stores.specs.Stores.{Kept, at_paths}
@@ -85,24 +86,40 @@ stores-kept entries slots keeps is = record {
 master-beside : {P : Files → Type 0} {a b : Disk} (entries : List Entry) (slots : List (Option KeptStore)) → Effect IsOfMaster P a b → StandBeside a entries slots → StandBeside b entries slots
 master-beside entries slots effect is = stores-kept entries slots (λ i store there. master-keeps effect store.paged.log.db store.paged.facts.files) is
 
--- What is done to the files of a store leaves the open ones standing that have other numbers and none of its files.
-other-standing : {P : Files → Type 0} {a b : Disk} (s : Kept) (db : ℕ) (files : List DataFile) → AreStanding a s → db < 2 ^ 64 → ((i : ℕ) (e : Entry) (store : KeptStore) → slice_get s.slots i ≡ Some (Some store) → slice_get s.master.record.databases i ≡ Some e → db ≡ e.store → ⊥)
-    → AreUnused s.slots files → Effect (IsOwn db files) P a b → AreStanding b s
-other-standing {a = a} {b = b} s db files is small new unused effect =
-    let r : Record = s.master.record in
-    let apart : (i : ℕ) (store : KeptStore) → slice_get s.slots i ≡ Some (Some store) → AreApart db files store.paged.log.db store.paged.facts.files = λ i store there.
+-- an open store is apart from the files of a number that isn't its entry's, where it has none of the data files
+open-apart : {a : Disk} (s : Kept) (db : ℕ) (files : List DataFile) (i : ℕ) (store : KeptStore) → AreStanding a s → db < 2 ^ 64 → ((e : Entry) → slice_get s.master.record.databases i ≡ Some e → db ≡ e.store → ⊥) → AreUnused s.slots files → slice_get s.slots i ≡ Some (Some store)
+    → AreApart db files store.paged.log.db store.paged.facts.files
+open-apart s db files i store is small new unused there =
     let one = is.stores.each i store there in
     record {
       small = small;
-      other_small = subst (λ (n : ℕ). n < 2 ^ 64) (sym one.2.number) (number-small r i one.0 is.numbers one.1);
-      differ = λ same. new i one.0 store there one.1 (same ∙ one.2.number);
+      other_small = subst (λ (n : ℕ). n < 2 ^ 64) (sym one.2.number) (number-small s.master.record i one.0 is.numbers one.1);
+      differ = λ same. new one.0 one.1 (same ∙ one.2.number);
       unshared = unused i store there;
-    } in
-    record {
-      master = own-keeps-master db files effect is.master;
-      numbers = is.numbers;
-      stores = stores-kept r.databases s.slots (λ i store there. keeps_by_effect (λ name its own. own-apart db files store.paged.log.db store.paged.facts.files (apart i store there) name own its) effect) is.stores;
     }
+
+-- What is done to the files of a store leaves the open ones standing that have other numbers and none of its files.
+other-standing : {P : Files → Type 0} {a b : Disk} (s : Kept) (db : ℕ) (files : List DataFile) → AreStanding a s → db < 2 ^ 64 → ((i : ℕ) (e : Entry) (store : KeptStore) → slice_get s.slots i ≡ Some (Some store) → slice_get s.master.record.databases i ≡ Some e → db ≡ e.store → ⊥)
+    → AreUnused s.slots files → Effect (IsOwn db files) P a b → AreStanding b s
+other-standing s db files is small new unused effect = record {
+  master = own-keeps-master db files effect is.master;
+  numbers = is.numbers;
+  stores = stores-kept s.master.record.databases s.slots
+      (λ i store there. keeps_by_effect
+      (λ name its own. own-apart db files store.paged.log.db store.paged.facts.files (open-apart s db files i store is small (λ e at. new i e store there at) unused there) name own its) effect) is.stores;
+}
+
+-- So does what is done to the files of a number that is no entry's, with data files of two lists.
+pub both-standing : {P : Files → Type 0} {a b : Disk} (s : Kept) (db : ℕ) (files others : List DataFile) → AreStanding a s → db < 2 ^ 64 → IsNew s.master.record.databases db → AreUnused s.slots files → AreUnused s.slots others → Effect (λ name. IsOwn db files name ⊎ IsOwn db others name) P a b → AreStanding b s
+both-standing s db files others is small new first second effect = record {
+  master = master_kept (keeps_by_effect (λ name master own. elim own [ inl one ↦ master-apart db files name master one | inr two ↦ master-apart db others name master two ]) effect) is.master;
+  numbers = is.numbers;
+  stores = stores-kept s.master.record.databases s.slots
+      (λ i store there. keeps_by_effect (λ name its own. elim own [
+        | inl one ↦ own-apart db files store.paged.log.db store.paged.facts.files (open-apart s db files i store is small (λ e at. new i e at) first there) name one its
+        | inr two ↦ own-apart db others store.paged.log.db store.paged.facts.files (open-apart s db others i store is small (λ e at. new i e at) second there) name two its
+      ]) effect) is.stores;
+}
 
 -- What is done to the files of a store that is no entry's leaves them standing.
 pub aside-standing : {P : Files → Type 0} {a b : Disk} (s : Kept) (db : ℕ) (files : List DataFile) → AreStanding a s → db < 2 ^ 64 → IsNew s.master.record.databases db → AreUnused s.slots files → Effect (IsOwn db files) P a b → AreStanding b s

@@ -1,12 +1,13 @@
 // Why a call on the stores of an instance gave nothing.
 ghost use Rattle.std.specs.Prelude.{◌≡◌};
-ghost use Rattle.bk_stores.specs.Errors.{FromFill, FromLog, FromMaster, FromNote, FromOpen, FromStore};
+ghost use Rattle.bk_stores.specs.Errors.{FromFill, FromLog, FromMaster, FromNote, FromOpen, FromRecover, FromStore};
 ghost use Rattle.bk_stores.specs.declared.error.StoresError.TheVariants.{Fault, NoMemory};
 
 use bk_device::Failed;
 use bk_filling::FillError;
 use bk_master::MasterError;
 use bk_reading::Unread;
+use bk_recovering::RecoverError;
 use bk_reopening::OpenError;
 use bk_segments::LogError;
 use bk_store::StoreError;
@@ -19,7 +20,7 @@ pub enum StoresError {
     /// The instance is made, and its control file holds no control.
     #[error("the files are no instance's")]
     NotAnInstance,
-    /// The instance's control holds no record, or the files of a store hold no database.
+    /// The instance's control holds no record, the files of a store hold no database, or a set makes none.
     #[error("the instance's files are broken")]
     Broken,
     /// The device failed.
@@ -97,6 +98,18 @@ impl From<OpenError> for StoresError {
             OpenError::Foreign => StoresError::Broken,
             OpenError::Fault => StoresError::Fault,
             OpenError::NoMemory => StoresError::NoMemory,
+        }
+    }
+}
+
+impl From<RecoverError> for StoresError {
+    ghost from_gives = { FromRecover };
+
+    fn from(error: RecoverError) -> Self {
+        match error {
+            RecoverError::Unfit => StoresError::Broken,
+            RecoverError::Fault => StoresError::Fault,
+            RecoverError::NoMemory => StoresError::NoMemory,
         }
     }
 }

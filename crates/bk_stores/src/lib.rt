@@ -1,6 +1,7 @@
 //! The databases of an instance on one device: each a store of its own, and what is done to one leaves the others.
 #![tactic(auto)]
 
+mod bringing;
 mod changing;
 mod dropping;
 mod error;
@@ -17,6 +18,6 @@ mod swapping;
 mod unused;
 
 pub use error::StoresError;
-pub use records::paths_of;
+pub use records::{data_paths, paths_of};
 pub use stores::Stores;
 pub use unused::share_no_path;

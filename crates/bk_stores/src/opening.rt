@@ -21,7 +21,7 @@ use std::thread::Threads;
 
 impl Stores {
     // A store that was opened, where no other open store has one of its data files.
-    fn checked(&self, store: Store) -> Result<Store, StoresError>
+    pub(crate) fn checked(&self, store: Store) -> Result<Store, StoresError>
         ensures same { IfOk result (λ s. s ≡ store) }
         ensures unused { OnOk result (AreUnused self.now.slots store.paged.facts.files) }
         ensures broken { IfErr result (λ e. (e ≡ StoresError.Broken) × (AreUnused self.now.slots store.paged.facts.files → ⊥)) }

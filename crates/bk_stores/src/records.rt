@@ -6,6 +6,7 @@ ghost use Rattle.bk_stores.specs.Records.{begun, left_out, owned, rested, swappe
 ghost use Rattle.bk_stores.specs.declared.error.StoresError.TheVariants.{Fault};
 
 use crate::error::StoresError;
+use bk_facts::DataFile;
 use bk_ids::{Sequence, Text};
 use bk_master::{Entry, Own, Record, Unfinished};
 use bk_world::FileSpec;
@@ -13,6 +14,17 @@ use std::alloc::{AllocError, Global};
 
 /// The paths of data files, in their order.
 pub fn paths_of(alloc: Global, files: &[FileSpec]) -> Result<Vec<Text>, AllocError>
+    ensures { IfOk result (λ paths. paths.items ≡ map (λ f. f.path) files.now) }
+{
+    let mut paths = Vec::new(alloc);
+    for file in files {
+        paths.push(file.path.copy(alloc)?)?;
+    }
+    Ok(paths)
+}
+
+/// The paths of a store's data files, in their order.
+pub fn data_paths(alloc: Global, files: &[DataFile]) -> Result<Vec<Text>, AllocError>
     ensures { IfOk result (λ paths. paths.items ≡ map (λ f. f.path) files.now) }
 {
     let mut paths = Vec::new(alloc);

@@ -85,8 +85,8 @@ impl Stores {
         true
     }
 
-    // Whether no open store has one of these data files.
-    pub(crate) fn has_none_of(&self, files: &[DataFile]) -> bool
+    /// Whether no open store has one of these data files.
+    pub fn has_none_of(&self, files: &[DataFile]) -> bool
         ensures unused { result ≡ true → AreUnused self.now.slots files.now }
         ensures all { AreUnused self.now.slots files.now → result ≡ true }
     {

@@ -2,7 +2,7 @@ use Rattle.std.proofs.Common.{rules}
 use Rattle.std.specs.Prelude.{IsErrOf}
 use Rattle.bk_device.specs.Compose.{effect_then}
 use Rattle.bk_recovering.specs.declared.error.RecoverError.TheVariants.{Unfit}
-use Rattle.bk_recovering.proofs.Recovered.{said-touches}
+use Rattle.bk_recovering.proofs.Recovered.{said-both, said-touches}
 use Rattle.bk_recovering.proofs.recovering.recover.Goals as goal
 
 pub returns-in_err-store-clause-unfit : goal.returns-in_err-store-clause-unfit
@@ -25,3 +25,8 @@ returns-in-Err-clause-crash g c = λ tells durable told makes.
     effect_then (c.open_set.ensures.crash tells durable told makes)
     (said-touches (g.D.Device.disk c.open_set.new.dev) (g.D.Device.disk c.open_set.new.dev) (g.D.Device.disk c.say_last.new.dev) c.args.db c.args.files.items told c.in_ok-store.store makes.suffices.suffices.files c.in_ok-store.ensures.ends.0
     (c.in_ok-store.ensures.stands tells durable told makes) (c.say_last.ensures.touches tells))
+
+pub returns-in-Ok-clause-touches : goal.returns-in-Ok-clause-touches
+returns-in-Ok-clause-touches g c = λ tells.
+    said-both (g.D.Device.disk c.args.dev.now) (g.D.Device.disk c.open_set.new.dev) (g.D.Device.disk c.say_last.new.dev) c.args.db c.args.files.items c.in_ok-store.store c.say_last.new.store c.in_ok-store.ensures.ends.0 c.in-Ok.ensures.files
+    (c.in_ok-store.ensures.touches tells) (c.say_last.ensures.touches tells)
