@@ -12,3 +12,6 @@ mod DroppedHosted
 mod Noted
 mod Opening
 mod Loaded
+mod Asked
+mod CopiedStores
+mod CopiedHosted

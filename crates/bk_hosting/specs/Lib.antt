@@ -4,3 +4,6 @@ pub mod Checkpointing
 pub mod Making
 pub mod Parking
 pub mod Loading
+pub mod Asking
+pub mod Copying
+pub mod AskLaws

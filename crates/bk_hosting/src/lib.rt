@@ -3,11 +3,13 @@
 
 mod asking;
 mod checkpointing;
+mod copying;
 mod hosting;
 mod loading;
 mod logging;
 mod making;
 mod noting;
+mod owning;
 mod parking;
 mod saying;
 mod states;

@@ -14,11 +14,10 @@ ghost use Rattle.bk_hosting.specs.Making.{ArePathsAt, HaveNoFile, newly};
 
 use crate::hosting::{Hosting, State};
 use bk_device::Device;
-use bk_facts::DataFile;
 use bk_ids::{Guid, Sequence, Text, UnitId};
 use bk_known::DatabaseSpec;
 use bk_points::Points;
-use bk_stores::{StoresError, paths_of};
+use bk_stores::{StoresError, data_paths, paths_of};
 use bk_world::{FileSpec, State as UnitState, Status, Unit};
 use std::alloc::{AllocError, Global};
 
@@ -49,17 +48,6 @@ pub(crate) fn first_state(alloc: Global, files: &[FileSpec]) -> Result<State, Al
         transactions: Sequence::new(Vec::new(alloc)),
         known: None,
     })
-}
-
-// The paths of data files.
-fn data_paths(alloc: Global, files: &[DataFile]) -> Result<Vec<Text>, AllocError>
-    ensures { IfOk result (λ paths. paths.items ≡ map (λ f. f.path) files.now) }
-{
-    let mut paths = Vec::new(alloc);
-    for file in files {
-        paths.push(file.path.copy(alloc)?)?;
-    }
-    Ok(paths)
 }
 
 // Whether a path has 1 to 100 bytes.

@@ -19,6 +19,14 @@ use bk_points::Points;
 use bk_stores::StoresError;
 use std::alloc::Global;
 
+// What is kept of the database at this place, which counts from 0, is this from now on.
+pub(crate) fn put_state(states: &mut Vec<State>, at: usize, state: State)
+    requires inside { at < length states.old.items }
+    ensures { states.new.items ≡ set states.old.items at state }
+{
+    states[at] = state;
+}
+
 impl Hosting {
     /// Puts a database of which only this is known, and these points, behind the others: it is being restored, and no file of data is there. A crash leaves the databases as before, but for what waits, or these
     /// and this one.
@@ -85,11 +93,12 @@ impl Hosting {
         let note = note_of(alloc, &points)?;
         let paths = self.paths_at(alloc, at)?;
         self.stores.park_at(alloc, dev, at, &known, &note, &paths)?;
-        self.states[at] = State {
+        let state = State {
             points,
             transactions: Sequence::new(Vec::new(alloc)),
             known: Some(known),
         };
+        put_state(&mut self.states, at, state);
         Ok(())
     }
 }

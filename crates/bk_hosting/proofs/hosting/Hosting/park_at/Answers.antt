@@ -71,6 +71,7 @@ returns-clause-stands g c = λ tells hosted old h is here parks.
     let put : State = record { points = c.args.points; transactions = []; known = Some c.args.known } in
     let state : put ≡ state_of h = ap (λ p. record { points = p; transactions = []; known = Some c.args.known }) parks.points_are ∙ ap (λ ts. record { points = h.points; transactions = ts; known = Some c.args.known }) (sym parks.idle)
     ∙ ap (λ k. record { points = h.points; transactions = h.transactions; known = Some k }) parks.known_is ∙ sym (state-down h parks.down) in
-    put-hosting a (g.D.Device.disk c.park_at.new.dev) x hosted c.args.at old h may.0 (told_of h) None is' here may.1 tell parks.some (record { stores = c.park_at.new.self; states = set c.self.inside.states.items c.args.at put }) c.in_ok-park_at.ensures.slots
+    let kept : c.put_state.new.states.items ≡ set c.self.inside.states.items c.args.at put = search rules in
+    put-hosting a (g.D.Device.disk c.park_at.new.dev) x hosted c.args.at old h may.0 (told_of h) None is' here may.1 tell parks.some (record { stores = c.park_at.new.self; states = c.put_state.new.states.items }) c.in_ok-park_at.ensures.slots
     (ap (λ (f : Fixed). f.stored) c.in_ok-park_at.ensures.fixed ∙ stored-set a (g.D.Device.disk c.park_at.new.dev) x hosted c.args.at old h may.0 (told_of h) None is' here may.1 tell parks.some (fixed_of x.stores.master.record) false is'.stored (sym parks.down))
-    (c.in_ok-park_at.ensures.stands tells is'.tolds may.0 (told_of h) is'.stores may.3 parked-parks) (parks.down, parks.idle) (ap (λ (s : State). set c.self.inside.states.items c.args.at s) state)
+    (c.in_ok-park_at.ensures.stands tells is'.tolds may.0 (told_of h) is'.stores may.3 parked-parks) (parks.down, parks.idle) (kept ∙ ap (λ (s : State). set c.self.inside.states.items c.args.at s) state)

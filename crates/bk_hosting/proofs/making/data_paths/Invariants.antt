@@ -1,5 +1,0 @@
-use Rattle.std.proofs.Common.{◌≡◌, map, take}
-use Rattle.bk_hosting.proofs.making.data_paths.Given as goal
-
-abbrev pub invariant-loop-file : goal.invariant-loop-file
-invariant-loop-file l = l.paths.items ≡ map (λ f. f.path) (take l.file-index l.files)

@@ -1,0 +1,44 @@
+// What the instance keeps of itself.
+ghost use Rattle.std.specs.Prelude.{◌≡◌, ◌⊎◌, List, IfErr, OnOk, IsErrOf};
+ghost use Rattle.bk_device.specs.Counts.{HasCause};
+ghost use Rattle.bk_device.specs.Effects.{Effect};
+ghost use Rattle.bk_hosted.specs.Hosted.{Hosted};
+ghost use Rattle.bk_master.specs.Spelling.{IsShort};
+ghost use Rattle.bk_stores.specs.Errors.{IsTrouble};
+ghost use Rattle.bk_stores.specs.Standing.{AreStanding};
+ghost use Rattle.bk_stores.specs.Stores.{IsOurs};
+ghost use Rattle.bk_hosting.specs.Hosting.{IsHosting, IsReady, LeavesHosted, own_of};
+
+use crate::hosting::Hosting;
+use bk_device::Device;
+use bk_master::Own;
+use bk_stores::StoresError;
+use std::alloc::Global;
+
+impl Hosting {
+    /// Makes this what the instance keeps of itself; the path of a medium that is being made has 1 to 100 bytes. A crash leaves the databases, but for what waits, with what it kept before, or with this.
+    ///
+    /// Only `Fault` and `NoMemory` are answered.
+    pub fn put_own<D: Device>(
+        &mut self,
+        alloc: Global,
+        dev: &mut D,
+        own: Own,
+    ) -> Result<(), StoresError>
+        requires ready { IsReady self.old }
+        requires short { IsShort own.making }
+        requires standing { D.tells → AreStanding (D.disk dev.old) self.old.stores }
+        ensures ready { OnOk result (IsReady self.new) }
+        ensures own { OnOk result (own_of self.new ≡ own) }
+        ensures same { OnOk result ((self.new.states ≡ self.old.states) × (self.new.stores.slots ≡ self.old.stores.slots)) }
+        ensures standing { D.tells → OnOk result (AreStanding (D.disk dev.new) self.new.stores) }
+        ensures stands { D.tells → (hosted : List Hosted) → IsHosting (D.disk dev.old) self.old hosted → OnOk result (IsHosting (D.disk dev.new) self.new hosted) }
+        ensures crash { D.tells → (hosted : List Hosted) → IsHosting (D.disk dev.old) self.old hosted
+            → Effect IsOurs (λ image. LeavesHosted (own_of self.old) hosted image ⊎ LeavesHosted own hosted image) (D.disk dev.old) (D.disk dev.new) }
+        ensures trouble { IfErr result IsTrouble }
+        ensures cause { HasCause D.disk_faults D.tell_faults dev.old dev.new (IsErrOf result StoresError.Fault) }
+    {
+        self.stores.put_own(alloc, dev, own)?;
+        Ok(())
+    }
+}
