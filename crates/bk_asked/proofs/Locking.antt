@@ -14,7 +14,7 @@ use Rattle.bk_world.specs.Places.{last_of, later}
 use Rattle.bk_world.specs.Records.{Logged, RowId, id_of, is_row}
 use Rattle.bk_kept.specs.declared.kept.Database.{Database as KeptDatabase}
 use Rattle.bk_kept.specs.declared.kept.Kept.{Kept}
-use Rattle.bk_kept.specs.Keeps.{Keeps, ShowsLog, database_of}
+use Rattle.bk_kept.specs.Keeps.{Sees, ShowsLog, database_of}
 use Rattle.std.proofs.Math.Bool.{and-false}
 
 -- Pending writes of a row.
@@ -97,19 +97,19 @@ module _ (w : World) (k : Kept) (d : KeptDatabase) (id : RowId) where
   IsFirst first = ((rs : List Logged) → Shows d.files rs d.shown → is_some first ≡ is_some (last_of id (pending rs)))
       × ((rs : List Logged) → Shows d.files rs d.shown → (begin : ℕ) → IfSome first (λ b. b ≡ begin) → AreOf (pending rs) id begin)
 
-  pub holder-none : IsFirst None → Keeps w k → ShowsLog w.history d → None ≡ holder w (database_of d) id
+  pub holder-none : IsFirst None → Sees w k → ShowsLog w.history d → None ≡ holder w (database_of d) id
   unfolding holder log_of
-  holder-none first keeps shows =
+  holder-none first sees shows =
       let none : is_some (last_of id (pending (log_of w.history (database_of d)))) ≡ false = sym (first.0 _ shows) in
       sym (find-none _ d.transactions (λ t. ap (λ b. not (t.session == w.session) && b) (none-written ws id t.begin none) ∙ and-false (not (t.session == w.session))))
 
-  pub holder-is : (begin : ℕ) (found : Option Open) → IsFirst (Some begin) → found ≡ find (λ t. not (t.session == k.session) && t.begin == begin) d.transactions → Keeps w k → ShowsLog w.history d
+  pub holder-is : (begin : ℕ) (found : Option Open) → IsFirst (Some begin) → found ≡ find (λ t. not (t.session == k.session) && t.begin == begin) d.transactions → Sees w k → ShowsLog w.history d
       → found ≡ holder w (database_of d) id
   unfolding holder log_of
-  holder-is begin found first is keeps shows =
+  holder-is begin found first is sees shows =
       let some : is_some (last_of id (pending (log_of w.history (database_of d)))) ≡ true = sym (first.0 _ shows) in
       is
-      ∙ ap (λ n. find (λ (t : Open). not (t.session == n) && t.begin == begin) d.transactions) (sym keeps.session)
+      ∙ ap (λ n. find (λ (t : Open). not (t.session == n) && t.begin == begin) d.transactions) (sym sees.session)
       ∙ find-alike _ _ d.transactions (λ t. ap (λ b. not (t.session == w.session) && b) (sym (writer-is ws id begin t.begin some (first.1 _ shows begin refl))))
 
 -- How much is written.

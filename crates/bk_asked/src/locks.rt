@@ -6,7 +6,7 @@ ghost use Rattle.std.specs.Option.{option_map};
 ghost use Rattle.bk_machine.specs.World.{World, log_of};
 ghost use Rattle.bk_machine.specs.statements.Target as target;
 ghost use Rattle.bk_shown.specs.Writes.{own_of};
-ghost use Rattle.bk_kept.specs.Keeps.{Keeps, ShowsLog, database_of};
+ghost use Rattle.bk_kept.specs.Keeps.{Sees, ShowsLog, database_of};
 
 use crate::opens::own_open;
 use bk_ids::Lsn;
@@ -30,7 +30,7 @@ pub fn holder<'a>(
     table: &TableSpec,
     key: u64,
 ) -> Option<&'a Open>
-    ensures { (w : World) → Keeps w kept.now → ShowsLog w.history database.now
+    ensures { (w : World) → Sees w kept.now → ShowsLog w.history database.now
         → option_map (λ t. t.now) result ≡ target.holder w (database_of database.now) (table.now.number, key) }
 {
     let begin = database.shown.holder(table.number, key)?;
@@ -46,7 +46,7 @@ fn count_of(written: &[Written], begin: Lsn) -> usize
 
 /// How many pending writes the current session's transaction has in a database: none where it has no transaction there.
 pub fn own_writes(kept: &InstanceView<'_>, database: &DatabaseView<'_>) -> usize
-    ensures { (w : World) → Keeps w kept.now → ShowsLog w.history database.now
+    ensures { (w : World) → Sees w kept.now → ShowsLog w.history database.now
         → result ≡ target.writes_of (log_of w.history (database_of database.now)) (target.own_open w (database_of database.now)) }
 {
     match own_open(kept, database) {

@@ -9,7 +9,7 @@ ghost use Rattle.bk_machine.specs.World as world;
 ghost use Rattle.bk_machine.specs.World.{World};
 ghost use Rattle.bk_machine.specs.statements.Target as target;
 ghost use Rattle.bk_world.specs.Lines.{RecordLines};
-ghost use Rattle.bk_kept.specs.Keeps.{IsKept, Keeps, database_of};
+ghost use Rattle.bk_kept.specs.Keeps.{IsKept, IsSeenOf, Sees, database_of};
 ghost use Rattle.bk_kept.specs.Numbers.{CanEnd, LeaveNumbers};
 ghost use Rattle.bk_asked.specs.Asked.{held_of, least_in, least_with};
 
@@ -39,7 +39,7 @@ fn open_of<'a>(database: &DatabaseView<'a>, session: u8) -> Option<&'a Open>
 
 /// The open transaction of the current session in a database, if it has one there.
 pub fn own_open<'a>(kept: &InstanceView<'_>, database: &DatabaseView<'a>) -> Option<&'a Open>
-    ensures { (w : World) → Keeps w kept.now → option_map (λ t. t.now) result ≡ target.own_open w (database_of database.now) }
+    ensures { (w : World) → Sees w kept.now → option_map (λ t. t.now) result ≡ target.own_open w (database_of database.now) }
 {
     open_of(database, kept.session)
 }
@@ -47,7 +47,7 @@ pub fn own_open<'a>(kept: &InstanceView<'_>, database: &DatabaseView<'a>) -> Opt
 // The open transaction of a session, in whichever of some databases it is.
 fn held_among<'a>(databases: &'a [DatabaseView<'a>], session: u8) -> Option<Held<'a>>
     ensures found { option_map held_of result ≡ world.held_in (map database_of databases.now) session }
-    ensures kept { (history : RecordLines) → AllByRecursion (IsKept history) databases.now → IfSome result (λ h. IsKept history h.database.now) }
+    ensures kept { LeaveNumbers databases.now → (history : RecordLines) → AllByRecursion (IsSeenOf history) databases.now → IfSome result (λ h. IsKept history h.database.now) }
     ensures numbers { LeaveNumbers databases.now → IfSome result (λ h. CanEnd h.database.now) }
 {
     for database in databases {
@@ -63,8 +63,8 @@ fn held_among<'a>(databases: &'a [DatabaseView<'a>], session: u8) -> Option<Held
 
 /// The open transaction of a session, in whichever database it is.
 pub fn held_by<'a>(kept: &'a InstanceView<'a>, session: u8) -> Option<Held<'a>>
-    ensures found { (w : World) → Keeps w kept.now → option_map held_of result ≡ world.held_in w.databases session }
-    ensures kept { (w : World) → Keeps w kept.now → IfSome result (λ h. IsKept w.history h.database.now) }
+    ensures found { (w : World) → Sees w kept.now → option_map held_of result ≡ world.held_in w.databases session }
+    ensures kept { LeaveNumbers kept.now.databases.items → (w : World) → Sees w kept.now → IfSome result (λ h. IsKept w.history h.database.now) }
     ensures numbers { LeaveNumbers kept.now.databases.items → IfSome result (λ h. CanEnd h.database.now) }
 {
     held_among(&kept.databases, session)
@@ -72,8 +72,8 @@ pub fn held_by<'a>(kept: &'a InstanceView<'a>, session: u8) -> Option<Held<'a>>
 
 /// The open transaction of the current session, in whichever database it is.
 pub fn own_held<'a>(kept: &'a InstanceView<'a>) -> Option<Held<'a>>
-    ensures found { (w : World) → Keeps w kept.now → option_map held_of result ≡ world.own_held w }
-    ensures kept { (w : World) → Keeps w kept.now → IfSome result (λ h. IsKept w.history h.database.now) }
+    ensures found { (w : World) → Sees w kept.now → option_map held_of result ≡ world.own_held w }
+    ensures kept { LeaveNumbers kept.now.databases.items → (w : World) → Sees w kept.now → IfSome result (λ h. IsKept w.history h.database.now) }
     ensures numbers { LeaveNumbers kept.now.databases.items → IfSome result (λ h. CanEnd h.database.now) }
 {
     held_by(kept, kept.session)
@@ -121,15 +121,15 @@ fn least_among(databases: &[DatabaseView<'_>]) -> Option<u8>
 
 // The least session that has an open transaction in any database, if one has.
 fn least_open(kept: &InstanceView<'_>) -> Option<u8>
-    ensures { (w : World) → Keeps w kept.now → result ≡ least_in w.databases }
+    ensures { (w : World) → Sees w kept.now → result ≡ least_in w.databases }
 {
     least_among(&kept.databases)
 }
 
 /// An open transaction of the least session of all that have one: the one that is rolled back first where a run ends.
 pub fn first_held<'a>(kept: &'a InstanceView<'a>) -> Option<Held<'a>>
-    ensures first { (w : World) → Keeps w kept.now → MatchOption result (AllByRecursion (λ db. db.transactions ≡ []) w.databases) (λ h. IsFirst w (held_of h)) }
-    ensures kept { (w : World) → Keeps w kept.now → IfSome result (λ h. IsKept w.history h.database.now) }
+    ensures first { (w : World) → Sees w kept.now → MatchOption result (AllByRecursion (λ db. db.transactions ≡ []) w.databases) (λ h. IsFirst w (held_of h)) }
+    ensures kept { LeaveNumbers kept.now.databases.items → (w : World) → Sees w kept.now → IfSome result (λ h. IsKept w.history h.database.now) }
     ensures numbers { LeaveNumbers kept.now.databases.items → IfSome result (λ h. CanEnd h.database.now) }
 {
     let session = least_open(kept)?;

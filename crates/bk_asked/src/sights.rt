@@ -12,7 +12,7 @@ ghost use Rattle.bk_shown.specs.Shown.{pending_of};
 ghost use Rattle.bk_world.specs.Pending.{changes_of, of_transaction};
 ghost use Rattle.bk_world.specs.Rows.{rows_changed, with_row};
 ghost use Rattle.bk_world.specs.Telling.{row_at};
-ghost use Rattle.bk_kept.specs.Keeps.{Keeps, ShowsLog, database_of};
+ghost use Rattle.bk_kept.specs.Keeps.{Sees, ShowsLog, database_of};
 
 use crate::opens::own_open;
 use bk_ids::{Lsn, Value};
@@ -28,7 +28,7 @@ pub fn seen_row<'a>(
     table: &TableSpec,
     key: u64,
 ) -> Option<&'a Value>
-    ensures { (w : World) → Keeps w kept.now → ShowsLog w.history database.now
+    ensures { (w : World) → Sees w kept.now → ShowsLog w.history database.now
         → option_map (λ text. text.now) result ≡ row_at (visible w (database_of database.now) table.now) key }
 {
     match own_open(kept, database) {
@@ -44,7 +44,7 @@ pub fn sees_key(
     table: &TableSpec,
     key: u64,
 ) -> bool
-    ensures { (w : World) → Keeps w kept.now → ShowsLog w.history database.now → result ≡ has_key (visible w (database_of database.now) table.now) key }
+    ensures { (w : World) → Sees w kept.now → ShowsLog w.history database.now → result ≡ has_key (visible w (database_of database.now) table.now) key }
 {
     seen_row(kept, database, table, key).is_some()
 }
@@ -150,7 +150,7 @@ pub fn seen_rows(
     database: &DatabaseView<'_>,
     table: &TableSpec,
 ) -> Result<Vec<(u64, Value)>, AllocError>
-    ensures { IfOk result (λ rows. (w : World) → Keeps w kept.now → ShowsLog w.history database.now → rows.items ≡ visible w (database_of database.now) table.now) }
+    ensures { IfOk result (λ rows. (w : World) → Sees w kept.now → ShowsLog w.history database.now → rows.items ≡ visible w (database_of database.now) table.now) }
 {
     let mut rows = database.shown.rows(alloc, table.number)?;
     let Some(transaction) = own_open(kept, database) else {

@@ -18,6 +18,8 @@ use Rattle.bk_machine.specs.Writes.{ActsWrite, IsStill}
 use Rattle.bk_plans.specs.declared.parts.Plan.{Plan}
 use Rattle.bk_plans.specs.Planning.{Plans, reply_of}
 use Rattle.bk_world.specs.declared.reply.Reply.{Reply}
+use Rattle.bk_kept.specs.Keeps.{Sees}
+use Rattle.bk_kept.specs.KeepsLaws.{keeps-sees}
 use Rattle.bk_instance.specs.BehindLaws.{covers-behind}
 use Rattle.bk_instance.specs.declared.error.ExecuteError.{ExecuteError}
 use Rattle.bk_instance.specs.declared.error.ExecuteError.TheVariants.{Broken}
@@ -64,28 +66,32 @@ pub record Follows (tells : Type 0) (i : Instance) (b : Disk) (plan : Plan) (res
   pub spares : tells → TouchesOnly (PlanWrites plan) b c
   pub broken : tells → IsErrOf result Broken → IsNoPlan i b plan
 
+-- what is kept of each of them is seen
+seen : (i : Instance) (a : Disk) (w : World) → StandsFor i a w → Sees w i.kept
+seen i a w stands = keeps-sees w i.kept stands.keeps
+
 plan-cuts : {tells : Type 0} {Known : World → Type 0} (i : Instance) (a b c : Disk) (s : ScriptEntry) (now : ℕ) (plan : Plan) (plans : Plans i.kept Known s now plan) → Knows tells i a b Known
     → (tells → Effect IsOurs (IfDurable b (CutsPlan i b plan)) b c) → tells → Effect IsOurs (IfDurable a (Cuts i a plans.outcome)) a c
 plan-cuts i a b c s now plan plans knows crash told =
     effect_then (effect_weaken (λ image stays durable number w stands. record { done = 0; covers = covers-behind i.waiting number image w (stays durable number w stands) }) (stays-nothing i a b knows.ready (knows.stored told) (knows.call told)))
     (effect_weaken (λ image cuts durable number w stands.
-    cuts (calm-nothing (knows.call told) durable) number w plans.outcome.acts (stands-nothing i a b w (knows.call told) stands) (plans.acts w stands.sound stands.keeps (knows.known told w stands))) (crash told))
+    cuts (calm-nothing (knows.call told) durable) number w plans.outcome.acts (stands-nothing i a b w (knows.call told) stands) (plans.acts w stands.sound (seen i a w stands) (knows.known told w stands))) (crash told))
 
 plan-may : {tells : Type 0} {Known : World → Type 0} (i : Instance) (a b : Disk) (s : ScriptEntry) (now : ℕ) (plan : Plan) (plans : Plans i.kept Known s now plan) → Knows tells i a b Known → tells → MayCome i a s now plans.outcome
-plan-may i a b s now plan plans knows told w stands = plans.may w stands.sound stands.keeps (knows.known told w stands)
+plan-may i a b s now plan plans knows told w stands = plans.may w stands.sound (seen i a w stands) (knows.known told w stands)
 
 -- no medium is touched but those to which the acts of its outcome write
 plan-spares : {tells : Type 0} {Known : World → Type 0} (i : Instance) (a b c : Disk) (s : ScriptEntry) (now : ℕ) (plan : Plan) (plans : Plans i.kept Known s now plan) → Knows tells i a b Known
     → (tells → TouchesOnly (PlanWrites plan) b c) → tells → (w : World) → StandsFor i a w → TouchesOnly (ActsWrite plans.outcome.acts) a c
 plan-spares i a b c s now plan plans knows spares told w stands =
     effect_then (touches-nothing (knows.call told))
-    (touches-wider (plan-writes w plan plans.outcome.acts (plans.acts w stands.sound stands.keeps (knows.known told w stands))) (spares told))
+    (touches-wider (plan-writes w plan plans.outcome.acts (plans.acts w stands.sound (seen i a w stands) (knows.known told w stands))) (spares told))
 
 -- nor is anything where no act stores something
 plan-still : {tells : Type 0} {Known : World → Type 0} (i new : Instance) (a b c : Disk) (s : ScriptEntry) (now : ℕ) (plan : Plan) (plans : Plans i.kept Known s now plan) → (tells → IsLawful a) → Knows tells i a b Known
     → (tells → HasNoParts plan → Rests i b new c) → tells → (w : World) → StandsFor i a w → IsStill plans.outcome → Rests i a new c
 plan-still i new a b c s now plan plans lawful knows rests told w stands still =
-    let then : Rests i b new c = rests told (still-plan w plan plans.outcome (plans.acts w stands.sound stands.keeps (knows.known told w stands)) still) in
+    let then : Rests i b new c = rests told (still-plan w plan plans.outcome (plans.acts w stands.sound (seen i a w stands) (knows.known told w stands)) still) in
     record { device = nothing_then (lawful told) (knows.call told) then.device; reserves = then.reserves }
 
 -- behind each front of what a statement comes to the world is sound
@@ -102,8 +108,8 @@ plan-executed fronts i new a b c s now plan (Ok reply) plans lawful knows follow
   replies = plans.replies ∙ sym follows.replies;
   may = plan-may i a b s now plan plans knows;
   does = λ told w stands.
-      follows.does told w plans.outcome.acts (stands-nothing i a b w (knows.call told) stands) (plans.acts w stands.sound stands.keeps (knows.known told w stands))
-      (behind-sound fronts w s now plans.outcome stands.sound (plans.may w stands.sound stands.keeps (knows.known told w stands)));
+      follows.does told w plans.outcome.acts (stands-nothing i a b w (knows.call told) stands) (plans.acts w stands.sound (seen i a w stands) (knows.known told w stands))
+      (behind-sound fronts w s now plans.outcome stands.sound (plans.may w stands.sound (seen i a w stands) (knows.known told w stands)));
   crash = plan-cuts i a b c s now plan plans knows follows.crash;
   still = plan-still i new a b c s now plan plans lawful knows follows.still;
   spares = plan-spares i a b c s now plan plans knows follows.spares;
@@ -124,7 +130,7 @@ plan-failed i new a b c s now plan (Err error) plans knows follows =
 pub plan-broken : {tells : Type 0} {Known : World → Type 0} (i new : Instance) (a b c : Disk) (s : ScriptEntry) (now : ℕ) (plan : Plan) (result : Result Reply ExecuteError) → Plans i.kept Known s now plan → Knows tells i a b Known
     → Follows tells i b plan result new c → tells → IsErrOf result Broken → (w : World) → StandsFor i a w → ⊥
 plan-broken i new a b c s now plan result plans knows follows told is w stands =
-    follows.broken told is w plans.outcome.acts (stands-nothing i a b w (knows.call told) stands) (plans.acts w stands.sound stands.keeps (knows.known told w stands))
+    follows.broken told is w plans.outcome.acts (stands-nothing i a b w (knows.call told) stands) (plans.acts w stands.sound (seen i a w stands) (knows.known told w stands))
 
 -- a statement is executed by its item
 pub executed-by : (tells : Type 0) (i new : Instance) (a c : Disk) (s : ScriptEntry) (item : ScriptItem) (now : ℕ) (result : Result Reply ExecuteError) → s.item ≡ item

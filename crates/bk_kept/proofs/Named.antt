@@ -7,7 +7,7 @@ use Rattle.bk_ids.specs.Name.{same_name}
 use Rattle.bk_machine.specs.World.{World, database_named}
 use Rattle.bk_kept.specs.declared.kept.Database.{Database as KeptDatabase}
 use Rattle.bk_kept.specs.declared.kept.Kept.{Kept}
-use Rattle.bk_kept.specs.Keeps.{IsKept, Keeps, database_of}
+use Rattle.bk_kept.specs.Keeps.{IsSeenOf, Sees, database_of}
 
 -- the first of a name
 abbrev pub first : List ℕ → List KeptDatabase → Option KeptDatabase
@@ -36,12 +36,12 @@ pub seen-behind : (found : Option (Bor KeptDatabase)) → option_map (λ d. data
 seen-behind None = refl
 seen-behind (Some d) = refl
 
-pub found-named : (w : World) (k : Kept) (name : List ℕ) (found : Option (Bor KeptDatabase)) → option_map (λ d. d.now) found ≡ first name k.databases.items → Keeps w k
+pub found-named : (w : World) (k : Kept) (name : List ℕ) (found : Option (Bor KeptDatabase)) → option_map (λ d. d.now) found ≡ first name k.databases.items → Sees w k
     → option_map (λ d. database_of d.now) found ≡ database_named w.databases name
-found-named w k name found is keeps =
-    seen-behind found ∙ ap (option_map database_of) is ∙ first-named name k.databases.items ∙ ap (λ dbs. database_named dbs name) (sym keeps.databases)
+found-named w k name found is sees =
+    seen-behind found ∙ ap (option_map database_of) is ∙ first-named name k.databases.items ∙ ap (λ dbs. database_named dbs name) (sym sees.databases)
 
-pub found-kept : (w : World) (k : Kept) (name : List ℕ) (found : Option (Bor KeptDatabase)) → option_map (λ d. d.now) found ≡ first name k.databases.items → Keeps w k
-    → IfSome found (λ d. IsKept w.history d.now)
-found-kept w k name None is keeps = tt
-found-kept w k name (Some d) is keeps = first-has (IsKept w.history) name k.databases.items d.now keeps.kept (sym is)
+pub found-seen : (w : World) (k : Kept) (name : List ℕ) (found : Option (Bor KeptDatabase)) → option_map (λ d. d.now) found ≡ first name k.databases.items → Sees w k
+    → IfSome found (λ d. IsSeenOf w.history d.now)
+found-seen w k name None is sees = tt
+found-seen w k name (Some d) is sees = first-has (IsSeenOf w.history) name k.databases.items d.now sees.seen (sym is)

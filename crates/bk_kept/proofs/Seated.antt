@@ -10,7 +10,7 @@ use Rattle.bk_machine.specs.Acts.{turned, seated, done}
 use Rattle.bk_machine.specs.World.{World, Session, current_name, session_numbered, with_session}
 use Rattle.bk_kept.specs.declared.kept.Kept.{Kept}
 use Rattle.bk_kept.specs.declared.kept.Session.{Session as KeptSession}
-use Rattle.bk_kept.specs.Keeps.{Keeps, session_of}
+use Rattle.bk_kept.specs.Keeps.{Keeps, Sees, session_of}
 
 -- the test for a number
 abbrev pub seats : ℕ → KeptSession → Bool
@@ -130,8 +130,8 @@ first-seat (s ∷ ss) n = by (s.number == n) (first-seat ss n)
     by true later = refl
     by false later = later
 
-pub name-is : (w : World) (k : Kept) (found : Option (Bor KeptSession)) → option_map (λ s. s.now) found ≡ find (seats k.session) k.sessions.items → Keeps w k
+pub name-is : (w : World) (k : Kept) (found : Option (Bor KeptSession)) → option_map (λ s. s.now) found ≡ find (seats k.session) k.sessions.items → Sees w k
     → name_in (option_map (λ s. s.now) found) ≡ current_name w
-name-is w k found is keeps =
+name-is w k found is sees =
     ap name_in is ∙ first-seat k.sessions.items k.session
-    ∙ sym (ap (λ ss. (session_numbered ss w.session).current) keeps.sessions ∙ ap (λ n. (session_numbered (map session_of k.sessions.items) n).current) keeps.session)
+    ∙ sym (ap (λ ss. (session_numbered ss w.session).current) sees.sessions ∙ ap (λ n. (session_numbered (map session_of k.sessions.items) n).current) sees.session)

@@ -1,8 +1,9 @@
--- Which worlds the databases that are kept stand for.
-use Rattle.std.specs.Prelude.{◌≡◌, false, List, map, None}
+-- Which worlds the databases that are kept stand for, and those that are seen of them.
+use Rattle.std.specs.Prelude.{◌≡◌, false, true, List, map, None}
 use Rattle.std.specs.List.{AllByRecursion}
 use Rattle.bk_acts.specs.Transactions.{IsTransaction}
 use Rattle.bk_machine.specs.World.{World, Database, Session, least_begin}
+use Rattle.bk_machine.specs.statements.Restore.{is_online}
 use Rattle.bk_shown.specs.Ends.{SpellsEnd}
 use Rattle.bk_shown.specs.Shown.{Shows}
 use Rattle.bk_world.specs.Lines.{RecordLines, log_below}
@@ -51,6 +52,10 @@ pub record IsKept (history : RecordLines) (d : KeptDatabase) : Type 0 where
   pub live : HoldsLive history d
   pub opens : AllByRecursion IsTransaction d.transactions
 
+-- of a database it is seen what its log shows, where it is online
+abbrev pub IsSeenOf : RecordLines → KeptDatabase → Type 0
+IsSeenOf history d = is_online d.status ≡ true → IsKept history d
+
 -- databases in memory are those of this world, with what their logs show
 pub record KeepsDatabases (w : World) (databases : List KeptDatabase) : Type 0 where
   pub same : w.databases ≡ map database_of databases
@@ -64,3 +69,12 @@ pub record Keeps (w : World) (k : Kept) : Type 0 where
   pub sessions : w.sessions ≡ map session_of k.sessions.items
   pub databases : w.databases ≡ map database_of k.databases.items
   pub kept : AllByRecursion (IsKept w.history) k.databases.items
+
+-- what is seen of what is kept stands for this world, but for its media, and for the logs of databases that aren't online
+pub record Sees (w : World) (k : Kept) : Type 0 where
+  pub number : w.instance ≡ k.number
+  pub counter : w.counter ≡ k.counter
+  pub session : w.session ≡ k.session
+  pub sessions : w.sessions ≡ map session_of k.sessions.items
+  pub databases : w.databases ≡ map database_of k.databases.items
+  pub seen : AllByRecursion (IsSeenOf w.history) k.databases.items

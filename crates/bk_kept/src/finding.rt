@@ -20,20 +20,20 @@ impl<'a> InstanceView<'a> {
     ghost use Rattle.std.specs.Prelude.{◌≡◌, IfSome};
     ghost use Rattle.std.specs.Option.{option_map};
     ghost use Rattle.bk_machine.specs.World.{World, database_named, current_database};
-    ghost use Rattle.bk_kept.specs.Keeps.{IsKept, Keeps, database_of};
+    ghost use Rattle.bk_kept.specs.Keeps.{IsSeenOf, Sees, database_of};
 
     /// The database of this name, in any case of ASCII letters.
     pub fn named(&'a self, name: &str) -> Option<&'a DatabaseView<'a>>
-        ensures found { (w : World) → Keeps w self.now → option_map (λ d. database_of d.now) result ≡ database_named w.databases name.now }
-        ensures kept { (w : World) → Keeps w self.now → IfSome result (λ d. IsKept w.history d.now) }
+        ensures found { (w : World) → Sees w self.now → option_map (λ d. database_of d.now) result ≡ database_named w.databases name.now }
+        ensures seen { (w : World) → Sees w self.now → IfSome result (λ d. IsSeenOf w.history d.now) }
     {
         first_named(&self.databases, name)
     }
 
     /// The current session's current database.
     pub fn current_database(&'a self) -> Option<&'a DatabaseView<'a>>
-        ensures found { (w : World) → Keeps w self.now → option_map (λ d. database_of d.now) result ≡ current_database w }
-        ensures kept { (w : World) → Keeps w self.now → IfSome result (λ d. IsKept w.history d.now) }
+        ensures found { (w : World) → Sees w self.now → option_map (λ d. database_of d.now) result ≡ current_database w }
+        ensures seen { (w : World) → Sees w self.now → IfSome result (λ d. IsSeenOf w.history d.now) }
     {
         let name = self.current()?;
         self.named(name.as_str())

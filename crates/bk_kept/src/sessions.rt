@@ -78,11 +78,11 @@ impl<'a> InstanceView<'a> {
     ghost use Rattle.std.specs.Prelude.{◌≡◌};
     ghost use Rattle.std.specs.Option.{option_map};
     ghost use Rattle.bk_machine.specs.World.{World, current_name};
-    ghost use Rattle.bk_kept.specs.Keeps.{Keeps};
+    ghost use Rattle.bk_kept.specs.Keeps.{Sees};
 
     /// The name of the current session's current database, as it was asked for.
     pub fn current(&self) -> Option<&Text>
-        ensures { (w : World) → Keeps w self.now → option_map (λ name. name.now) result ≡ current_name w }
+        ensures { (w : World) → Sees w self.now → option_map (λ name. name.now) result ≡ current_name w }
     {
         let session = session_numbered(self.sessions, self.session)?;
         session.current.as_ref()

@@ -46,7 +46,7 @@ use Rattle.bk_world.specs.CrashLaws.{counts-length}
 use Rattle.bk_machine.specs.SaysLaws.{done-says}
 use Rattle.bk_media_plans.specs.Backups.{AreBegun, IsBackup, IsBackupPlan}
 use Rattle.bk_plans.specs.Checking.{IsRefused}
-use Rattle.bk_kept.specs.Keeps.{HoldsLive, Keeps, ShowsLog, database_of}
+use Rattle.bk_kept.specs.Keeps.{HoldsLive, Sees, ShowsLog, database_of}
 use Rattle.bk_plans.specs.Planned.{IsRefusedBy}
 use Rattle.bk_plans.specs.Planning.{AreParts, MakesMedium, Plans, SealsSet}
 use Rattle.bk_kept.specs.Stored.{IsDone}
@@ -288,38 +288,38 @@ module _ (k : Kept) (line now : ℕ) (name : List ℕ) (units : List UnitName) (
   Known w = is_some (medium_at w.media path) ≡ is_there
 
   pub backup-refused : (refusal : Refusal) (plan : Plan) → IsRefusedBy refusal plan
-      → ((w : World) → Keeps w k → is_some (medium_at w.media path) ≡ is_there → IsRefused refusal (check_backup w line name units path options))
+      → ((w : World) → Sees w k → is_some (medium_at w.media path) ≡ is_there → IsRefused refusal (check_backup w line name units path options))
       → Plans k (λ w. is_some (medium_at w.media path) ≡ is_there) (record { item = script.BackupDatabase name units path options; line = line }) now plan
   unfolding May
   backup-refused refusal plan is refuses =
       plans-refusal k Known (record { item = script.BackupDatabase name units path options; line = line }) now (λ w. check_backup w line name units path options) refusal plan is
-      (λ w sound keeps known. refuses w keeps known) (λ w rule e. comes-refused (check_backup w line name units path options) (DoesBackup w path now) rule e)
+      (λ w sound sees known. refuses w sees known) (λ w rule e. comes-refused (check_backup w line name units path options) (DoesBackup w path now) rule e)
 
   -- it may be done where it is checked
-  may-back : (d : KeptDatabase) (time : ℕ) (h : Header) (w : World) → Keeps w k → ShowsLog w.history d → h ≡ full_header w (database_of d) (record { high = k.number; low = k.counter }) time → time ≡ said_time w (database_of d) now
+  may-back : (d : KeptDatabase) (time : ℕ) (h : Header) (w : World) → Sees w k → ShowsLog w.history d → h ≡ full_header w (database_of d) (record { high = k.number; low = k.counter }) time → time ≡ said_time w (database_of d) now
       → check_backup w line name units path options ≡ Ok (database_of d)
       → May w (record { item = script.BackupDatabase name units path options; line = line }) now (outcome_by d path (record { high = k.number; low = k.counter }) time h)
   unfolding May
-  may-back d time h w keeps shows is time-is passes =
+  may-back d time h w sees shows is time-is passes =
       comes-found (check_backup w line name units path options) (DoesBackup w path now) (database_of d) _ passes
-      (is-outcome d path _ time w now h is (ap (λ (n : ℕ). record { high = n; low = k.counter }) (sym keeps.number) ∙ ap (λ (n : ℕ). record { high = w.instance; low = n }) (sym keeps.counter)) time-is)
+      (is-outcome d path _ time w now h is (ap (λ (n : ℕ). record { high = n; low = k.counter }) (sym sees.number) ∙ ap (λ (n : ℕ). record { high = w.instance; low = n }) (sym sees.counter)) time-is)
 
   pub backup-made : Laws → (d : KeptDatabase) (time : ℕ) (plan : Plan) → IsBackupPlan d path (record { high = k.number; low = k.counter }) time plan
-      → ((w : World) → Keeps w k → is_some (medium_at w.media path) ≡ is_there → check_backup w line name units path options ≡ Ok (database_of d))
-      → ((w : World) → Keeps w k → ShowsLog w.history d) → ((w : World) → Keeps w k → HoldsLive w.history d) → ((w : World) → ShowsLog w.history d → time ≡ said_time w (database_of d) now)
+      → ((w : World) → Sees w k → is_some (medium_at w.media path) ≡ is_there → check_backup w line name units path options ≡ Ok (database_of d))
+      → ((w : World) → Sees w k → ShowsLog w.history d) → ((w : World) → Sees w k → HoldsLive w.history d) → ((w : World) → ShowsLog w.history d → time ≡ said_time w (database_of d) now)
       → Plans k (λ w. is_some (medium_at w.media path) ≡ is_there) (record { item = script.BackupDatabase name units path options; line = line }) now plan
   unfolding outcome_by
   backup-made laws d time (Parts parts answer) is passes shows live time-is = record {
     outcome = outcome_by d path (record { high = k.number; low = k.counter }) time is.0.body.header;
     replies = sym is.1;
     may = may;
-    acts = λ w sound keeps known.
-        parts-done d path (record { high = k.number; low = k.counter }) time laws w sound (shows w keeps) (live w keeps) (checked w line name units path options (database_of d) (passes w keeps known)) parts.items is.0
-        (laws.may w (record { item = script.BackupDatabase name units path options; line = line }) now (outcome_by d path (record { high = k.number; low = k.counter }) time is.0.body.header) sound (may w sound keeps known));
+    acts = λ w sound sees known.
+        parts-done d path (record { high = k.number; low = k.counter }) time laws w sound (shows w sees) (live w sees) (checked w line name units path options (database_of d) (passes w sees known)) parts.items is.0
+        (laws.may w (record { item = script.BackupDatabase name units path options; line = line }) now (outcome_by d path (record { high = k.number; low = k.counter }) time is.0.body.header) sound (may w sound sees known));
   }
     where
-      may : (w : World) → IsSound w → Keeps w k → Known w → May w (record { item = script.BackupDatabase name units path options; line = line }) now (outcome_by d path (record { high = k.number; low = k.counter }) time is.0.body.header)
-      may w sound keeps known = may-back d time is.0.body.header w keeps (shows w keeps) (is.0.is_set.header w (shows w keeps)) (time-is w (shows w keeps)) (passes w keeps known)
+      may : (w : World) → IsSound w → Sees w k → Known w → May w (record { item = script.BackupDatabase name units path options; line = line }) now (outcome_by d path (record { high = k.number; low = k.counter }) time is.0.body.header)
+      may w sound sees known = may-back d time is.0.body.header w sees (shows w sees) (is.0.is_set.header w (shows w sees)) (time-is w (shows w sees)) (passes w sees known)
   backup-made laws d time (Refused rule) is passes shows live time-is = absurd is
   backup-made laws d time (Answered reply) is passes shows live time-is = absurd is
   backup-made laws d time (Turned name) is passes shows live time-is = absurd is

@@ -41,7 +41,7 @@ use Rattle.bk_plans.specs.declared.parts.Plan.TheVariants.{Answered, Parts, Refu
 use Rattle.bk_plans.specs.declared.refusal.Refusal.{Refusal}
 use Rattle.bk_plans.specs.declared.refusal.Refusal.TheVariants.{Broken, NoMemory}
 use Rattle.bk_plans.specs.Checking.{IsRefused}
-use Rattle.bk_kept.specs.Keeps.{Keeps}
+use Rattle.bk_kept.specs.Keeps.{Sees}
 use Rattle.bk_plans.specs.Planned.{IsRefusedBy}
 use Rattle.bk_plans.specs.Planning.{AreParts, KeepsPart, Plans}
 use Rattle.bk_plans.specs.UndoingLaws.{recovery-next}
@@ -149,40 +149,40 @@ module _ (k : Kept) (line now : ℕ) (name : List ℕ) (units : RestoredUnits) (
   pub unbuilt-plan : is_built name units disk options ≡ false → Plans k (λ w. Unit {0}) asked now (Refused (NotBuilt line))
   unfolding May
   unbuilt-plan is = plans-refused k (λ w. Unit {0}) asked now (NotBuilt line)
-      (λ w sound keeps known. comes-refused (check_restore w line name units disk options) (DoesRestore w name) (NotBuilt line) (not-built line name units disk options w is))
+      (λ w sound sees known. comes-refused (check_restore w line name units disk options) (DoesRestore w name) (NotBuilt line) (not-built line name units disk options w is))
 
-  pub inside-plan : (first : Result SetBody Rule) (refusal : Refusal) (plan : Plan) → is_built name units disk options ≡ true → IsRefusedBy refusal plan → ((w : World) → Keeps w k → IsRefused refusal (outside w)) → Plans k (FindsFirst disk first) asked now plan
+  pub inside-plan : (first : Result SetBody Rule) (refusal : Refusal) (plan : Plan) → is_built name units disk options ≡ true → IsRefusedBy refusal plan → ((w : World) → Sees w k → IsRefused refusal (outside w)) → Plans k (FindsFirst disk first) asked now plan
   unfolding May
   inside-plan first refusal plan is by refuses =
       plans-refusal k (FindsFirst disk first) asked now (λ w. check_restore w line name units disk options) refusal plan by
-      (λ w sound keeps known. built-inside line name units disk options w refusal is (refuses w keeps)) (λ w rule e. comes-refused (check_restore w line name units disk options) (DoesRestore w name) rule e)
+      (λ w sound sees known. built-inside line name units disk options w refusal is (refuses w sees)) (λ w rule e. comes-refused (check_restore w line name units disk options) (DoesRestore w name) rule e)
 
-  none-then : (rule : Rule) → is_built name units disk options ≡ true → ((w : World) → Keeps w k → outside w ≡ Ok tt) → Plans k (FindsFirst disk (Err rule)) asked now (Refused rule)
+  none-then : (rule : Rule) → is_built name units disk options ≡ true → ((w : World) → Sees w k → outside w ≡ Ok tt) → Plans k (FindsFirst disk (Err rule)) asked now (Refused rule)
   unfolding May
   none-then rule is out = plans-refused k (FindsFirst disk (Err rule)) asked now rule
-      (λ w sound keeps known. comes-refused (check_restore w line name units disk options) (DoesRestore w name) rule (built-none line name units disk options w rule is (out w keeps) known.is))
+      (λ w sound sees known. comes-refused (check_restore w line name units disk options) (DoesRestore w name) rule (built-none line name units disk options w rule is (out w sees) known.is))
 
-  pub none-plan : (first : Result SetBody Rule) (rule : Rule) → first ≡ Err rule → is_built name units disk options ≡ true → ((w : World) → Keeps w k → outside w ≡ Ok tt) → Plans k (FindsFirst disk first) asked now (Refused rule)
+  pub none-plan : (first : Result SetBody Rule) (rule : Rule) → first ≡ Err rule → is_built name units disk options ≡ true → ((w : World) → Sees w k → outside w ≡ Ok tt) → Plans k (FindsFirst disk first) asked now (Refused rule)
   none-plan first rule e is out = subst (λ (f : Result SetBody Rule). Plans k (FindsFirst disk f) asked now (Refused rule)) (sym e) (none-then rule is out)
 
   refused-then : (refusal : Refusal) (w : World) (header : Header) → IsRefused refusal (check_set w name options.replace header) → IsRefused refusal (check_set w name options.replace header >>= λ u. Ok header)
   refused-then (Broken rule) w header is = ap (λ (c : Checked (Unit {0})). c >>= λ u. Ok header) is
   refused-then NoMemory w header is = tt
 
-  refused-for : (body : SetBody) (refusal : Refusal) (plan : Plan) → is_built name units disk options ≡ true → ((w : World) → Keeps w k → outside w ≡ Ok tt) → IsRefusedBy refusal plan
-      → ((w : World) → Keeps w k → IsRefused refusal (check_set w name options.replace body.header)) → Plans k (FindsFirst disk (Ok body)) asked now plan
+  refused-for : (body : SetBody) (refusal : Refusal) (plan : Plan) → is_built name units disk options ≡ true → ((w : World) → Sees w k → outside w ≡ Ok tt) → IsRefusedBy refusal plan
+      → ((w : World) → Sees w k → IsRefused refusal (check_set w name options.replace body.header)) → Plans k (FindsFirst disk (Ok body)) asked now plan
   unfolding May
   refused-for body refusal plan is out by refuses =
       plans-refusal k (FindsFirst disk (Ok body)) asked now (λ w. check_restore w line name units disk options) refusal plan by
-      (λ w sound keeps known. subst (IsRefused refusal) (sym (built-checked line name units disk options w body.header is (out w keeps) known.is)) (refused-then refusal w body.header (refuses w keeps)))
+      (λ w sound sees known. subst (IsRefused refusal) (sym (built-checked line name units disk options w body.header is (out w sees) known.is)) (refused-then refusal w body.header (refuses w sees)))
       (λ w rule e. comes-refused (check_restore w line name units disk options) (DoesRestore w name) rule e)
 
-  pub refused-plan : (first : Result SetBody Rule) (body : SetBody) (refusal : Refusal) (plan : Plan) → first ≡ Ok body → is_built name units disk options ≡ true → ((w : World) → Keeps w k → outside w ≡ Ok tt) → IsRefusedBy refusal plan
-      → ((w : World) → Keeps w k → IsRefused refusal (check_set w name options.replace body.header)) → Plans k (FindsFirst disk first) asked now plan
+  pub refused-plan : (first : Result SetBody Rule) (body : SetBody) (refusal : Refusal) (plan : Plan) → first ≡ Ok body → is_built name units disk options ≡ true → ((w : World) → Sees w k → outside w ≡ Ok tt) → IsRefusedBy refusal plan
+      → ((w : World) → Sees w k → IsRefused refusal (check_set w name options.replace body.header)) → Plans k (FindsFirst disk first) asked now plan
   refused-plan first body refusal plan e is out by refuses = subst (λ (f : Result SetBody Rule). Plans k (FindsFirst disk f) asked now plan) (sym e) (refused-for body refusal plan is out by refuses)
 
-  module _ (body : SetBody) (u : Unit {0}) (parts : List Part) (built : is_built name units disk options ≡ true) (out : (w : World) → Keeps w k → outside w ≡ Ok tt) (laws : Laws)
-      (passes : (w : World) → Keeps w k → check_set w name options.replace body.header ≡ Ok u) (of : RestoreAsked k name body parts) where
+  module _ (body : SetBody) (u : Unit {0}) (parts : List Part) (built : is_built name units disk options ≡ true) (out : (w : World) → Sees w k → outside w ≡ Ok tt) (laws : Laws)
+      (passes : (w : World) → Sees w k → check_set w name options.replace body.header ≡ Ok u) (of : RestoreAsked k name body parts) where
     -- what the recovery says
     abbrev its : Recovery
     its = recovery_of body.header.last (record { high = k.number; low = k.counter }) of.of_it.says.writes
@@ -204,26 +204,26 @@ module _ (k : Kept) (line now : ℕ) (name : List ℕ) (units : RestoredUnits) (
         let kept = laws.keeps (files_of_set body.header) (log w) body.header.last set.log.counts set.log.sound known.carries.placed in
         subst (λ ws. Recovers (log w) (recovery_of body.header.last its.branch ws)) (sym (its-writes w sound known)) (laws.recovers (log w) body.header.last its.branch set.log.counts set.log.sound kept.loads)
 
-    its-branch : (w : World) → Keeps w k → its.branch ≡ drawn w w.counter
-    its-branch w keeps = λ x. record { high = sym keeps.number x; low = sym keeps.counter x }
+    its-branch : (w : World) → Sees w k → its.branch ≡ drawn w w.counter
+    its-branch w sees = λ x. record { high = sym sees.number x; low = sym sees.counter x }
 
-    may-restore : (w : World) → IsSound w → Keeps w k → FindsFirst disk (Ok body) w → May w asked now (restored_whole of.name body.header its)
+    may-restore : (w : World) → IsSound w → Sees w k → FindsFirst disk (Ok body) w → May w asked now (restored_whole of.name body.header its)
     unfolding May
-    may-restore w sound keeps known =
+    may-restore w sound sees known =
         let checked : check_restore w line name units disk options ≡ Ok body.header =
-        built-checked line name units disk options w body.header built (out w keeps) known.is ∙ ap (λ (c : Checked (Unit {0})). c >>= λ v. Ok body.header) (passes w keeps) in
+        built-checked line name units disk options w body.header built (out w sees) known.is ∙ ap (λ (c : Checked (Unit {0})). c >>= λ v. Ok body.header) (passes w sees) in
         comes-found (check_restore w line name units disk options) (DoesRestore w name) body.header (restored_whole of.name body.header its) checked (
           its,
           refl,
-          its-branch w keeps,
+          its-branch w sees,
           its-recovers w sound known,
-          ap (λ n. restored_whole n body.header its) (of.known w keeps),
+          ap (λ n. restored_whole n body.header its) (of.known w sees),
         )
 
-    done-parts : (w : World) → IsSound w → Keeps w k → FindsFirst disk (Ok body) w → AreParts w parts (whole_restore of.name body.header its)
-    done-parts w sound keeps known =
-        let may : MayDoAll w (whole_restore of.name body.header its) = laws.may w asked now (restored_whole of.name body.header its) sound (may-restore w sound keeps known) in
-        let left : (used_up body.header.last || used_up w.counter) ≡ false = set-left w name options.replace body.header u (passes w keeps) in
+    done-parts : (w : World) → IsSound w → Sees w k → FindsFirst disk (Ok body) w → AreParts w parts (whole_restore of.name body.header its)
+    done-parts w sound sees known =
+        let may : MayDoAll w (whole_restore of.name body.header its) = laws.may w asked now (restored_whole of.name body.header its) sound (may-restore w sound sees known) in
+        let left : (used_up body.header.last || used_up w.counter) ≡ false = set-left w name options.replace body.header u (passes w sees) in
         subst (λ (ps : List Part). AreParts w ps (whole_restore of.name body.header its)) (sym of.of_it.are) (
           record { means = refl; may = may.0; draws = tt; carried = known.carries; from_end = tt; taken = tt },
           (
@@ -243,21 +243,21 @@ module _ (k : Kept) (line now : ℕ) (name : List ℕ) (units : RestoredUnits) (
           ),
         )
 
-  whole-for : (body : SetBody) (u : Unit {0}) (plan : Plan) → is_built name units disk options ≡ true → ((w : World) → Keeps w k → outside w ≡ Ok tt) → Laws
-      → ((w : World) → Keeps w k → check_set w name options.replace body.header ≡ Ok u) → RestoresWhole k name body plan → Plans k (FindsFirst disk (Ok body)) asked now plan
+  whole-for : (body : SetBody) (u : Unit {0}) (plan : Plan) → is_built name units disk options ≡ true → ((w : World) → Sees w k → outside w ≡ Ok tt) → Laws
+      → ((w : World) → Sees w k → check_set w name options.replace body.header ≡ Ok u) → RestoresWhole k name body plan → Plans k (FindsFirst disk (Ok body)) asked now plan
   whole-for body u (Parts parts answer) built out laws passes is = record {
     outcome = restored_whole is.0.name body.header (recovery_of body.header.last (record { high = k.number; low = k.counter }) is.0.of_it.says.writes);
     replies = sym is.1;
-    may = λ w sound keeps known. may-restore body u parts.items built out laws passes is.0 w sound keeps known;
-    acts = λ w sound keeps known. done-parts body u parts.items built out laws passes is.0 w sound keeps known;
+    may = λ w sound sees known. may-restore body u parts.items built out laws passes is.0 w sound sees known;
+    acts = λ w sound sees known. done-parts body u parts.items built out laws passes is.0 w sound sees known;
   }
   whole-for body u (Refused rule) built out laws passes is = absurd is
   whole-for body u (Answered said) built out laws passes is = absurd is
   whole-for body u (Turned to) built out laws passes is = absurd is
   whole-for body u (Seated session) built out laws passes is = absurd is
 
-  pub whole-plan : (first : Result SetBody Rule) (body : SetBody) (u : Unit {0}) (plan : Plan) → first ≡ Ok body → is_built name units disk options ≡ true → ((w : World) → Keeps w k → outside w ≡ Ok tt) → Laws
-      → ((w : World) → Keeps w k → check_set w name options.replace body.header ≡ Ok u) → RestoresWhole k name body plan → Plans k (FindsFirst disk first) asked now plan
+  pub whole-plan : (first : Result SetBody Rule) (body : SetBody) (u : Unit {0}) (plan : Plan) → first ≡ Ok body → is_built name units disk options ≡ true → ((w : World) → Sees w k → outside w ≡ Ok tt) → Laws
+      → ((w : World) → Sees w k → check_set w name options.replace body.header ≡ Ok u) → RestoresWhole k name body plan → Plans k (FindsFirst disk first) asked now plan
   whole-plan first body u plan e built out laws passes is = subst (λ (f : Result SetBody Rule). Plans k (FindsFirst disk f) asked now plan) (sym e) (whole-for body u plan built out laws passes is)
 
 -- Its numbers.

@@ -22,7 +22,7 @@ use Rattle.bk_world.specs.declared.reply.Reply.TheVariants as reply
 use Rattle.bk_world.specs.declared.rule.Rule.{Rule}
 use Rattle.bk_world.specs.declared.rule.Rule.TheVariants.{PathFull}
 use Rattle.bk_kept.specs.declared.kept.Kept.{Kept}
-use Rattle.bk_kept.specs.Keeps.{Keeps}
+use Rattle.bk_kept.specs.Keeps.{Sees}
 use Rattle.bk_kept.specs.Stored.{Carries}
 use Rattle.bk_plans.specs.declared.parts.Part.{Part}
 use Rattle.bk_plans.specs.declared.parts.Part.TheVariants.{Stored}
@@ -60,9 +60,9 @@ pub record AreOfRestore (name : List ℕ) (branch : Guid) (body : SetBody) (part
   pub says : SaysRecovery body.log body.header.last branch records
   pub are : parts ≡ Stored (Replaced name body) ∷ Stored (Restored name (base_of body.header) body.header.last) ∷ Stored (Recovered name body.header.last branch records) ∷ []
 
--- a database that is asked for by one name has this one in all worlds that are kept, or there is none and this is what was asked for
+-- a database that is asked for by one name has this one in all worlds that are seen, or there is none and this is what was asked for
 abbrev pub IsKnown : Kept → List ℕ → List ℕ → Type 0
-IsKnown k asked name = (w : World) → Keeps w k → name ≡ name_known (database_named w.databases asked) asked
+IsKnown k asked name = (w : World) → Sees w k → name ≡ name_known (database_named w.databases asked) asked
 
 -- the parts of a restore of what is asked for, on the next GUID
 pub record RestoreAsked (k : Kept) (asked : List ℕ) (body : SetBody) (parts : List Part) : Type 0 where

@@ -5,7 +5,7 @@ ghost use Rattle.bk_acts.specs.Meaning.{under};
 ghost use Rattle.bk_header.specs.Conditions.{KeepsConditions};
 ghost use Rattle.bk_items.specs.declared.item.ScriptItem.TheVariants as script;
 ghost use Rattle.bk_machine.specs.Checks as checks;
-ghost use Rattle.bk_kept.specs.Keeps.{Keeps};
+ghost use Rattle.bk_kept.specs.Keeps.{Sees};
 ghost use Rattle.bk_machine.specs.Sound.{IsSound};
 ghost use Rattle.bk_machine.specs.World.{World};
 ghost use Rattle.bk_media_plans.specs.Sets.{MayMakeSet};
@@ -236,7 +236,7 @@ pub fn plan_backup(
     ensures plans { IfOk result (Plans kept.now (λ w. is_some (medium_at w.media disk.now) ≡ is_there)
         (record { item = script.BackupDatabase database.now units.now disk.now options.now; line = line }) now) }
     ensures keeps { IfOk result KeepsPlan }
-    ensures unfit { IsErrOf result Unfit → (w : World) → IsSound w → Keeps w kept.now → is_some (medium_at w.media disk.now) ≡ is_there → ⊥ }
+    ensures unfit { IsErrOf result Unfit → (w : World) → IsSound w → Sees w kept.now → is_some (medium_at w.media disk.now) ≡ is_there → ⊥ }
 {
     statements_do_what_they_may();
     acts_keep_worlds_sound();

@@ -4,7 +4,7 @@ ghost use Rattle.std.specs.Prelude.{◌≡◌, ◌+◌, ℕ, ◌∷◌, ◌++◌
 ghost use Rattle.bk_acts.specs.declared.act.StoredAct.TheVariants.{Recovered, Replaced, Restored};
 ghost use Rattle.bk_items.specs.declared.item.ScriptItem.TheVariants as script;
 ghost use Rattle.bk_machine.specs.statements.Restore as restore;
-ghost use Rattle.bk_kept.specs.Keeps.{Keeps};
+ghost use Rattle.bk_kept.specs.Keeps.{Sees};
 ghost use Rattle.bk_kept.specs.declared.kept.Kept.{Kept as KeptOf};
 ghost use Rattle.bk_machine.specs.Sound.{IsSound};
 ghost use Rattle.bk_machine.specs.World.{World};
@@ -329,7 +329,7 @@ fn restore_first(
 ) -> Result<Plan, TakeError>
     requires built { request.is_built database.now units.now disk.now options.now ≡ true }
     requires is_body { IfOk first IsBody }
-    requires out { (w : World) → Keeps w kept.now → checks.outside w ≡ Ok tt }
+    requires out { (w : World) → Sees w kept.now → checks.outside w ≡ Ok tt }
     ensures plans { IfOk result (Plans kept.now (FindsFirst disk.now first)
         (record { item = script.RestoreDatabase database.now units.now disk.now options.now; line = line }) now) }
     ensures unfit { IsErrOf result Unfit → (w : World) → IsSound w → FindsFirst disk.now first w → ⊥ }

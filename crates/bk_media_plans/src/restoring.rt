@@ -7,7 +7,7 @@ ghost use Rattle.bk_machine.specs.Checks as checks;
 ghost use Rattle.bk_machine.specs.Checks.{has_path, paths_of, others};
 ghost use Rattle.bk_machine.specs.World.{World, database_named};
 ghost use Rattle.bk_machine.specs.statements.Restore as restore;
-ghost use Rattle.bk_kept.specs.Keeps.{Keeps, ShowsLog, database_of};
+ghost use Rattle.bk_kept.specs.Keeps.{IsSeenOf, Sees, database_of};
 ghost use Rattle.bk_plans.specs.Checking.{IsCheck};
 ghost use Rattle.bk_media_plans.specs.Restoring as requests;
 ghost use Rattle.bk_media_plans.specs.SetPaths as paths;
@@ -53,7 +53,7 @@ fn check_family(
 
 // Whether the end of a database's log isn't backed up, and would be lost with the database.
 fn has_tail(database: &DatabaseView<'_>) -> bool
-    ensures { (w : World) → ShowsLog w.history database.now → result ≡ restore.has_tail w (database_of database.now) }
+    ensures { (w : World) → IsSeenOf w.history database.now → result ≡ restore.has_tail w (database_of database.now) }
 {
     matches!(database.status, Status::Online)
         && !database.is_simple()
@@ -63,7 +63,7 @@ fn has_tail(database: &DatabaseView<'_>) -> bool
 
 // The end of the log isn't backed up, unless the database may be replaced.
 fn check_tail(named: Option<&DatabaseView<'_>>, replace: bool) -> Result<(), Refusal>
-    ensures { (w : World) → IfSome named.entry (λ d. ShowsLog w.history d.now)
+    ensures { (w : World) → IfSome named.entry (λ d. IsSeenOf w.history d.now)
         → IsCheck (λ u. u) result (restore.check_tail w (option_map (λ d. database_of d.now) named.entry) replace) }
 {
     match named {
@@ -156,7 +156,7 @@ fn check_header(
     name: &Text,
     header: &Header,
 ) -> Result<(), Refusal>
-    ensures { (w : World) → Keeps w kept.now → IsCheck (λ u. u) result (requests.check_header w name.now header.now) }
+    ensures { (w : World) → Sees w kept.now → IsCheck (λ u. u) result (requests.check_header w name.now header.now) }
 {
     let files = header.files.as_slice();
     free_paths(alloc, &kept.databases, name.as_str(), files)?;
@@ -170,8 +170,8 @@ fn check_header(
 
 // The database of this name, if there is one.
 fn named_in<'a>(kept: &'a InstanceView<'a>, name: &Text) -> Option<&'a DatabaseView<'a>>
-    ensures found { (w : World) → Keeps w kept.now → option_map (λ d. database_of d.now) result ≡ database_named w.databases name.now }
-    ensures shows { (w : World) → Keeps w kept.now → IfSome result (λ d. ShowsLog w.history d.now) }
+    ensures found { (w : World) → Sees w kept.now → option_map (λ d. database_of d.now) result ≡ database_named w.databases name.now }
+    ensures seen { (w : World) → Sees w kept.now → IfSome result (λ d. IsSeenOf w.history d.now) }
 {
     let database = kept.named(name.as_str())?;
     Some(database)
@@ -186,7 +186,7 @@ pub(crate) fn check_set(
     replace: bool,
     header: &Header,
 ) -> Result<(), Refusal>
-    ensures { (w : World) → Keeps w kept.now → IsCheck (λ u. u) result (restore.check_set w name.now replace header.now) }
+    ensures { (w : World) → Sees w kept.now → IsCheck (λ u. u) result (restore.check_set w name.now replace header.now) }
 {
     let named = named_in(kept, name);
     check_unused(named)?;

@@ -17,19 +17,19 @@ use Rattle.bk_kept.specs.declared.kept.Kept.{Kept}
 use Rattle.bk_plans.specs.declared.parts.Plan.{Plan}
 use Rattle.bk_plans.specs.declared.refusal.Refusal.{Refusal}
 use Rattle.bk_plans.specs.Checking.{IsRefused}
-use Rattle.bk_kept.specs.Keeps.{Keeps}
+use Rattle.bk_kept.specs.Keeps.{Sees}
 use Rattle.bk_plans.specs.Planned.{IsOne, IsRefusedBy}
 use Rattle.bk_plans.specs.Planning.{Plans}
 use Rattle.bk_plans.specs.PlanLaws.{DoWhatTheyMay, comes-found, comes-refused, plans-one, plans-refusal}
 
 -- behind a check that was passed
 module _ (k : Kept) (line now : ℕ) (name : List ℕ) (primary : List NewFile) (groups : List NewGroup) (log : Option NewFile) where
-  pub create-refused : (refusal : Refusal) (plan : Plan) → IsRefusedBy refusal plan → ((w : World) → Keeps w k → IsRefused refusal (check_create_database w line name primary groups log))
+  pub create-refused : (refusal : Refusal) (plan : Plan) → IsRefusedBy refusal plan → ((w : World) → Sees w k → IsRefused refusal (check_create_database w line name primary groups log))
       → Plans k (λ w. Unit {0}) (record { item = script.CreateDatabase name primary groups log; line = line }) now plan
   unfolding May
   create-refused refusal plan is refuses =
       plans-refusal k (λ w. Unit {0}) (record { item = script.CreateDatabase name primary groups log; line = line }) now (λ w. check_create_database w line name primary groups log) refusal plan is
-      (λ w sound keeps known. refuses w keeps) (λ w rule e. comes-refused (check_create_database w line name primary groups log) (DoesCreateDatabase w name now) rule e)
+      (λ w sound sees known. refuses w sees) (λ w rule e. comes-refused (check_create_database w line name primary groups log) (DoesCreateDatabase w name now) rule e)
 
   -- a database with these files, made on these two GUIDs
   creation_on : Storage → ℕ → ℕ → Creation
@@ -40,13 +40,13 @@ module _ (k : Kept) (line now : ℕ) (name : List ℕ) (primary : List NewFile) 
 
   pub create-made : (found : Storage) (plan : Plan)
       → IsOne (Created (record { name = name; family = record { high = k.number; low = k.counter }; branch = record { high = k.number; low = k.counter + 1 }; time = min now latest; storage = found })) Done plan → DoWhatTheyMay
-      → ((w : World) → Keeps w k → check_create_database w line name primary groups log ≡ Ok found) → used_up k.counter ≡ false
+      → ((w : World) → Sees w k → check_create_database w line name primary groups log ≡ Ok found) → used_up k.counter ≡ false
       → Plans k (λ w. Unit {0}) (record { item = script.CreateDatabase name primary groups log; line = line }) now plan
   unfolding May made_on creation_on
   create-made found plan one law passes left =
       plans-one k (λ w. Unit {0}) (record { item = script.CreateDatabase name primary groups log; line = line }) now
       (Created (creation_on found k.number k.counter)) (created (creation_on found k.number k.counter)) Done plan one refl law
-      (λ w sound keeps known.
-      comes-found (check_create_database w line name primary groups log) (DoesCreateDatabase w name now) found (made_on found k.number k.counter) (passes w keeps)
-      (ap (λ (n : ℕ). made_on found n k.counter) (sym keeps.number) ∙ ap (λ (n : ℕ). made_on found w.instance n) (sym keeps.counter)))
-      (λ w sound keeps known. record { draws = subst (λ (n : ℕ). used_up n ≡ false) (sym keeps.counter) left; carried = tt; from_end = tt; taken = tt })
+      (λ w sound sees known.
+      comes-found (check_create_database w line name primary groups log) (DoesCreateDatabase w name now) found (made_on found k.number k.counter) (passes w sees)
+      (ap (λ (n : ℕ). made_on found n k.counter) (sym sees.number) ∙ ap (λ (n : ℕ). made_on found w.instance n) (sym sees.counter)))
+      (λ w sound sees known. record { draws = subst (λ (n : ℕ). used_up n ≡ false) (sym sees.counter) left; carried = tt; from_end = tt; taken = tt })

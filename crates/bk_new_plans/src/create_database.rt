@@ -9,7 +9,7 @@ ghost use Rattle.bk_machine.specs.Checks as checks;
 ghost use Rattle.bk_machine.specs.World.{World, database_named};
 ghost use Rattle.bk_machine.specs.statements.CreateDatabase as create;
 ghost use Rattle.bk_world.specs.declared.reply.Reply.TheVariants.{Done};
-ghost use Rattle.bk_kept.specs.Keeps.{Keeps};
+ghost use Rattle.bk_kept.specs.Keeps.{Sees};
 ghost use Rattle.bk_new_plans.specs.Storing as storing;
 ghost use Rattle.bk_plans.specs.Checking.{IsCheck};
 ghost use Rattle.bk_plans.specs.Planned.{IsOne};
@@ -31,7 +31,7 @@ use std::alloc::{AllocError, Global};
 // Whether files, filegroups and a log may be used, and GUIDs are left.
 #[tactic(auto, unfolding(bk_machine::specs::statements::CreateDatabase::check_free))]
 fn check_free(kept: &InstanceView<'_>, alloc: Global, storage: &Storage) -> Result<(), Refusal>
-    ensures check { (w : World) → Keeps w kept.now → IsCheck (λ u. storage.now) result (create.check_free w storage.now) }
+    ensures check { (w : World) → Sees w kept.now → IsCheck (λ u. storage.now) result (create.check_free w storage.now) }
     ensures left { IfOk result (λ u. checks.used_up kept.now.counter ≡ false) }
 {
     check_in_use(alloc, &kept.databases, storage)?;
@@ -45,7 +45,7 @@ fn free_storage(
     alloc: Global,
     storage: Storage,
 ) -> Result<Storage, Refusal>
-    ensures check { (w : World) → Keeps w kept.now → IsCheck (λ s. s) result (create.check_free w storage) }
+    ensures check { (w : World) → Sees w kept.now → IsCheck (λ s. s) result (create.check_free w storage) }
     ensures same { IfOk result (λ s. s ≡ storage) }
     ensures left { IfOk result (λ s. checks.used_up kept.now.counter ≡ false) }
 {
@@ -60,14 +60,14 @@ fn free_storage(
 
 // Whether a name is a database's, or one that the server keeps for itself.
 fn is_taken(kept: &InstanceView<'_>, name: &Text) -> bool
-    ensures { (w : World) → Keeps w kept.now → result ≡ (checks.is_system name.now || is_some (database_named w.databases name.now)) }
+    ensures { (w : World) → Sees w kept.now → result ≡ (checks.is_system name.now || is_some (database_named w.databases name.now)) }
 {
     is_system(name.as_str()) || kept.named(name.as_str()).is_some()
 }
 
 // Whether there are as many databases as there may be.
 fn is_full(kept: &InstanceView<'_>) -> bool
-    ensures { (w : World) → Keeps w kept.now → result ≡ nat_le checks.most_databases (length w.databases) }
+    ensures { (w : World) → Sees w kept.now → result ≡ nat_le checks.most_databases (length w.databases) }
 {
     kept.databases.len() >= MOST_DATABASES
 }
@@ -82,7 +82,7 @@ fn new_files_of(
     log: &Option<NewFile>,
 ) -> Result<Storage, Refusal>
     requires { create.are_named name.now primary.now groups.now log.now ≡ true }
-    ensures check { (w : World) → Keeps w kept.now → IsCheck (λ s. s) result (storing.check_storage w name.now primary.now groups.now log.now) }
+    ensures check { (w : World) → Sees w kept.now → IsCheck (λ s. s) result (storing.check_storage w name.now primary.now groups.now log.now) }
     ensures left { IfOk result (λ s. checks.used_up kept.now.counter ≡ false) }
     ensures keeps { IfOk result KeepsStorage }
 {
@@ -108,7 +108,7 @@ fn check_create_database(
     groups: &Sequence<NewGroup>,
     log: &Option<NewFile>,
 ) -> Result<Storage, Refusal>
-    ensures check { (w : World) → Keeps w kept.now → IsCheck (λ s. s) result (create.check_create_database w line name.now primary.now groups.now log.now) }
+    ensures check { (w : World) → Sees w kept.now → IsCheck (λ s. s) result (create.check_create_database w line name.now primary.now groups.now log.now) }
     ensures named { IfOk result (λ s. checks.is_name name.now ≡ true) }
     ensures left { IfOk result (λ s. checks.used_up kept.now.counter ≡ false) }
     ensures keeps { IfOk result KeepsStorage }

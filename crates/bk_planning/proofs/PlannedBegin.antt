@@ -6,7 +6,7 @@ use Rattle.bk_ids.specs.declared.record.Mark.{Mark}
 use Rattle.bk_items.specs.declared.item.NamedTransaction.{NamedTransaction}
 use Rattle.bk_items.specs.declared.item.ScriptEntry.{ScriptEntry}
 use Rattle.bk_items.specs.declared.item.ScriptItem.TheVariants as script
-use Rattle.bk_kept.specs.Keeps.{Keeps, ShowsLog, database_of}
+use Rattle.bk_kept.specs.Keeps.{Sees, ShowsLog, database_of}
 use Rattle.bk_kept.specs.declared.kept.Database.{Database as KeptDatabase}
 use Rattle.bk_kept.specs.declared.kept.Kept.{Kept}
 use Rattle.bk_machine.specs.Acts.{logged}
@@ -46,21 +46,21 @@ module _ (k : Kept) (line now : ℕ) (transaction : Option NamedTransaction) whe
   abbrev s : ScriptEntry
   s = record { item = script.Begin transaction; line = line }
 
-  pub begin-refused : (refusal : Refusal) (plan : Plan) → IsRefusedBy refusal plan → ((w : World) → Keeps w k → IsRefused refusal (check_begin w line transaction)) → Plans k (λ w. Unit {0}) (record { item = script.Begin transaction; line = line }) now plan
+  pub begin-refused : (refusal : Refusal) (plan : Plan) → IsRefusedBy refusal plan → ((w : World) → Sees w k → IsRefused refusal (check_begin w line transaction)) → Plans k (λ w. Unit {0}) (record { item = script.Begin transaction; line = line }) now plan
   unfolding May
   begin-refused refusal plan is refuses =
-      plans-refusal k (λ w. Unit {0}) s now (λ w. check_begin w line transaction) refusal plan is (λ w sound keeps known. refuses w keeps)
+      plans-refusal k (λ w. Unit {0}) s now (λ w. check_begin w line transaction) refusal plan is (λ w sound sees known. refuses w sees)
       (λ w rule e. comes-refused (check_begin w line transaction) (DoesBegin w (mark_of transaction)) rule e)
 
   pub begin-done : (d : KeptDatabase) (mark : Option Mark) (stored : StoredAct) (plan : Plan) → mark ≡ mark_of transaction → IsOne stored Done plan → SaysNow d (begin_said d.shown.«end») (begun_in d k.session mark) stored → DoWhatTheyMay
-      → ((w : World) → Keeps w k → check_begin w line transaction ≡ Ok (database_of d)) → ((w : World) → Keeps w k → ShowsLog w.history d) → used_up d.shown.«end» ≡ false
+      → ((w : World) → Sees w k → check_begin w line transaction ≡ Ok (database_of d)) → ((w : World) → Sees w k → ShowsLog w.history d) → used_up d.shown.«end» ≡ false
       → Plans k (λ w. Unit {0}) (record { item = script.Begin transaction; line = line }) now plan
   unfolding May
   begin-done d mark stored plan is one says law passes shows left =
       plans-said k (λ w. Unit {0}) s now d (begin_said d.shown.«end») (begun_in d k.session mark) stored Done plan one says law
-      (λ w sound keeps known. current-found w (database_of d) (checked-begin w line transaction (database_of d) (passes w keeps))) (λ w sound keeps known. shows w keeps) (low-left d.shown.«end» 1 left (omega arith))
-      (λ w sound keeps known.
-      comes-found (check_begin w line transaction) (DoesBegin w (mark_of transaction)) (database_of d) (in_one (logged d.name (begin_said d.shown.«end») (begun_in d k.session mark)) Done) (passes w keeps)
+      (λ w sound sees known. current-found w (database_of d) (checked-begin w line transaction (database_of d) (passes w sees))) (λ w sound sees known. shows w sees) (low-left d.shown.«end» 1 left (omega arith))
+      (λ w sound sees known.
+      comes-found (check_begin w line transaction) (DoesBegin w (mark_of transaction)) (database_of d) (in_one (logged d.name (begin_said d.shown.«end») (begun_in d k.session mark)) Done) (passes w sees)
       (ap (λ (m : Option Mark). in_one (logged d.name (begin_said d.shown.«end») (begun_in d k.session m)) Done) is
-      ∙ ap (λ (n : ℕ). in_one (logged d.name (begin_said d.shown.«end») (begun_in d n (mark_of transaction))) Done) (sym keeps.session)))
-      (λ w sound keeps known logs. (tt, tt))
+      ∙ ap (λ (n : ℕ). in_one (logged d.name (begin_said d.shown.«end») (begun_in d n (mark_of transaction))) Done) (sym sees.session)))
+      (λ w sound sees known logs. (tt, tt))

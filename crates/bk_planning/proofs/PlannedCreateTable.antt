@@ -7,7 +7,7 @@ use Rattle.std.proofs.lemmas.Bool.Decides.{nat_tests}
 use Rattle.bk_ids.specs.Name.{same_name}
 use Rattle.bk_items.specs.declared.item.ScriptEntry.{ScriptEntry}
 use Rattle.bk_items.specs.declared.item.ScriptItem.TheVariants as script
-use Rattle.bk_kept.specs.Keeps.{Keeps, ShowsLog, database_of}
+use Rattle.bk_kept.specs.Keeps.{Sees, ShowsLog, database_of}
 use Rattle.bk_kept.specs.declared.kept.Database.{Database as KeptDatabase}
 use Rattle.bk_kept.specs.declared.kept.Kept.{Kept}
 use Rattle.bk_machine.specs.Acts.{logged, said_time}
@@ -105,16 +105,16 @@ checked-table w line table group room e =
 -- Plans.
 
 module _ (k : Kept) (line now : ℕ) (table : List ℕ) (group : Option (List ℕ)) where
-  pub table-refused : (refusal : Refusal) (plan : Plan) → IsRefusedBy refusal plan → ((w : World) → Keeps w k → IsRefused refusal (check_create_table w line table group))
+  pub table-refused : (refusal : Refusal) (plan : Plan) → IsRefusedBy refusal plan → ((w : World) → Sees w k → IsRefused refusal (check_create_table w line table group))
       → Plans k (λ w. Unit {0}) (record { item = script.CreateTable table group; line = line }) now plan
   unfolding May
   table-refused refusal plan is refuses =
       plans-refusal k (λ w. Unit {0}) (record { item = script.CreateTable table group; line = line }) now (λ w. check_create_table w line table group) refusal plan is
-      (λ w sound keeps known. refuses w keeps) (λ w rule e. comes-refused (check_create_table w line table group) (DoesCreateTable w table now) rule e)
+      (λ w sound sees known. refuses w sees) (λ w rule e. comes-refused (check_create_table w line table group) (DoesCreateTable w table now) rule e)
 
   module _ (d : KeptDatabase) (number in_group : ℕ) (named : is_name table ≡ true) (left : used_up d.shown.«end» ≡ false)
-      (passes : (w : World) → Keeps w k → check_create_table w line table group ≡ Ok (record { database = database_of d; group = in_group })) (shows : (w : World) → Keeps w k → ShowsLog w.history d)
-      (counted : (w : World) → Keeps w k → number ≡ length (tables_in w (database_of d)) + 1) (law : DoWhatTheyMay) where
+      (passes : (w : World) → Sees w k → check_create_table w line table group ≡ Ok (record { database = database_of d; group = in_group })) (shows : (w : World) → Sees w k → ShowsLog w.history d)
+      (counted : (w : World) → Sees w k → number ≡ length (tables_in w (database_of d)) + 1) (law : DoWhatTheyMay) where
     abbrev spec : TableSpec
     spec = record { number = number; name = table; group = in_group }
 
@@ -126,12 +126,12 @@ module _ (k : Kept) (line now : ℕ) (table : List ℕ) (group : Option (List �
     unfolding May tables_in
     table-planned plan (stored, one, says) =
         plans-said k (λ w. Unit {0}) s now d (alone (table_made says.time spec)) d.transactions stored Done plan one says.says law
-        (λ w sound keeps known. current-found w (database_of d) (checked-table w line table group _ (passes w keeps))) (λ w sound keeps known. shows w keeps) (low-left d.shown.«end» 1 left (omega arith))
-        (λ w sound keeps known.
-        comes-found (check_create_table w line table group) (DoesCreateTable w table now) (record { database = database_of d; group = in_group }) (in_one (logged d.name (alone (table_made says.time spec)) d.transactions) Done) (passes w keeps)
-        (ap (λ (t : ℕ). in_one (logged d.name (alone (table_made t spec)) d.transactions) Done) (says.time_is w (shows w keeps))
-        ∙ ap (λ (n : ℕ). in_one (logged d.name (alone (table_made (said_time w (database_of d) now) (record { number = n; name = table; group = in_group }))) d.transactions) Done) (counted w keeps)))
-        (λ w sound keeps known logs.
+        (λ w sound sees known. current-found w (database_of d) (checked-table w line table group _ (passes w sees))) (λ w sound sees known. shows w sees) (low-left d.shown.«end» 1 left (omega arith))
+        (λ w sound sees known.
+        comes-found (check_create_table w line table group) (DoesCreateTable w table now) (record { database = database_of d; group = in_group }) (in_one (logged d.name (alone (table_made says.time spec)) d.transactions) Done) (passes w sees)
+        (ap (λ (t : ℕ). in_one (logged d.name (alone (table_made t spec)) d.transactions) Done) (says.time_is w (shows w sees))
+        ∙ ap (λ (n : ℕ). in_one (logged d.name (alone (table_made (said_time w (database_of d) now) (record { number = n; name = table; group = in_group }))) d.transactions) Done) (counted w sees)))
+        (λ w sound sees known logs.
         let some : 0 < length table = grind (arith, nat_tests, named) in
         let short : length table ≤ 64 = grind (arith, nat_tests, named) in
-        ((counted w keeps, (some, short)), tt))
+        ((counted w sees, (some, short)), tt))

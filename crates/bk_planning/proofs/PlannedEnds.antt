@@ -9,7 +9,7 @@ use Rattle.bk_asked.specs.declared.opens.Held.{Held as HeldRef}
 use Rattle.bk_ids.specs.declared.record.Mark.{Mark}
 use Rattle.bk_items.specs.declared.item.ScriptEntry.{ScriptEntry}
 use Rattle.bk_items.specs.declared.item.ScriptItem.TheVariants as script
-use Rattle.bk_kept.specs.Keeps.{Keeps, ShowsLog, database_of}
+use Rattle.bk_kept.specs.Keeps.{Sees, ShowsLog, database_of}
 use Rattle.bk_kept.specs.Stored.{IsDone}
 use Rattle.bk_kept.specs.declared.kept.Database.{Database as KeptDatabase}
 use Rattle.bk_kept.specs.declared.kept.Kept.{Kept}
@@ -84,19 +84,19 @@ module _ (k : Kept) (line now : ℕ) where
   abbrev rolling : ScriptEntry
   rolling = record { item = script.Rollback; line = line }
 
-  pub commit-refused : (refusal : Refusal) (plan : Plan) → IsRefusedBy refusal plan → ((w : World) → Keeps w k → IsRefused refusal (or_refuse (own_held w) NoTransaction)) → Plans k (λ w. Unit {0}) (record { item = script.Commit; line = line }) now plan
+  pub commit-refused : (refusal : Refusal) (plan : Plan) → IsRefusedBy refusal plan → ((w : World) → Sees w k → IsRefused refusal (or_refuse (own_held w) NoTransaction)) → Plans k (λ w. Unit {0}) (record { item = script.Commit; line = line }) now plan
   unfolding May check_commit
   commit-refused refusal plan is refuses =
-      plans-refusal k (λ w. Unit {0}) committing now (λ w. or_refuse (own_held w) NoTransaction) refusal plan is (λ w sound keeps known. refuses w keeps)
+      plans-refusal k (λ w. Unit {0}) committing now (λ w. or_refuse (own_held w) NoTransaction) refusal plan is (λ w sound sees known. refuses w sees)
       (λ w rule e. comes-refused (check_commit w) (DoesCommit w now) rule e)
 
-  pub rollback-refused : (refusal : Refusal) (plan : Plan) → IsRefusedBy refusal plan → ((w : World) → Keeps w k → IsRefused refusal (or_refuse (own_held w) NoTransaction)) → Plans k (λ w. Unit {0}) (record { item = script.Rollback; line = line }) now plan
+  pub rollback-refused : (refusal : Refusal) (plan : Plan) → IsRefusedBy refusal plan → ((w : World) → Sees w k → IsRefused refusal (or_refuse (own_held w) NoTransaction)) → Plans k (λ w. Unit {0}) (record { item = script.Rollback; line = line }) now plan
   unfolding May check_rollback
   rollback-refused refusal plan is refuses =
-      plans-refusal k (λ w. Unit {0}) rolling now (λ w. or_refuse (own_held w) NoTransaction) refusal plan is (λ w sound keeps known. refuses w keeps)
+      plans-refusal k (λ w. Unit {0}) rolling now (λ w. or_refuse (own_held w) NoTransaction) refusal plan is (λ w sound sees known. refuses w sees)
       (λ w rule e. comes-refused (check_rollback w) (DoesRollback w) rule e)
 
-  module _ (h : HeldRef) (passes : (w : World) → Keeps w k → or_refuse (own_held w) NoTransaction ≡ Ok (held_of h)) (shows : (w : World) → Keeps w k → ShowsLog w.history h.database.now) (law : DoWhatTheyMay)
+  module _ (h : HeldRef) (passes : (w : World) → Sees w k → or_refuse (own_held w) NoTransaction ≡ Ok (held_of h)) (shows : (w : World) → Sees w k → ShowsLog w.history h.database.now) (law : DoWhatTheyMay)
       (stored : StoredAct) (plan : Plan) (one : IsOne stored Done plan) where
     abbrev d : KeptDatabase
     d = h.database.now
@@ -104,26 +104,26 @@ module _ (k : Kept) (line now : ℕ) where
     abbrev t : Open
     t = h.transaction.now
 
-    named : (w : World) → IsSound w → Keeps w k → database_named w.databases h.database.now.name ≡ Some (database_of h.database.now)
-    named w sound keeps = (held-up w w.session (held_of h) sound (was-found (own_held w) NoTransaction (held_of h) (passes w keeps))).up.named
+    named : (w : World) → IsSound w → Sees w k → database_named w.databases h.database.now.name ≡ Some (database_of h.database.now)
+    named w sound sees = (held-up w w.session (held_of h) sound (was-found (own_held w) NoTransaction (held_of h) (passes w sees))).up.named
 
     pub commit-planned : Commits h.database.now now h.transaction.now stored → Plans k (λ w. Unit {0}) (record { item = script.Commit; line = line }) now plan
     unfolding May check_commit
     commit-planned it =
         plans-said k (λ w. Unit {0}) committing now d (commit_said t.begin it.says.time it.mark) (without_begin d.transactions t.begin) stored Done plan one it.says.says law
-        (λ w sound keeps known. named w sound keeps) (λ w sound keeps known. shows w keeps) it.low
-        (λ w sound keeps known.
-        comes-found (check_commit w) (DoesCommit w now) (held_of h) (in_one (logged d.name (commit_said t.begin it.says.time it.mark) (without_begin d.transactions t.begin)) Done) (passes w keeps)
-        (ap (λ (time : ℕ). in_one (logged d.name (commit_said t.begin time it.mark) (without_begin d.transactions t.begin)) Done) (it.says.time_is w (shows w keeps))
-        ∙ ap (λ (mark : Option Mark). in_one (logged d.name (commit_said t.begin (said_time w (database_of d) now) mark) (without_begin d.transactions t.begin)) Done) (it.is w (shows w keeps))))
-        (λ w sound keeps known logs. (tt, tt))
+        (λ w sound sees known. named w sound sees) (λ w sound sees known. shows w sees) it.low
+        (λ w sound sees known.
+        comes-found (check_commit w) (DoesCommit w now) (held_of h) (in_one (logged d.name (commit_said t.begin it.says.time it.mark) (without_begin d.transactions t.begin)) Done) (passes w sees)
+        (ap (λ (time : ℕ). in_one (logged d.name (commit_said t.begin time it.mark) (without_begin d.transactions t.begin)) Done) (it.says.time_is w (shows w sees))
+        ∙ ap (λ (mark : Option Mark). in_one (logged d.name (commit_said t.begin (said_time w (database_of d) now) mark) (without_begin d.transactions t.begin)) Done) (it.is w (shows w sees))))
+        (λ w sound sees known logs. (tt, tt))
 
     pub rollback-planned : SaysOf h.database.now (rollback_said h.transaction.now.begin) (without_begin h.database.now.transactions h.transaction.now.begin) stored → Plans k (λ w. Unit {0}) (record { item = script.Rollback; line = line }) now plan
     unfolding May check_rollback
     rollback-planned it =
         plans-said k (λ w. Unit {0}) rolling now d (rollback_said t.begin it.writes) (without_begin d.transactions t.begin) stored Done plan one it.says law
-        (λ w sound keeps known. named w sound keeps) (λ w sound keeps known. shows w keeps) it.low
-        (λ w sound keeps known.
-        comes-found (check_rollback w) (DoesRollback w) (held_of h) (in_one (logged d.name (rollback_said t.begin it.writes) (without_begin d.transactions t.begin)) Done) (passes w keeps)
-        (ap (λ (ws : List Pending). in_one (logged d.name (rollback_said t.begin ws) (without_begin d.transactions t.begin)) Done) (it.are w (shows w keeps))))
-        (λ w sound keeps known logs. rollback-placed d.files (log_of w.history (database_of d)) d.shown.«end» t.begin it.writes)
+        (λ w sound sees known. named w sound sees) (λ w sound sees known. shows w sees) it.low
+        (λ w sound sees known.
+        comes-found (check_rollback w) (DoesRollback w) (held_of h) (in_one (logged d.name (rollback_said t.begin it.writes) (without_begin d.transactions t.begin)) Done) (passes w sees)
+        (ap (λ (ws : List Pending). in_one (logged d.name (rollback_said t.begin ws) (without_begin d.transactions t.begin)) Done) (it.are w (shows w sees))))
+        (λ w sound sees known logs. rollback-placed d.files (log_of w.history (database_of d)) d.shown.«end» t.begin it.writes)

@@ -20,10 +20,10 @@ module _ (k : Kept) (line now number : ℕ) where
   unfolding May
   session-refused refusal plan is refuses =
       plans-refusal k (λ w. Unit {0}) (record { item = script.Session number; line = line }) now (λ w. check_session line number) refusal plan is
-      (λ w sound keeps known. refuses) (λ w rule e. comes-refused (check_session line number) DoesSession rule e)
+      (λ w sound sees known. refuses) (λ w rule e. comes-refused (check_session line number) DoesSession rule e)
 
   pub session-seated : (session : ℕ) → check_session line number ≡ Ok session → Plans k (λ w. Unit {0}) (record { item = script.Session number; line = line }) now (Seated session)
   unfolding May
   session-seated session passes =
       plans-seated k (λ w. Unit {0}) (record { item = script.Session number; line = line }) now session
-      (λ w sound keeps known. comes-found (check_session line number) DoesSession session (in_one (seated session) Nothing) passes refl)
+      (λ w sound sees known. comes-found (check_session line number) DoesSession session (in_one (seated session) Nothing) passes refl)

@@ -3,7 +3,7 @@
 ghost use Rattle.std.specs.Prelude.{◌≡◌, ◌≤◌, ◌∷◌, ◌++◌, [], ℕ, true, false, length, IfOk};
 ghost use Rattle.bk_acts.specs.Spelling.{KeepsAct};
 ghost use Rattle.bk_items.specs.declared.item.ScriptItem.TheVariants as script;
-ghost use Rattle.bk_kept.specs.Keeps.{Keeps, ShowsLog, database_of};
+ghost use Rattle.bk_kept.specs.Keeps.{Sees, ShowsLog, database_of};
 ghost use Rattle.bk_machine.specs.Checks as checks;
 ghost use Rattle.bk_machine.specs.World.{World};
 ghost use Rattle.bk_machine.specs.statements.Begin as beginning;
@@ -52,10 +52,10 @@ fn check_begin<'a>(
     line: u32,
     transaction: &Option<NamedTransaction>,
 ) -> Result<&'a DatabaseView<'a>, Refusal>
-    ensures check { (w : World) → Keeps w kept.now → IsCheck (λ d. database_of d.now) result (beginning.check_begin w line transaction.now) }
+    ensures check { (w : World) → Sees w kept.now → IsCheck (λ d. database_of d.now) result (beginning.check_begin w line transaction.now) }
     ensures fit { IfOk result (λ d. beginning.has_fit_texts transaction.now ≡ true) }
     ensures left { IfOk result (λ d. checks.used_up d.now.shown.«end» ≡ false) }
-    ensures shows { (w : World) → Keeps w kept.now → IfOk result (λ d. ShowsLog w.history d.now) }
+    ensures shows { (w : World) → Sees w kept.now → IfOk result (λ d. ShowsLog w.history d.now) }
 {
     refuse_if(!has_fit_texts(transaction), Rule::NotBuilt { line })?;
     outside(kept)?;

@@ -5,7 +5,7 @@ ghost use Rattle.std.specs.List.{position};
 ghost use Rattle.bk_ids.specs.Name.{same_name};
 ghost use Rattle.bk_acts.specs.Spelling.{KeepsAct};
 ghost use Rattle.bk_items.specs.declared.item.ScriptItem.TheVariants as script;
-ghost use Rattle.bk_kept.specs.Keeps.{Keeps, ShowsLog, database_of};
+ghost use Rattle.bk_kept.specs.Keeps.{Sees, ShowsLog, database_of};
 ghost use Rattle.bk_machine.specs.Checks as checks;
 ghost use Rattle.bk_machine.specs.Seen.{tables_in};
 ghost use Rattle.bk_machine.specs.World.{World, current_database};
@@ -124,12 +124,12 @@ fn check_create_table<'a>(
     table: &Text,
     group: &Option<Text>,
 ) -> Result<Room<'a>, Refusal>
-    ensures check { (w : World) → Keeps w kept.now
+    ensures check { (w : World) → Sees w kept.now
         → IsCheck (λ r. record { database = database_of r.database.now; group = r.group }) result (create.check_create_table w line table.now group.now) }
     ensures named { IfOk result (λ r. checks.is_name table.now ≡ true) }
     ensures left { IfOk result (λ r. checks.used_up r.database.now.shown.«end» ≡ false) }
-    ensures shows { (w : World) → Keeps w kept.now → IfOk result (λ r. ShowsLog w.history r.database.now) }
-    ensures number { (w : World) → Keeps w kept.now → IfOk result (λ r. r.number ≡ length (tables_in w (database_of r.database.now)) + 1) }
+    ensures shows { (w : World) → Sees w kept.now → IfOk result (λ r. ShowsLog w.history r.database.now) }
+    ensures number { (w : World) → Sees w kept.now → IfOk result (λ r. r.number ≡ length (tables_in w (database_of r.database.now)) + 1) }
 {
     refuse_if(!is_name(table.as_str()), Rule::NotBuilt { line })?;
     outside(kept)?;

@@ -4,7 +4,7 @@ ghost use Rattle.std.specs.Prelude.{◌≡◌, ℕ, IfOk};
 ghost use Rattle.bk_items.specs.declared.item.ScriptItem.TheVariants as script;
 ghost use Rattle.bk_machine.specs.World.{World};
 ghost use Rattle.bk_machine.specs.statements.DropDatabase as dropping;
-ghost use Rattle.bk_kept.specs.Keeps.{Keeps, database_of};
+ghost use Rattle.bk_kept.specs.Keeps.{Sees, database_of};
 ghost use Rattle.bk_plans.specs.Checking.{IsCheck};
 ghost use Rattle.bk_plans.specs.Planning.{KeepsPlan, Plans};
 
@@ -22,7 +22,7 @@ fn check_drop_database<'a>(
     kept: &'a InstanceView<'a>,
     name: &Text,
 ) -> Result<&'a DatabaseView<'a>, Refusal>
-    ensures check { (w : World) → Keeps w kept.now → IsCheck (λ d. database_of d.now) result (dropping.check_drop_database w name.now) }
+    ensures check { (w : World) → Sees w kept.now → IsCheck (λ d. database_of d.now) result (dropping.check_drop_database w name.now) }
 {
     outside(kept)?;
     let database = named_or_refuse(kept, name.as_str())?;

@@ -3,7 +3,7 @@
 ghost use Rattle.std.specs.Prelude.{◌≡◌, ◌==◌, not, IfOk};
 ghost use Rattle.std.specs.List.{filter};
 ghost use Rattle.bk_asked.specs.Asked.{held_of};
-ghost use Rattle.bk_kept.specs.Keeps.{Keeps, ShowsLog};
+ghost use Rattle.bk_kept.specs.Keeps.{Sees, ShowsLog};
 ghost use Rattle.bk_kept.specs.Numbers.{CanEnd, LeaveNumbers};
 ghost use Rattle.bk_machine.specs.Checks as checks;
 ghost use Rattle.bk_machine.specs.World as world;
@@ -20,8 +20,8 @@ use std::alloc::{AllocError, Global};
 
 /// The open transaction of the current session, refused where it has none.
 pub(crate) fn held_or_refuse<'a>(kept: &'a InstanceView<'a>) -> Result<Held<'a>, Refusal>
-    ensures check { (w : World) → Keeps w kept.now → IsCheck held_of result (checks.or_refuse (world.own_held w) NoTransaction) }
-    ensures shows { (w : World) → Keeps w kept.now → IfOk result (λ h. ShowsLog w.history h.database.now) }
+    ensures check { (w : World) → Sees w kept.now → IsCheck held_of result (checks.or_refuse (world.own_held w) NoTransaction) }
+    ensures shows { LeaveNumbers kept.now.databases.items → (w : World) → Sees w kept.now → IfOk result (λ h. ShowsLog w.history h.database.now) }
     ensures numbers { LeaveNumbers kept.now.databases.items → IfOk result (λ h. CanEnd h.database.now) }
 {
     match own_held(kept) {

@@ -5,7 +5,7 @@ ghost use Rattle.std.specs.Option.{option_map};
 ghost use Rattle.bk_items.specs.declared.item.ScriptItem.TheVariants as script;
 ghost use Rattle.bk_machine.specs.World.{World};
 ghost use Rattle.bk_machine.specs.statements.Use as using;
-ghost use Rattle.bk_kept.specs.Keeps.{Keeps};
+ghost use Rattle.bk_kept.specs.Keeps.{Sees};
 ghost use Rattle.bk_plans.specs.Checking.{IsCheck};
 ghost use Rattle.bk_plans.specs.Planning.{KeepsPlan, Plans};
 
@@ -18,7 +18,7 @@ use std::alloc::{AllocError, Global};
 // The name that `USE` sets outside of a transaction, if it sets one.
 #[tactic(auto, unfolding(bk_machine::specs::statements::Use::check_used))]
 fn check_used<'a>(kept: &InstanceView<'_>, name: &'a Text) -> Result<Option<&'a Text>, Refusal>
-    ensures { (w : World) → Keeps w kept.now → IsCheck (λ found. option_map (λ n. n.now) found) result (using.check_used w name.now) }
+    ensures { (w : World) → Sees w kept.now → IsCheck (λ found. option_map (λ n. n.now) found) result (using.check_used w name.now) }
 {
     if is_system(name.as_str()) {
         return Ok(None);
@@ -32,7 +32,7 @@ fn check_used<'a>(kept: &InstanceView<'_>, name: &'a Text) -> Result<Option<&'a 
 // The name that `USE` sets, if it sets one.
 #[tactic(auto, unfolding(bk_machine::specs::statements::Use::check_use))]
 fn check_use<'a>(kept: &InstanceView<'_>, name: &'a Text) -> Result<Option<&'a Text>, Refusal>
-    ensures { (w : World) → Keeps w kept.now → IsCheck (λ found. option_map (λ n. n.now) found) result (using.check_use w name.now) }
+    ensures { (w : World) → Sees w kept.now → IsCheck (λ found. option_map (λ n. n.now) found) result (using.check_use w name.now) }
 {
     outside(kept)?;
     let found = check_used(kept, name)?;

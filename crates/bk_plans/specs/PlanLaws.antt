@@ -21,11 +21,11 @@ use Rattle.bk_plans.specs.declared.parts.Plan.TheVariants.{Refused, Answered, Tu
 use Rattle.bk_plans.specs.declared.refusal.Refusal.{Refusal}
 use Rattle.bk_plans.specs.declared.refusal.Refusal.TheVariants.{Broken, NoMemory}
 use Rattle.bk_plans.specs.Checking.{IsRefused}
-use Rattle.bk_kept.specs.Keeps.{Keeps}
+use Rattle.bk_kept.specs.Keeps.{Sees}
 use Rattle.bk_plans.specs.Planned.{IsOne, IsRefusedBy}
 use Rattle.bk_plans.specs.Planning.{AreParts, Plans}
 use Rattle.bk_kept.specs.Views.{IsSeen}
-use Rattle.bk_kept.specs.ViewsLaws.{seen-keeps}
+use Rattle.bk_kept.specs.ViewsLaws.{seen-sees}
 use Rattle.bk_kept.specs.Stored.{IsCarried, IsDone, IsNumbered, IsTaken, MayDraw}
 
 -- What checks come to.
@@ -36,9 +36,9 @@ comes-refused checked may rule is = subst (λ (c : Checked _). ComesTo c may (re
 pub comes-found : {A : Type 0} (checked : Checked A) (may : A → Outcome → Type 0) (found : A) (outcome : Outcome) → checked ≡ Ok found → may found outcome → ComesTo checked may outcome
 comes-found checked may found outcome is does = subst (λ (c : Checked _). ComesTo c may outcome) (sym is) does
 
--- this holds in each sound world that is kept, and of which something is known
+-- this holds in each sound world that is seen, and of which something is known
 abbrev pub InEach : Kept → (World → Type 0) → (World → Type 0) → Type 0
-InEach k Known P = (w : World) → IsSound w → Keeps w k → Known w → P w
+InEach k Known P = (w : World) → IsSound w → Sees w k → Known w → P w
 
 -- what statements may do, they may do act by act
 abbrev pub DoWhatTheyMay : Type 0
@@ -49,8 +49,8 @@ pub plans-kept : (k seen : Kept) (Known : World → Type 0) (s : ScriptEntry) (n
 plans-kept k seen Known s now plan is plans = record {
   outcome = plans.outcome;
   replies = plans.replies;
-  may = λ w sound keeps known. plans.may w sound (seen-keeps k seen is w keeps) known;
-  acts = λ w sound keeps known. plans.acts w sound (seen-keeps k seen is w keeps) known;
+  may = λ w sound sees known. plans.may w sound (seen-sees k seen is w sees) known;
+  acts = λ w sound sees known. plans.acts w sound (seen-sees k seen is w sees) known;
 }
 
 -- what is stored of an act, beside what the statement may do
@@ -62,22 +62,22 @@ pub record Stores (stored : StoredAct) (act : Act) (w : World) : Type 0 where
 
 module _ (k : Kept) (Known : World → Type 0) (s : ScriptEntry) (now : ℕ) where
   pub plans-refused : (rule : Rule) → InEach k Known (λ w. May w s now (refused rule)) → Plans k Known s now (Refused rule)
-  plans-refused rule may = record { outcome = refused rule; replies = refl; may = may; acts = λ w sound keeps known. refl }
+  plans-refused rule may = record { outcome = refused rule; replies = refl; may = may; acts = λ w sound sees known. refl }
 
   pub plans-answered : (answer : Reply) → InEach k Known (λ w. May w s now (answered answer)) → Plans k Known s now (Answered answer)
-  plans-answered answer may = record { outcome = answered answer; replies = refl; may = may; acts = λ w sound keeps known. refl }
+  plans-answered answer may = record { outcome = answered answer; replies = refl; may = may; acts = λ w sound sees known. refl }
 
   pub plans-turned : (name : Option (List ℕ)) → InEach k Known (λ w. May w s now (in_one (turned name) reply.Done)) → Plans k Known s now (Turned name)
-  plans-turned name may = record { outcome = in_one (turned name) reply.Done; replies = refl; may = may; acts = λ w sound keeps known. refl }
+  plans-turned name may = record { outcome = in_one (turned name) reply.Done; replies = refl; may = may; acts = λ w sound sees known. refl }
 
   pub plans-seated : (session : ℕ) → InEach k Known (λ w. May w s now (in_one (seated session) reply.Nothing)) → Plans k Known s now (Seated session)
-  plans-seated session may = record { outcome = in_one (seated session) reply.Nothing; replies = refl; may = may; acts = λ w sound keeps known. refl }
+  plans-seated session may = record { outcome = in_one (seated session) reply.Nothing; replies = refl; may = may; acts = λ w sound sees known. refl }
 
   -- a statement that a check refuses
   pub plans-refusal : {A : Type 0} (check : World → Checked A) (refusal : Refusal) (plan : Plan) → IsRefusedBy refusal plan
       → InEach k Known (λ w. IsRefused refusal (check w)) → ((w : World) (rule : Rule) → check w ≡ Err rule → May w s now (refused rule)) → Plans k Known s now plan
   plans-refusal check (Broken rule) plan is refuses may =
-      subst (Plans k Known s now) (sym is) (plans-refused rule (λ w sound keeps known. may w rule (refuses w sound keeps known)))
+      subst (Plans k Known s now) (sym is) (plans-refused rule (λ w sound sees known. may w rule (refuses w sound sees known)))
   plans-refusal check NoMemory plan is refuses may = absurd is
 
   -- a statement that stores one act
@@ -87,13 +87,13 @@ module _ (k : Kept) (Known : World → Type 0) (s : ScriptEntry) (now : ℕ) whe
     outcome = in_one act answer;
     replies = sym is.1;
     may = may;
-    acts = λ w sound keeps known. subst (λ (ps : List Part). AreParts w ps (act ∷ [])) (sym is.0) (done w sound keeps known, tt);
+    acts = λ w sound sees known. subst (λ (ps : List Part). AreParts w ps (act ∷ [])) (sym is.0) (done w sound sees known, tt);
   }
     where
       done : InEach k Known (λ w. IsDone w stored act)
-      done w sound keeps known =
-          let its = stores w sound keeps known in
-          record { means = means; may = (law w s now (in_one act answer) sound (may w sound keeps known)).0; draws = its.draws; carried = its.carried; from_end = its.from_end; taken = its.taken }
+      done w sound sees known =
+          let its = stores w sound sees known in
+          record { means = means; may = (law w s now (in_one act answer) sound (may w sound sees known)).0; draws = its.draws; carried = its.carried; from_end = its.from_end; taken = its.taken }
   plans-one stored act answer (Refused rule) is means law may stores = absurd is
   plans-one stored act answer (Answered reply) is means law may stores = absurd is
   plans-one stored act answer (Turned name) is means law may stores = absurd is

@@ -22,7 +22,7 @@ use Rattle.bk_plans.specs.declared.parts.Part.{Part}
 use Rattle.bk_plans.specs.declared.parts.Part.TheVariants.{Stored, MediumMade, SetSealed}
 use Rattle.bk_plans.specs.declared.parts.Plan.{Plan}
 use Rattle.bk_plans.specs.declared.parts.Plan.TheVariants.{Refused, Answered, Turned, Seated, Parts}
-use Rattle.bk_kept.specs.Keeps.{Keeps}
+use Rattle.bk_kept.specs.Keeps.{Sees}
 use Rattle.bk_kept.specs.Stored.{IsDone, Carries}
 
 -- Parts.
@@ -82,13 +82,13 @@ abbrev pub KeepsPlan : Plan → Type 0
 KeepsPlan (Parts parts answer) = AllByRecursion KeepsPart parts.items
 KeepsPlan _ = Unit {0}
 
--- A plan of a statement at a moment: one outcome, to which the statement may come in each world that is kept and of which this is known, and
+-- A plan of a statement at a moment: one outcome, to which the statement may come in each world that is seen and of which this is known, and
 -- whose acts are then those of the plan.
 pub record Plans (k : Kept) (Known : World → Type 0) (s : ScriptEntry) (now : ℕ) (plan : Plan) : Type 0 where
   pub outcome : Outcome
   pub replies : outcome.reply ≡ reply_of plan
-  pub may : (w : World) → IsSound w → Keeps w k → Known w → May w s now outcome
-  pub acts : (w : World) → IsSound w → Keeps w k → Known w → AreActsOf w plan outcome.acts
+  pub may : (w : World) → IsSound w → Sees w k → Known w → May w s now outcome
+  pub acts : (w : World) → IsSound w → Sees w k → Known w → AreActsOf w plan outcome.acts
 
 -- an item that reads no medium
 abbrev pub ReadsNoMedium : ScriptItem → Type 0

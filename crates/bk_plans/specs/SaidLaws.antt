@@ -1,4 +1,4 @@
--- What a database that is kept says by a statement is taken in.
+-- What a database that shows its log says by a statement is taken in.
 use Rattle.std.proofs.Common.{◌≡◌, ◌≤◌, ℕ, ◌+◌, ◌^◌, false, List, [], ◌∷◌, ◌++◌, length, Option, Some, refl, sym, subst, arith, length-append}
 use Rattle.std.proofs.lemmas.Bool.Decides.{nat_tests}
 use Rattle.bk_acts.specs.declared.act.StoredAct.{StoredAct}
@@ -88,5 +88,5 @@ pub plans-said : (k : Kept) (Known : World → Type 0) (s : ScriptEntry) (now : 
     → InEach k Known (λ w. MayLog w (database_of d) said ts → ArePlaced d.files (log_of w.history (database_of d)) (numbered d.shown.«end» said)) → Plans k Known s now plan
 plans-said k Known s now d said ts stored answer plan one says law named shows low may placed =
     plans-one k Known s now stored (logged d.name said ts) answer plan one (means-said d said ts stored says) law may
-    (λ w sound keeps known.
-    stores-said w d said ts stored says (named w sound keeps known) (shows w sound keeps known) (law w s now (in_one (logged d.name said ts) answer) sound (may w sound keeps known)).0 low (placed w sound keeps known))
+    (λ w sound sees known.
+    stores-said w d said ts stored says (named w sound sees known) (shows w sound sees known) (law w s now (in_one (logged d.name said ts) answer) sound (may w sound sees known)).0 low (placed w sound sees known))

@@ -4,8 +4,9 @@ ghost use Rattle.std.specs.Prelude.{◌≡◌, false, IfNone, IfOk, Some};
 ghost use Rattle.std.specs.List.{list_any};
 ghost use Rattle.bk_machine.specs.Checks as checks;
 ghost use Rattle.bk_machine.specs.World.{World};
+ghost use Rattle.bk_world.specs.Lines.{RecordLines};
 ghost use Rattle.bk_world.specs.declared.database.Status.TheVariants.{Down, Online};
-ghost use Rattle.bk_kept.specs.Keeps.{Keeps, database_of};
+ghost use Rattle.bk_kept.specs.Keeps.{HoldsLive, IsSeenOf, Sees, ShowsLog, database_of};
 ghost use Rattle.bk_plans.specs.Checking.{IsCheck};
 
 use crate::refusal::Refusal;
@@ -44,7 +45,7 @@ pub fn limit(used_up: bool) -> Result<(), Refusal>
 
 /// Refused inside a transaction of the current session.
 pub fn outside(kept: &InstanceView<'_>) -> Result<(), Refusal>
-    ensures { (w : World) → Keeps w kept.now → IsCheck (λ u. u) result (checks.outside w) }
+    ensures { (w : World) → Sees w kept.now → IsCheck (λ u. u) result (checks.outside w) }
 {
     refuse_if(own_held(kept).is_some(), Rule::InTransaction)
 }
@@ -122,6 +123,8 @@ pub fn online<'a>(database: &'a DatabaseView<'a>) -> Result<&'a DatabaseView<'a>
     ensures check { IsCheck (λ d. database_of d.now) result (checks.online (database_of database.now)) }
     ensures same { IfOk result (λ d. d.now ≡ database.now) }
     ensures online { IfOk result (λ d. d.now.status ≡ Online) }
+    ensures shows { (history : RecordLines) → IsSeenOf history database.now → IfOk result (λ d. ShowsLog history d.now) }
+    ensures live { (history : RecordLines) → IsSeenOf history database.now → IfOk result (λ d. HoldsLive history d.now) }
 {
     match word(database.status, database.units.as_slice()) {
         Some(status) => Err(Refusal::Broken(Rule::NotOnline { status })),

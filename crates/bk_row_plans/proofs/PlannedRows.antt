@@ -1,11 +1,11 @@
 -- Statements on the rows of a table, as they are planned.
-use Rattle.std.proofs.Common.{◌≡◌, ◌≤◌, ℕ, ◌+◌, ◌^◌, false, List, [], length, Option, Some, None, Ok, refl, sym, ◌∙◌, ap, subst, arith}
+use Rattle.std.proofs.Common.{◌≡◌, ◌≤◌, ℕ, ◌+◌, ◌^◌, false, List, length, Option, Some, None, Ok, refl, sym, ◌∙◌, ap, subst, arith}
 use Rattle.std.specs.Prelude.{IfSome, MatchOption}
 use Rattle.bk_ids.specs.declared.record.Place.{Place}
 use Rattle.bk_items.specs.declared.item.ScriptEntry.{ScriptEntry}
 use Rattle.bk_items.specs.declared.item.ScriptItem.TheVariants as script
 use Rattle.bk_items.specs.declared.rows.RowStatement.{RowStatement}
-use Rattle.bk_kept.specs.Keeps.{Keeps, ShowsLog, database_of}
+use Rattle.bk_kept.specs.Keeps.{Sees, ShowsLog, database_of}
 use Rattle.bk_kept.specs.declared.kept.Database.{Database as KeptDatabase}
 use Rattle.bk_kept.specs.declared.kept.Kept.{Kept}
 use Rattle.bk_machine.specs.Acts.{logged}
@@ -49,19 +49,19 @@ module _ (k : Kept) (line now : ℕ) (table : List ℕ) (statement : RowStatemen
   unfolding May
   may-come w outcome is = comes w outcome is
 
-  pub rows-refused : (refusal : Refusal) (plan : Plan) → IsRefusedBy refusal plan → ((w : World) → IsSound w → Keeps w k → IsRefused refusal (check w)) → Plans k (λ w. Unit {0}) (entry table statement line) now plan
+  pub rows-refused : (refusal : Refusal) (plan : Plan) → IsRefusedBy refusal plan → ((w : World) → IsSound w → Sees w k → IsRefused refusal (check w)) → Plans k (λ w. Unit {0}) (entry table statement line) now plan
   rows-refused refusal plan is refuses =
-      plans-refusal k (λ w. Unit {0}) (entry table statement line) now check refusal plan is (λ w sound keeps known. refuses w sound keeps)
+      plans-refusal k (λ w. Unit {0}) (entry table statement line) now check refusal plan is (λ w sound sees known. refuses w sound sees)
       (λ w rule e. may-come w _ (comes-refused (check w) (does w) rule e))
 
-  module _ (d : KeptDatabase) (t : TableSpec) (passes : (w : World) → IsSound w → Keeps w k → check w ≡ Ok (target_of d t)) where
-    pub rows-answered : (answer : Reply) → ((w : World) → IsSound w → Keeps w k → does w (target_of d t) (answered answer)) → Plans k (λ w. Unit {0}) (entry table statement line) now (Answered answer)
+  module _ (d : KeptDatabase) (t : TableSpec) (passes : (w : World) → IsSound w → Sees w k → check w ≡ Ok (target_of d t)) where
+    pub rows-answered : (answer : Reply) → ((w : World) → IsSound w → Sees w k → does w (target_of d t) (answered answer)) → Plans k (λ w. Unit {0}) (entry table statement line) now (Answered answer)
     rows-answered answer own =
         plans-answered k (λ w. Unit {0}) (entry table statement line) now answer
-        (λ w sound keeps known. may-come w (answered answer) (comes-found (check w) (does w) (target_of d t) (answered answer) (passes w sound keeps) (own w sound keeps)))
+        (λ w sound sees known. may-come w (answered answer) (comes-found (check w) (does w) (target_of d t) (answered answer) (passes w sound sees) (own w sound sees)))
 
-    module _ (shows : (w : World) → Keeps w k → ShowsLog w.history d) (its : (w : World) → Keeps w k → IsTarget w table (target_of d t)) (law : DoWhatTheyMay) (left : used_up d.shown.«end» ≡ false)
-        (own : Option Open) (mine : (w : World) → Keeps w k → own ≡ own_open w (database_of d)) (key : ℕ) (before value : Option (List ℕ)) (at : Place) where
+    module _ (shows : (w : World) → Sees w k → ShowsLog w.history d) (its : (w : World) → Sees w k → IsTarget w table (target_of d t)) (law : DoWhatTheyMay) (left : used_up d.shown.«end» ≡ false)
+        (own : Option Open) (mine : (w : World) → Sees w k → own ≡ own_open w (database_of d)) (key : ℕ) (before value : Option (List ℕ)) (at : Place) where
       few : (time : ℕ) → d.shown.«end» + length (row_said own d.shown.«end» at before (row_set (target_of d t) key value) time) ≤ 2 ^ 62
       few time = by own
         where
@@ -79,16 +79,16 @@ module _ (k : Kept) (line now : ℕ) (table : List ℕ) (statement : RowStatemen
           by (Some mine) logs = let where_it = logs.says.places.0 in ((fits, (where_it.0, (where_it.1, where_it.2))), tt)
 
       pub rows-written : (plan : Plan) → StoresOne (SaysThen d now (row_said own d.shown.«end» at before (record { table = t.number; key = key; value = value })) d.transactions) (Counted 1) plan → FitsRow t.number key before value
-          → ((w : World) → IsSound w → Keeps w k → does w (target_of d t) (writes_row w (target_of d t) at before key value now)) → Plans k (λ w. Unit {0}) (entry table statement line) now plan
+          → ((w : World) → IsSound w → Sees w k → does w (target_of d t) (writes_row w (target_of d t) at before key value now)) → Plans k (λ w. Unit {0}) (entry table statement line) now plan
       rows-written plan (stored, one, says) fits does_it =
           plans-said k (λ w. Unit {0}) (entry table statement line) now d (row_said own d.shown.«end» at before (row_set (target_of d t) key value) says.time) d.transactions stored (Counted 1) plan one says.says law
-          (λ w sound keeps none. current-found w (database_of d) (its w keeps).is) (λ w sound keeps none. shows w keeps) (few says.time)
-          (λ w sound keeps none.
+          (λ w sound sees none. current-found w (database_of d) (its w sees).is) (λ w sound sees none. shows w sees) (few says.time)
+          (λ w sound sees none.
           let is : writes_row w (target_of d t) at before key value now ≡ in_one (logged d.name (row_said own d.shown.«end» at before (row_set (target_of d t) key value) says.time) d.transactions) (Counted 1) =
-          ap (λ (time : ℕ). in_one (logged d.name (row_said (own_open w (database_of d)) d.shown.«end» at before (row_set (target_of d t) key value) time) d.transactions) (Counted 1)) (sym (says.time_is w (shows w keeps)))
-          ∙ ap (λ (o : Option Open). in_one (logged d.name (row_said o d.shown.«end» at before (row_set (target_of d t) key value) says.time) d.transactions) (Counted 1)) (sym (mine w keeps)) in
-          may-come w _ (comes-found (check w) (does w) (target_of d t) _ (passes w sound keeps) (subst (does w (target_of d t)) is (does_it w sound keeps))))
-          (λ w sound keeps none. placed w says.time fits)
+          ap (λ (time : ℕ). in_one (logged d.name (row_said (own_open w (database_of d)) d.shown.«end» at before (row_set (target_of d t) key value) time) d.transactions) (Counted 1)) (sym (says.time_is w (shows w sees)))
+          ∙ ap (λ (o : Option Open). in_one (logged d.name (row_said o d.shown.«end» at before (row_set (target_of d t) key value) says.time) d.transactions) (Counted 1)) (sym (mine w sees)) in
+          may-come w _ (comes-found (check w) (does w) (target_of d t) _ (passes w sound sees) (subst (does w (target_of d t)) is (does_it w sound sees))))
+          (λ w sound sees none. placed w says.time fits)
 
 -- What UPDATE and DELETE do with a row, by what is seen of it.
 

@@ -1,7 +1,7 @@
 //! The limits of a row and of a transaction, and the lock of a row.
 
 ghost use Rattle.std.specs.Prelude.{◌≡◌, ◌≤◌, true, false, length, IfOk};
-ghost use Rattle.bk_kept.specs.Keeps.{Keeps, ShowsLog};
+ghost use Rattle.bk_kept.specs.Keeps.{Sees, ShowsLog};
 ghost use Rattle.bk_machine.specs.Checks as checks;
 ghost use Rattle.bk_machine.specs.World.{World};
 ghost use Rattle.bk_machine.specs.statements.Target as target;
@@ -53,7 +53,7 @@ pub(crate) fn check_lock(
     table: &TableSpec,
     key: u64,
 ) -> Result<(), Refusal>
-    ensures { (w : World) → Keeps w kept.now → ShowsLog w.history database.now
+    ensures { (w : World) → Sees w kept.now → ShowsLog w.history database.now
         → IsCheck (λ u. u) result (target.check_lock w (target_of database.now table.now) key) }
 {
     match holder(kept, database, table, key) {
@@ -66,14 +66,14 @@ pub(crate) fn check_lock(
 
 // Whether the current session's transaction has as many writes in a database as it may have.
 fn has_all_writes(kept: &InstanceView<'_>, database: &DatabaseView<'_>) -> bool
-    ensures { (w : World) (table : Spec) → Keeps w kept.now → ShowsLog w.history database.now → result ≡ target.has_all_writes w (target_of database.now table) }
+    ensures { (w : World) (table : Spec) → Sees w kept.now → ShowsLog w.history database.now → result ≡ target.has_all_writes w (target_of database.now table) }
 {
     own_writes(kept, database) >= MOST_WRITES
 }
 
 // Refused where the current session's transaction has as many writes as it may have, or numbers are used up.
 fn check_more(kept: &InstanceView<'_>, database: &DatabaseView<'_>) -> Result<(), Refusal>
-    ensures check { (w : World) (table : Spec) → Keeps w kept.now → ShowsLog w.history database.now → IsCheck (λ u. u) result (targets.check_more w (target_of database.now table)) }
+    ensures check { (w : World) (table : Spec) → Sees w kept.now → ShowsLog w.history database.now → IsCheck (λ u. u) result (targets.check_more w (target_of database.now table)) }
     ensures left { IfOk result (λ u. checks.used_up database.now.shown.«end» ≡ false) }
 {
     let all = has_all_writes(kept, database);
@@ -93,7 +93,7 @@ pub(crate) fn check_left(
     database: &DatabaseView<'_>,
     writes: bool,
 ) -> Result<(), Refusal>
-    ensures check { (w : World) (table : Spec) → Keeps w kept.now → ShowsLog w.history database.now
+    ensures check { (w : World) (table : Spec) → Sees w kept.now → ShowsLog w.history database.now
         → IsCheck (λ u. u) result (targets.check_left w (target_of database.now table) writes) }
     ensures left { IfOk result (λ u. writes ≡ true → checks.used_up database.now.shown.«end» ≡ false) }
 {

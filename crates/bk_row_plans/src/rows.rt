@@ -3,7 +3,7 @@
 ghost use Rattle.std.specs.Prelude.{◌≡◌, ◌<◌, ◌≤◌, ℕ, List, length, false, IfOk, IfSome, MatchOption, Some, None};
 ghost use Rattle.bk_items.specs.declared.item.ScriptItem.TheVariants as script;
 ghost use Rattle.bk_items.specs.declared.rows.RowStatement.TheVariants as row;
-ghost use Rattle.bk_kept.specs.Keeps.{Keeps, ShowsLog, database_of};
+ghost use Rattle.bk_kept.specs.Keeps.{Sees, ShowsLog, database_of};
 ghost use Rattle.bk_machine.specs.Checks as checks;
 ghost use Rattle.bk_machine.specs.Seen.{visible};
 ghost use Rattle.bk_machine.specs.Sound.{IsSound};
@@ -42,7 +42,7 @@ fn check_new(
     table: &TableSpec,
     key: u64,
 ) -> Result<Place, Refusal>
-    ensures check { (w : World) (name : List ℕ) → IsSound w → Keeps w kept.now → ShowsLog w.history database.now → IsTarget w name (target_of database.now table.now)
+    ensures check { (w : World) (name : List ℕ) → IsSound w → Sees w kept.now → ShowsLog w.history database.now → IsTarget w name (target_of database.now table.now)
         → IsCheck (λ at. target_of database.now table.now) result (target.check_new w (target_of database.now table.now) key) }
     ensures low { IfOk result (λ at. key ≤ 9223372036854775807) }
     ensures left { IfOk result (λ at. checks.used_up database.now.shown.«end» ≡ false) }
@@ -77,13 +77,13 @@ fn check_insert<'a>(
     key: u64,
     value: &Text,
 ) -> Result<NewRow<'a>, Refusal>
-    ensures check { (w : World) → IsSound w → Keeps w kept.now → IsCheck (λ r. target_of r.database.now r.table.now) result (insert.check_insert w table.now key value.now) }
+    ensures check { (w : World) → IsSound w → Sees w kept.now → IsCheck (λ r. target_of r.database.now r.table.now) result (insert.check_insert w table.now key value.now) }
     ensures low { IfOk result (λ r. key ≤ 9223372036854775807) }
     ensures short { IfOk result (λ r. length value.now ≤ 112) }
     ensures left { IfOk result (λ r. checks.used_up r.database.now.shown.«end» ≡ false) }
-    ensures shows { (w : World) → Keeps w kept.now → IfOk result (λ r. ShowsLog w.history r.database.now) }
-    ensures its { (w : World) → Keeps w kept.now → IfOk result (λ r. IsTarget w table.now (target_of r.database.now r.table.now)) }
-    ensures cell { (w : World) → IsSound w → Keeps w kept.now
+    ensures shows { (w : World) → Sees w kept.now → IfOk result (λ r. ShowsLog w.history r.database.now) }
+    ensures its { (w : World) → Sees w kept.now → IfOk result (λ r. IsTarget w table.now (target_of r.database.now r.table.now)) }
+    ensures cell { (w : World) → IsSound w → Sees w kept.now
         → IfOk result (λ r. MayPlace w (target_of r.database.now r.table.now) (r.table.now.number, key) r.place) }
 {
     let to = check_table(kept, table)?;
@@ -133,7 +133,7 @@ fn found_row<'a>(
     table: &TableSpec,
     key: u64,
 ) -> Option<SeenRow<'a>>
-    ensures { (w : World) (name : List ℕ) → IsSound w → Keeps w kept.now → ShowsLog w.history database.now → IsTarget w name (target_of database.now table.now)
+    ensures { (w : World) (name : List ℕ) → IsSound w → Sees w kept.now → ShowsLog w.history database.now → IsTarget w name (target_of database.now table.now)
         → MatchOption result (row_at (visible w (database_of database.now) table.now) key ≡ None)
         (λ r. (row_at (visible w (database_of database.now) table.now) key ≡ Some r.before.now) × MayPlace w (target_of database.now table.now) (table.now.number, key) r.place) }
 {
@@ -150,11 +150,11 @@ fn check_write<'a>(
     table: &TableSpec,
     key: u64,
 ) -> Result<Option<SeenRow<'a>>, Refusal>
-    ensures check { (w : World) (name : List ℕ) → IsSound w → Keeps w kept.now → ShowsLog w.history database.now → IsTarget w name (target_of database.now table.now)
+    ensures check { (w : World) (name : List ℕ) → IsSound w → Sees w kept.now → ShowsLog w.history database.now → IsTarget w name (target_of database.now table.now)
         → IsCheck (λ seen. target_of database.now table.now) result (target.check_write w (target_of database.now table.now) key) }
     ensures low { IfOk result (λ seen. key ≤ 9223372036854775807) }
     ensures left { IfOk result (λ seen. IfSome seen (λ r. checks.used_up database.now.shown.«end» ≡ false)) }
-    ensures seen { (w : World) (name : List ℕ) → IsSound w → Keeps w kept.now → ShowsLog w.history database.now → IsTarget w name (target_of database.now table.now)
+    ensures seen { (w : World) (name : List ℕ) → IsSound w → Sees w kept.now → ShowsLog w.history database.now → IsTarget w name (target_of database.now table.now)
         → IfOk result (λ seen. MatchOption seen (row_at (visible w (database_of database.now) table.now) key ≡ None)
         (λ r. (row_at (visible w (database_of database.now) table.now) key ≡ Some r.before.now) × MayPlace w (target_of database.now table.now) (table.now.number, key) r.place)) }
 {
@@ -181,13 +181,13 @@ fn check_update<'a>(
     key: u64,
     value: &Text,
 ) -> Result<Found<'a>, Refusal>
-    ensures check { (w : World) → IsSound w → Keeps w kept.now → IsCheck (λ f. target_of f.database.now f.table.now) result (update.check_update w table.now key value.now) }
+    ensures check { (w : World) → IsSound w → Sees w kept.now → IsCheck (λ f. target_of f.database.now f.table.now) result (update.check_update w table.now key value.now) }
     ensures low { IfOk result (λ f. key ≤ 9223372036854775807) }
     ensures value { IfOk result (λ f. length value.now ≤ 112) }
     ensures left { IfOk result (λ f. IfSome f.seen (λ r. checks.used_up f.database.now.shown.«end» ≡ false)) }
-    ensures shows { (w : World) → Keeps w kept.now → IfOk result (λ f. ShowsLog w.history f.database.now) }
-    ensures its { (w : World) → Keeps w kept.now → IfOk result (λ f. IsTarget w table.now (target_of f.database.now f.table.now)) }
-    ensures seen { (w : World) → IsSound w → Keeps w kept.now → IfOk result (λ f. MatchOption f.seen (row_at (visible w (database_of f.database.now) f.table.now) key ≡ None)
+    ensures shows { (w : World) → Sees w kept.now → IfOk result (λ f. ShowsLog w.history f.database.now) }
+    ensures its { (w : World) → Sees w kept.now → IfOk result (λ f. IsTarget w table.now (target_of f.database.now f.table.now)) }
+    ensures seen { (w : World) → IsSound w → Sees w kept.now → IfOk result (λ f. MatchOption f.seen (row_at (visible w (database_of f.database.now) f.table.now) key ≡ None)
         (λ r. (row_at (visible w (database_of f.database.now) f.table.now) key ≡ Some r.before.now) × MayPlace w (target_of f.database.now f.table.now) (f.table.now.number, key) r.place)) }
 {
     let to = check_table(kept, table)?;
@@ -243,12 +243,12 @@ fn check_delete<'a>(
     table: &Text,
     key: u64,
 ) -> Result<Found<'a>, Refusal>
-    ensures check { (w : World) → IsSound w → Keeps w kept.now → IsCheck (λ f. target_of f.database.now f.table.now) result (delete.check_delete w table.now key) }
+    ensures check { (w : World) → IsSound w → Sees w kept.now → IsCheck (λ f. target_of f.database.now f.table.now) result (delete.check_delete w table.now key) }
     ensures low { IfOk result (λ f. key ≤ 9223372036854775807) }
     ensures left { IfOk result (λ f. IfSome f.seen (λ r. checks.used_up f.database.now.shown.«end» ≡ false)) }
-    ensures shows { (w : World) → Keeps w kept.now → IfOk result (λ f. ShowsLog w.history f.database.now) }
-    ensures its { (w : World) → Keeps w kept.now → IfOk result (λ f. IsTarget w table.now (target_of f.database.now f.table.now)) }
-    ensures seen { (w : World) → IsSound w → Keeps w kept.now → IfOk result (λ f. MatchOption f.seen (row_at (visible w (database_of f.database.now) f.table.now) key ≡ None)
+    ensures shows { (w : World) → Sees w kept.now → IfOk result (λ f. ShowsLog w.history f.database.now) }
+    ensures its { (w : World) → Sees w kept.now → IfOk result (λ f. IsTarget w table.now (target_of f.database.now f.table.now)) }
+    ensures seen { (w : World) → IsSound w → Sees w kept.now → IfOk result (λ f. MatchOption f.seen (row_at (visible w (database_of f.database.now) f.table.now) key ≡ None)
         (λ r. (row_at (visible w (database_of f.database.now) f.table.now) key ≡ Some r.before.now) × MayPlace w (target_of f.database.now f.table.now) (f.table.now.number, key) r.place)) }
 {
     let to = check_table(kept, table)?;

@@ -4,7 +4,7 @@ ghost use Rattle.std.specs.Prelude.{◌≡◌, ℕ, IfOk};
 ghost use Rattle.std.specs.Option.{option_map};
 ghost use Rattle.bk_items.specs.declared.item.ScriptItem.TheVariants as script;
 ghost use Rattle.bk_items.specs.declared.rows.RowStatement.TheVariants as row;
-ghost use Rattle.bk_kept.specs.Keeps.{Keeps, ShowsLog, database_of};
+ghost use Rattle.bk_kept.specs.Keeps.{Sees, ShowsLog, database_of};
 ghost use Rattle.bk_machine.specs.Seen.{visible};
 ghost use Rattle.bk_machine.specs.World.{World};
 ghost use Rattle.bk_machine.specs.statements.Select as selecting;
@@ -40,7 +40,7 @@ fn asked_rows(
     table: &TableSpec,
     key: Option<u64>,
 ) -> Result<Vec<(u64, Value)>, AllocError>
-    ensures { IfOk result (λ rows. (w : World) → Keeps w kept.now → ShowsLog w.history database.now → rows.items ≡ selecting.asked_rows key (visible w (database_of database.now) table.now)) }
+    ensures { IfOk result (λ rows. (w : World) → Sees w kept.now → ShowsLog w.history database.now → rows.items ≡ selecting.asked_rows key (visible w (database_of database.now) table.now)) }
 {
     match key {
         None => {

@@ -7,7 +7,7 @@ ghost use Rattle.bk_machine.specs.TargetLaws.{IsTarget};
 ghost use Rattle.bk_machine.specs.World.{World};
 ghost use Rattle.bk_machine.specs.statements.Target as target;
 ghost use Rattle.bk_world.specs.declared.rule.Rule.TheVariants.{NoSuchTable};
-ghost use Rattle.bk_kept.specs.Keeps.{Keeps, ShowsLog, database_of};
+ghost use Rattle.bk_kept.specs.Keeps.{Sees, ShowsLog, database_of};
 ghost use Rattle.bk_plans.specs.Checking.{IsCheck};
 ghost use Rattle.bk_row_plans.specs.Targets.{target_of};
 
@@ -40,9 +40,9 @@ pub(crate) fn check_table<'a>(
     kept: &'a InstanceView<'a>,
     name: &Text,
 ) -> Result<Target<'a>, Refusal>
-    ensures check { (w : World) → Keeps w kept.now → IsCheck (λ t. target_of t.database.now t.table.now) result (target.check_table w name.now) }
-    ensures shows { (w : World) → Keeps w kept.now → IfOk result (λ t. ShowsLog w.history t.database.now) }
-    ensures its { (w : World) → Keeps w kept.now → IfOk result (λ t. IsTarget w name.now (target_of t.database.now t.table.now)) }
+    ensures check { (w : World) → Sees w kept.now → IsCheck (λ t. target_of t.database.now t.table.now) result (target.check_table w name.now) }
+    ensures shows { (w : World) → Sees w kept.now → IfOk result (λ t. ShowsLog w.history t.database.now) }
+    ensures its { (w : World) → Sees w kept.now → IfOk result (λ t. IsTarget w name.now (target_of t.database.now t.table.now)) }
 {
     let current = current_or_refuse(kept)?;
     let database = online(current)?;

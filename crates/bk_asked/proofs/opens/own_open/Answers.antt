@@ -6,4 +6,4 @@ use Rattle.bk_asked.proofs.Opened.{own-is}
 use Rattle.bk_asked.proofs.opens.own_open.Goals as goal
 
 pub returns : goal.returns
-returns c = λ w keeps. own-is w c.args.kept.now c.args.database.now (option_map (λ t. t.now) c.open_of.result) (subst (λ (k : Kept). option_map (λ t. t.now) c.open_of.result ≡ transaction_of c.args.database.now.transactions k.session) c.kept.view_is c.open_of.ensures) keeps
+returns c = λ w sees. own-is w c.args.kept.now c.args.database.now (option_map (λ t. t.now) c.open_of.result) (subst (λ (k : Kept). option_map (λ t. t.now) c.open_of.result ≡ transaction_of c.args.database.now.transactions k.session) c.kept.view_is c.open_of.ensures) sees

@@ -23,7 +23,7 @@ returns-in-Err-clause-plans c =
     c.refusing.ensures.rule
 
 pub returns-in-Ok-clause-unfit : goal.returns-in-Ok-clause-unfit
-returns-in-Ok-clause-unfit c = λ unfit w sound keeps known.
+returns-in-Ok-clause-unfit c = λ unfit w sound sees known.
     c.backup.ensures.unfit unfit w
-    (may-make w c.args.line c.args.database.now c.args.units.now c.args.disk.now c.args.options.now c.args.now c.in-Ok.database.now c.said_time.result sound (c.in-Ok.ensures.check w keeps known) (c.in-Ok.ensures.shows w keeps)
-    (c.said_time.ensures w (c.in-Ok.ensures.shows w keeps)))
+    (may-make w c.args.line c.args.database.now c.args.units.now c.args.disk.now c.args.options.now c.args.now c.in-Ok.database.now c.said_time.result sound (c.in-Ok.ensures.check w sees known) (c.in-Ok.ensures.shows w sees)
+    (c.said_time.ensures w (c.in-Ok.ensures.shows w sees)))

@@ -13,15 +13,15 @@ use Rattle.bk_media_plans.proofs.restoring.check_set.Goals as goal
 
 pub returns : goal.returns
 unfolding check_set
-returns c = λ w keeps.
+returns c = λ w sees.
     let name = c.args.name.now in
     let replace = c.args.replace in
     let header = c.args.header.now in
     let o : Option Database = option_map (λ d. database_of d.now) c.named_in-named.result in
     let chain : Option Database → Checked (Unit {0}) =
     λ (x : Option Database). check_unused x >>= (λ (a : Unit {0}). check_family x replace header >>= (λ (b : Unit {0}). check_tail w x replace >>= (λ (e : Unit {0}). check_number w.databases x >>= (λ (f : Unit {0}). check_header w name header)))) in
-    subst (λ (x : Option Database). IsCheck (λ u. u) c.check_header.result (chain x)) (c.named_in-named.ensures.found w keeps)
+    subst (λ (x : Option Database). IsCheck (λ u. u) c.check_header.result (chain x)) (c.named_in-named.ensures.found w sees)
     (passed-on _ _ (check_unused o) _ tt c.in_ok-check_unused.ensures
     (passed-on _ _ (check_family o replace header) _ tt c.in_ok-check_family.ensures
-    (passed-on _ _ (check_tail w o replace) _ tt (c.in_ok-check_tail.ensures w (c.named_in-named.ensures.shows w keeps))
-    (passed-on _ _ (check_number w.databases o) _ tt (ap (λ (dbs : List Database). check_number dbs o) (keeps.databases ∙ ap (map database_of) (sym (c.deref.ensures.value ∙ ap (λ (k : Kept). k.databases.items) c.kept.view_is))) ∙ c.in_ok-check_number.ensures) (c.check_header.ensures w keeps)))))
+    (passed-on _ _ (check_tail w o replace) _ tt (c.in_ok-check_tail.ensures w (c.named_in-named.ensures.seen w sees))
+    (passed-on _ _ (check_number w.databases o) _ tt (ap (λ (dbs : List Database). check_number dbs o) (sees.databases ∙ ap (map database_of) (sym (c.deref.ensures.value ∙ ap (λ (k : Kept). k.databases.items) c.kept.view_is))) ∙ c.in_ok-check_number.ensures) (c.check_header.ensures w sees)))))

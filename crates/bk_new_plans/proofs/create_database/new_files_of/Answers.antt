@@ -10,8 +10,8 @@ use Rattle.bk_plans.specs.CheckingLaws.{passed-on}
 use Rattle.bk_new_plans.proofs.create_database.new_files_of.Goals as goal
 
 pub returns-clause-check : goal.returns-clause-check
-returns-clause-check c = λ w keeps.
-    passed-on _ _ _ _ _ (ap (λ b. refuse_if b DatabaseExists) (sym (c.is_taken.ensures w keeps)) ∙ c.in_ok-refuse_if.ensures.check)
-    (passed-on _ _ _ _ _ (ap (λ b. refuse_if b (LimitReached Databases)) (sym (c.is_full.ensures w keeps)) ∙ c.in_ok-refuse_if-2.ensures.check)
+returns-clause-check c = λ w sees.
+    passed-on _ _ _ _ _ (ap (λ b. refuse_if b DatabaseExists) (sym (c.is_taken.ensures w sees)) ∙ c.in_ok-refuse_if.ensures.check)
+    (passed-on _ _ _ _ _ (ap (λ b. refuse_if b (LimitReached Databases)) (sym (c.is_full.ensures w sees)) ∙ c.in_ok-refuse_if-2.ensures.check)
     (passed-on _ _ _ _ _ c.in_ok-storage.ensures.check
-    (subst (λ (s : Storage). IsCheck (λ x. x) c.free_storage.result (check_free w s)) c.in_ok-storage.ensures.is (c.free_storage.ensures.check w keeps))))
+    (subst (λ (s : Storage). IsCheck (λ x. x) c.free_storage.result (check_free w s)) c.in_ok-storage.ensures.is (c.free_storage.ensures.check w sees))))

@@ -6,7 +6,7 @@ pub returns-in_ok-act-in-Ok-clause-plans : goal.returns-in_ok-act-in-Ok-clause-p
 returns-in_ok-act-in-Ok-clause-plans c =
     if-plan _ _ c.stored.result
     (λ plan one line.
-    commit-planned c.args.kept.now line c.args.now c.in-Ok.held c.in-Ok.ensures.check c.in-Ok.ensures.shows c.statements_do_what_they_may.ensures.may c.in_ok-act-in-Ok.act plan one c.in_ok-act-in-Ok.ensures.commits)
+    commit-planned c.args.kept.now line c.args.now c.in-Ok.held c.in-Ok.ensures.check (c.in-Ok.ensures.shows c.requires) c.statements_do_what_they_may.ensures.may c.in_ok-act-in-Ok.act plan one c.in_ok-act-in-Ok.ensures.commits)
     c.stored.ensures.one
 
 pub returns-in-Err-clause-plans : goal.returns-in-Err-clause-plans

@@ -94,20 +94,20 @@ pub returns-in-Syntax-clause-plans : goal.returns-in-Syntax-clause-plans
 unfolding May
 returns-in-Syntax-clause-plans c = λ plain.
     subst (λ (i : ScriptItem). Plans c.args.kept.now (λ w. Unit {0}) (record { item = i; line = c.args.statement.now.line }) c.args.now (Refused (rule.Syntax c.in-Syntax.line))) (sym c.in-Syntax.is)
-    (plans-refused c.args.kept.now (λ w. Unit {0}) (record { item = script.Syntax c.in-Syntax.line; line = c.args.statement.now.line }) c.args.now (rule.Syntax c.in-Syntax.line) (λ w sound keeps known. refl))
+    (plans-refused c.args.kept.now (λ w. Unit {0}) (record { item = script.Syntax c.in-Syntax.line; line = c.args.statement.now.line }) c.args.now (rule.Syntax c.in-Syntax.line) (λ w sound sees known. refl))
 
 pub returns-in-TooLong-clause-plans : goal.returns-in-TooLong-clause-plans
 unfolding May
 returns-in-TooLong-clause-plans c = λ plain.
     subst (λ (i : ScriptItem). Plans c.args.kept.now (λ w. Unit {0}) (record { item = i; line = c.args.statement.now.line }) c.args.now (Refused rule.TooLong)) (sym c.in-TooLong.is)
-    (plans-refused c.args.kept.now (λ w. Unit {0}) (record { item = script.TooLong; line = c.args.statement.now.line }) c.args.now rule.TooLong (λ w sound keeps known. refl))
+    (plans-refused c.args.kept.now (λ w. Unit {0}) (record { item = script.TooLong; line = c.args.statement.now.line }) c.args.now rule.TooLong (λ w sound sees known. refl))
 
 pub returns-in_default : goal.returns-in_default
 unfolding May
 returns-in_default c = record {
   plans = λ plain.
       plans-refused c.args.kept.now (λ w. Unit {0}) c.args.statement.now c.args.now (NotBuilt c.args.statement.now.line)
-      (λ w sound keeps known.
+      (λ w sound sees known.
       unbuilt w c.args.statement.now.line c.args.now c.args.statement.now.item (record {
         create = c.in_default.not-CreateDatabase;
         table = c.in_default.not-CreateTable;

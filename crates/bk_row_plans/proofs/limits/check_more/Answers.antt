@@ -11,18 +11,18 @@ use Rattle.bk_kept.specs.declared.kept.Database.{Database as KeptDatabase}
 use Rattle.bk_row_plans.proofs.limits.check_more.Goals as goal
 
 pub returns-in_err-refuse_if-clause-check : goal.returns-in_err-refuse_if-clause-check
-returns-in_err-refuse_if-clause-check c = λ w table keeps shows.
+returns-in_err-refuse_if-clause-check c = λ w table sees shows.
     let to : Target = target_of c.args.database.now table in
     let own : IsRefused c.in_err-refuse_if.field-0.0 (refuse_if (has_all_writes w to) (LimitReached Writes)) =
-    subst (λ (b : Bool). IsRefused c.in_err-refuse_if.field-0.0 (refuse_if b (LimitReached Writes))) (c.has_all_writes-all.ensures w table keeps shows) c.in_err-refuse_if.ensures.check in
+    subst (λ (b : Bool). IsRefused c.in_err-refuse_if.field-0.0 (refuse_if b (LimitReached Writes))) (c.has_all_writes-all.ensures w table sees shows) c.in_err-refuse_if.ensures.check in
     let refused : IsRefused c.in_err-refuse_if.field-0.0 (check_more w to) =
     refused-first c.in_err-refuse_if.field-0.0 (refuse_if (has_all_writes w to) (LimitReached Writes)) (λ (u : Unit {0}). limit (used_up to.database.end)) own in
     search rules
 
 pub returns-in_err-limit-clause-check : goal.returns-in_err-limit-clause-check
-returns-in_err-limit-clause-check c = λ w table keeps shows.
+returns-in_err-limit-clause-check c = λ w table sees shows.
     let to : Target = target_of c.args.database.now table in
-    let few : refuse_if (has_all_writes w to) (LimitReached Writes) ≡ Ok tt = ap (λ (b : Bool). refuse_if b (LimitReached Writes)) (sym (c.has_all_writes-all.ensures w table keeps shows)) ∙ c.in_ok-refuse_if.ensures.check in
+    let few : refuse_if (has_all_writes w to) (LimitReached Writes) ≡ Ok tt = ap (λ (b : Bool). refuse_if b (LimitReached Writes)) (sym (c.has_all_writes-all.ensures w table sees shows)) ∙ c.in_ok-refuse_if.ensures.check in
     let used : c.used_up.result ≡ used_up to.database.end = c.used_up.ensures ∙ ap (λ (n : ℕ). used_up n) (c.end.ensures.same ∙ ap (λ (d : KeptDatabase). d.shown.«end») c.database.view_is) in
     let own : IsRefused c.in_err-limit.field-0.0 (limit (used_up to.database.end)) = subst (λ (b : Bool). IsRefused c.in_err-limit.field-0.0 (limit b)) used c.in_err-limit.ensures.check in
     let refused : IsRefused c.in_err-limit.field-0.0 (check_more w to) =
@@ -30,8 +30,8 @@ returns-in_err-limit-clause-check c = λ w table keeps shows.
     search rules
 
 pub returns-clause-check : goal.returns-clause-check
-returns-clause-check c = λ w table keeps shows.
+returns-clause-check c = λ w table sees shows.
     let to : Target = target_of c.args.database.now table in
-    let few : refuse_if (has_all_writes w to) (LimitReached Writes) ≡ Ok tt = ap (λ (b : Bool). refuse_if b (LimitReached Writes)) (sym (c.has_all_writes-all.ensures w table keeps shows)) ∙ c.in_ok-refuse_if.ensures.check in
+    let few : refuse_if (has_all_writes w to) (LimitReached Writes) ≡ Ok tt = ap (λ (b : Bool). refuse_if b (LimitReached Writes)) (sym (c.has_all_writes-all.ensures w table sees shows)) ∙ c.in_ok-refuse_if.ensures.check in
     let used : c.used_up.result ≡ used_up to.database.end = c.used_up.ensures ∙ ap (λ (n : ℕ). used_up n) (c.end.ensures.same ∙ ap (λ (d : KeptDatabase). d.shown.«end») c.database.view_is) in
     through (refuse_if (has_all_writes w to) (LimitReached Writes)) (λ (u : Unit {0}). limit (used_up to.database.end)) tt tt few (ap (λ (b : Bool). limit b) (sym used) ∙ c.in_ok-limit.ensures.check)

@@ -19,7 +19,7 @@ returns-in-Some-clause-plans c =
     rows-written c.args.kept.now line c.args.now table (row.Delete key) (λ w. check_delete w table key) (λ w. DoesDelete w key c.args.now) (λ w outcome is. is) d t c.in-Ok.ensures.check
     c.in-Ok.ensures.shows c.in-Ok.ensures.its c.statements_do_what_they_may.ensures.may (if-some _ _ _ c.in-Some.is c.in-Ok.ensures.left) _ c.own_open-own.ensures key (Some before) None at plan
     (says (record { table = t.number; key = key; value = None }) (Some before) c.gone_cells-cells.ensures.are) c.gone_cells-cells.ensures.are.fits
-    (λ w sound keeps. let seen = in-some _ _ _ _ c.in-Some.is (c.in-Ok.ensures.seen w sound keeps) in changes-some w d t key None c.args.now before at seen.0 seen.1))
+    (λ w sound sees. let seen = in-some _ _ _ _ c.in-Some.is (c.in-Ok.ensures.seen w sound sees) in changes-some w d t key None c.args.now before at seen.0 seen.1))
     c.row_plan.ensures.says
 
 pub returns-in-None-clause-plans : goal.returns-in-None-clause-plans
@@ -29,7 +29,7 @@ returns-in-None-clause-plans c = λ line.
     let d = c.in-Ok.found.database.now in
     let t = c.in-Ok.found.table.now in
     rows-answered c.args.kept.now line c.args.now table (row.Delete key) (λ w. check_delete w table key) (λ w. DoesDelete w key c.args.now) (λ w outcome is. is) d t c.in-Ok.ensures.check _
-    (λ w sound keeps. changes-none w d t key None c.args.now (in-none _ _ _ c.in-None.is (c.in-Ok.ensures.seen w sound keeps)))
+    (λ w sound sees. changes-none w d t key None c.args.now (in-none _ _ _ c.in-None.is (c.in-Ok.ensures.seen w sound sees)))
 
 pub returns-in-Err-clause-plans : goal.returns-in-Err-clause-plans
 returns-in-Err-clause-plans c =

@@ -19,7 +19,7 @@ returns-in-Ok-clause-plans c =
     rows-written c.args.kept.now line c.args.now table (row.Insert key value) (λ w. check_insert w table key value) (λ w. DoesInsert w key value c.args.now) (λ w outcome is. is) d t c.in-Ok.ensures.check
     c.in-Ok.ensures.shows c.in-Ok.ensures.its c.statements_do_what_they_may.ensures.may c.in-Ok.ensures.left _ c.own_open-own.ensures key None (Some value) at plan
     (says (record { table = t.number; key = key; value = Some value }) None c.new_cells-cells.ensures.are) c.new_cells-cells.ensures.are.fits
-    (λ w sound keeps. (at, c.in-Ok.ensures.cell w sound keeps, refl)))
+    (λ w sound sees. (at, c.in-Ok.ensures.cell w sound sees, refl)))
     c.row_plan.ensures.says
 
 pub returns-in-Err-clause-plans : goal.returns-in-Err-clause-plans

@@ -17,4 +17,4 @@ returns-in-BulkInsert-clause-plans c =
     let line = c.args.line in
     let table = c.args.table.now in
     subst (λ (s : RowStatement). Plans k (λ w. Unit {0}) (entry table s line) c.args.now (Refused (NotBuilt line))) (sym c.in-BulkInsert.is)
-    (plans-refused k (λ w. Unit {0}) (entry table (row.BulkInsert _ _ _) line) c.args.now (NotBuilt line) (λ w sound keeps known. refl))
+    (plans-refused k (λ w. Unit {0}) (entry table (row.BulkInsert _ _ _) line) c.args.now (NotBuilt line) (λ w sound sees known. refl))

@@ -14,7 +14,7 @@ unfolding check_select
 returns-in_ok-asked_rows-in-Ok-clause-plans c = λ line now.
     let table = c.args.table.now in
     rows-answered c.args.kept.now line now table (row.Select c.args.key) (λ w. check_table w table) (λ w. DoesSelect w c.args.key) (λ w outcome is. is) c.in-Ok.to.database.now c.in-Ok.to.table.now (λ w sound. c.in-Ok.ensures.check w) _
-    (λ w sound keeps. ap (λ (rows : Rows). answered (Selected rows)) (c.new-rows.ensures ∙ c.in_ok-asked_rows-in-Ok.ensures w keeps (c.in-Ok.ensures.shows w keeps)))
+    (λ w sound sees. ap (λ (rows : Rows). answered (Selected rows)) (c.new-rows.ensures ∙ c.in_ok-asked_rows-in-Ok.ensures w sees (c.in-Ok.ensures.shows w sees)))
 
 pub returns-in-Err-clause-plans : goal.returns-in-Err-clause-plans
 unfolding check_select

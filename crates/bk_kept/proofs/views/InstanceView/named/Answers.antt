@@ -1,7 +1,7 @@
 use Rattle.std.proofs.Common.{◌≡◌, subst}
 use Rattle.std.specs.Option.{option_map}
 use Rattle.bk_kept.specs.declared.kept.Kept.{Kept}
-use Rattle.bk_kept.proofs.Named.{first, found-named, found-kept}
+use Rattle.bk_kept.proofs.Named.{first, found-named, found-seen}
 use Rattle.bk_kept.proofs.views.InstanceView.named.Goals as goal
 
 same : (c : goal.After-first_named) → option_map (λ d. d.now) c.first_named.result ≡ first c.args.name.now c.args.self.now.databases.items
@@ -9,7 +9,7 @@ same c =
     subst (λ (k : Kept). option_map (λ d. d.now) c.first_named.result ≡ first c.args.name.now k.databases.items) c.self.view_is (rw (← c.deref.ensures.value) c.first_named.ensures)
 
 pub returns-clause-found : goal.returns-clause-found
-returns-clause-found c = λ w keeps. found-named w c.args.self.now c.args.name.now c.first_named.result (same c) keeps
+returns-clause-found c = λ w sees. found-named w c.args.self.now c.args.name.now c.first_named.result (same c) sees
 
-pub returns-clause-kept : goal.returns-clause-kept
-returns-clause-kept c = λ w keeps. found-kept w c.args.self.now c.args.name.now c.first_named.result (same c) keeps
+pub returns-clause-seen : goal.returns-clause-seen
+returns-clause-seen c = λ w sees. found-seen w c.args.self.now c.args.name.now c.first_named.result (same c) sees
