@@ -8,6 +8,7 @@ mod NotedHosted
 mod Checked
 mod MadeHosted
 mod Parked
+mod Brought
 mod DroppedHosted
 mod Noted
 mod Opening

@@ -3,6 +3,7 @@ pub mod Saying
 pub mod Checkpointing
 pub mod Making
 pub mod Parking
+pub mod Bringing
 pub mod Loading
 pub mod Asking
 pub mod Copying

@@ -2,6 +2,7 @@
 #![tactic(auto)]
 
 mod asking;
+mod bringing;
 mod checkpointing;
 mod copying;
 mod hosting;

@@ -1,0 +1,114 @@
+// Databases that are brought up of a set on a medium.
+ghost use Rattle.std.specs.Prelude.{◌≡◌, ◌≤◌, ◌<◌, false, [], List, None, Some, length, set, slice_get, IfErr, IfOk, OnOk, IsErrOf};
+ghost use Rattle.bk_device.specs.Counts.{HasCause};
+ghost use Rattle.bk_device.specs.Effects.{Effect};
+ghost use Rattle.bk_filling.specs.Filling.{MayFill};
+ghost use Rattle.bk_hosted.specs.Hosted.{Hosted};
+ghost use Rattle.bk_known.specs.Known.{KeepsKnown};
+ghost use Rattle.bk_master.specs.declared.record.Entry.{Entry as Entries};
+ghost use Rattle.bk_points.specs.Points.{IsPoints, points_bytes};
+ghost use Rattle.bk_record.specs.Spelling.{KeepsLimits};
+ghost use Rattle.bk_store.specs.Told.{Told};
+ghost use Rattle.bk_stores.specs.Standing.{AreStanding, AreUnused};
+ghost use Rattle.bk_stores.specs.Stores.{IsOurs};
+ghost use Rattle.bk_world.specs.Records.{Logged};
+ghost use Rattle.bk_hosting.specs.Bringing.{ComesUp, IsUpAs};
+ghost use Rattle.bk_hosting.specs.Hosting.{IsHosting, IsReady, IsSealedAt, LeavesEither, own_of};
+
+use crate::hosting::{Hosting, State};
+use crate::noting::note_of;
+use bk_device::Device;
+use bk_facts::DataFile;
+use bk_ids::{Lsn, Rec, Sequence};
+use bk_known::Known;
+use bk_points::Points;
+use bk_stores::StoresError;
+use bk_volume::{Medium, StoredSet};
+use std::alloc::Global;
+use std::thread::Threads;
+
+impl Hosting {
+    // A note of these points, where the database at this place is being restored and no open store has one of these data files.
+    fn note_for(
+        &self,
+        alloc: Global,
+        at: usize,
+        files: &[DataFile],
+        points: &Points,
+    ) -> Result<Vec<u8>, StoresError>
+        requires inside { at < length self.now.stores.master.record.databases }
+        ensures parked { OnOk result ((e : Entries) × (slice_get self.now.stores.master.record.databases at ≡ Some e) × (e.is_stored ≡ false)) }
+        ensures unused { OnOk result (AreUnused self.now.stores.slots files.now) }
+        ensures note { IfOk result (λ note. note.items ≡ points_bytes points.now) }
+        ensures spelled { OnOk result (IsPoints points.now) }
+        ensures short { IfOk result (λ note. length note.items ≤ 12288) }
+        ensures memory { IfErr result (λ e. e ≡ StoresError.NoMemory) }
+    {
+        if self.stores.is_stored(at) || !self.stores.has_none_of(files) {
+            return Err(StoresError::NoMemory);
+        }
+        let note = note_of(alloc, points)?;
+        Ok(note)
+    }
+
+    // Keeps these points of the database at this place, whose store is open, and in which nothing is.
+    fn put_points(&mut self, alloc: Global, at: usize, points: Points)
+        requires inside { at < length self.old.states }
+        ensures states { self.new.states ≡ set self.old.states at (record { points = points; transactions = []; known = None }) }
+        ensures stores { self.new.stores ≡ self.old.stores }
+    {
+        self.states[at] = State {
+            points,
+            transactions: Sequence::new(Vec::new(alloc)),
+            known: None,
+        };
+    }
+
+    /// Brings the database at this place up, which counts from 0 and is being restored: it is made of a full set that was opened on a medium, with these data files, the number of its latest checkpoint, what is
+    /// known of it, and these points, in which no checkpoint is awaited. What was pending in the backup is undone, and this record is said behind that; all is durable then, and nothing is open in it. Where no
+    /// database has one of these data files, and the set makes a database with them, a crash leaves the databases as before, but for what waits, or with this one in its place.
+    ///
+    /// `Broken` is answered only where the set makes no database with these data files, or a database has one of them. Where the database isn't being restored, an open store has one of the data files, or there is no
+    /// room for the points in a note, the call ends as if memory were wanting.
+    pub fn bring_up<R: Threads + Sync, D: Device>(
+        &mut self,
+        rt: &R,
+        alloc: Global,
+        dev: &mut D,
+        at: usize,
+        medium: &Medium,
+        stored: &StoredSet,
+        files: Vec<DataFile>,
+        checkpoint: Lsn,
+        known: &Known,
+        points: Points,
+        last: &Rec,
+    ) -> Result<(), StoresError>
+        requires ready { IsReady self.old }
+        requires inside { at < length self.old.states }
+        requires may { MayFill files.items }
+        requires keeps { KeepsKnown known.now }
+        requires limits { KeepsLimits last.now.body }
+        requires elsewhere { IsOurs medium.now.name → ⊥ }
+        requires standing { D.tells → AreStanding (D.disk dev.old) self.old.stores }
+        ensures ready { OnOk result (IsReady self.new) }
+        ensures own { OnOk result (own_of self.new ≡ own_of self.old) }
+        ensures lasts { OnOk result (IsSealedAt self.new.stores.slots at) }
+        ensures standing { D.tells → OnOk result (AreStanding (D.disk dev.new) self.new.stores) }
+        ensures stands { D.tells → (hosted : List Hosted) (told : Told) (r : Logged) (h : Hosted) → IsHosting (D.disk dev.old) self.old hosted → ComesUp (D.disk dev.old) self.old hosted at medium.now.name stored.now files.items checkpoint known.now points last.now told r → IsUpAs told r points h
+            → OnOk result (IsHosting (D.disk dev.new) self.new (set hosted at h)) }
+        ensures crash { D.tells → (hosted : List Hosted) (told : Told) (r : Logged) (h : Hosted) → IsHosting (D.disk dev.old) self.old hosted → ComesUp (D.disk dev.old) self.old hosted at medium.now.name stored.now files.items checkpoint known.now points last.now told r → IsUpAs told r points h
+            → Effect IsOurs (LeavesEither (own_of self.old) hosted (set hosted at h)) (D.disk dev.old) (D.disk dev.new) }
+        ensures broken { D.tells → IsErrOf result StoresError.Broken → (hosted : List Hosted) (told : Told) (r : Logged) → IsHosting (D.disk dev.old) self.old hosted
+            → ComesUp (D.disk dev.old) self.old hosted at medium.now.name stored.now files.items checkpoint known.now points last.now told r → ⊥ }
+        ensures not_an_instance { IsErrOf result StoresError.NotAnInstance → ⊥ }
+        ensures cause { HasCause D.disk_faults D.tell_faults dev.old dev.new (IsErrOf result StoresError.Fault) }
+    {
+        let note = self.note_for(alloc, at, &files, &points)?;
+        self.stores.bring_up(
+            rt, alloc, dev, at, medium, stored, files, checkpoint, known, &note, last,
+        )?;
+        self.put_points(alloc, at, points);
+        Ok(())
+    }
+}
