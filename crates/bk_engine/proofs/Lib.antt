@@ -1,0 +1,9 @@
+mod Named
+mod Logged
+mod Changed
+mod Reserved
+mod Made
+mod Marked
+mod Sealed
+mod Copied
+mod Closed

@@ -1,0 +1,45 @@
+use Rattle.std.proofs.Common.{rules, refl, ap}
+use Rattle.std.specs.Prelude.{IsErrOf}
+use Rattle.bk_device.specs.Compose.{effect_then}
+use Rattle.bk_master.specs.declared.record.Own.{Own}
+use Rattle.bk_master.specs.declared.record.Own.{Own}
+use Rattle.bk_stores.specs.declared.error.StoresError.TheVariants.{Broken}
+use Rattle.bk_engine.specs.LoadLaws.{load-crash, load-opens, run-begins}
+use Rattle.bk_engine.specs.Loading.{Opened}
+use Rattle.bk_engine.specs.Stands.{Kept}
+use Rattle.bk_engine.proofs.engine.Engine.load.Goals as goal
+
+pub returns-in_err-hosting-clause-crash : goal.returns-in_err-hosting-clause-crash
+returns-in_err-hosting-clause-crash g c = λ tells settled w is.
+    load-crash c.args.number (g.D.Device.disk c.args.dev.now) (g.D.Device.disk c.load.new.dev) w settled is (c.load.ensures.crash tells settled is.own is.hosted is.holds)
+
+pub returns-in_err-hosting-clause-broken : goal.returns-in_err-hosting-clause-broken
+returns-in_err-hosting-clause-broken g c = λ tells broken settled w is.
+    let err : IsErrOf c.load.result Broken = search rules in
+    c.load.ensures.broken tells err settled is.own is.hosted is.holds
+
+pub returns-in_err-finish-clause-crash : goal.returns-in_err-finish-clause-crash
+returns-in_err-finish-clause-crash g c = λ tells settled w is.
+    let a = g.D.Device.disk c.args.dev.now in
+    let b = g.D.Device.disk c.load.new.dev in
+    let effect = c.load.ensures.crash tells settled is.own is.hosted is.holds in
+    let opens : Opened b c.in_ok-hosting.hosting w = load-opens c.args.number a b c.in_ok-hosting.hosting w settled is (c.in_ok-hosting.ensures.stands tells settled is.own is.hosted is.holds) (c.in_ok-hosting.ensures.own tells settled is.own is.hosted is.holds) effect in
+    effect_then (load-crash c.args.number a b w settled is effect) (c.finish.ensures.crash tells c.args.number w opens)
+
+pub returns-clause-crash : goal.returns-clause-crash
+returns-clause-crash g c = λ tells settled w is.
+    let a = g.D.Device.disk c.args.dev.now in
+    let b = g.D.Device.disk c.load.new.dev in
+    let effect = c.load.ensures.crash tells settled is.own is.hosted is.holds in
+    let opens : Opened b c.in_ok-hosting.hosting w = load-opens c.args.number a b c.in_ok-hosting.hosting w settled is (c.in_ok-hosting.ensures.stands tells settled is.own is.hosted is.holds) (c.in_ok-hosting.ensures.own tells settled is.own is.hosted is.holds) effect in
+    effect_then (load-crash c.args.number a b w settled is effect) (c.finish.ensures.crash tells c.args.number w opens)
+
+pub returns-clause-stands : goal.returns-clause-stands
+returns-clause-stands g c = λ tells settled w is.
+    let a = g.D.Device.disk c.args.dev.now in
+    let b = g.D.Device.disk c.load.new.dev in
+    let effect = c.load.ensures.crash tells settled is.own is.hosted is.holds in
+    let opens : Opened b c.in_ok-hosting.hosting w = load-opens c.args.number a b c.in_ok-hosting.hosting w settled is (c.in_ok-hosting.ensures.stands tells settled is.own is.hosted is.holds) (c.in_ok-hosting.ensures.own tells settled is.own is.hosted is.holds) effect in
+    let then = c.in_ok-finish.ensures.stands tells w opens in
+    let e : Kept = record { hosting = c.finish.new.hosting; drawn = c.own.result.now.counter; session = 1; sessions = c.new.result.items } in
+    run-begins (g.D.Device.disk c.finish.new.dev) e w then (c.runs_begin_and_end_in_sound_worlds.ensures.begins w then.sound) (c.hosted_databases_follow_acts.ensures.opened w _ then.hosts) (c.in_ok-finish.ensures.none).0 (ap (λ (o : Own). o.counter) c.own.ensures) refl c.new.ensures.items

@@ -1,0 +1,8 @@
+use Rattle.bk_device.specs.Compose.{effect_widen}
+use Rattle.bk_engine.proofs.finishing.remove_at.Goals as goal
+
+pub returns-in-Ok-clause-crash : goal.returns-in-Ok-clause-crash
+returns-in-Ok-clause-crash g c = λ tells. effect_widen (λ name is. (c.args.set, is)) (λ image left others. tt) (c.remove_staged.ensures.crash tells)
+
+pub returns-in-Err-Fault-clause-crash : goal.returns-in-Err-Fault-clause-crash
+returns-in-Err-Fault-clause-crash g c = λ tells. effect_widen (λ name is. (c.args.set, is)) (λ image left others. tt) (c.remove_staged.ensures.crash tells)

@@ -1,0 +1,15 @@
+pub mod Stands
+pub mod Acts
+pub mod Loading
+pub mod NameLaws
+pub mod ActLaws
+pub mod PartLaws
+pub mod SettleLaws
+pub mod BesideLaws
+pub mod LoadLaws
+pub mod Amid
+pub mod AmidLaws
+pub mod CloseLaws
+pub mod SeatLaws
+pub mod Sealing
+pub mod Copying

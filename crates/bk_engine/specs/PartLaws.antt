@@ -1,0 +1,88 @@
+-- What an instance stands for behind what is done to its hosted databases, and what a crash leaves.
+use Rattle.std.proofs.Common.{◌≡◌, ◌≤◌, ◌⊎◌, inl, inr, ℕ, ◌+◌, List, map, Option, None, refl, sym, ap, subst, ◌∙◌, arith}
+use Rattle.bk_archive.specs.DiskLaws.{media-after, media-durable}
+use Rattle.bk_archive.specs.Media.{KeepsMedia, MediaAreDurable}
+use Rattle.bk_archive.specs.MediaLaws.{SameFiles, media-in}
+use Rattle.bk_device.specs.Compose.{effect_widen}
+use Rattle.bk_device.specs.Disk.{Disk, Files}
+use Rattle.bk_device.specs.Effects.{Effect}
+use Rattle.bk_hosted.specs.Hosted.{Hosted, Hosts}
+use Rattle.bk_hosting.specs.Hosting.{IsHosting, LeavesHosted}
+use Rattle.bk_kept.specs.Keeps.{session_of}
+use Rattle.bk_machine.specs.Acts.{Act, done}
+use Rattle.bk_machine.specs.Sound.{IsSound}
+use Rattle.bk_machine.specs.World.{World}
+use Rattle.bk_stores.specs.Stores.{IsOurs as IsOfStores}
+use Rattle.bk_volume.specs.Names.{medium_file}
+use Rattle.bk_engine.specs.ActLaws.{IsBehind, draws, same-behind}
+use Rattle.bk_engine.specs.Acts.{CutsAct}
+use Rattle.bk_engine.specs.NameLaws.{store-medium}
+use Rattle.bk_engine.specs.Stands.{Covers, IsOurs, IsReady, Kept, StandsFor, own_in}
+
+-- ---- media
+
+-- what is done to stores leaves the files of media
+pub media-beside : {P : Files → Type 0} {a b : Disk} → Effect IsOfStores P a b → SameFiles a.files b.files
+media-beside {a = a} {b = b} effect = media-after a b store-medium effect
+
+pub calm-beside : {P : Files → Type 0} {a b : Disk} → Effect IsOfStores P a b → MediaAreDurable a → MediaAreDurable b
+calm-beside {a = a} {b = b} effect calm = media-durable a b store-medium effect calm
+
+-- and so does a crash meanwhile
+pub media-then : (w : World) (making : Option (List ℕ)) (a : Disk) (image : Files) → MediaAreDurable a → ((name : List ℕ) → (IsOfStores name → ⊥) → IsOurs name → a.may name (image name)) → KeepsMedia w making a.files → KeepsMedia w making image
+media-then w making a image calm others media =
+    media-in w making a.files image (λ path bytes. calm path bytes (image (medium_file path)) (others (medium_file path) (store-medium path) (inr (inl (path, bytes, refl))))) media
+
+-- ---- what stands
+
+-- a world in which so many GUIDs more are drawn
+pub world-stands : (a b : Disk) (old new : Kept) (w v : World) (n : ℕ) (hosted : List Hosted) → StandsFor a old w → IsBehind w v n → IsSound v → Hosts v hosted → IsHosting b new.hosting hosted → (own_in new).number ≡ (own_in old).number
+    → new.drawn ≡ old.drawn + n → new.session ≡ old.session → new.sessions ≡ old.sessions → KeepsMedia v None b.files → MediaAreDurable b → StandsFor b new v
+world-stands a b old new w v n hosted is behind sound hosts hosting number drawn session sessions media calm = record {
+  sound = sound;
+  instance = behind.instance ∙ is.instance ∙ sym number;
+  counter = behind.counter ∙ ap (λ k. k + n) is.counter ∙ sym drawn;
+  session = behind.session ∙ is.session ∙ sym session;
+  sessions = behind.sessions ∙ is.sessions ∙ ap (map session_of) (sym sessions);
+  hosted = hosted;
+  hosts = hosts;
+  hosting = hosting;
+  media = media;
+  calm = calm;
+}
+
+-- ---- what a crash leaves
+
+-- a world for whose GUIDs numbers were reserved
+pub world-left : (a : Disk) (e : Kept) (w v : World) (n : ℕ) (hosted : List Hosted) (image : Files) → IsReady e → StandsFor a e w → IsBehind w v n → e.drawn + n ≤ (own_in e).counter → Hosts v hosted → LeavesHosted (own_in e) hosted image
+    → KeepsMedia v None image → Covers v image
+world-left a e w v n hosted image ready is behind reserved hosts left media = record {
+  own = own_in e;
+  instance = behind.instance ∙ is.instance;
+  no_less = let count = behind.counter in let same = is.counter in omega (arith, count, same, reserved);
+  no_more = let count = behind.counter in let same = is.counter in let high = ready.no_more in omega (arith, count, same, high);
+  hosted = hosted;
+  hosts = hosts;
+  left = left;
+  media = subst (λ (making : Option (List ℕ)). KeepsMedia v making image) (sym ready.no_medium) media;
+}
+
+-- the one for which it stands
+pub world-kept : (a : Disk) (e : Kept) (w : World) (image : Files) → IsReady e → (is : StandsFor a e w) → LeavesHosted (own_in e) is.hosted image → KeepsMedia w None image → Covers w image
+world-kept a e w image ready is left media = world-left a e w w 0 is.hosted image ready is (same-behind w) (let low = ready.no_less in omega (arith, low)) is.hosts left media
+
+-- what is done to stores alone, as what is done to the instance
+pub stores-wide : {P Q : Files → Type 0} {a b : Disk} → ((image : Files) → P image → ((name : List ℕ) → (IsOfStores name → ⊥) → IsOurs name → a.may name (image name)) → Q image) → Effect IsOfStores P a b → Effect IsOurs Q a b
+stores-wide then effect = effect_widen (λ name own. inl own) then effect
+
+-- nothing is done but that some of what waited became durable
+pub rest-crash : (a b : Disk) (e : Kept) (w : World) → IsReady e → (is : StandsFor a e w) → Effect IsOfStores (LeavesHosted (own_in e) is.hosted) a b → Effect IsOurs (Covers w) a b
+rest-crash a b e w ready is effect = stores-wide (λ image left others. world-kept a e w image ready is left (media-then w None a image is.calm others is.media)) effect
+
+-- an act that writes to no medium: a crash leaves the world before it, or the one behind it
+pub act-crash : {P : Files → Type 0} (a b : Disk) (e : Kept) (w : World) (act : Act) (hosted : List Hosted) → IsReady e → (is : StandsFor a e w) → IsBehind w (done w act) (draws act) → e.drawn + draws act ≤ (own_in e).counter → Hosts (done w act) hosted
+    → KeepsMedia (done w act) None a.files → ((image : Files) → P image → LeavesHosted (own_in e) is.hosted image ⊎ LeavesHosted (own_in e) hosted image) → Effect IsOfStores P a b → Effect IsOurs (CutsAct w act) a b
+act-crash a b e w act hosted ready is behind reserved hosts media leaves effect = stores-wide (λ image left others. elim (leaves image left) [
+  | inl before ↦ inl (world-kept a e w image ready is before (media-then w None a image is.calm others is.media))
+  | inr after ↦ inr (world-left a e w (done w act) (draws act) hosted image ready is behind reserved hosts after (media-then (done w act) None a image is.calm others media))
+]) effect

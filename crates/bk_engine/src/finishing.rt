@@ -1,0 +1,140 @@
+// What a run that was cut off left behind: a medium that was being made, and what was written of a set.
+ghost use Rattle.std.specs.Prelude.{◌≡◌, ◌⊎◌, ℕ, true, None, IfErr, OnOk, IsErrOf};
+ghost use Rattle.bk_archive.specs.Calls.{HasFinished, LeavesFinishing};
+ghost use Rattle.bk_archive.specs.Media.{IfDurable, IsMediumFile, MediaAreDurable};
+ghost use Rattle.bk_device.specs.Counts.{HasCause};
+ghost use Rattle.bk_device.specs.Effects.{Effect};
+ghost use Rattle.bk_hosting.specs.Hosting.{IsReady as AreReady, own_of};
+ghost use Rattle.bk_machine.specs.World.{World};
+ghost use Rattle.bk_stores.specs.Errors.{IsTrouble};
+ghost use Rattle.bk_stores.specs.Standing.{AreStanding};
+ghost use Rattle.bk_engine.specs.LoadLaws.{Cleared};
+ghost use Rattle.bk_engine.specs.Loading.{HasFinishedAny, LeavesFinishingAny, Opened, Stands};
+ghost use Rattle.bk_engine.specs.Stands.{IsOurs, IsStagingFile};
+
+use bk_archive::{ArchiveError, finish_medium};
+use bk_device::Device;
+use bk_hosting::Hosting;
+use bk_ids::{Guid, Text};
+use bk_master::Own;
+use bk_stores::StoresError;
+use bk_volume::{WriteError, remove_staged};
+use std::alloc::Global;
+
+// Finishes the medium at this path, or takes it away.
+fn finish_at<D: Device>(alloc: Global, dev: &mut D, path: &str) -> Result<(), StoresError>
+    ensures finished { D.tells → OnOk result (HasFinished path.now (D.disk dev.old).files (D.disk dev.new).files) }
+    ensures calm { D.tells → MediaAreDurable (D.disk dev.old) → OnOk result (MediaAreDurable (D.disk dev.new)) }
+    ensures crash { D.tells → Effect IsMediumFile (IfDurable (D.disk dev.old) (LeavesFinishing path.now (D.disk dev.old).files)) (D.disk dev.old) (D.disk dev.new) }
+    ensures trouble { IfErr result IsTrouble }
+    ensures cause { HasCause D.disk_faults D.tell_faults dev.old dev.new (IsErrOf result StoresError.Fault) }
+{
+    match finish_medium(alloc, dev, path) {
+        Ok(()) => Ok(()),
+        Err(ArchiveError::Fault) => Err(StoresError::Fault),
+        Err(ArchiveError::NoMemory) => Err(StoresError::NoMemory),
+    }
+}
+
+// Finishes the medium that was being made, if one was, or takes it away.
+fn finish_making<D: Device>(
+    alloc: Global,
+    dev: &mut D,
+    making: &Option<Text>,
+) -> Result<(), StoresError>
+    ensures finished { D.tells → OnOk result (HasFinishedAny making.now (D.disk dev.old).files (D.disk dev.new).files) }
+    ensures calm { D.tells → MediaAreDurable (D.disk dev.old) → OnOk result (MediaAreDurable (D.disk dev.new)) }
+    ensures crash { D.tells → Effect IsMediumFile (IfDurable (D.disk dev.old) (LeavesFinishingAny making.now (D.disk dev.old).files)) (D.disk dev.old) (D.disk dev.new) }
+    ensures trouble { IfErr result IsTrouble }
+    ensures cause { HasCause D.disk_faults D.tell_faults dev.old dev.new (IsErrOf result StoresError.Fault) }
+{
+    match making {
+        Some(path) => finish_at(alloc, dev, path.as_str()),
+        None => Ok(()),
+    }
+}
+
+// Removes what was written of this set.
+fn remove_at<D: Device>(alloc: Global, dev: &mut D, set: Guid) -> Result<(), StoresError>
+    ensures crash { D.tells → Effect IsStagingFile (λ image. Unit {0}) (D.disk dev.old) (D.disk dev.new) }
+    ensures trouble { IfErr result IsTrouble }
+    ensures cause { HasCause D.disk_faults D.tell_faults dev.old dev.new (IsErrOf result StoresError.Fault) }
+{
+    match remove_staged(alloc, dev, set) {
+        Ok(()) => Ok(()),
+        Err(WriteError::Fault) => Err(StoresError::Fault),
+        Err(WriteError::NoMemory) => Err(StoresError::NoMemory),
+    }
+}
+
+// Removes what was written of a set, if one was.
+fn remove_set<D: Device>(
+    alloc: Global,
+    dev: &mut D,
+    staging: Option<Guid>,
+) -> Result<(), StoresError>
+    ensures crash { D.tells → Effect IsStagingFile (λ image. Unit {0}) (D.disk dev.old) (D.disk dev.new) }
+    ensures trouble { IfErr result IsTrouble }
+    ensures cause { HasCause D.disk_faults D.tell_faults dev.old dev.new (IsErrOf result StoresError.Fault) }
+{
+    match staging {
+        Some(set) => remove_at(alloc, dev, set),
+        None => Ok(()),
+    }
+}
+
+// Finishes the medium that a record names as being made, or takes it away, and removes what was written of the set that it names.
+fn clear<D: Device>(alloc: Global, dev: &mut D, hosting: &Hosting) -> Result<(), StoresError>
+    requires standing { D.tells → AreStanding (D.disk dev.old) hosting.now.stores }
+    ensures standing { D.tells → AreStanding (D.disk dev.new) hosting.now.stores }
+    ensures stands { D.tells → (w : World) → Opened (D.disk dev.old) hosting.now w → OnOk result (Cleared (D.disk dev.new) hosting.now w) }
+    ensures crash { D.tells → (number : ℕ) (w : World) → Opened (D.disk dev.old) hosting.now w → Effect IsOurs (λ image. Stands number image w) (D.disk dev.old) (D.disk dev.new) }
+    ensures trouble { IfErr result IsTrouble }
+    ensures cause { HasCause D.disk_faults D.tell_faults dev.old dev.new (IsErrOf result StoresError.Fault) }
+{
+    hosting.at_rest(dev);
+    let own = hosting.own();
+    finish_making(alloc, dev, &own.making)?;
+    hosting.at_rest(dev);
+    remove_set(alloc, dev, own.staging)
+}
+
+// Whether nothing was being made.
+fn is_whole(own: &Own) -> bool
+    ensures { result ≡ true → (own.now.making ≡ None) × (own.now.staging ≡ None) }
+{
+    own.making.is_none() && own.staging.is_none()
+}
+
+/// Clears up what a run that was cut off left behind, and then the record names nothing as being made.
+///
+/// A crash leaves files that stand for the same world. Only `Fault` and `NoMemory` are answered.
+pub(crate) fn finish<D: Device>(
+    alloc: Global,
+    dev: &mut D,
+    hosting: &mut Hosting,
+) -> Result<(), StoresError>
+    requires ready { AreReady hosting.old }
+    requires standing { D.tells → AreStanding (D.disk dev.old) hosting.old.stores }
+    ensures ready { OnOk result (AreReady hosting.new) }
+    ensures none { OnOk result (((own_of hosting.new).making ≡ None) × ((own_of hosting.new).staging ≡ None)) }
+    ensures standing { D.tells → OnOk result (AreStanding (D.disk dev.new) hosting.new.stores) }
+    ensures stands { D.tells → (w : World) → Opened (D.disk dev.old) hosting.old w → OnOk result (Opened (D.disk dev.new) hosting.new w) }
+    ensures crash { D.tells → (number : ℕ) (w : World) → Opened (D.disk dev.old) hosting.old w → Effect IsOurs (λ image. Stands number image w) (D.disk dev.old) (D.disk dev.new) }
+    ensures trouble { IfErr result IsTrouble }
+    ensures cause { HasCause D.disk_faults D.tell_faults dev.old dev.new (IsErrOf result StoresError.Fault) }
+{
+    hosting.at_rest(dev);
+    if is_whole(hosting.own()) {
+        return Ok(());
+    }
+    clear(alloc, dev, hosting)?;
+    let own = hosting.own();
+    let next = Own {
+        number: own.number,
+        counter: own.counter,
+        making: None,
+        staging: None,
+    };
+    hosting.put_own(alloc, dev, next)
+}

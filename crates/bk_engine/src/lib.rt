@@ -1,0 +1,21 @@
+//! An instance over its stores: the databases that it hosts, its media, and what it keeps in memory beside them. It does the acts of the machine, and a crash leaves the world before an act or behind it.
+#![tactic(auto)]
+
+mod checkpointing;
+mod closing;
+mod copying;
+mod creating;
+mod dropping;
+mod engine;
+mod finishing;
+mod loading;
+mod logging;
+mod making;
+mod noting;
+mod parking;
+mod reserving;
+mod sealing;
+mod seating;
+mod staging;
+
+pub use engine::Engine;

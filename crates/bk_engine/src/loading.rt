@@ -1,0 +1,54 @@
+// An instance is loaded.
+ghost use Rattle.std.specs.Prelude.{◌≡◌, ℕ, IfOk, OnOk, IsErrOf};
+ghost use Rattle.bk_device.specs.Counts.{HasCause};
+ghost use Rattle.bk_device.specs.Disk.{IsSettled};
+ghost use Rattle.bk_device.specs.Effects.{Effect};
+ghost use Rattle.bk_machine.specs.World.{World, opened};
+ghost use Rattle.bk_master.specs.Master.{IsNoInstance};
+ghost use Rattle.bk_stores.specs.Standing.{AreStanding};
+ghost use Rattle.bk_engine.specs.Loading.{Stands};
+ghost use Rattle.bk_engine.specs.Stands.{IsOurs, IsReady, StandsFor};
+
+use crate::engine::Engine;
+use crate::finishing::finish;
+use bk_device::Device;
+use bk_hosted::hosted_databases_follow_acts;
+use bk_hosting::Hosting;
+use bk_machine::runs_begin_and_end_in_sound_worlds;
+use bk_stores::StoresError;
+use std::alloc::Global;
+use std::thread::Threads;
+
+impl Engine {
+    /// Loads the instance whose files these are, or makes one with this number where none is made: a run begins. Of each database all is undone that was pending; a medium that was being made is finished, or
+    /// taken away where no blob of it was sealed; and what was being made or removed of databases, or written of a set, is removed. A crash leaves files that stand for the same world; then this call loads them.
+    ///
+    /// `NotAnInstance` is answered only where an instance is made and its control file holds no control, and `Broken` only where the files stand for no world. `NoMemory` may come after files were touched.
+    pub fn load<R: Threads + Sync, D: Device>(
+        rt: &R,
+        alloc: Global,
+        dev: &mut D,
+        number: u64,
+    ) -> Result<Engine, StoresError>
+        ensures ready { IfOk result IsReady }
+        ensures standing { D.tells → IfOk result (λ e. AreStanding (D.disk dev.new) e.hosting.stores) }
+        ensures stands { D.tells → IsSettled (D.disk dev.old) → (w : World) → Stands number (D.disk dev.old).files w → IfOk result (λ e. StandsFor (D.disk dev.new) e (opened w)) }
+        ensures crash { D.tells → IsSettled (D.disk dev.old) → (w : World) → Stands number (D.disk dev.old).files w → Effect IsOurs (λ image. Stands number image w) (D.disk dev.old) (D.disk dev.new) }
+        ensures not_an_instance { D.tells → IsErrOf result StoresError.NotAnInstance → IsNoInstance (D.disk dev.old).files }
+        ensures broken { D.tells → IsErrOf result StoresError.Broken → IsSettled (D.disk dev.old) → (w : World) → Stands number (D.disk dev.old).files w → ⊥ }
+        ensures cause { HasCause D.disk_faults D.tell_faults dev.old dev.new (IsErrOf result StoresError.Fault) }
+    {
+        hosted_databases_follow_acts();
+        runs_begin_and_end_in_sound_worlds();
+        let mut hosting = Hosting::load(rt, alloc, dev, number)?;
+        finish(alloc, dev, &mut hosting)?;
+        let drawn = hosting.own().counter;
+        Ok(Engine {
+            alloc,
+            hosting,
+            drawn,
+            session: 1,
+            sessions: Vec::new(alloc),
+        })
+    }
+}

@@ -1,0 +1,94 @@
+// Sets that take the place of databases.
+ghost use Rattle.std.specs.Prelude.{◌≡◌, None, IfErr, IfOk, OnOk, IsErrOf};
+ghost use Rattle.bk_device.specs.Counts.{HasCause};
+ghost use Rattle.bk_device.specs.Effects.{Effect};
+ghost use Rattle.bk_hosted.specs.Hosted.{parked_points};
+ghost use Rattle.bk_known.specs.Known.{KeepsKnown};
+ghost use Rattle.bk_machine.specs.Acts.{done, file_units, replaced};
+ghost use Rattle.bk_machine.specs.MayDo.{MayDo};
+ghost use Rattle.bk_machine.specs.World.{World};
+ghost use Rattle.bk_stores.specs.Errors.{IsTrouble};
+ghost use Rattle.bk_stores.specs.Standing.{AreStanding};
+ghost use Rattle.bk_world.specs.declared.database.State.TheVariants as state;
+ghost use Rattle.bk_engine.specs.Acts.{CutsAct, IsSetKnown};
+ghost use Rattle.bk_engine.specs.Stands.{IsOurs, IsReady, StandsFor};
+
+use crate::engine::Engine;
+use bk_archive::acts_keep_media;
+use bk_device::Device;
+use bk_hosted::hosted_databases_follow_restores;
+use bk_ids::{Sequence, UnitId};
+use bk_known::Known;
+use bk_machine::acts_keep_worlds_sound;
+use bk_points::Points;
+use bk_stores::StoresError;
+use bk_world::{Header, HeaderFile, State, Status, Unit};
+use std::alloc::{AllocError, Global};
+
+// Each file of a set, in this state.
+fn units_of(alloc: Global, files: &[HeaderFile]) -> Result<Vec<Unit>, AllocError>
+    ensures { IfOk result (λ units. units.items ≡ file_units state.Bad files.now) }
+{
+    let mut units = Vec::new(alloc);
+    for file in files {
+        units.push(Unit {
+            id: UnitId::File(file.spec.number),
+            state: State::Bad,
+        })?;
+    }
+    Ok(units)
+}
+
+// The points of a database whose place a set takes: its files are Bad.
+fn points_of(alloc: Global, header: &Header) -> Result<Points, AllocError>
+    ensures { IfOk result (λ points. points ≡ parked_points header.now) }
+{
+    let units = units_of(alloc, header.files.as_slice())?;
+    Ok(Points {
+        next_checkpoint: 0,
+        next_kept: 0,
+        archive: header.last,
+        kept: header.last,
+        checkpoint: header.last,
+        chain: false,
+        began: false,
+        base: None,
+        status: Status::Down,
+        units: Sequence::new(units),
+    })
+}
+
+impl Engine {
+    /// The set with this header, of which this is known, takes the place of the database of its name, or comes behind the others; its files aren't restored yet. A crash leaves the world before it, but for what
+    /// waited, or the one behind it.
+    ///
+    /// Only `Fault` and `NoMemory` are answered. Where a new one would be the seventeenth database, the call ends as if memory were wanting.
+    pub fn park<D: Device>(
+        &mut self,
+        dev: &mut D,
+        known: Known,
+        header: &Header,
+    ) -> Result<(), StoresError>
+        requires ready { IsReady self.old }
+        requires keeps { KeepsKnown known }
+        requires standing { D.tells → AreStanding (D.disk dev.old) self.old.hosting.stores }
+        ensures ready { OnOk result (IsReady self.new) }
+        ensures standing { D.tells → OnOk result (AreStanding (D.disk dev.new) self.new.hosting.stores) }
+        ensures stands { D.tells → (w : World) → StandsFor (D.disk dev.old) self.old w → MayDo w (replaced known.spec.name header.now) → IsSetKnown w header.now known
+            → OnOk result (StandsFor (D.disk dev.new) self.new (done w (replaced known.spec.name header.now))) }
+        ensures crash { D.tells → (w : World) → StandsFor (D.disk dev.old) self.old w → MayDo w (replaced known.spec.name header.now) → IsSetKnown w header.now known
+            → Effect IsOurs (CutsAct w (replaced known.spec.name header.now)) (D.disk dev.old) (D.disk dev.new) }
+        ensures trouble { IfErr result IsTrouble }
+        ensures cause { HasCause D.disk_faults D.tell_faults dev.old dev.new (IsErrOf result StoresError.Fault) }
+    {
+        acts_keep_media();
+        acts_keep_worlds_sound();
+        hosted_databases_follow_restores();
+        self.hosting.at_rest(dev);
+        let points = points_of(self.alloc, header)?;
+        match self.hosting.find(known.spec.name.as_str()) {
+            Some(at) => self.hosting.park_at(self.alloc, dev, at, known, points),
+            None => self.hosting.park(self.alloc, dev, known, points),
+        }
+    }
+}

@@ -1,0 +1,22 @@
+// Sessions.
+ghost use Rattle.std.specs.Prelude.{◌≡◌};
+ghost use Rattle.bk_machine.specs.Acts.{seated};
+ghost use Rattle.bk_engine.specs.Acts.{DoesAct};
+ghost use Rattle.bk_engine.specs.Stands.{IsReady};
+
+use crate::engine::Engine;
+use bk_device::Device;
+use bk_machine::acts_keep_worlds_sound;
+
+impl Engine {
+    /// This session, from 1, is the current one from now on. Nothing is written.
+    pub fn seat<D: Device>(&mut self, dev: &mut D, session: u8)
+        ensures same { dev.new ≡ dev.old }
+        ensures hosting { self.new.hosting ≡ self.old.hosting }
+        ensures ready { IsReady self.old → IsReady self.new }
+        ensures stands { D.tells → DoesAct self.old (D.disk dev.old) (seated session) self.new (D.disk dev.new) }
+    {
+        acts_keep_worlds_sound();
+        self.session = session;
+    }
+}
