@@ -11,24 +11,11 @@ use Rattle.bk_machine.specs.World.{World, Session, current_name, session_numbere
 use Rattle.bk_kept.specs.declared.kept.Kept.{Kept}
 use Rattle.bk_kept.specs.declared.kept.Session.{Session as KeptSession}
 use Rattle.bk_kept.specs.Keeps.{Keeps, Sees, session_of}
+use Rattle.bk_kept.specs.SessionLaws.{named, set-so}
 
 -- the test for a number
 abbrev pub seats : ℕ → KeptSession → Bool
 seats n s = s.number == n
-
--- a session of a number with a current database
-abbrev pub named : ℕ → Option (List ℕ) → Session
-named n name = record { number = n; current = name; starts = false }
-
--- what there is to say of a session whose current database is set
-set-so : (ss : List KeptSession) (n : ℕ) (name : Option (List ℕ)) → record (session_numbered (map session_of ss) n) { current = name } ≡ named n name
-set-so [] n name = refl
-set-so (s ∷ ss) n name = by (s.number == n) refl (set-so ss n name)
-  where
-    by : (t : Bool) → (s.number == n) ≡ t → record (session_numbered (map session_of ss) n) { current = name } ≡ named n name
-        → record (cond t (session_of s) (session_numbered (map session_of ss) n)) { current = name } ≡ named n name
-    by true is later = let same : s.number ≡ n = grind (arith, nat_tests, is) in ap (λ k. named k name) same
-    by false isnt later = later
 
 with-here : (n : ℕ) (ss : List KeptSession) (i : ℕ) (x : KeptSession) (name : Option (List ℕ)) → i < length ss → seats n (get_or ss i x) ≡ true
     → ((k : ℕ) → k < i → seats n (get_or ss k x) ≡ false) → map session_of (set ss i (record (get_or ss i x) { current = name })) ≡ with_session (map session_of ss) (named n name)

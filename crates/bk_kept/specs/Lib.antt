@@ -5,5 +5,6 @@ pub mod NumbersLaws
 pub mod Stored
 pub mod SetLaws
 pub mod BuiltLaws
+pub mod SessionLaws
 pub mod Views
 pub mod ViewsLaws

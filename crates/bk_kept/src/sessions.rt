@@ -26,8 +26,8 @@ fn seat_of(sessions: &[Session], number: u8) -> Option<usize>
     sessions.iter().position(|s| s.number == number)
 }
 
-// Sets the name of a session's current database.
-fn set_current(
+/// Sets the name of a session's current database, in place of the one that it had. `AllocError` leaves the sessions as they were.
+pub fn set_current(
     sessions: &mut Vec<Session>,
     number: u8,
     name: Option<Text>,

@@ -28,8 +28,8 @@ fn least_of(transactions: &[Open], n: Lsn) -> Lsn
     from_last.fold(n, |least, t| t.begin.min(least))
 }
 
-// The least number of this one and the first records of transactions.
-fn least_open(transactions: &[Open], n: Lsn) -> Lsn
+/// The least number of this one and the first records of transactions.
+pub fn least_open(transactions: &[Open], n: Lsn) -> Lsn
     ensures { result ≡ world.least_begin transactions.now n }
 {
     least_of(transactions, n)
