@@ -4,7 +4,7 @@ use Rattle.std.specs.Prelude.{set, slice_get}
 use Rattle.std.proofs.lemmas.List.{length-set}
 use Rattle.bk_copying.specs.Copying.{CopyCrashes, IsAsBefore, IsNamed, IsOfBoth, TouchesBoth}
 use Rattle.bk_copying.specs.SetLaws.{both-apart, own-apart as set-apart}
-use Rattle.bk_device.specs.Compose.{durable_kept, effect_widen, keeps_by_effect}
+use Rattle.bk_device.specs.Compose.{durable_kept, effect_none, effect_widen, keeps_by_effect}
 use Rattle.bk_device.specs.Disk.{Disk, Files}
 use Rattle.bk_device.specs.Effects.{Effect, IsName, KeepsFiles}
 use Rattle.bk_facts.specs.declared.facts.DataFile.{DataFile}
@@ -31,7 +31,7 @@ use Rattle.bk_stores.specs.StandingLaws.{given, taken}
 use Rattle.bk_stores.specs.StoreLaws.{physical-kept}
 use Rattle.bk_stores.specs.Stores.{AreStores, IsAt, IsOpen, IsOurs, IsSlot, Kept, LeavesStores, SlotsStand, files_by, fixed_of, its_files, sealed_at}
 use Rattle.bk_volume.specs.Staging.{Staging}
-use Rattle.bk_hosting.specs.Copying.{CopyLeavesStores, IsOursOr}
+use Rattle.bk_hosting.specs.Copying.{CopyLeavesStores, IsOursOr, TouchesOursOr}
 use Rattle.bk_hosting.proofs.Lists.{set-set}
 use Rattle.bk_hosting.proofs.StoreSaid.{OpenAt, given-slots, open-at}
 
@@ -199,3 +199,13 @@ copied-crash a b s tolds at told store into named is here filled crash =
 -- nothing is done
 pub rest-stores : (a : Disk) (s : Kept) (tolds : List Told) (into : Staging) → AreStores a s tolds → CopyLeavesStores s tolds into a a
 rest-stores a s tolds into is = effect_widen (λ name ours. inl ours) (λ image here left. here) (rest-crash a s tolds is)
+
+-- ---- whatever the files hold
+
+-- nothing was done
+pub none-copied : (into : Staging) (a : Disk) → TouchesOursOr into a a
+none-copied into a = effect_none a (λ image mine. tt)
+
+-- a store's files and the set's were touched
+pub copied-touched : {a b : Disk} (store : KeptStore) (into : Staging) → TouchesBoth store into a b → TouchesOursOr into a b
+copied-touched store into effect = effect_widen (λ name both. both-ours store.paged.log.db store.paged.facts.files into name both) (λ image here left. tt) effect

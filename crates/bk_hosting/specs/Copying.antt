@@ -36,6 +36,10 @@ pub record AreAsBefore (old : KeptStores) (at : ℕ) (new : KeptStores) : Type 0
 abbrev pub IsOursOr : Staging → List ℕ → Type 0
 IsOursOr into name = IsOurs name ⊎ IsName into.name name
 
+-- a call touched files of these names alone, whatever they hold
+abbrev pub TouchesOursOr : Staging → Disk → Disk → Type 0
+TouchesOursOr into old new = Effect (IsOursOr into) (λ _. Unit {0}) old new
+
 -- a crash leaves fronts of the databases in the stores, and anything in the set's file
 abbrev pub CopyLeavesStores : KeptStores → List Told → Staging → Disk → Disk → Type 0
 CopyLeavesStores s tolds into old new = Effect (IsOursOr into) (LeavesStores (fixed_of s.master.record) (sealed_at s tolds) tolds) old new

@@ -10,7 +10,7 @@ ghost use Rattle.bk_points.specs.Points.{IsPoints, points_bytes};
 ghost use Rattle.bk_record.specs.Spelling.{KeepsLimits};
 ghost use Rattle.bk_store.specs.Told.{Told};
 ghost use Rattle.bk_stores.specs.Standing.{AreStanding, AreUnused};
-ghost use Rattle.bk_stores.specs.Stores.{IsOurs};
+ghost use Rattle.bk_stores.specs.Stores.{IsOurs, TouchesOurs};
 ghost use Rattle.bk_world.specs.Records.{Logged};
 ghost use Rattle.bk_hosting.specs.Bringing.{ComesUp, IsUpAs};
 ghost use Rattle.bk_hosting.specs.Hosting.{IsHosting, IsReady, IsSealedAt, LeavesEither, own_of};
@@ -99,6 +99,7 @@ impl Hosting {
             → OnOk result (IsHosting (D.disk dev.new) self.new (set hosted at h)) }
         ensures crash { D.tells → (hosted : List Hosted) (told : Told) (r : Logged) (h : Hosted) → IsHosting (D.disk dev.old) self.old hosted → ComesUp (D.disk dev.old) self.old hosted at medium.now.name stored.now files.items checkpoint known.now points last.now told r → IsUpAs told r points h
             → Effect IsOurs (LeavesEither (own_of self.old) hosted (set hosted at h)) (D.disk dev.old) (D.disk dev.new) }
+        ensures touches { D.tells → OnOk result (TouchesOurs (D.disk dev.old) (D.disk dev.new)) }
         ensures broken { D.tells → IsErrOf result StoresError.Broken → (hosted : List Hosted) (told : Told) (r : Logged) → IsHosting (D.disk dev.old) self.old hosted
             → ComesUp (D.disk dev.old) self.old hosted at medium.now.name stored.now files.items checkpoint known.now points last.now told r → ⊥ }
         ensures not_an_instance { IsErrOf result StoresError.NotAnInstance → ⊥ }

@@ -8,7 +8,7 @@ ghost use Rattle.bk_store.specs.Store.{Crashes, IsStore, Kept as KeptStore};
 ghost use Rattle.bk_store.specs.Told.{Told};
 ghost use Rattle.bk_stores.specs.Errors.{IsTrouble};
 ghost use Rattle.bk_stores.specs.Standing.{AreStanding};
-ghost use Rattle.bk_stores.specs.Stores.{AreStores, IsOurs, IsReady as AreReady, LeavesStores, fixed_of, sealed_at};
+ghost use Rattle.bk_stores.specs.Stores.{AreStores, IsOurs, IsReady as AreReady, LeavesStores, TouchesOurs, fixed_of, sealed_at};
 ghost use Rattle.bk_hosting.specs.Checkpointing.{LeavesChecked, checked, marked};
 ghost use Rattle.bk_hosting.specs.Hosting.{IsHosting, IsOpenAt, IsReady, own_of};
 
@@ -38,7 +38,7 @@ fn mark_store<D: Device>(
     ensures sealed { OnOk result (store.new.paged.log.stored ≡ store.new.paged.log.«end») }
     ensures stands { D.tells → (told : Told) → IsStore (D.disk dev.old) store.old told → OnOk result (IsStore (D.disk dev.new) store.new (marked told time)) }
     ensures crash { D.tells → (told : Told) → IsStore (D.disk dev.old) store.old told → Crashes store.old (marked told time) (D.disk dev.old) (D.disk dev.new) }
-    ensures touches { D.tells → OnOk result (Touches store.old.paged (D.disk dev.old) (D.disk dev.new)) }
+    ensures touches { D.tells → Touches store.old.paged (D.disk dev.old) (D.disk dev.new) }
     ensures cause { HasCause D.disk_faults D.tell_faults dev.old dev.new (IsErrOf result StoreError.Fault) }
 {
     if store.end() >= 1 << 62 {
@@ -66,6 +66,7 @@ fn mark_on<D: Device>(
     ensures stands { D.tells → (tolds : List Told) (told : Told) → AreStores (D.disk dev.old) stores.old tolds → slice_get tolds at ≡ Some told → OnOk result (AreStores (D.disk dev.new) stores.new (set tolds at (marked told time))) }
     ensures crash { D.tells → (tolds : List Told) (told : Told) → AreStores (D.disk dev.old) stores.old tolds → slice_get tolds at ≡ Some told
         → Effect IsOurs (LeavesStores (fixed_of stores.old.master.record) (sealed_at stores.old tolds) (set tolds at (marked told time))) (D.disk dev.old) (D.disk dev.new) }
+    ensures touches { D.tells → TouchesOurs (D.disk dev.old) (D.disk dev.new) }
     ensures trouble { IfErr result IsTrouble }
     ensures cause { HasCause D.disk_faults D.tell_faults dev.old dev.new (IsErrOf result StoresError.Fault) }
 {
@@ -118,6 +119,7 @@ impl Hosting {
         ensures standing { D.tells → OnOk result (AreStanding (D.disk dev.new) self.new.stores) }
         ensures stands { D.tells → (hosted : List Hosted) (h : Hosted) → IsHosting (D.disk dev.old) self.old hosted → slice_get hosted at ≡ Some h → OnOk result (IsHosting (D.disk dev.new) self.new (set hosted at (checked h time kept))) }
         ensures crash { D.tells → (hosted : List Hosted) (h : Hosted) → IsHosting (D.disk dev.old) self.old hosted → slice_get hosted at ≡ Some h → Effect IsOurs (LeavesChecked (own_of self.old) hosted at h time kept) (D.disk dev.old) (D.disk dev.new) }
+        ensures touches { D.tells → TouchesOurs (D.disk dev.old) (D.disk dev.new) }
         ensures trouble { IfErr result IsTrouble }
         ensures cause { HasCause D.disk_faults D.tell_faults dev.old dev.new (IsErrOf result StoresError.Fault) }
     {

@@ -9,7 +9,7 @@ ghost use Rattle.bk_store.specs.Told.{Told};
 ghost use Rattle.bk_stores.specs.Standing.{AreStanding};
 ghost use Rattle.bk_stores.specs.Stores.{AreStores, IsReady as AreReady};
 ghost use Rattle.bk_volume.specs.Staging.{HoldsParts, IsStaged};
-ghost use Rattle.bk_hosting.specs.Copying.{AreAsBefore, CopyLeaves, CopyLeavesStores, HaveExtents, HoldsCopies, HoldsLog};
+ghost use Rattle.bk_hosting.specs.Copying.{AreAsBefore, CopyLeaves, CopyLeavesStores, HaveExtents, HoldsCopies, HoldsLog, TouchesOursOr};
 ghost use Rattle.bk_hosting.specs.Hosting.{AreFit, IsHosting, IsOpenAt, IsReady, IsSealedAt, Tells, own_of};
 
 use crate::hosting::Hosting;
@@ -52,6 +52,7 @@ fn extents_on<D: Device>(
     ensures added { D.tells → (tolds : List Told) (told : Told) → AreStores (D.disk dev.old) stores.old tolds → slice_get tolds at ≡ Some told → (before : List Extent) → HoldsParts (D.disk dev.old) staged.old before []
         → OnOk result (HoldsCopies (D.disk dev.new) staged.new before told extents.now) }
     ensures crash { D.tells → (tolds : List Told) → AreStores (D.disk dev.old) stores.old tolds → CopyLeavesStores stores.old tolds staged.old (D.disk dev.old) (D.disk dev.new) }
+    ensures touches { D.tells → TouchesOursOr staged.old (D.disk dev.old) (D.disk dev.new) }
     ensures cause { HasCause D.disk_faults D.tell_faults dev.old dev.new (IsErrOf result CopyError.Fault) }
 {
     let Some(mut store) = stores.take(at) else {
@@ -97,6 +98,7 @@ fn log_on<D: Device>(
     ensures added { D.tells → (tolds : List Told) (told : Told) → AreStores (D.disk dev.old) stores.now tolds → slice_get tolds at ≡ Some told → (extents : List Extent) (before : List ℕ) → HoldsParts (D.disk dev.old) staged.old extents before
         → OnOk result (HoldsLog (D.disk dev.new) staged.new extents before told.records from to) }
     ensures crash { D.tells → (tolds : List Told) → AreStores (D.disk dev.old) stores.now tolds → CopyLeavesStores stores.now tolds staged.old (D.disk dev.old) (D.disk dev.new) }
+    ensures touches { D.tells → TouchesOursOr staged.old (D.disk dev.old) (D.disk dev.new) }
     ensures cause { HasCause D.disk_faults D.tell_faults dev.old dev.new (IsErrOf result CopyError.Fault) }
 {
     let Some(store) = stores.store(at) else {
@@ -142,6 +144,7 @@ impl Hosting {
         ensures added { D.tells → (hosted : List Hosted) (h : Hosted) → IsHosting (D.disk dev.old) self.old hosted → slice_get hosted at ≡ Some h → (before : List Extent) → HoldsParts (D.disk dev.old) staged.old before []
             → OnOk result ((told : Told) × Tells told h × HoldsCopies (D.disk dev.new) staged.new before told extents.now) }
         ensures crash { D.tells → (hosted : List Hosted) → IsHosting (D.disk dev.old) self.old hosted → CopyLeaves (own_of self.old) hosted staged.old (D.disk dev.old) (D.disk dev.new) }
+        ensures touches { D.tells → TouchesOursOr staged.old (D.disk dev.old) (D.disk dev.new) }
         ensures cause { HasCause D.disk_faults D.tell_faults dev.old dev.new (IsErrOf result CopyError.Fault) }
     {
         if !self.is_open(at) {
@@ -178,6 +181,7 @@ impl Hosting {
         ensures added { D.tells → (hosted : List Hosted) (h : Hosted) → IsHosting (D.disk dev.old) self.now hosted → slice_get hosted at ≡ Some h → (extents : List Extent) (before : List ℕ) → HoldsParts (D.disk dev.old) staged.old extents before
             → OnOk result (HoldsLog (D.disk dev.new) staged.new extents before h.records from to) }
         ensures crash { D.tells → (hosted : List Hosted) → IsHosting (D.disk dev.old) self.now hosted → CopyLeaves (own_of self.now) hosted staged.old (D.disk dev.old) (D.disk dev.new) }
+        ensures touches { D.tells → TouchesOursOr staged.old (D.disk dev.old) (D.disk dev.new) }
         ensures cause { HasCause D.disk_faults D.tell_faults dev.old dev.new (IsErrOf result CopyError.Fault) }
     {
         log_on(&self.stores, alloc, dev, at, staged, from, to)

@@ -1,5 +1,5 @@
 // Opening the databases that an instance hosts.
-ghost use Rattle.std.specs.Prelude.{◌≡◌, ◌<◌, ◌+◌, ℕ, [], List, None, Some, true, false, length, map, slice_get, IfOk, OnOk, IsErrOf};
+ghost use Rattle.std.specs.Prelude.{◌≡◌, ◌<◌, ◌+◌, ℕ, [], List, None, Some, true, false, length, map, slice_get, IfOk, OnOk, IsErrOf, ◌≢◌, MatchResult};
 ghost use Rattle.bk_device.specs.Calls.{ChangesNothing};
 ghost use Rattle.bk_device.specs.Counts.{HasCause};
 ghost use Rattle.bk_device.specs.Disk.{IsSettled};
@@ -8,11 +8,11 @@ ghost use Rattle.bk_hosted.specs.Fronts.{settling};
 ghost use Rattle.bk_hosted.specs.Hosted.{Hosted, folded, is_up};
 ghost use Rattle.bk_machine.specs.statements.Restore as restore;
 ghost use Rattle.bk_store.specs.Told.{Told};
-ghost use Rattle.bk_master.specs.Master.{IsNoInstance};
+ghost use Rattle.bk_master.specs.Master.{IsMade, IsNoInstance};
 ghost use Rattle.bk_master.specs.declared.record.Entry.{Entry as Entries};
 ghost use Rattle.bk_master.specs.declared.record.Own.{Own};
 ghost use Rattle.bk_stores.specs.Standing.{AreStanding};
-ghost use Rattle.bk_stores.specs.Stores.{AreStores, IsOurs};
+ghost use Rattle.bk_stores.specs.Stores.{AreStores, IsOurs, TouchesOurs};
 ghost use Rattle.bk_hosting.specs.Hosting.{IsHosting, IsReady, IsSealedAt, Tells, own_of, state_of};
 ghost use Rattle.bk_hosting.specs.Loading.{HoldsHosting, IsOpening, IsPartly, LeavesUndoing};
 
@@ -101,6 +101,7 @@ impl Hosting {
         ensures standing { D.tells → OnOk result (AreStanding (D.disk dev.new) self.new.stores) }
         ensures stands { D.tells → (hosted : List Hosted) → IsOpening (D.disk dev.old) self.old hosted → OnOk result (IsOpening (D.disk dev.new) self.new hosted) }
         ensures crash { D.tells → (number : ℕ) (hosted : List Hosted) → IsOpening (D.disk dev.old) self.old hosted → Effect IsOurs (LeavesUndoing number (own_of self.old) hosted) (D.disk dev.old) (D.disk dev.new) }
+        ensures touches { D.tells → OnOk result (TouchesOurs (D.disk dev.old) (D.disk dev.new)) }
         ensures broken { D.tells → IsErrOf result StoresError.Broken → (hosted : List Hosted) → IsOpening (D.disk dev.old) self.old hosted → ⊥ }
         ensures not_an_instance { IsErrOf result StoresError.NotAnInstance → ⊥ }
         ensures cause { HasCause D.disk_faults D.tell_faults dev.old dev.new (IsErrOf result StoresError.Fault) }
@@ -127,6 +128,7 @@ impl Hosting {
         ensures standing { D.tells → OnOk result (AreStanding (D.disk dev.new) self.new.stores) }
         ensures stands { D.tells → (hosted : List Hosted) → IsOpening (D.disk dev.old) self.old hosted → OnOk result (IsOpening (D.disk dev.new) self.new hosted) }
         ensures crash { D.tells → (number : ℕ) (hosted : List Hosted) → IsOpening (D.disk dev.old) self.old hosted → Effect IsOurs (LeavesUndoing number (own_of self.old) hosted) (D.disk dev.old) (D.disk dev.new) }
+        ensures touches { D.tells → TouchesOurs (D.disk dev.old) (D.disk dev.new) }
         ensures broken { D.tells → IsErrOf result StoresError.Broken → (hosted : List Hosted) → IsOpening (D.disk dev.old) self.old hosted → ⊥ }
         ensures not_an_instance { IsErrOf result StoresError.NotAnInstance → ⊥ }
         ensures cause { HasCause D.disk_faults D.tell_faults dev.old dev.new (IsErrOf result StoresError.Fault) }
@@ -153,6 +155,7 @@ impl Hosting {
         ensures standing { D.tells → OnOk result (AreStanding (D.disk dev.new) self.new.stores) }
         ensures stands { D.tells → (hosted : List Hosted) → IsOpening (D.disk dev.old) self.old hosted → OnOk result (IsOpening (D.disk dev.new) self.new hosted) }
         ensures crash { D.tells → (number : ℕ) (hosted : List Hosted) → IsOpening (D.disk dev.old) self.old hosted → Effect IsOurs (LeavesUndoing number (own_of self.old) hosted) (D.disk dev.old) (D.disk dev.new) }
+        ensures touches { D.tells → OnOk result (TouchesOurs (D.disk dev.old) (D.disk dev.new)) }
         ensures broken { D.tells → IsErrOf result StoresError.Broken → (hosted : List Hosted) → IsOpening (D.disk dev.old) self.old hosted → ⊥ }
         ensures not_an_instance { IsErrOf result StoresError.NotAnInstance → ⊥ }
         ensures cause { HasCause D.disk_faults D.tell_faults dev.old dev.new (IsErrOf result StoresError.Fault) }
@@ -177,6 +180,7 @@ impl Hosting {
         ensures standing { D.tells → OnOk result (AreStanding (D.disk dev.new) self.new.stores) }
         ensures stands { D.tells → (hosted : List Hosted) → IsOpening (D.disk dev.old) self.old hosted → OnOk result (IsHosting (D.disk dev.new) self.new (map settling hosted)) }
         ensures crash { D.tells → (number : ℕ) (hosted : List Hosted) → IsOpening (D.disk dev.old) self.old hosted → Effect IsOurs (LeavesUndoing number (own_of self.old) hosted) (D.disk dev.old) (D.disk dev.new) }
+        ensures touches { D.tells → OnOk result (TouchesOurs (D.disk dev.old) (D.disk dev.new)) }
         ensures broken { D.tells → IsErrOf result StoresError.Broken → (hosted : List Hosted) → IsOpening (D.disk dev.old) self.old hosted → ⊥ }
         ensures not_an_instance { IsErrOf result StoresError.NotAnInstance → ⊥ }
         ensures cause { HasCause D.disk_faults D.tell_faults dev.old dev.new (IsErrOf result StoresError.Fault) }
@@ -199,10 +203,14 @@ impl Hosting {
     ) -> Result<Hosting, StoresError>
         ensures ready { IfOk result IsReady }
         ensures standing { D.tells → IfOk result (λ x. AreStanding (D.disk dev.new) x.stores) }
+        ensures made { D.tells → OnOk result (IsMade (D.disk dev.new).files) }
         ensures stands { D.tells → IsSettled (D.disk dev.old) → (own : Own) (hosted : List Hosted) → HoldsHosting number own (D.disk dev.old).files hosted → IfOk result (λ x. IsHosting (D.disk dev.new) x (map settling hosted)) }
         ensures own { D.tells → IsSettled (D.disk dev.old) → (own : Own) (hosted : List Hosted) → HoldsHosting number own (D.disk dev.old).files hosted → IfOk result (λ x. own_of x ≡ own) }
         ensures crash { D.tells → IsSettled (D.disk dev.old) → (own : Own) (hosted : List Hosted) → HoldsHosting number own (D.disk dev.old).files hosted → Effect IsOurs (LeavesUndoing number own hosted) (D.disk dev.old) (D.disk dev.new) }
+        ensures touches { D.tells → OnOk result (TouchesOurs (D.disk dev.old) (D.disk dev.new)) }
+        ensures untouched { D.tells → IsErrOf result StoresError.NotAnInstance → ChangesNothing (D.disk dev.old) (D.disk dev.new) }
         ensures not_an_instance { D.tells → IsErrOf result StoresError.NotAnInstance → IsNoInstance (D.disk dev.old).files }
+        ensures no_instance { D.tells → IsNoInstance (D.disk dev.old).files → MatchResult result (λ _. ⊥) (λ e. e ≢ StoresError.Broken) }
         ensures broken { D.tells → IsErrOf result StoresError.Broken → IsSettled (D.disk dev.old) → (own : Own) (hosted : List Hosted) → HoldsHosting number own (D.disk dev.old).files hosted → ⊥ }
         ensures cause { HasCause D.disk_faults D.tell_faults dev.old dev.new (IsErrOf result StoresError.Fault) }
     {

@@ -8,7 +8,7 @@ ghost use Rattle.bk_ids.specs.declared.record.Rec.{Rec as Recs};
 ghost use Rattle.bk_record.specs.Spelling.{KeepsLimits};
 ghost use Rattle.bk_stores.specs.Errors.{IsTrouble};
 ghost use Rattle.bk_stores.specs.Standing.{AreStanding};
-ghost use Rattle.bk_stores.specs.Stores.{IsOurs};
+ghost use Rattle.bk_stores.specs.Stores.{IsOurs, TouchesOurs};
 ghost use Rattle.bk_world.specs.Records.{Said};
 ghost use Rattle.bk_hosting.specs.Hosting.{IsHosting, IsReady, IsSealedAt, LeavesSaid, MaySayNow, own_of};
 
@@ -46,6 +46,7 @@ impl Hosting {
             → OnOk result (IsHosting (D.disk dev.new) self.new (set hosted at (saying said transactions h))) }
         ensures crash { D.tells → (hosted : List Hosted) (h : Hosted) (said : List Said) → IsHosting (D.disk dev.old) self.old hosted → slice_get hosted at ≡ Some h → MaySayNow h said transactions records.now lasting
             → Effect IsOurs (LeavesSaid (own_of self.old) hosted at h said transactions) (D.disk dev.old) (D.disk dev.new) }
+        ensures touches { D.tells → TouchesOurs (D.disk dev.old) (D.disk dev.new) }
         ensures trouble { IfErr result IsTrouble }
         ensures cause { HasCause D.disk_faults D.tell_faults dev.old dev.new (IsErrOf result StoresError.Fault) }
     {

@@ -8,7 +8,7 @@ ghost use Rattle.bk_master.specs.Spelling.{IsShortPath};
 ghost use Rattle.bk_stores.specs.Records.{AreSmall};
 ghost use Rattle.bk_stores.specs.Errors.{IsTrouble};
 ghost use Rattle.bk_stores.specs.Standing.{AreStanding, AreUnused};
-ghost use Rattle.bk_stores.specs.Stores.{IsOurs, at_paths};
+ghost use Rattle.bk_stores.specs.Stores.{IsOurs, TouchesOurs, at_paths};
 ghost use Rattle.bk_hosting.specs.Hosting.{IsHosting, IsReady, LeavesEither, own_of};
 ghost use Rattle.bk_hosting.specs.Making.{ArePathsAt, HaveNoFile, newly};
 
@@ -120,6 +120,7 @@ impl Hosting {
         ensures standing { D.tells → OnOk result (AreStanding (D.disk dev.new) self.new.stores) }
         ensures stands { D.tells → (hosted : List Hosted) → IsHosting (D.disk dev.old) self.old hosted → HaveNoFile hosted spec → OnOk result (IsHosting (D.disk dev.new) self.new (hosted ++ newly spec time branch ∷ [])) }
         ensures crash { D.tells → (hosted : List Hosted) → IsHosting (D.disk dev.old) self.old hosted → HaveNoFile hosted spec → Effect IsOurs (LeavesEither (own_of self.old) hosted (hosted ++ newly spec time branch ∷ [])) (D.disk dev.old) (D.disk dev.new) }
+        ensures touches { D.tells → TouchesOurs (D.disk dev.old) (D.disk dev.new) }
         ensures trouble { IfErr result IsTrouble }
         ensures cause { HasCause D.disk_faults D.tell_faults dev.old dev.new (IsErrOf result StoresError.Fault) }
     {
@@ -145,6 +146,7 @@ impl Hosting {
         ensures standing { D.tells → OnOk result (AreStanding (D.disk dev.new) self.new.stores) }
         ensures stands { D.tells → (hosted : List Hosted) → IsHosting (D.disk dev.old) self.old hosted → at < length hosted → OnOk result (IsHosting (D.disk dev.new) self.new (remove hosted at)) }
         ensures crash { D.tells → (hosted : List Hosted) → IsHosting (D.disk dev.old) self.old hosted → at < length hosted → Effect IsOurs (LeavesEither (own_of self.old) hosted (remove hosted at)) (D.disk dev.old) (D.disk dev.new) }
+        ensures touches { D.tells → TouchesOurs (D.disk dev.old) (D.disk dev.new) }
         ensures trouble { IfErr result IsTrouble }
         ensures cause { HasCause D.disk_faults D.tell_faults dev.old dev.new (IsErrOf result StoresError.Fault) }
     {

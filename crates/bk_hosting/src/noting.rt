@@ -8,7 +8,7 @@ ghost use Rattle.bk_store.specs.Store.{sealed_in, Kept as KeptStore};
 ghost use Rattle.bk_store.specs.Told.{Told};
 ghost use Rattle.bk_stores.specs.Errors.{IsTrouble};
 ghost use Rattle.bk_stores.specs.Standing.{AreStanding};
-ghost use Rattle.bk_stores.specs.Stores.{AreStores, IsOurs, IsReady as AreReady, LeavesStores, sealed_at};
+ghost use Rattle.bk_stores.specs.Stores.{AreStores, IsOurs, IsReady as AreReady, LeavesStores, TouchesOurs, sealed_at};
 ghost use Rattle.bk_hosting.specs.Hosting.{IsHosting, IsOpenAt, IsReady, LeavesEither, own_of};
 ghost use Rattle.bk_hosting.specs.Saying.{NotesOn, NotesPoints, pointing};
 
@@ -62,6 +62,7 @@ fn note_on<D: Device>(
     ensures standing { D.tells → OnOk result (AreStanding (D.disk dev.new) stores.new) }
     ensures stands { D.tells → (tolds : List Told) (told : Told) → AreStores (D.disk dev.old) stores.old tolds → slice_get tolds at ≡ Some told → OnOk result (AreStores (D.disk dev.new) stores.new (set tolds at (record told { note = note.now }))) }
     ensures crash { D.tells → (tolds : List Told) (told : Told) → AreStores (D.disk dev.old) stores.old tolds → slice_get tolds at ≡ Some told → NotesOn stores.old tolds at (record told { note = note.now }) (D.disk dev.old) (D.disk dev.new) }
+    ensures touches { D.tells → TouchesOurs (D.disk dev.old) (D.disk dev.new) }
     ensures trouble { IfErr result IsTrouble }
     ensures cause { HasCause D.disk_faults D.tell_faults dev.old dev.new (IsErrOf result StoresError.Fault) }
 {
@@ -94,6 +95,7 @@ pub(crate) fn points_on<D: Device>(
         → OnOk result (AreStores (D.disk dev.new) stores.new (set tolds at (pointing told points.now))) }
     ensures crash { D.tells → (tolds : List Told) (told : Told) → AreStores (D.disk dev.old) stores.old tolds → slice_get tolds at ≡ Some told
         → NotesPoints stores.old tolds at told points.now (D.disk dev.old) (D.disk dev.new) }
+    ensures touches { D.tells → TouchesOurs (D.disk dev.old) (D.disk dev.new) }
     ensures trouble { IfErr result IsTrouble }
     ensures cause { HasCause D.disk_faults D.tell_faults dev.old dev.new (IsErrOf result StoresError.Fault) }
 {
@@ -138,6 +140,7 @@ impl Hosting {
         ensures stands { D.tells → (hosted : List Hosted) (h : Hosted) → IsHosting (D.disk dev.old) self.old hosted → slice_get hosted at ≡ Some h → OnOk result (IsHosting (D.disk dev.new) self.new (set hosted at (basing header.now (folding h)))) }
         ensures crash { D.tells → (hosted : List Hosted) (h : Hosted) → IsHosting (D.disk dev.old) self.old hosted → slice_get hosted at ≡ Some h
             → Effect IsOurs (LeavesEither (own_of self.old) hosted (set hosted at (basing header.now (folding h)))) (D.disk dev.old) (D.disk dev.new) }
+        ensures touches { D.tells → TouchesOurs (D.disk dev.old) (D.disk dev.new) }
         ensures trouble { IfErr result IsTrouble }
         ensures cause { HasCause D.disk_faults D.tell_faults dev.old dev.new (IsErrOf result StoresError.Fault) }
     {

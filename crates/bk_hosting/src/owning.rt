@@ -6,7 +6,7 @@ ghost use Rattle.bk_hosted.specs.Hosted.{Hosted};
 ghost use Rattle.bk_master.specs.Spelling.{IsShort};
 ghost use Rattle.bk_stores.specs.Errors.{IsTrouble};
 ghost use Rattle.bk_stores.specs.Standing.{AreStanding};
-ghost use Rattle.bk_stores.specs.Stores.{IsOurs};
+ghost use Rattle.bk_stores.specs.Stores.{IsOurs, TouchesOurs};
 ghost use Rattle.bk_hosting.specs.Hosting.{IsHosting, IsReady, LeavesHosted, own_of};
 
 use crate::hosting::Hosting;
@@ -35,6 +35,7 @@ impl Hosting {
         ensures stands { D.tells → (hosted : List Hosted) → IsHosting (D.disk dev.old) self.old hosted → OnOk result (IsHosting (D.disk dev.new) self.new hosted) }
         ensures crash { D.tells → (hosted : List Hosted) → IsHosting (D.disk dev.old) self.old hosted
             → Effect IsOurs (λ image. LeavesHosted (own_of self.old) hosted image ⊎ LeavesHosted own hosted image) (D.disk dev.old) (D.disk dev.new) }
+        ensures touches { D.tells → TouchesOurs (D.disk dev.old) (D.disk dev.new) }
         ensures trouble { IfErr result IsTrouble }
         ensures cause { HasCause D.disk_faults D.tell_faults dev.old dev.new (IsErrOf result StoresError.Fault) }
     {

@@ -6,7 +6,7 @@ ghost use Rattle.bk_hosted.specs.Hosted.{Hosted};
 ghost use Rattle.bk_known.specs.Known.{KeepsKnown};
 ghost use Rattle.bk_stores.specs.Errors.{IsTrouble};
 ghost use Rattle.bk_stores.specs.Standing.{AreStanding};
-ghost use Rattle.bk_stores.specs.Stores.{IsOurs};
+ghost use Rattle.bk_stores.specs.Stores.{IsOurs, TouchesOurs};
 ghost use Rattle.bk_hosting.specs.Hosting.{IsHosting, IsReady, LeavesEither, own_of};
 ghost use Rattle.bk_hosting.specs.Parking.{IsParkedAs};
 
@@ -48,6 +48,7 @@ impl Hosting {
         ensures stands { D.tells → (hosted : List Hosted) (h : Hosted) → IsHosting (D.disk dev.old) self.old hosted → IsParkedAs known points h → OnOk result (IsHosting (D.disk dev.new) self.new (hosted ++ h ∷ [])) }
         ensures crash { D.tells → (hosted : List Hosted) (h : Hosted) → IsHosting (D.disk dev.old) self.old hosted → IsParkedAs known points h
             → Effect IsOurs (LeavesEither (own_of self.old) hosted (hosted ++ h ∷ [])) (D.disk dev.old) (D.disk dev.new) }
+        ensures touches { D.tells → TouchesOurs (D.disk dev.old) (D.disk dev.new) }
         ensures trouble { IfErr result IsTrouble }
         ensures cause { HasCause D.disk_faults D.tell_faults dev.old dev.new (IsErrOf result StoresError.Fault) }
     {
@@ -87,6 +88,7 @@ impl Hosting {
             → OnOk result (IsHosting (D.disk dev.new) self.new (set hosted at h)) }
         ensures crash { D.tells → (hosted : List Hosted) (old h : Hosted) → IsHosting (D.disk dev.old) self.old hosted → slice_get hosted at ≡ Some old → IsParkedAs known points h
             → Effect IsOurs (LeavesEither (own_of self.old) hosted (set hosted at h)) (D.disk dev.old) (D.disk dev.new) }
+        ensures touches { D.tells → TouchesOurs (D.disk dev.old) (D.disk dev.new) }
         ensures trouble { IfErr result IsTrouble }
         ensures cause { HasCause D.disk_faults D.tell_faults dev.old dev.new (IsErrOf result StoresError.Fault) }
     {

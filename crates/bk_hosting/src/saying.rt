@@ -11,7 +11,7 @@ ghost use Rattle.bk_store.specs.Told.{Told};
 ghost use Rattle.bk_stores.specs.Errors.{IsTrouble};
 ghost use Rattle.bk_stores.specs.Making.{IsSealed};
 ghost use Rattle.bk_stores.specs.Standing.{AreStanding};
-ghost use Rattle.bk_stores.specs.Stores.{AreStores, IsOurs, IsReady, LeavesStores, fixed_of, sealed_at};
+ghost use Rattle.bk_stores.specs.Stores.{AreStores, IsOurs, IsReady, LeavesStores, TouchesOurs, fixed_of, sealed_at};
 ghost use Rattle.bk_world.specs.Records.{Logged};
 ghost use Rattle.bk_hosting.specs.Hosting.{IsOpenAt};
 ghost use Rattle.bk_hosting.specs.Saying.{MaySayAll, SealsUpTo, telling};
@@ -100,6 +100,7 @@ pub(crate) fn say_on<D: Device>(
         → slice_get stores.old.slots at ≡ Some (Some s) → slice_get stores.new.slots at ≡ Some (Some then) → OnOk result (SealsUpTo lasting s then) }
     ensures crash { D.tells → (tolds : List Told) (told : Told) (next : List Logged) → AreStores (D.disk dev.old) stores.old tolds → slice_get tolds at ≡ Some told → MaySayAll told next records.now
         → Effect IsOurs (LeavesStores (fixed_of stores.old.master.record) (sealed_at stores.old tolds) (set tolds at (telling told next))) (D.disk dev.old) (D.disk dev.new) }
+    ensures touches { D.tells → TouchesOurs (D.disk dev.old) (D.disk dev.new) }
     ensures trouble { IfErr result IsTrouble }
     ensures cause { HasCause D.disk_faults D.tell_faults dev.old dev.new (IsErrOf result StoresError.Fault) }
 {

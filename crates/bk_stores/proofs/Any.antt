@@ -19,7 +19,8 @@ use Rattle.bk_stores.specs.Loading.{IsOfAny}
 use Rattle.bk_stores.specs.NameLaws.{own-apart}
 use Rattle.bk_stores.specs.SlotLaws.{slot-kept}
 use Rattle.bk_stores.specs.StandLaws.{free-apart, master-apart, slots-left}
-use Rattle.bk_stores.specs.Stores.{AreEntries, AreStores, IsAt, IsOfEntry, IsOurs, Kept, LeavesStores, at_paths, its_files, sealed_at, fixed_of}
+use Rattle.bk_stores.specs.Stores.{AreEntries, AreStores, IsAt, IsOfEntry, IsOurs, Kept, LeavesStores, TouchesOurs, at_paths, its_files, sealed_at, fixed_of}
+use Rattle.bk_stores.specs.TouchLaws.{ours-touched, part-ours}
 
 -- ---- names
 
@@ -70,3 +71,7 @@ any-crash s tolds {a = a} is effect =
       each = λ i e t at. slots-left a image r.databases s.slots tolds is.standing.count is.standing.stand i e t at
           (λ name own. left name (λ its. any-entry r tolds i e t name is.standing.entries at own its) (inr (e.store, its_files e t, own)));
     }) effect
+
+-- whatever the files hold
+pub any-touched : (us : List Unfinished) {P : Files → Type 0} {a b : Disk} → Effect (IsOfAny us) P a b → TouchesOurs a b
+any-touched us effect = ours-touched (λ name its. part-ours its.1.store its.1.paths name its.3) effect

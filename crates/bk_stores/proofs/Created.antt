@@ -140,3 +140,8 @@ may-join s then paths spec time branch store d same slots numbers unused fit num
 pub on-ok : {A E P Q : Type 0} (result : Result A E) → (P → Q) → OnOk result P → OnOk result Q
 on-ok (Ok a) leads ok = leads ok
 on-ok (Err e) leads ok = tt
+
+-- what is so whatever it answers
+pub so-on-ok : {A E P : Type 0} (result : Result A E) → P → OnOk result P
+so-on-ok (Ok a) so = so
+so-on-ok (Err e) so = tt

@@ -1,16 +1,17 @@
 -- An instance whose record is opened.
-use Rattle.std.proofs.Common.{◌≡◌, ◌<◌, ℕ, zero, suc, List, [], length, replicate, Option, Some, None, refl, inl, inr, sym, ap, subst, ◌∙◌, arith}
+use Rattle.std.proofs.Common.{◌≡◌, ◌≢◌, ◌⊎◌, ◌<◌, ℕ, zero, suc, List, [], length, replicate, Option, Some, None, refl, inl, inr, sym, ap, subst, ◌∙◌, arith}
 use Rattle.std.proofs.lemmas.List.{length-replicate, take_all}
 use Rattle.std.specs.Prelude.{slice_get}
 use Rattle.bk_device.specs.Calls.{ChangesNothing}
-use Rattle.bk_device.specs.Compose.{durable_kept, effect_of_nothing, effect_widen}
+use Rattle.bk_device.specs.Compose.{durable_kept, effect_of_nothing, effect_then, effect_widen}
 use Rattle.bk_device.specs.Disk.{Disk, Files, IsDurable, IsSettled}
 use Rattle.bk_device.specs.Effects.{Effect, MayLeaveOwn}
 use Rattle.bk_device.specs.Laws.{durable_by_nothing}
+use Rattle.bk_control.specs.Slots.{control_of}
 use Rattle.bk_master.specs.declared.record.Own.{Own}
 use Rattle.bk_master.specs.declared.record.Record.{Record}
 use Rattle.bk_master.specs.Laws.{holds_same, one_record, own_made}
-use Rattle.bk_master.specs.Master.{AreDurable, HoldsRecord, IsMade, IsMaster, IsNotMade, IsOwn as IsOfMaster, Kept as KeptMaster, Makes, fresh, fresh_own, made_file, control_file}
+use Rattle.bk_master.specs.Master.{AreDurable, HoldsRecord, IsMade, IsMaster, IsNoInstance, IsNotMade, IsOwn as IsOfMaster, Kept as KeptMaster, Makes, fresh, fresh_own, made_file, control_file}
 use Rattle.bk_store.specs.Store.{Kept as KeptStore}
 use Rattle.bk_store.specs.Told.{Told}
 use Rattle.bk_stores.specs.ListLaws.{got, got-inside, got-none}
@@ -18,7 +19,8 @@ use Rattle.bk_stores.specs.Loading.{HoldsInstance, Opens, shut}
 use Rattle.bk_stores.specs.SlotLaws.{entry-same}
 use Rattle.bk_stores.specs.Standing.{AreDifferent, AreShut}
 use Rattle.bk_stores.specs.StandLaws.{master-apart, master-keeps}
-use Rattle.bk_stores.specs.Stores.{AreEntries, AreStores, HoldsEntry, HoldsStores, IsOurs, IsSlot, LeavesStores, its_files, sealed_at, sealed_of, Fixed, fixed_of}
+use Rattle.bk_stores.specs.Stores.{AreEntries, AreStores, HoldsEntry, HoldsStores, IsOurs, IsSlot, LeavesStores, its_files, sealed_at, sealed_of, Fixed, fixed_of, TouchesOurs}
+use Rattle.bk_stores.specs.TouchLaws.{master-touched, nothing-touched}
 
 -- ---- files that hold an instance
 
@@ -173,3 +175,20 @@ opened-own number fixed tolds image m is made loaded = elim is [
   | inl none ↦ ap fixed_of (made none.0) ∙ sym none.1
   | inr some ↦ ap fixed_of (one_record (loaded some.2.is_record.made) some.2.is_record) ∙ some.1
 ]
+
+-- ---- whatever the files hold
+
+none-or-some : (file : Option (List ℕ)) → (file ≢ None) ⊎ (file ≡ None)
+none-or-some None = inr refl
+none-or-some (Some bytes) = inl (λ none. absurd cc)
+
+-- the instance's own files are touched, if one is
+pub load-touched : {a b c : Disk} (number : ℕ) → ChangesNothing a b → AreDurable b → (IsMade b.files → ChangesNothing b c) → (IsNotMade b.files → IsDurable b made_file → Effect IsOfMaster (Makes number) b c) → TouchesOurs a c
+load-touched {b = b} number call durable found makes = effect_then (nothing-touched call) (elim (none-or-some (b.files made_file)) [
+  | inl made ↦ nothing-touched (found made)
+  | inr none ↦ master-touched (makes none (durable made_file own_made))
+])
+
+-- files that are no instance's stay so
+pub no-instance-moved : {a b : Disk} → ChangesNothing a b → IsNoInstance a.files → IsNoInstance b.files
+no-instance-moved call is = (λ none. is.0 (sym (call.files made_file) ∙ none), ap control_of (call.files control_file) ∙ is.1)

@@ -17,4 +17,5 @@ pub mod Standing
 pub mod NumberLaws
 pub mod StandingLaws
 pub mod SwapLaws
+pub mod TouchLaws
 pub mod Loading

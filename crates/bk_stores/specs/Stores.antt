@@ -2,6 +2,7 @@
 -- SQL Server: "Database Files and Filegroups"; "System Databases", master.
 use Rattle.std.specs.Prelude.{◌≡◌, ◌≤◌, ◌<◌, ◌^◌, ◌⊎◌, ◌++◌, ℕ, Bool, true, false, List, [], length, map, Option, Some, None, slice_get}
 use Rattle.bk_device.specs.Disk.{Files, Disk}
+use Rattle.bk_device.specs.Effects.{Effect}
 use Rattle.bk_facts.specs.declared.facts.DataFile.{DataFile}
 use Rattle.bk_known.specs.declared.known.Known.{Known}
 use Rattle.bk_known.specs.Known.{known_bytes}
@@ -162,3 +163,7 @@ sealed_at s tolds i = sealed_of (slice_get s.slots i) (slice_get tolds i)
 -- the name is the instance's own, or one of a store
 abbrev pub IsOurs : List ℕ → Type 0
 IsOurs name = IsOfMaster name ⊎ ((db : ℕ) × (files : List DataFile) × IsOwn db files name)
+
+-- a call touched files of these names alone, whatever they hold, and told nothing
+abbrev pub TouchesOurs : Disk → Disk → Type 0
+TouchesOurs before after = Effect IsOurs (λ _. Unit {0}) before after

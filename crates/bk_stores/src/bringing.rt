@@ -17,7 +17,7 @@ ghost use Rattle.bk_stores.specs.Errors.{IsTrouble};
 ghost use Rattle.bk_stores.specs.Making.{IsSealed, Swaps, set_stored};
 ghost use Rattle.bk_stores.specs.Records.{SharesNone};
 ghost use Rattle.bk_stores.specs.Standing.{AreStanding, AreUnused};
-ghost use Rattle.bk_stores.specs.Stores.{AreStores, IsOurs, IsReady, LeavesStores, fixed_of, sealed_at};
+ghost use Rattle.bk_stores.specs.Stores.{AreStores, IsOurs, IsReady, LeavesStores, TouchesOurs, fixed_of, sealed_at};
 ghost use Rattle.bk_world.specs.Records.{Logged};
 
 use crate::error::StoresError;
@@ -52,6 +52,7 @@ impl Stores {
         ensures free { D.tells → (tolds : List Told) → AreStores (D.disk dev.old) self.old tolds → OnOk result (LogsAreDurable self.old.master.record.next (D.disk dev.new)) }
         ensures stands { D.tells → (tolds : List Told) → AreStores (D.disk dev.old) self.old tolds → SharesNone self.old.master.record.databases tolds files.now → OnOk result (AreStores (D.disk dev.new) self.new tolds) }
         ensures crash { D.tells → (tolds : List Told) → AreStores (D.disk dev.old) self.old tolds → SharesNone self.old.master.record.databases tolds files.now → Effect IsOurs (LeavesStores (fixed_of self.old.master.record) (sealed_at self.old tolds) tolds) (D.disk dev.old) (D.disk dev.new) }
+        ensures touches { D.tells → TouchesOurs (D.disk dev.old) (D.disk dev.new) }
         ensures trouble { IfErr result IsTrouble }
         ensures cause { HasCause D.disk_faults D.tell_faults dev.old dev.new (IsErrOf result StoresError.Fault) }
     {
@@ -96,6 +97,7 @@ impl Stores {
             → OnOk result (AreStores (D.disk dev.new) self.new tolds) }
         ensures crash { D.tells → (tolds : List Told) (told : Told) → AreStores (D.disk dev.old) self.old tolds → SharesNone self.old.master.record.databases tolds files.items → MakesNext (D.disk dev.old) self.old medium.now.name stored.now files.items checkpoint note.now known.now told
             → Effect IsOurs (LeavesStores (fixed_of self.old.master.record) (sealed_at self.old tolds) tolds) (D.disk dev.old) (D.disk dev.new) }
+        ensures touches { D.tells → OnOk result (TouchesOurs (D.disk dev.old) (D.disk dev.new)) }
         ensures broken { D.tells → IsErrOf result StoresError.Broken → (tolds : List Told) (told : Told) (r : Logged) → AreStores (D.disk dev.old) self.old tolds → SharesNone self.old.master.record.databases tolds files.items
             → MakesNext (D.disk dev.old) self.old medium.now.name stored.now files.items checkpoint note.now known.now told → EndsWith told r last.now → ⊥ }
         ensures not_an_instance { IsErrOf result StoresError.NotAnInstance → ⊥ }
@@ -146,6 +148,7 @@ impl Stores {
             → OnOk result (AreStores (D.disk dev.new) self.new (set tolds at (said (settled told) r))) }
         ensures crash { D.tells → (tolds : List Told) (told : Told) (r : Logged) → AreStores (D.disk dev.old) self.old tolds → SharesNone self.old.master.record.databases tolds files.items → MakesNext (D.disk dev.old) self.old medium.now.name stored.now files.items checkpoint note.now known.now told → EndsWith told r last.now
             → Swaps self.old tolds at true (said (settled told) r) (D.disk dev.old) (D.disk dev.new) }
+        ensures touches { D.tells → OnOk result (TouchesOurs (D.disk dev.old) (D.disk dev.new)) }
         ensures broken { D.tells → IsErrOf result StoresError.Broken → (tolds : List Told) (told : Told) (r : Logged) → AreStores (D.disk dev.old) self.old tolds → SharesNone self.old.master.record.databases tolds files.items
             → MakesNext (D.disk dev.old) self.old medium.now.name stored.now files.items checkpoint note.now known.now told → EndsWith told r last.now → ⊥ }
         ensures not_an_instance { IsErrOf result StoresError.NotAnInstance → ⊥ }

@@ -1,5 +1,5 @@
 // Opening what an instance keeps of its stores.
-ghost use Rattle.std.specs.Prelude.{◌≡◌, ◌<◌, [], List, None, Some, true, false, length, map, replicate, set, slice_get, IfErr, IfOk, OnOk, IsErr, IsErrOf};
+ghost use Rattle.std.specs.Prelude.{◌≡◌, ◌≢◌, ◌<◌, [], List, None, Some, true, false, length, map, replicate, set, slice_get, IfErr, IfOk, OnOk, IsErr, IsErrOf, MatchResult};
 ghost use Rattle.bk_device.specs.Calls.{ChangesNothing};
 ghost use Rattle.bk_device.specs.Counts.{HasCause};
 ghost use Rattle.bk_device.specs.Disk.{IsSettled};
@@ -10,7 +10,7 @@ ghost use Rattle.bk_stores.specs.Errors.{IsTrouble};
 ghost use Rattle.bk_store.specs.Told.{Told};
 ghost use Rattle.bk_stores.specs.Loading.{HoldsInstance, IsOfAny, Opens, shut};
 ghost use Rattle.bk_stores.specs.Standing.{AreDifferent, AreNumbered, AreShut, AreStanding, LieBelow, LieUnder};
-ghost use Rattle.bk_stores.specs.Stores.{AreEntries, AreStores, Fixed, IsOurs, IsReady, LeavesStores, fixed_of, sealed_at};
+ghost use Rattle.bk_stores.specs.Stores.{AreEntries, AreStores, Fixed, IsOurs, IsReady, LeavesStores, TouchesOurs, fixed_of, sealed_at};
 
 use crate::error::StoresError;
 use crate::numbers::are_numbered;
@@ -29,8 +29,11 @@ fn open_master<D: Device>(alloc: Global, dev: &mut D, number: u64) -> Result<Mas
     ensures stands { D.tells → IsSettled (D.disk dev.old) → (fixed : Fixed) (tolds : List Told) → HoldsInstance number fixed (D.disk dev.old).files tolds → IfOk result (λ m. AreStores (D.disk dev.new) (shut m) tolds) }
     ensures fixed { D.tells → (fixed : Fixed) (tolds : List Told) → HoldsInstance number fixed (D.disk dev.old).files tolds → IfOk result (λ m. fixed_of m.record ≡ fixed) }
     ensures not_an_instance { D.tells → IsErrOf result StoresError.NotAnInstance → IsNoInstance (D.disk dev.old).files }
+    ensures no_instance { D.tells → IsNoInstance (D.disk dev.old).files → MatchResult result (λ _. ⊥) (λ e. e ≢ StoresError.Broken) }
     ensures broken { D.tells → IsErrOf result StoresError.Broken → (fixed : Fixed) (tolds : List Told) → HoldsInstance number fixed (D.disk dev.old).files tolds → ⊥ }
     ensures crash { D.tells → IsSettled (D.disk dev.old) → (fixed : Fixed) (tolds : List Told) → HoldsInstance number fixed (D.disk dev.old).files tolds → Opens number fixed tolds (D.disk dev.old) (D.disk dev.new) }
+    ensures touches { D.tells → TouchesOurs (D.disk dev.old) (D.disk dev.new) }
+    ensures untouched { D.tells → IsErrOf result StoresError.NotAnInstance → ChangesNothing (D.disk dev.old) (D.disk dev.new) }
     ensures cause { HasCause D.disk_faults D.tell_faults dev.old dev.new (IsErrOf result StoresError.Fault) }
 {
     sync_own(dev)?;
@@ -139,6 +142,7 @@ impl Stores {
         ensures standing { D.tells → AreNumbered self.old.master.record → AreShut self.old.slots → OnOk result (AreStanding (D.disk dev.new) self.new) }
         ensures stands { D.tells → (tolds : List Told) → AreStores (D.disk dev.old) self.old tolds → OnOk result (AreStores (D.disk dev.new) self.new tolds) }
         ensures crash { D.tells → (tolds : List Told) → AreStores (D.disk dev.old) self.old tolds → Effect IsOurs (LeavesStores (fixed_of self.old.master.record) (sealed_at self.old tolds) tolds) (D.disk dev.old) (D.disk dev.new) }
+        ensures touches { D.tells → TouchesOurs (D.disk dev.old) (D.disk dev.new) }
         ensures still { D.tells → self.old.master.record.unfinished ≡ [] → ChangesNothing (D.disk dev.old) (D.disk dev.new) }
         ensures trouble { IfErr result IsTrouble }
         ensures cause { HasCause D.disk_faults D.tell_faults dev.old dev.new (IsErrOf result StoresError.Fault) }
@@ -161,6 +165,7 @@ impl Stores {
         ensures standing { D.tells → OnOk result (AreStanding (D.disk dev.new) self.new) }
         ensures stands { D.tells → (tolds : List Told) → AreStores (D.disk dev.old) (shut self.old.master) tolds → OnOk result (AreStores (D.disk dev.new) self.new tolds) }
         ensures crash { D.tells → (tolds : List Told) → AreStores (D.disk dev.old) (shut self.old.master) tolds → Effect IsOurs (LeavesStores (fixed_of self.old.master.record) (sealed_at (shut self.old.master) tolds) tolds) (D.disk dev.old) (D.disk dev.new) }
+        ensures touches { D.tells → TouchesOurs (D.disk dev.old) (D.disk dev.new) }
         ensures broken { IsErrOf result StoresError.Broken → (tolds : List Told) → AreEntries self.old.master.record tolds → ⊥ }
         ensures not_an_instance { IsErrOf result StoresError.NotAnInstance → ⊥ }
         ensures cause { HasCause D.disk_faults D.tell_faults dev.old dev.new (IsErrOf result StoresError.Fault) }
@@ -182,11 +187,15 @@ impl Stores {
         ensures ready { IfOk result IsReady }
         ensures shut { IfOk result (λ s. s.slots ≡ replicate (length s.slots) None) }
         ensures standing { D.tells → IfOk result (λ s. AreStanding (D.disk dev.new) s) }
+        ensures made { D.tells → OnOk result (IsMade (D.disk dev.new).files) }
         ensures stands { D.tells → IsSettled (D.disk dev.old) → (fixed : Fixed) (tolds : List Told) → HoldsInstance number fixed (D.disk dev.old).files tolds → IfOk result (λ s. AreStores (D.disk dev.new) s tolds) }
         ensures fixed { D.tells → (fixed : Fixed) (tolds : List Told) → HoldsInstance number fixed (D.disk dev.old).files tolds → IfOk result (λ s. fixed_of s.master.record ≡ fixed) }
         ensures not_an_instance { D.tells → IsErrOf result StoresError.NotAnInstance → IsNoInstance (D.disk dev.old).files }
+        ensures no_instance { D.tells → IsNoInstance (D.disk dev.old).files → MatchResult result (λ _. ⊥) (λ e. e ≢ StoresError.Broken) }
         ensures broken { D.tells → IsErrOf result StoresError.Broken → IsSettled (D.disk dev.old) → (fixed : Fixed) (tolds : List Told) → HoldsInstance number fixed (D.disk dev.old).files tolds → ⊥ }
         ensures crash { D.tells → IsSettled (D.disk dev.old) → (fixed : Fixed) (tolds : List Told) → HoldsInstance number fixed (D.disk dev.old).files tolds → Opens number fixed tolds (D.disk dev.old) (D.disk dev.new) }
+        ensures touches { D.tells → TouchesOurs (D.disk dev.old) (D.disk dev.new) }
+        ensures untouched { D.tells → IsErrOf result StoresError.NotAnInstance → ChangesNothing (D.disk dev.old) (D.disk dev.new) }
         ensures cause { HasCause D.disk_faults D.tell_faults dev.old dev.new (IsErrOf result StoresError.Fault) }
     {
         let master = open_master(alloc, dev, number)?;

@@ -12,7 +12,7 @@ ghost use Rattle.bk_stores.specs.Errors.{IsTrouble};
 ghost use Rattle.bk_stores.specs.Making.{Adds, Creates, IsSealed, MayAdd, more_stored};
 ghost use Rattle.bk_stores.specs.Records.{AreSmall, IsApart, SharesNone, begun, rested};
 ghost use Rattle.bk_stores.specs.Standing.{AreStanding, AreUnused, Joins};
-ghost use Rattle.bk_stores.specs.Stores.{AreStores, IsOurs, IsReady, IsSlot, LeavesStores, at_paths, fixed_of, its_files, sealed_at};
+ghost use Rattle.bk_stores.specs.Stores.{AreStores, IsOurs, IsReady, IsSlot, LeavesStores, TouchesOurs, at_paths, fixed_of, its_files, sealed_at};
 
 use crate::error::StoresError;
 use crate::records::{added_record, begin_record, paths_of};
@@ -47,6 +47,7 @@ impl Stores {
         ensures free { D.tells → (tolds : List Told) → AreStores (D.disk dev.old) self.old tolds → OnOk result (LogsAreDurable self.old.master.record.next (D.disk dev.new)) }
         ensures stands { D.tells → (tolds : List Told) → AreStores (D.disk dev.old) self.old tolds → SharesNone self.old.master.record.databases tolds (at_paths paths.now) → OnOk result (AreStores (D.disk dev.new) self.new tolds) }
         ensures crash { D.tells → (tolds : List Told) → AreStores (D.disk dev.old) self.old tolds → SharesNone self.old.master.record.databases tolds (at_paths paths.now) → Effect IsOurs (LeavesStores (fixed_of self.old.master.record) (sealed_at self.old tolds) tolds) (D.disk dev.old) (D.disk dev.new) }
+        ensures touches { D.tells → TouchesOurs (D.disk dev.old) (D.disk dev.new) }
         ensures trouble { IfErr result IsTrouble }
         ensures cause { HasCause D.disk_faults D.tell_faults dev.old dev.new (IsErrOf result StoresError.Fault) }
     {
@@ -76,6 +77,7 @@ impl Stores {
         ensures standing { D.tells → OnOk result (AreStanding (D.disk dev.new) self.new) }
         ensures stands { D.tells → (tolds : List Told) (new : Told) → AreStores (D.disk dev.old) self.old tolds → MayAdd (D.disk dev.old) self.old tolds entry slot new → OnOk result (AreStores (D.disk dev.new) self.new (tolds ++ new ∷ [])) }
         ensures crash { D.tells → (tolds : List Told) (new : Told) → AreStores (D.disk dev.old) self.old tolds → MayAdd (D.disk dev.old) self.old tolds entry slot new → Creates self.old tolds entry.is_stored new (D.disk dev.old) (D.disk dev.new) }
+        ensures touches { D.tells → TouchesOurs (D.disk dev.old) (D.disk dev.new) }
         ensures trouble { IfErr result IsTrouble }
         ensures cause { HasCause D.disk_faults D.tell_faults dev.old dev.new (IsErrOf result StoresError.Fault) }
     {
@@ -105,6 +107,7 @@ impl Stores {
         ensures standing { D.tells → OnOk result (AreStanding (D.disk dev.new) self.new) }
         ensures stands { D.tells → (tolds : List Told) → AreStores (D.disk dev.old) self.old tolds → SharesNone self.old.master.record.databases tolds (map data_file spec.now.storage.files) → OnOk result (AreStores (D.disk dev.new) self.new tolds) }
         ensures crash { D.tells → (tolds : List Told) → AreStores (D.disk dev.old) self.old tolds → SharesNone self.old.master.record.databases tolds (map data_file spec.now.storage.files) → Effect IsOurs (LeavesStores (fixed_of self.old.master.record) (sealed_at self.old tolds) tolds) (D.disk dev.old) (D.disk dev.new) }
+        ensures touches { D.tells → TouchesOurs (D.disk dev.old) (D.disk dev.new) }
         ensures trouble { IfErr result IsTrouble }
         ensures cause { HasCause D.disk_faults D.tell_faults dev.old dev.new (IsErrOf result StoresError.Fault) }
     {
@@ -141,6 +144,7 @@ impl Stores {
         ensures standing { D.tells → OnOk result (AreStanding (D.disk dev.new) self.new) }
         ensures stands { D.tells → (tolds : List Told) → AreStores (D.disk dev.old) self.old tolds → SharesNone self.old.master.record.databases tolds (map data_file spec.storage.files) → OnOk result (AreStores (D.disk dev.new) self.new (tolds ++ founded spec time branch ∷ [])) }
         ensures crash { D.tells → (tolds : List Told) → AreStores (D.disk dev.old) self.old tolds → SharesNone self.old.master.record.databases tolds (map data_file spec.storage.files) → Creates self.old tolds true (founded spec time branch) (D.disk dev.old) (D.disk dev.new) }
+        ensures touches { D.tells → TouchesOurs (D.disk dev.old) (D.disk dev.new) }
         ensures trouble { IfErr result IsTrouble }
         ensures cause { HasCause D.disk_faults D.tell_faults dev.old dev.new (IsErrOf result StoresError.Fault) }
     {

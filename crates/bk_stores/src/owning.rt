@@ -7,7 +7,7 @@ ghost use Rattle.bk_store.specs.Told.{Told};
 ghost use Rattle.bk_stores.specs.Errors.{IsTrouble};
 ghost use Rattle.bk_stores.specs.Records.{owned};
 ghost use Rattle.bk_stores.specs.Standing.{AreStanding};
-ghost use Rattle.bk_stores.specs.Stores.{AreStores, IsOurs, IsReady, LeavesStores, fixed_of, sealed_at};
+ghost use Rattle.bk_stores.specs.Stores.{AreStores, IsOurs, IsReady, LeavesStores, TouchesOurs, fixed_of, sealed_at};
 
 use crate::error::StoresError;
 use crate::records::owned_record;
@@ -44,6 +44,7 @@ impl Stores {
         ensures standing { D.tells → OnOk result (AreStanding (D.disk dev.new) self.new) }
         ensures stands { D.tells → (tolds : List Told) → AreStores (D.disk dev.old) self.old tolds → OnOk result (AreStores (D.disk dev.new) self.new tolds) }
         ensures crash { D.tells → (tolds : List Told) → AreStores (D.disk dev.old) self.old tolds → Effect IsOurs (λ image. LeavesStores (fixed_of self.old.master.record) (sealed_at self.old tolds) tolds image ⊎ LeavesStores (record (fixed_of self.old.master.record) { own = own }) (sealed_at self.old tolds) tolds image) (D.disk dev.old) (D.disk dev.new) }
+        ensures touches { D.tells → TouchesOurs (D.disk dev.old) (D.disk dev.new) }
         ensures trouble { IfErr result IsTrouble }
         ensures cause { HasCause D.disk_faults D.tell_faults dev.old dev.new (IsErrOf result StoresError.Fault) }
     {

@@ -11,7 +11,7 @@ ghost use Rattle.bk_stores.specs.Making.{Creates, MayRemove, Swaps, more_stored,
 ghost use Rattle.bk_stores.specs.Parking.{IsParked};
 ghost use Rattle.bk_stores.specs.Records.{AreSmall, begun, parked_entry};
 ghost use Rattle.bk_stores.specs.Standing.{AreStanding, AreUnused};
-ghost use Rattle.bk_stores.specs.Stores.{AreStores, IsOurs, IsReady, IsShut, LeavesStores, at_paths, fixed_of, sealed_at};
+ghost use Rattle.bk_stores.specs.Stores.{AreStores, IsOurs, IsReady, IsShut, LeavesStores, TouchesOurs, at_paths, fixed_of, sealed_at};
 
 use crate::error::StoresError;
 use crate::stores::Stores;
@@ -65,6 +65,7 @@ impl Stores {
         ensures stands { D.tells → (tolds : List Told) → AreStores (D.disk dev.old) self.old tolds → OnOk result (AreStores (D.disk dev.new) self.new tolds) }
         ensures shut { D.tells → (tolds : List Told) (told : Told) → AreStores (D.disk dev.old) self.old tolds → IsParked known.now note.now told → OnOk result (IsShut (D.disk dev.new) (parked_entry self.old.master.record.next) told) }
         ensures crash { D.tells → (tolds : List Told) → AreStores (D.disk dev.old) self.old tolds → Effect IsOurs (LeavesStores (fixed_of self.old.master.record) (sealed_at self.old tolds) tolds) (D.disk dev.old) (D.disk dev.new) }
+        ensures touches { D.tells → TouchesOurs (D.disk dev.old) (D.disk dev.new) }
         ensures trouble { IfErr result IsTrouble }
         ensures cause { HasCause D.disk_faults D.tell_faults dev.old dev.new (IsErrOf result StoresError.Fault) }
     {
@@ -96,6 +97,7 @@ impl Stores {
         ensures standing { D.tells → OnOk result (AreStanding (D.disk dev.new) self.new) }
         ensures stands { D.tells → (tolds : List Told) (told : Told) → AreStores (D.disk dev.old) self.old tolds → IsParked known.now note.now told → OnOk result (AreStores (D.disk dev.new) self.new (tolds ++ told ∷ [])) }
         ensures crash { D.tells → (tolds : List Told) (told : Told) → AreStores (D.disk dev.old) self.old tolds → IsParked known.now note.now told → Creates self.old tolds false told (D.disk dev.old) (D.disk dev.new) }
+        ensures touches { D.tells → TouchesOurs (D.disk dev.old) (D.disk dev.new) }
         ensures trouble { IfErr result IsTrouble }
         ensures cause { HasCause D.disk_faults D.tell_faults dev.old dev.new (IsErrOf result StoresError.Fault) }
     {
@@ -133,6 +135,7 @@ impl Stores {
         ensures standing { D.tells → OnOk result (AreStanding (D.disk dev.new) self.new) }
         ensures stands { D.tells → (tolds : List Told) (told new : Told) → AreStores (D.disk dev.old) self.old tolds → MayRemove self.old tolds at told paths.now → IsParked known.now note.now new → OnOk result (AreStores (D.disk dev.new) self.new (set tolds at new)) }
         ensures crash { D.tells → (tolds : List Told) (told new : Told) → AreStores (D.disk dev.old) self.old tolds → MayRemove self.old tolds at told paths.now → IsParked known.now note.now new → Swaps self.old tolds at false new (D.disk dev.old) (D.disk dev.new) }
+        ensures touches { D.tells → TouchesOurs (D.disk dev.old) (D.disk dev.new) }
         ensures trouble { IfErr result IsTrouble }
         ensures cause { HasCause D.disk_faults D.tell_faults dev.old dev.new (IsErrOf result StoresError.Fault) }
     {

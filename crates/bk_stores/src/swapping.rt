@@ -8,7 +8,7 @@ ghost use Rattle.bk_stores.specs.Errors.{IsTrouble};
 ghost use Rattle.bk_stores.specs.Making.{MaySwap, Swaps, set_stored};
 ghost use Rattle.bk_stores.specs.Records.{AreSmall, swapped};
 ghost use Rattle.bk_stores.specs.Standing.{AreStanding, AreUnused, Joins};
-ghost use Rattle.bk_stores.specs.Stores.{AreStores, IsReady, at_paths, fixed_of};
+ghost use Rattle.bk_stores.specs.Stores.{AreStores, IsReady, TouchesOurs, at_paths, fixed_of};
 
 use crate::error::StoresError;
 use crate::records::{store_at, swapped_record};
@@ -45,6 +45,7 @@ impl Stores {
         ensures standing { D.tells → OnOk result (AreStanding (D.disk dev.new) self.new) }
         ensures stands { D.tells → (tolds : List Told) (told new : Told) → AreStores (D.disk dev.old) self.old tolds → MaySwap (D.disk dev.old) self.old tolds at told entry slot new paths.now → OnOk result (AreStores (D.disk dev.new) self.new (set tolds at new)) }
         ensures crash { D.tells → (tolds : List Told) (told new : Told) → AreStores (D.disk dev.old) self.old tolds → MaySwap (D.disk dev.old) self.old tolds at told entry slot new paths.now → Swaps self.old tolds at entry.is_stored new (D.disk dev.old) (D.disk dev.new) }
+        ensures touches { D.tells → TouchesOurs (D.disk dev.old) (D.disk dev.new) }
         ensures trouble { IfErr result IsTrouble }
         ensures cause { HasCause D.disk_faults D.tell_faults dev.old dev.new (IsErrOf result StoresError.Fault) }
     {
@@ -83,6 +84,7 @@ impl Stores {
         ensures standing { D.tells → OnOk result (AreStanding (D.disk dev.new) self.new) }
         ensures stands { D.tells → (tolds : List Told) (told new : Told) → AreStores (D.disk dev.old) self.old tolds → MaySwap (D.disk dev.old) self.old tolds at told entry slot new paths.now → OnOk result (AreStores (D.disk dev.new) self.new (set tolds at new)) }
         ensures crash { D.tells → (tolds : List Told) (told new : Told) → AreStores (D.disk dev.old) self.old tolds → MaySwap (D.disk dev.old) self.old tolds at told entry slot new paths.now → Swaps self.old tolds at entry.is_stored new (D.disk dev.old) (D.disk dev.new) }
+        ensures touches { D.tells → TouchesOurs (D.disk dev.old) (D.disk dev.new) }
         ensures trouble { IfErr result IsTrouble }
         ensures cause { HasCause D.disk_faults D.tell_faults dev.old dev.new (IsErrOf result StoresError.Fault) }
     {

@@ -1,4 +1,5 @@
 use Rattle.std.proofs.Common.{refl}
+use Rattle.bk_stores.specs.TouchLaws.{none-touched, own-touched}
 use Rattle.bk_hosting.specs.Checkpointing.{marked}
 use Rattle.bk_hosting.proofs.StoreSaid.{fit-there, given-slots, inside-lent, its-store, lent-standing, store-crash, store-standing, store-stands}
 use Rattle.bk_hosting.proofs.checkpointing.mark_on.Goals as goal
@@ -47,3 +48,12 @@ pub returns-clause-crash : goal.returns-clause-crash
 returns-clause-crash g c = λ tells tolds told is here.
     store-crash (g.D.Device.disk c.args.dev.now) (g.D.Device.disk c.mark_store-made.new.dev) c.args.stores.now tolds c.args.at told (marked told c.args.time) c.in-Some.store is here c.in-Some.ensures.store refl
     (c.mark_store-made.ensures.crash tells told (its-store (g.D.Device.disk c.args.dev.now) c.args.stores.now tolds c.args.at told c.in-Some.store is here c.in-Some.ensures.store))
+
+pub returns-in_default-clause-touches : goal.returns-in_default-clause-touches
+returns-in_default-clause-touches g c = λ tells. none-touched (g.D.Device.disk c.args.dev.now)
+
+pub returns-in_err-made-clause-touches : goal.returns-in_err-made-clause-touches
+returns-in_err-made-clause-touches g c = λ tells. own-touched c.in-Some.store.paged.log.db c.in-Some.store.paged.facts.files (c.mark_store-made.ensures.touches tells)
+
+pub returns-clause-touches : goal.returns-clause-touches
+returns-clause-touches g c = λ tells. own-touched c.in-Some.store.paged.log.db c.in-Some.store.paged.facts.files (c.mark_store-made.ensures.touches tells)

@@ -1,4 +1,5 @@
 use Rattle.std.proofs.Common.{subst}
+use Rattle.bk_paged.specs.StandLaws.{none-touches}
 use Rattle.bk_store.specs.Store.{Crashes, IsStore}
 use Rattle.bk_store.specs.Told.{Told}
 use Rattle.bk_world.specs.Cut.{end_behind}
@@ -27,3 +28,6 @@ pub returns-clause-crash : goal.returns-clause-crash
 returns-clause-crash g c = λ tells told is.
     subst (λ (t : Told). Crashes c.args.store.now t (g.D.Device.disk c.args.dev.now) (g.D.Device.disk c.checkpoint.new.dev)) (marked-is c.args.store.now told c.args.time (g.D.Device.disk c.args.dev.now) is)
     (c.checkpoint.ensures.crash tells told is)
+
+pub returns-then-end-clause-touches : goal.returns-then-end-clause-touches
+returns-then-end-clause-touches g c = λ tells. none-touches c.args.store.now.paged (g.D.Device.disk c.args.dev.now)

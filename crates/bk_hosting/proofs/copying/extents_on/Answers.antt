@@ -1,6 +1,6 @@
 use Rattle.std.proofs.Common.{◌≡◌, ◌≤◌, subst}
 use Rattle.bk_store.specs.Store.{Kept as KeptStore}
-use Rattle.bk_hosting.proofs.CopiedStores.{copied-as, copied-crash, copied-standing, told-there}
+use Rattle.bk_hosting.proofs.CopiedStores.{copied-as, copied-crash, copied-standing, told-there, copied-touched, none-copied}
 use Rattle.bk_hosting.proofs.StoreSaid.{fit-there, given-slots, given-there, inside-lent, its-store, lent-standing, one-store}
 use Rattle.bk_hosting.proofs.copying.extents_on.Goals as goal
 
@@ -69,3 +69,12 @@ returns-clause-crash g c = λ tells tolds is.
     let told = told-there a c.args.stores.now tolds c.args.at c.in-Some.store is c.in-Some.ensures.store in
     let store = its-store a c.args.stores.now tolds c.args.at told.0 c.in-Some.store is told.1 c.in-Some.ensures.store in
     copied-crash a b c.args.stores.now tolds c.args.at told.0 c.in-Some.store c.args.staged.now c.requires.named is told.1 c.in-Some.ensures.store (c.copy_extents-copied.ensures.crash tells told.0 store)
+
+pub returns-in_default-clause-touches : goal.returns-in_default-clause-touches
+returns-in_default-clause-touches g c = λ tells. none-copied c.args.staged.now (g.D.Device.disk c.args.dev.now)
+
+pub returns-in_err-copied-clause-touches : goal.returns-in_err-copied-clause-touches
+returns-in_err-copied-clause-touches g c = λ tells. copied-touched c.in-Some.store c.args.staged.now (c.copy_extents-copied.ensures.touches tells)
+
+pub returns-clause-touches : goal.returns-clause-touches
+returns-clause-touches g c = λ tells. copied-touched c.in-Some.store c.args.staged.now (c.copy_extents-copied.ensures.touches tells)

@@ -1,7 +1,7 @@
 use Rattle.std.proofs.Common.{rules, ◌≡◌, Some}
 use Rattle.std.specs.Prelude.{slice_get}
 use Rattle.bk_hosting.specs.Hosting.{IsFitSlot}
-use Rattle.bk_hosting.proofs.CopiedStores.{copied-crash, rest-stores, still-standing, still-stands, told-there}
+use Rattle.bk_hosting.proofs.CopiedStores.{copied-crash, rest-stores, still-standing, still-stands, told-there, copied-touched, none-copied}
 use Rattle.bk_hosting.proofs.Lists.{all-at}
 use Rattle.bk_hosting.proofs.StoreSaid.{its-store}
 use Rattle.bk_hosting.proofs.copying.log_on.Goals as goal
@@ -51,3 +51,12 @@ returns-clause-crash g c = λ tells tolds is.
     let told = told-there a c.args.stores.now tolds c.args.at c.in-Some.store.now is there in
     let store = its-store a c.args.stores.now tolds c.args.at told.0 c.in-Some.store.now is told.1 there in
     copied-crash a b c.args.stores.now tolds c.args.at told.0 c.in-Some.store.now c.args.staged.now c.requires.named is told.1 there (c.copy_log.ensures.crash tells told.0 store)
+
+pub returns-in_default-clause-touches : goal.returns-in_default-clause-touches
+returns-in_default-clause-touches g c = λ tells. none-copied c.args.staged.now (g.D.Device.disk c.args.dev.now)
+
+pub returns-then-not-has_log-clause-touches : goal.returns-then-not-has_log-clause-touches
+returns-then-not-has_log-clause-touches g c = λ tells. none-copied c.args.staged.now (g.D.Device.disk c.args.dev.now)
+
+pub returns-clause-touches : goal.returns-clause-touches
+returns-clause-touches g c = λ tells. copied-touched c.in-Some.store.now c.args.staged.now (c.copy_log.ensures.touches tells)

@@ -1,5 +1,6 @@
 use Rattle.std.proofs.Common.{◌≡◌, ◌-◌, refl, sym, ap, ◌∙◌}
 use Rattle.bk_store.specs.Store.{sealed_in}
+use Rattle.bk_stores.specs.TouchLaws.{none-touched, own-touched}
 use Rattle.bk_hosting.proofs.StoreSaid.{fit-there, given-slots, given-there, inside-lent, its-store, lent-standing, one-store, store-either, store-standing, store-stands}
 use Rattle.bk_hosting.proofs.noting.note_on.Goals as goal
 
@@ -53,3 +54,12 @@ pub returns-clause-crash : goal.returns-clause-crash
 returns-clause-crash g c = λ tells tolds told is here.
     store-either (g.D.Device.disk c.args.dev.now) (g.D.Device.disk c.set_note-noted.new.dev) c.args.stores.now tolds c.args.at told (record told { note = c.args.note.now }) c.in-Some.store is here c.in-Some.ensures.store refl
     (c.set_note-noted.ensures.crash tells told (its-store (g.D.Device.disk c.args.dev.now) c.args.stores.now tolds c.args.at told c.in-Some.store is here c.in-Some.ensures.store))
+
+pub returns-in_default-clause-touches : goal.returns-in_default-clause-touches
+returns-in_default-clause-touches g c = λ tells. none-touched (g.D.Device.disk c.args.dev.now)
+
+pub returns-in_err-noted-clause-touches : goal.returns-in_err-noted-clause-touches
+returns-in_err-noted-clause-touches g c = λ tells. own-touched c.in-Some.store.paged.log.db c.in-Some.store.paged.facts.files (c.set_note-noted.ensures.touches tells)
+
+pub returns-clause-touches : goal.returns-clause-touches
+returns-clause-touches g c = λ tells. own-touched c.in-Some.store.paged.log.db c.in-Some.store.paged.facts.files (c.set_note-noted.ensures.touches tells)

@@ -3,6 +3,7 @@ use Rattle.bk_device.specs.Compose.{effect_weaken}
 use Rattle.bk_points.specs.Points.{points_bytes}
 use Rattle.bk_stores.specs.StandLaws.{rest-crash}
 use Rattle.bk_stores.specs.Stores.{LeavesStores, fixed_of, sealed_at}
+use Rattle.bk_stores.specs.TouchLaws.{none-touched}
 use Rattle.bk_hosting.proofs.noting.points_on.Goals as goal
 
 pub returns-in_err-note-clause-crash : goal.returns-in_err-note-clause-crash
@@ -16,3 +17,6 @@ returns-clause-crash g c = λ tells tolds told is here.
       | inl before ↦ inl before
       | inr after ↦ inr (c.in_ok-note.ensures.spelled, subst (λ (n : List ℕ). LeavesStores (fixed_of c.args.stores.now.master.record) (sealed_at c.args.stores.now tolds) (set tolds c.args.at (record told { note = n })) image) note after)
     ]) (c.note_on.ensures.crash tells tolds told is here)
+
+pub returns-in_err-note-clause-touches : goal.returns-in_err-note-clause-touches
+returns-in_err-note-clause-touches g c = λ tells. none-touched (g.D.Device.disk c.args.dev.now)

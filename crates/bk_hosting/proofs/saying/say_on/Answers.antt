@@ -1,5 +1,6 @@
 use Rattle.std.proofs.Common.{◌≡◌, refl, subst}
 use Rattle.bk_store.specs.Store.{Kept as KeptStore}
+use Rattle.bk_stores.specs.TouchLaws.{none-touched, own-touched}
 use Rattle.bk_hosting.specs.Saying.{SealsUpTo, telling}
 use Rattle.bk_hosting.proofs.StoreSaid.{fit-there, given-slots, given-there, inside-lent, its-store, lent-standing, one-store, store-crash, store-standing, store-stands}
 use Rattle.bk_hosting.proofs.saying.say_on.Goals as goal
@@ -56,3 +57,12 @@ pub returns-clause-crash : goal.returns-clause-crash
 returns-clause-crash g c = λ tells tolds told next is here may.
     store-crash (g.D.Device.disk c.args.dev.now) (g.D.Device.disk c.say_lasting-said.new.dev) c.args.stores.now tolds c.args.at told (telling told next) c.in-Some.store is here c.in-Some.ensures.store refl
     (c.say_lasting-said.ensures.crash tells told next (its-store (g.D.Device.disk c.args.dev.now) c.args.stores.now tolds c.args.at told c.in-Some.store is here c.in-Some.ensures.store) may)
+
+pub returns-in_default-clause-touches : goal.returns-in_default-clause-touches
+returns-in_default-clause-touches g c = λ tells. none-touched (g.D.Device.disk c.args.dev.now)
+
+pub returns-in_err-said-clause-touches : goal.returns-in_err-said-clause-touches
+returns-in_err-said-clause-touches g c = λ tells. own-touched c.in-Some.store.paged.log.db c.in-Some.store.paged.facts.files (c.say_lasting-said.ensures.touches tells)
+
+pub returns-clause-touches : goal.returns-clause-touches
+returns-clause-touches g c = λ tells. own-touched c.in-Some.store.paged.log.db c.in-Some.store.paged.facts.files (c.say_lasting-said.ensures.touches tells)

@@ -4,7 +4,8 @@ use Rattle.bk_device.specs.Compose.{effect_then}
 use Rattle.bk_device.specs.Disk.{IsSettled}
 use Rattle.bk_master.specs.Master.{IsMaster, made_file}
 use Rattle.bk_stores.specs.Loading.{HoldsInstance, Opens}
-use Rattle.bk_stores.proofs.Loaded.{found-stands, instance-moved, made-stands, opened-own, opens-made, opens-nothing, opens-synced, settled-moved}
+use Rattle.bk_stores.specs.TouchLaws.{master-touched}
+use Rattle.bk_stores.proofs.Loaded.{found-stands, instance-moved, made-stands, opened-own, opens-made, opens-nothing, opens-synced, settled-moved, load-touched, no-instance-moved}
 use Rattle.bk_stores.proofs.loading.open_master.Goals as goal
 
 pub returns-in_err-sync_own-clause-crash : goal.returns-in_err-sync_own-clause-crash
@@ -53,3 +54,15 @@ returns-clause-fixed g c t fixed tolds is =
     let call : ChangesNothing (disk c.args.dev.now) b = c.in_ok-sync_own.ensures.effect t in
     let holds : HoldsInstance c.args.number fixed b.files tolds = instance-moved c.args.number fixed tolds call is in
     opened-own c.args.number fixed tolds b.files c.in_ok-master.master holds (c.in_ok-master.ensures.fresh t) (c.in_ok-master.ensures.loaded t)
+
+pub returns-in_err-sync_own-clause-touches : goal.returns-in_err-sync_own-clause-touches
+returns-in_err-sync_own-clause-touches g c t = master-touched (c.sync_own.ensures.crash t)
+
+pub returns-in_err-master-clause-touches : goal.returns-in_err-master-clause-touches
+returns-in_err-master-clause-touches g c t = load-touched c.args.number (c.in_ok-sync_own.ensures.effect t) (c.in_ok-sync_own.ensures.durable t) (c.load.ensures.effect t) (c.load.ensures.crash t)
+
+pub returns-clause-touches : goal.returns-clause-touches
+returns-clause-touches g c t = load-touched c.args.number (c.in_ok-sync_own.ensures.effect t) (c.in_ok-sync_own.ensures.durable t) (c.load.ensures.effect t) (c.load.ensures.crash t)
+
+pub returns-clause-no_instance : goal.returns-clause-no_instance
+returns-clause-no_instance g c t = λ is. c.in_ok-master.ensures.no_instance t (no-instance-moved (c.in_ok-sync_own.ensures.effect t) is)

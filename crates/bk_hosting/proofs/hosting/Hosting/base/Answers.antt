@@ -4,6 +4,7 @@ use Rattle.bk_hosted.specs.Hosted.{based_points, basing, folded, folding, is_up}
 use Rattle.bk_points.specs.declared.points.Points.{Points}
 use Rattle.bk_points.specs.Points.{IsPoints}
 use Rattle.bk_stores.specs.Stores.{AreStores}
+use Rattle.bk_stores.specs.TouchLaws.{none-touched}
 use Rattle.bk_hosting.specs.declared.hosting.State.{State}
 use Rattle.bk_hosting.specs.Hosting.{IsHosting, Kept, LeavesEither, state_of}
 use Rattle.bk_hosting.specs.Saying.{NotesPoints, pointing}
@@ -82,3 +83,6 @@ returns-in_err-points_on-clause-crash g c = λ tells hosted h is here.
     as-viewed (λ own. LeavesEither own hosted (set hosted c.args.at (basing c.args.header.now (folding h)))) x c.args.self.now c.self.view_is
     (noted-crash a (g.D.Device.disk c.points_on.new.dev) x hosted c.args.at h new is' here open-here refl
     (λ tolds told stores at. subst (λ (p : Points). NotesPoints c.self.inside.stores tolds c.args.at told p a (g.D.Device.disk c.points_on.new.dev)) (read ∙ points) (c.points_on.ensures.crash tells tolds told stores at)))
+
+pub returns-then-not-is_open-clause-touches : goal.returns-then-not-is_open-clause-touches
+returns-then-not-is_open-clause-touches g c = λ tells. none-touched (g.D.Device.disk c.args.dev.now)

@@ -1,12 +1,13 @@
 use Rattle.std.proofs.Common.{rules, true, None, inl, ◌≡◌, ◌<◌, ◌∙◌, List, Some, length, refl, sym, ap, subst, set}
 use Rattle.std.specs.Prelude.{slice_get}
-use Rattle.bk_device.specs.Compose.{effect_weaken}
+use Rattle.bk_device.specs.Compose.{effect_weaken, effect_then}
 use Rattle.bk_device.specs.Effects.{Effect}
 use Rattle.bk_hosted.specs.Hosted.{Hosted, awaiting, folded, is_up}
 use Rattle.bk_points.specs.declared.points.Points.{Points}
 use Rattle.bk_points.specs.Points.{IsPoints}
 use Rattle.bk_stores.specs.ListLaws.{got-inside, got-set}
 use Rattle.bk_stores.specs.Stores.{AreStores, IsOurs, Kept as KeptStores}
+use Rattle.bk_stores.specs.TouchLaws.{none-touched}
 use Rattle.bk_hosting.specs.declared.hosting.State.{State}
 use Rattle.bk_hosting.specs.Checkpointing.{LeavesChecked, checked, to_check}
 use Rattle.bk_hosting.specs.Hosting.{IsHosting, IsOpenAt, IsReady, Kept, LeavesEither, own_of, state_of}
@@ -161,3 +162,12 @@ returns-clause-stands g c = λ tells hosted h is here.
     (marked-hosting b (g.D.Device.disk c.mark_on.new.dev) mid final (set hosted c.args.at (to_check h c.args.kept)) c.args.at (to_check h c.args.kept) c.args.time mid-is there mid-open
     (record { then = last.0; slots = last.1; sealed = last.3; stands = c.in_ok-mark_on.ensures.stands tells })
     (set-set items c.args.at first one ∙ ap (λ (s : State). set items c.args.at s) state-is ∙ sym (set-set items c.args.at (state_of (to_check h c.args.kept)) (state_of (behind (to_check h c.args.kept) c.args.time)))))
+
+pub returns-in_default-clause-touches : goal.returns-in_default-clause-touches
+returns-in_default-clause-touches g c = λ tells. none-touched (g.D.Device.disk c.args.dev.now)
+
+pub returns-in_err-mark_on-clause-touches : goal.returns-in_err-mark_on-clause-touches
+returns-in_err-mark_on-clause-touches g c = λ tells. effect_then (c.points_on.ensures.touches tells) (c.mark_on.ensures.touches tells)
+
+pub returns-clause-touches : goal.returns-clause-touches
+returns-clause-touches g c = λ tells. effect_then (c.points_on.ensures.touches tells) (c.mark_on.ensures.touches tells)

@@ -1,4 +1,5 @@
 use Rattle.std.proofs.Common.{rules, true, ◌≡◌, ◌≤◌, ◌∙◌, refl, sym, ap, subst}
+use Rattle.bk_hosting.proofs.CopiedStores.{none-copied}
 use Rattle.bk_stores.specs.Stores.{Kept as KeptStores}
 use Rattle.bk_hosting.specs.Copying.{AreAsBefore, HaveExtents}
 use Rattle.bk_hosting.specs.Hosting.{IsHosting, IsReady, IsSealedAt, Kept}
@@ -78,3 +79,6 @@ returns-clause-crash g c = λ tells hosted is.
     let x : Kept = record { stores = c.self.inside.stores; states = c.self.inside.states.items } in
     let is' : IsHosting a x hosted = subst (λ (k : Kept). IsHosting a k hosted) (sym c.self.view_is) is in
     copied-viewed x c.args.self.now hosted c.args.staged.now c.self.view_is (leaves-copied a b x hosted c.args.staged.now is' (c.extents_on.ensures.crash tells is'.tolds is'.stores))
+
+pub returns-then-not-is_open-clause-touches : goal.returns-then-not-is_open-clause-touches
+returns-then-not-is_open-clause-touches g c = λ tells. none-copied c.args.staged.now (g.D.Device.disk c.args.dev.now)

@@ -3,6 +3,7 @@ use Rattle.bk_device.specs.Compose.{effect_weaken}
 use Rattle.bk_hosted.specs.Hosted.{first_points}
 use Rattle.bk_stores.specs.Standing.{AreUnused}
 use Rattle.bk_stores.specs.Stores.{at_paths}
+use Rattle.bk_stores.specs.TouchLaws.{none-touched}
 use Rattle.bk_world.specs.declared.database.FileSpec.{FileSpec}
 use Rattle.bk_hosting.specs.declared.hosting.State.{State}
 use Rattle.bk_hosting.specs.Hosting.{IsHosting, Kept, LeavesEither}
@@ -48,3 +49,9 @@ returns-clause-crash g c = λ tells hosted is none.
     let x : Kept = record { stores = c.self.inside.stores; states = c.self.inside.states.items } in
     let is' : IsHosting a x hosted = subst (λ (k : Kept). IsHosting a k hosted) (sym c.self.view_is) is in
     as-viewed (λ own. LeavesEither own hosted (hosted ++ newly c.args.spec c.args.time c.args.branch ∷ [])) x c.args.self.now c.self.view_is (made-crash a (g.D.Device.disk c.create.new.dev) x hosted c.args.spec c.args.time c.args.branch is' (c.create.ensures.crash tells is'.tolds is'.stores (shares-none a x hosted c.args.spec is' none)))
+
+pub returns-in_err-state-clause-touches : goal.returns-in_err-state-clause-touches
+returns-in_err-state-clause-touches g c = λ tells. none-touched (g.D.Device.disk c.args.dev.now)
+
+pub returns-in_err-push-clause-touches : goal.returns-in_err-push-clause-touches
+returns-in_err-push-clause-touches g c = λ tells. none-touched (g.D.Device.disk c.args.dev.now)

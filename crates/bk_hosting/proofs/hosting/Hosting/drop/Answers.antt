@@ -2,6 +2,7 @@ use Rattle.std.proofs.Common.{rules, ◌≡◌, ◌<◌, ◌∙◌, length, inl,
 use Rattle.bk_device.specs.Compose.{effect_weaken}
 use Rattle.bk_stores.specs.ListLaws.{got}
 use Rattle.bk_stores.specs.Standing.{AreStanding}
+use Rattle.bk_stores.specs.TouchLaws.{none-touched}
 use Rattle.bk_hosting.specs.Hosting.{IsHosting, IsReady, Kept, LeavesEither}
 use Rattle.bk_hosting.specs.Making.{ArePathsAt}
 use Rattle.bk_hosting.proofs.Checked.{as-viewed, rest-hosted}
@@ -58,3 +59,6 @@ returns-clause-crash g c = λ tells hosted is inside.
     let named : c.deref.result.now ≡ c.in_ok-paths.paths.items = search rules in
     let may = may-remove a x hosted c.args.at h.0 c.deref.result.now is' h.1 (subst (ArePathsAt c.self.inside.stores.slots c.args.at) (sym named) found) in
     as-viewed (λ own. LeavesEither own hosted (remove hosted c.args.at)) x c.args.self.now c.self.view_is (dropped-crash a (g.D.Device.disk c.remove.new.dev) x hosted c.args.at is' inside (c.remove.ensures.crash tells is'.tolds may.0 is'.stores may.3))
+
+pub returns-in_err-paths-clause-touches : goal.returns-in_err-paths-clause-touches
+returns-in_err-paths-clause-touches g c = λ tells. none-touched (g.D.Device.disk c.args.dev.now)

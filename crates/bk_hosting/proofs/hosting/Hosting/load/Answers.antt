@@ -81,3 +81,9 @@ returns-clause-crash g c = λ tells settled own hosted holds.
     let opening : IsOpening b (record { stores = c.in_ok-stores.stores; states = c.new.result.items }) hosted = subst (λ (ss : List State). IsOpening b (record { stores = c.in_ok-stores.stores; states = ss }) hosted) (sym c.new.ensures.items)
     (loaded-opening b c.in_ok-stores.stores its.tolds hosted (c.in_ok-stores.ensures.stands tells settled its.fixed its.tolds its.holds) (ap (λ (f : Fixed). f.stored) same ∙ its.stored) its.tells its.some) in
     effect_then first (as-own c.args.number hosted (ap (λ (f : Fixed). f.own) same ∙ its.is_own) (c.open_all.ensures.crash tells c.args.number hosted opening))
+
+pub returns-clause-touches : goal.returns-clause-touches
+returns-clause-touches g c = λ tells. effect_then (c.load.ensures.touches tells) (c.in_ok-open_all.ensures.touches tells)
+
+pub returns-clause-made : goal.returns-clause-made
+returns-clause-made g c = λ tells. (c.in_ok-open_all.ensures.standing tells).master.made

@@ -1,5 +1,6 @@
 use Rattle.std.proofs.Common.{rules, true, ◌≡◌, ◌∙◌, inl, sym, ap, subst, set}
 use Rattle.bk_device.specs.Compose.{effect_weaken}
+use Rattle.bk_stores.specs.TouchLaws.{none-touched}
 use Rattle.bk_hosting.specs.declared.hosting.State.{State}
 use Rattle.bk_hosting.specs.Hosting.{IsHosting, Kept, LeavesSaid}
 use Rattle.bk_hosting.proofs.Checked.{as-viewed, rest-hosted}
@@ -56,3 +57,6 @@ returns-clause-lasts g c = λ lasts.
     let then = c.in_ok-say_on.ensures.slots in
     let opened = opened-as x c.args.self.now c.args.at (sym c.self.view_is) c.requires.ready (c.is_open.ensures.open yes) in
     (then.0, put-there c.self.inside.stores c.say_on.new.stores c.args.at then.0 opened then.1, then.3 lasts)
+
+pub returns-then-not-is_open-clause-touches : goal.returns-then-not-is_open-clause-touches
+returns-then-not-is_open-clause-touches g c = λ tells. none-touched (g.D.Device.disk c.args.dev.now)

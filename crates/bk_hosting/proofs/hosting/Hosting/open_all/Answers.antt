@@ -7,6 +7,7 @@ use Rattle.bk_hosted.specs.Hosted.{Hosted}
 use Rattle.bk_master.specs.declared.record.Own.{Own}
 use Rattle.bk_stores.specs.Stores.{IsOurs}
 use Rattle.bk_hosting.specs.Loading.{LeavesUndoing}
+use Rattle.bk_stores.specs.TouchLaws.{none-touched}
 use Rattle.bk_stores.specs.declared.error.StoresError.TheVariants.{Broken}
 use Rattle.bk_hosting.proofs.Loaded.{all-hosting, all-ready}
 use Rattle.bk_hosting.proofs.Opening.{rest-undoing}
@@ -23,6 +24,7 @@ stores-init g c = record {
   opening = λ tells hosted is. is;
   own = refl;
   crash = λ tells number hosted is. rest-undoing (g.D.Device.disk c.args.dev.now) c.args.self.now hosted is c.requires.partly number;
+  touches = λ tells. none-touched (g.D.Device.disk c.args.dev.now);
   cause = search rules;
 }
 
@@ -33,6 +35,7 @@ stores-preserved g c = record {
   opening = λ tells hosted is. c.in_ok-open_next.ensures.stands tells hosted (c.stores.invariant.opening tells hosted is);
   own = c.in_ok-open_next.ensures.own ∙ c.stores.invariant.own;
   crash = λ tells number hosted is. effect_then (c.stores.invariant.crash tells number hosted is) (next-crash number hosted c.stores.invariant.own (c.open_next.ensures.crash tells number hosted (c.stores.invariant.opening tells hosted is)));
+  touches = λ tells. effect_then (c.stores.invariant.touches tells) (c.in_ok-open_next.ensures.touches tells);
   cause = search rules;
 }
 

@@ -1,12 +1,13 @@
 use Rattle.std.proofs.Common.{rules, true, map, ◌≡◌, ◌<◌, ◌∙◌, ℕ, [], ◌∷◌, ◌++◌, Some, length, set, sym, ap, subst, arith, false, None}
 use Rattle.std.specs.Prelude.{slice_get, IsErrOf}
-use Rattle.bk_device.specs.Compose.{effect_then_nothing}
+use Rattle.bk_device.specs.Compose.{effect_then_nothing, effect_then}
 use Rattle.bk_device.specs.Effects.{Effect}
 use Rattle.bk_hosted.specs.Fronts.{settling}
 use Rattle.bk_hosted.specs.Hosted.{folded, is_up}
 use Rattle.bk_master.specs.declared.record.Entry.{Entry}
 use Rattle.bk_reopening.specs.Reopening.{settled as settled_told}
 use Rattle.bk_machine.specs.statements.Restore.{is_online}
+use Rattle.bk_stores.specs.TouchLaws.{nothing-touched}
 use Rattle.bk_stores.specs.declared.error.StoresError.TheVariants.{Broken}
 use Rattle.bk_stores.specs.ListLaws.{got-inside, got-set}
 use Rattle.bk_stores.specs.Stores.{AreStores, IsOurs, LeavesStores, fixed_of, sealed_at, Kept as KeptStores}
@@ -179,3 +180,6 @@ returns-then-not-is_online-clause-broken g c = λ tells broken hosted is.
     let online : c.is_online.result ≡ is_online c.in_ok-state.state.points.status = search rules in
     let both : false ≡ true = sym no ∙ online ∙ ap (λ (s : State). is_online s.points.status) state ∙ up in
     absurd (cc (both))
+
+pub returns-clause-touches : goal.returns-clause-touches
+returns-clause-touches g c = λ tells. effect_then (c.in_ok-open.ensures.touches tells) (nothing-touched (c.read_at.ensures.effect tells))

@@ -4,6 +4,7 @@ use Rattle.bk_hosted.specs.Hosted.{Hosted}
 use Rattle.bk_points.specs.Points.{points_bytes}
 use Rattle.bk_stores.specs.Parking.{IsParked}
 use Rattle.bk_stores.specs.Stores.{Fixed, fixed_of}
+use Rattle.bk_stores.specs.TouchLaws.{none-touched}
 use Rattle.bk_hosting.specs.declared.hosting.State.{State}
 use Rattle.bk_hosting.specs.Hosting.{IsHosting, Kept, LeavesEither, Tells, known_at, state_of}
 use Rattle.bk_hosting.proofs.Checked.{as-viewed, rest-hosted}
@@ -69,3 +70,9 @@ returns-clause-stands g c = λ tells hosted h is parks.
     more-hosting a (g.D.Device.disk c.park_new.new.dev) x hosted is' (told_of h) h tell parks.some (record { stores = c.park_new.new.self; states = c.push.new.self.items }) None c.in_ok-park_new.ensures.slots
     (ap (λ (f : Fixed). f.stored) c.in_ok-park_new.ensures.fixed ∙ stored-more (fixed_of x.stores.master.record) hosted false h is'.stored (sym parks.down))
     (c.in_ok-park_new.ensures.stands tells is'.tolds (told_of h) is'.stores parked-parks) (parks.down, parks.idle) (pushed ∙ ap (λ (s : State). c.self.inside.states.items ++ s ∷ []) state)
+
+pub returns-then-count-ge16-clause-touches : goal.returns-then-count-ge16-clause-touches
+returns-then-count-ge16-clause-touches g c = λ tells. none-touched (g.D.Device.disk c.args.dev.now)
+
+pub returns-in_err-note-clause-touches : goal.returns-in_err-note-clause-touches
+returns-in_err-note-clause-touches g c = λ tells. none-touched (g.D.Device.disk c.args.dev.now)

@@ -5,6 +5,7 @@ use Rattle.bk_points.specs.Points.{points_bytes}
 use Rattle.bk_stores.specs.Parking.{IsParked}
 use Rattle.bk_stores.specs.Standing.{AreStanding}
 use Rattle.bk_stores.specs.Stores.{Fixed, fixed_of}
+use Rattle.bk_stores.specs.TouchLaws.{none-touched}
 use Rattle.bk_hosting.specs.declared.hosting.State.{State}
 use Rattle.bk_hosting.specs.Hosting.{IsHosting, Kept, LeavesEither, Tells, known_at, state_of}
 use Rattle.bk_hosting.specs.Making.{ArePathsAt}
@@ -75,3 +76,9 @@ returns-clause-stands g c = λ tells hosted old h is here parks.
     put-hosting a (g.D.Device.disk c.park_at.new.dev) x hosted c.args.at old h may.0 (told_of h) None is' here may.1 tell parks.some (record { stores = c.park_at.new.self; states = c.put_state.new.states.items }) c.in_ok-park_at.ensures.slots
     (ap (λ (f : Fixed). f.stored) c.in_ok-park_at.ensures.fixed ∙ stored-set a (g.D.Device.disk c.park_at.new.dev) x hosted c.args.at old h may.0 (told_of h) None is' here may.1 tell parks.some (fixed_of x.stores.master.record) false is'.stored (sym parks.down))
     (c.in_ok-park_at.ensures.stands tells is'.tolds may.0 (told_of h) is'.stores may.3 parked-parks) (parks.down, parks.idle) (kept ∙ ap (λ (s : State). set c.self.inside.states.items c.args.at s) state)
+
+pub returns-in_err-note-clause-touches : goal.returns-in_err-note-clause-touches
+returns-in_err-note-clause-touches g c = λ tells. none-touched (g.D.Device.disk c.args.dev.now)
+
+pub returns-in_err-paths-clause-touches : goal.returns-in_err-paths-clause-touches
+returns-in_err-paths-clause-touches g c = λ tells. none-touched (g.D.Device.disk c.args.dev.now)

@@ -3,6 +3,7 @@ use Rattle.std.specs.Prelude.{slice_get, IsErrOf}
 use Rattle.bk_device.specs.Compose.{effect_then_nothing}
 use Rattle.bk_hosted.specs.Fronts.{settling}
 use Rattle.bk_hosted.specs.Hosted.{is_up}
+use Rattle.bk_stores.specs.TouchLaws.{nothing-touched}
 use Rattle.bk_stores.specs.declared.error.StoresError.TheVariants.{Broken}
 use Rattle.bk_stores.specs.ListLaws.{set-same}
 use Rattle.bk_stores.specs.Standing.{AreStanding}
@@ -78,3 +79,12 @@ returns-clause-stands g c = λ tells hosted is.
     let back = set-same is'.tolds (length x.states) next.told next.there in
     opening-next a x hosted is' partly b (record { stores = c.self.inside.stores; states = c.push.new.self.items }) next next.told None (subst (AreStores b x.stores) (sym back) still) tell is'.stored
     (sym (set-same x.stores.slots (length x.states) None next.shut)) down (pushed ∙ ap (λ (s : State). c.self.inside.states.items ++ s ∷ []) state)
+
+pub returns-in_err-state-clause-touches : goal.returns-in_err-state-clause-touches
+returns-in_err-state-clause-touches g c = λ tells. nothing-touched (c.noted_at.ensures.effect tells)
+
+pub returns-in_err-push-clause-touches : goal.returns-in_err-push-clause-touches
+returns-in_err-push-clause-touches g c = λ tells. nothing-touched (c.noted_at.ensures.effect tells)
+
+pub returns-clause-touches : goal.returns-clause-touches
+returns-clause-touches g c = λ tells. nothing-touched (c.noted_at.ensures.effect tells)

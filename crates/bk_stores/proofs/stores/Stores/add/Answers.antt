@@ -6,6 +6,7 @@ use Rattle.bk_stores.specs.Records.{rested}
 use Rattle.bk_stores.specs.StandLaws.{rest-crash}
 use Rattle.bk_stores.specs.Standing.{AreStanding, Joins}
 use Rattle.bk_stores.specs.Stores.{AreStores, Kept}
+use Rattle.bk_stores.specs.TouchLaws.{master-touched, none-touched}
 use Rattle.bk_stores.proofs.Added.{added-crash, added-put, added-stands}
 use Rattle.bk_stores.proofs.stores.Stores.add.Goals as goal
 
@@ -62,3 +63,15 @@ returns-clause-standing g c t =
     let slots_are : c.push.new.self.items ≡ c.self.inside.slots.items ++ c.args.slot ∷ [] = search rules in
     subst (λ (slots : List (Option KeptStore)). AreStanding b (record { master = c.put.new.self; slots = slots })) (sym slots_are)
     (added-put s c.args.entry c.args.slot c.put.new.self adds (c.in_ok-put.ensures.put ∙ next_is) here joins (c.in_ok-put.ensures.stands t) (c.put.ensures.crash t))
+
+pub returns-in_err-push-clause-touches : goal.returns-in_err-push-clause-touches
+returns-in_err-push-clause-touches g c t = none-touched (g.D.Device.disk c.args.dev.now)
+
+pub returns-in_err-next-clause-touches : goal.returns-in_err-next-clause-touches
+returns-in_err-next-clause-touches g c t = none-touched (g.D.Device.disk c.args.dev.now)
+
+pub returns-in_err-put-clause-touches : goal.returns-in_err-put-clause-touches
+returns-in_err-put-clause-touches g c t = master-touched (c.put.ensures.crash t)
+
+pub returns-clause-touches : goal.returns-clause-touches
+returns-clause-touches g c t = master-touched (c.put.ensures.crash t)

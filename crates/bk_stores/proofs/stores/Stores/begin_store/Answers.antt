@@ -8,6 +8,7 @@ use Rattle.bk_stores.specs.Records.{SharesNone, begun}
 use Rattle.bk_stores.specs.StandLaws.{rest-crash}
 use Rattle.bk_stores.specs.Standing.{AreStanding}
 use Rattle.bk_stores.specs.Stores.{AreStores, IsOurs, Kept, LeavesStores, at_paths, sealed_at, fixed_of}
+use Rattle.bk_stores.specs.TouchLaws.{master-touched, none-touched}
 use Rattle.bk_stores.proofs.Begun.{begun-crash, begun-free, begun-put, begun-stands}
 use Rattle.bk_stores.proofs.stores.Stores.begin_store.Goals as goal
 
@@ -67,3 +68,12 @@ returns-clause-free g c t tolds is =
     let here = subst (λ (k : Kept). AreStores a k tolds) (sym c.self.view_is) is in
     let few : s.master.record.next < 2 ^ 32 = search rules in
     subst (λ (k : Kept). LogsAreDurable k.master.record.next (g.D.Device.disk c.put.new.dev)) c.self.view_is (begun-free s tolds few here (c.put.ensures.crash t))
+
+pub returns-in_err-next-clause-touches : goal.returns-in_err-next-clause-touches
+returns-in_err-next-clause-touches g c t = none-touched (g.D.Device.disk c.args.dev.now)
+
+pub returns-in_err-put-clause-touches : goal.returns-in_err-put-clause-touches
+returns-in_err-put-clause-touches g c t = master-touched (c.put.ensures.crash t)
+
+pub returns-clause-touches : goal.returns-clause-touches
+returns-clause-touches g c t = master-touched (c.put.ensures.crash t)

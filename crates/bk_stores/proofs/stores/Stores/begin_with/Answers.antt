@@ -3,6 +3,7 @@ use Rattle.bk_paged.specs.Names.{paths_of}
 use Rattle.bk_stores.specs.Records.{begun}
 use Rattle.bk_stores.specs.StandLaws.{rest-crash}
 use Rattle.bk_stores.specs.Stores.{Kept}
+use Rattle.bk_stores.specs.TouchLaws.{none-touched}
 use Rattle.bk_stores.proofs.Brought.{paths-shared, paths-small}
 use Rattle.bk_stores.proofs.stores.Stores.begin_with.Goals as goal
 
@@ -38,3 +39,6 @@ pub returns-clause-crash : goal.returns-clause-crash
 returns-clause-crash g c t tolds is shares =
     let paths_are : c.deref.result.now ≡ paths_of c.args.files.now = search rules in
     c.begin_store.ensures.crash t tolds is (paths-shared c.args.self.now.master.record.databases tolds c.args.files.now c.deref.result.now paths_are shares)
+
+pub returns-in_err-paths-clause-touches : goal.returns-in_err-paths-clause-touches
+returns-in_err-paths-clause-touches g c t = none-touched (g.D.Device.disk c.args.dev.now)

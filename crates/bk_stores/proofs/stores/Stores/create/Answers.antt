@@ -8,11 +8,12 @@ use Rattle.bk_paged.specs.Names.{IsOwn}
 use Rattle.bk_segments.specs.Files.{control_file}
 use Rattle.bk_store.specs.Making.{Makes, founded}
 use Rattle.bk_store.specs.Store.{Kept as KeptStore}
-use Rattle.bk_store.specs.Told.{LeavesRecords, data_file}
+use Rattle.bk_store.specs.Told.{LeavesRecords, data_file, data_files}
 use Rattle.bk_stores.specs.Making.{IsSealed, MayAdd, more_stored}
 use Rattle.bk_stores.specs.Records.{begun, stored_entry}
 use Rattle.bk_stores.specs.Standing.{Joins}
 use Rattle.bk_stores.specs.Stores.{AreStores, fixed_of}
+use Rattle.bk_stores.specs.TouchLaws.{own-touched}
 use Rattle.bk_stores.proofs.Created.{on-ok, beside-crash, beside-standing, beside-stands, creates-as, may-add, may-join, unused-files}
 use Rattle.bk_stores.proofs.stores.Stores.create.Goals as goal
 
@@ -128,3 +129,9 @@ create-requires-clause-durable g c t =
     let number_is : c.in_ok-number.number ≡ c.args.self.now.master.record.next = search rules in
     let none = c.in_ok-number.ensures.none t in
     subst (λ (n : ℕ). IsDurable (disk c.make_way.new.dev) (control_file n)) (sym number_is) none.1
+
+pub returns-in_err-store-clause-touches : goal.returns-in_err-store-clause-touches
+returns-in_err-store-clause-touches g c t = effect_then (c.make_way.ensures.touches t) (own-touched c.in_ok-number.number (data_files (founded c.args.spec c.args.time c.args.branch)) (c.create.ensures.crash t))
+
+pub returns-clause-touches : goal.returns-clause-touches
+returns-clause-touches g c t = effect_then (effect_then (c.make_way.ensures.touches t) (own-touched c.in_ok-number.number (data_files (founded c.args.spec c.args.time c.args.branch)) (c.create.ensures.crash t))) (c.add.ensures.touches t)

@@ -8,6 +8,7 @@ use Rattle.bk_stores.specs.Records.{left_out}
 use Rattle.bk_stores.specs.StandLaws.{rest-crash}
 use Rattle.bk_stores.specs.Standing.{AreStanding}
 use Rattle.bk_stores.specs.Stores.{AreStores, Kept}
+use Rattle.bk_stores.specs.TouchLaws.{master-touched, none-touched}
 use Rattle.bk_stores.proofs.LeftOut.{left-crash, left-put, left-stands}
 use Rattle.bk_stores.proofs.stores.Stores.leave_out.Goals as goal
 
@@ -68,3 +69,12 @@ returns-clause-standing g c t =
     let slots_are : c.remove.new.self.items ≡ remove s.slots c.args.at = search rules in
     subst (λ (slots : List (Option KeptStore)). AreStanding b (record { master = c.put.new.self; slots = slots })) (sym slots_are)
     (left-put s c.args.at e c.args.paths.now c.put.new.self (c.in_ok-put.ensures.put ∙ next_is) there filled here (c.in_ok-put.ensures.stands t) (c.put.ensures.crash t))
+
+pub returns-in_err-next-clause-touches : goal.returns-in_err-next-clause-touches
+returns-in_err-next-clause-touches g c t = none-touched (g.D.Device.disk c.args.dev.now)
+
+pub returns-in_err-put-clause-touches : goal.returns-in_err-put-clause-touches
+returns-in_err-put-clause-touches g c t = master-touched (c.put.ensures.crash t)
+
+pub returns-clause-touches : goal.returns-clause-touches
+returns-clause-touches g c t = master-touched (c.put.ensures.crash t)

@@ -41,3 +41,12 @@ returns-clause-crash g c t settled fixed tolds is =
 
 pub returns-clause-fixed : goal.returns-clause-fixed
 returns-clause-fixed g c t fixed tolds is = c.in_ok-settle_in.ensures.fixed ∙ c.in_ok-master.ensures.fixed t fixed tolds is
+
+pub returns-in_err-settle_in-clause-touches : goal.returns-in_err-settle_in-clause-touches
+returns-in_err-settle_in-clause-touches g c t = effect_then (c.open_master.ensures.touches t) (c.settle_in.ensures.touches t)
+
+pub returns-clause-touches : goal.returns-clause-touches
+returns-clause-touches g c t = effect_then (c.open_master.ensures.touches t) (c.settle_in.ensures.touches t)
+
+pub returns-clause-made : goal.returns-clause-made
+returns-clause-made g c t = (c.in_ok-settle_in.ensures.standing t).master.made

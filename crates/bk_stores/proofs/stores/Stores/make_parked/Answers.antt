@@ -6,6 +6,7 @@ use Rattle.bk_paged.specs.Names.{IsOwn}
 use Rattle.bk_segments.specs.Files.{AreDurable as LogsAreDurable}
 use Rattle.bk_stores.specs.Records.{begun, parked_entry}
 use Rattle.bk_stores.specs.Stores.{AreStores, IsShut, Kept}
+use Rattle.bk_stores.specs.TouchLaws.{own-touched}
 use Rattle.bk_stores.proofs.Created.{beside-crash, beside-standing, beside-stands}
 use Rattle.bk_stores.proofs.Parked.{shares-none, unused-none}
 use Rattle.bk_stores.proofs.stores.Stores.make_parked.Goals as goal
@@ -83,3 +84,9 @@ returns-clause-crash g c t tolds is =
     let shares = shares-none s.master.record.databases tolds in
     let here : AreStores (disk c.begin_store.new.dev) then tolds = c.in_ok-begin_store.ensures.stands t tolds is shares in
     effect_then (c.begin_store.ensures.crash t tolds is shares) (beside-crash s then tolds [] [] begun_is slots_are few is.standing.entries shares here effect)
+
+pub returns-in_err-make_note-clause-touches : goal.returns-in_err-make_note-clause-touches
+returns-in_err-make_note-clause-touches g c t = effect_then (c.begin_store.ensures.touches t) (own-touched c.record.result.now.next [] (c.make_note.ensures.crash t))
+
+pub returns-clause-touches : goal.returns-clause-touches
+returns-clause-touches g c t = effect_then (c.begin_store.ensures.touches t) (own-touched c.record.result.now.next [] (c.make_note.ensures.crash t))

@@ -9,6 +9,7 @@ use Rattle.bk_stores.specs.Records.{begun}
 use Rattle.bk_stores.specs.StandLaws.{rest-crash}
 use Rattle.bk_stores.specs.Standing.{AreUnused}
 use Rattle.bk_stores.specs.Stores.{AreStores, at_paths}
+use Rattle.bk_stores.specs.TouchLaws.{none-touched, parts-touched}
 use Rattle.bk_stores.proofs.Created.{beside-crash, beside-standing, beside-stands, no-control, parts-named, paths-small, shares-at}
 use Rattle.bk_stores.proofs.stores.Stores.make_way.Goals as goal
 
@@ -104,3 +105,12 @@ returns-clause-standing g c t =
     subst (λ (x : Record). Effect (IsPart x.next (map data_name c.deref-2.result.now)) (λ _. Unit {0}) (disk c.begin_store.new.dev) (disk c.remove_parts.new.dev)) record_is (c.remove_parts.ensures.crash t) in
     let unused = subst (λ (paths : List (List ℕ)). AreUnused s.slots (at_paths paths)) (sym again_are) (c.requires.unused t) in
     beside-standing s then c.deref.result.now (at_paths c.deref-2.result.now) begun_is slots_are (c.requires.standing t).numbers unused (c.in_ok-begin_store.ensures.standing t) (parts-named s.master.record.next c.deref-2.result.now effect)
+
+pub returns-in_err-paths-clause-touches : goal.returns-in_err-paths-clause-touches
+returns-in_err-paths-clause-touches g c t = none-touched (g.D.Device.disk c.args.dev.now)
+
+pub returns-in_err-remove_parts-clause-touches : goal.returns-in_err-remove_parts-clause-touches
+returns-in_err-remove_parts-clause-touches g c t = effect_then (c.begin_store.ensures.touches t) (parts-touched c.record.result.now.next c.deref-2.result.now (c.remove_parts.ensures.crash t))
+
+pub returns-clause-touches : goal.returns-clause-touches
+returns-clause-touches g c t = effect_then (c.begin_store.ensures.touches t) (parts-touched c.record.result.now.next c.deref-2.result.now (c.remove_parts.ensures.crash t))

@@ -10,6 +10,7 @@ use Rattle.bk_stores.specs.Making.{IsSealed}
 use Rattle.bk_stores.specs.Standing.{AreStanding, AreUnused, IsStanding}
 use Rattle.bk_stores.specs.StandingLaws.{opened-standing}
 use Rattle.bk_stores.specs.Stores.{AreStores, IsShut, Kept}
+use Rattle.bk_stores.specs.TouchLaws.{own-touched}
 use Rattle.bk_stores.proofs.Opened.{opened-crash, opened-stands, opened-unused, shut-closed}
 use Rattle.bk_stores.proofs.stores.Stores.open.Goals as goal
 
@@ -141,3 +142,6 @@ returns-clause-opens g c =
       ap (λ (k : Kept). record k { slots = set k.slots c.args.at (Some store) }) c.self.view_is,
       subst IsSealed (sym c.in_ok-store.ensures.same) sealed,
     )
+
+pub returns-clause-touches : goal.returns-clause-touches
+returns-clause-touches g c t = own-touched c.in_ok-opened.opened.paged.log.db c.in_ok-opened.opened.paged.facts.files (c.in_ok-opened.ensures.touches t)

@@ -96,3 +96,6 @@ returns-clause-crash g c t tolds told new is may parked =
     (parked-may-swap s then tolds c.args.at told new c.args.paths.now (disk c.make_parked.new.dev) begun_is few is.standing.entries may shut) in
     effect_then (effect_weaken (λ image left. inl left) (c.make_parked.ensures.crash t tolds is))
     (swaps-as s then tolds c.args.at false new (disk c.make_parked.new.dev) (disk c.swap.new.dev) (ap fixed_of begun_is) slots_are (c.swap.ensures.crash t tolds told new here its))
+
+pub returns-clause-touches : goal.returns-clause-touches
+returns-clause-touches g c t = effect_then (c.make_parked.ensures.touches t) (c.swap.ensures.touches t)

@@ -77,3 +77,6 @@ returns-clause-crash g c t tolds told is parked =
     subst (λ (n : ℕ). MayAdd (disk c.make_parked.new.dev) then tolds (parked_entry n) None told) (sym number_is) (parked-may-add s then tolds told (disk c.make_parked.new.dev) begun_is few is.standing.entries shut) in
     effect_then (effect_weaken (λ image left. inl left) (c.make_parked.ensures.crash t tolds is))
     (creates-as s then tolds false told (disk c.make_parked.new.dev) (disk c.add.new.dev) (ap fixed_of begun_is) slots_are (c.add.ensures.crash t tolds told here may))
+
+pub returns-clause-touches : goal.returns-clause-touches
+returns-clause-touches g c t = effect_then (c.make_parked.ensures.touches t) (c.add.ensures.touches t)

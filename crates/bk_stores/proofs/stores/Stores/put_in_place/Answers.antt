@@ -7,6 +7,7 @@ use Rattle.bk_stores.specs.Records.{swapped}
 use Rattle.bk_stores.specs.StandLaws.{rest-crash}
 use Rattle.bk_stores.specs.Standing.{AreStanding, Joins}
 use Rattle.bk_stores.specs.Stores.{AreStores, Kept}
+use Rattle.bk_stores.specs.TouchLaws.{master-touched, none-touched}
 use Rattle.bk_stores.proofs.Swapped.{swapped-crash, swapped-put, swapped-stands}
 use Rattle.bk_stores.proofs.stores.Stores.put_in_place.Goals as goal
 
@@ -63,3 +64,12 @@ returns-clause-standing g c t =
     let there : slice_get s.master.record.databases c.args.at ≡ Some e = search rules in
     let next_is : c.in_ok-next.next ≡ swapped s.master.record c.args.at c.args.entry e.store c.args.paths.now = search rules in
     swapped-put s c.args.at e c.args.entry c.args.slot c.args.paths.now c.put.new.self (c.in_ok-put.ensures.put ∙ next_is) there below here joins (c.in_ok-put.ensures.stands t) (c.put.ensures.crash t)
+
+pub returns-in_err-next-clause-touches : goal.returns-in_err-next-clause-touches
+returns-in_err-next-clause-touches g c t = none-touched (g.D.Device.disk c.args.dev.now)
+
+pub returns-in_err-put-clause-touches : goal.returns-in_err-put-clause-touches
+returns-in_err-put-clause-touches g c t = master-touched (c.put.ensures.crash t)
+
+pub returns-clause-touches : goal.returns-clause-touches
+returns-clause-touches g c t = master-touched (c.put.ensures.crash t)

@@ -6,6 +6,7 @@ use Rattle.bk_stores.specs.Records.{owned}
 use Rattle.bk_stores.specs.StandLaws.{rest-crash}
 use Rattle.bk_stores.specs.Standing.{AreStanding}
 use Rattle.bk_stores.specs.Stores.{AreStores, IsOurs, Kept, LeavesStores, sealed_at, fixed_of}
+use Rattle.bk_stores.specs.TouchLaws.{master-touched, none-touched}
 use Rattle.bk_stores.proofs.Owned.{owned-crash, owned-keeps, owned-put, owned-stands}
 use Rattle.bk_stores.proofs.stores.Stores.put_own.Goals as goal
 
@@ -52,3 +53,12 @@ returns-clause-standing g c t =
     let here = subst (λ (k : Kept). AreStanding a k) (sym c.self.view_is) (c.requires.standing t) in
     let next_is : c.in_ok-next.next ≡ owned c.self.inside.master.record c.args.own = search rules in
     owned-put s c.args.own c.put.new.self (c.in_ok-put.ensures.put ∙ next_is) here (c.in_ok-put.ensures.stands t) (c.put.ensures.crash t)
+
+pub returns-in_err-next-clause-touches : goal.returns-in_err-next-clause-touches
+returns-in_err-next-clause-touches g c t = none-touched (g.D.Device.disk c.args.dev.now)
+
+pub returns-in_err-put-clause-touches : goal.returns-in_err-put-clause-touches
+returns-in_err-put-clause-touches g c t = master-touched (c.put.ensures.crash t)
+
+pub returns-clause-touches : goal.returns-clause-touches
+returns-clause-touches g c t = master-touched (c.put.ensures.crash t)

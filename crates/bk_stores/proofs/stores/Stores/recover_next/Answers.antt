@@ -1,5 +1,6 @@
 use Rattle.std.proofs.Common.{rules, ◌≡◌, ◌∙◌, ℕ, List, Option, inr, sym, subst}
 use Rattle.std.specs.Prelude.{IsErrOf}
+use Rattle.bk_device.specs.Compose.{effect_then}
 use Rattle.bk_device.specs.Calls.{contents}
 use Rattle.bk_facts.specs.declared.facts.DataFile.{DataFile}
 use Rattle.bk_paged.specs.Paged.{Standing}
@@ -14,6 +15,7 @@ use Rattle.bk_stores.specs.Making.{IsSealed}
 use Rattle.bk_stores.specs.Records.{SharesNone}
 use Rattle.bk_stores.specs.Standing.{AreUnused}
 use Rattle.bk_stores.specs.Stores.{AreStores, Kept}
+use Rattle.bk_stores.specs.TouchLaws.{both-touched}
 use Rattle.bk_stores.proofs.Brought.{made-crash, made-standing, made-stands, makes-on}
 use Rattle.bk_stores.proofs.stores.Stores.recover_next.Goals as goal
 
@@ -196,3 +198,6 @@ returns-clause-crash g c t tolds told is shares makes =
     let made : Makes (contents ((disk c.begin_with.new.dev).files c.args.medium.now.name)) c.args.stored.now files n c.args.checkpoint c.args.note.now c.args.known.now told =
     makes-on (disk c.args.dev.now) (disk c.begin_with.new.dev) s tolds n c.args.medium.now.name c.args.stored.now files c.args.checkpoint c.args.note.now c.args.known.now told number c.requires.elsewhere first makes in
     made-crash s then n files tolds named number is.standing.entries shares here first (c.recover.ensures.crash t free told made)
+
+pub returns-clause-touches : goal.returns-clause-touches
+returns-clause-touches g c t = effect_then (c.begin_with.ensures.touches t) (both-touched c.in_ok-number.number c.args.files.items c.in_ok-recovered.recovered.paged.facts.files (c.in_ok-recovered.ensures.touches t))

@@ -6,6 +6,7 @@ use Rattle.bk_master.specs.Spelling.{KeepsRecord}
 use Rattle.bk_stores.specs.LessLaws.{length-less-same, less-keeps}
 use Rattle.bk_stores.specs.Records.{left_out, unfinished_at}
 use Rattle.bk_stores.specs.Stores.{AreStores, fixed_of}
+use Rattle.bk_stores.specs.TouchLaws.{parts-touched}
 use Rattle.bk_stores.proofs.LeftOut.{less-fixed}
 use Rattle.bk_stores.proofs.Aside.{aside-crash, aside-stands, drops-then, left-aside}
 use Rattle.bk_stores.proofs.Created.{on-ok}
@@ -98,3 +99,9 @@ returns-clause-crash g c t tolds told is may =
     let own = ap fixed_of it.3 ∙ less-fixed c.args.self.now.master.record c.args.at c.in_ok-number.number c.args.paths.now in
     drops-then c.args.self.now then tolds c.args.at (disk c.args.dev.now) (disk c.leave_out.new.dev) (disk c.rest.new.dev) own slots (c.leave_out.ensures.crash t tolds told is may)
     (effect_then (aside-crash then (remove tolds c.args.at) n c.args.paths.now unfinished here (c.remove_parts.ensures.crash t)) (c.rest.ensures.crash t (remove tolds c.args.at) after))
+
+pub returns-in_err-remove_parts-clause-touches : goal.returns-in_err-remove_parts-clause-touches
+returns-in_err-remove_parts-clause-touches g c t = effect_then (c.leave_out.ensures.touches t) (parts-touched c.in_ok-number.number c.args.paths.now (c.remove_parts.ensures.crash t))
+
+pub returns-clause-touches : goal.returns-clause-touches
+returns-clause-touches g c t = effect_then (effect_then (c.leave_out.ensures.touches t) (parts-touched c.in_ok-number.number c.args.paths.now (c.remove_parts.ensures.crash t))) (c.rest.ensures.touches t)

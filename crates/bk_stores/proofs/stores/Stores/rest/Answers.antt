@@ -4,6 +4,7 @@ use Rattle.bk_stores.specs.Records.{rested}
 use Rattle.bk_stores.specs.StandLaws.{rest-crash}
 use Rattle.bk_stores.specs.Standing.{AreStanding}
 use Rattle.bk_stores.specs.Stores.{AreStores, IsOurs, Kept, LeavesStores, sealed_at, fixed_of}
+use Rattle.bk_stores.specs.TouchLaws.{master-touched, none-touched}
 use Rattle.bk_stores.proofs.Rested.{rested-crash, rested-put, rested-stands}
 use Rattle.bk_stores.proofs.stores.Stores.rest.Goals as goal
 
@@ -43,3 +44,12 @@ returns-clause-standing g c t is =
     let here = subst (λ (k : Kept). AreStanding a k) (sym c.self.view_is) is in
     let next_is : c.in_ok-next.next ≡ rested c.self.inside.master.record c.self.inside.master.record.databases = search rules in
     rested-put s c.put.new.self (c.in_ok-put.ensures.put ∙ next_is) here (c.in_ok-put.ensures.stands t) (c.put.ensures.crash t)
+
+pub returns-in_err-next-clause-touches : goal.returns-in_err-next-clause-touches
+returns-in_err-next-clause-touches g c t = none-touched (g.D.Device.disk c.args.dev.now)
+
+pub returns-in_err-put-clause-touches : goal.returns-in_err-put-clause-touches
+returns-in_err-put-clause-touches g c t = master-touched (c.put.ensures.crash t)
+
+pub returns-clause-touches : goal.returns-clause-touches
+returns-clause-touches g c t = master-touched (c.put.ensures.crash t)

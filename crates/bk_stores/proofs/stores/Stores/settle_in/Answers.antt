@@ -4,6 +4,7 @@ use Rattle.bk_stores.specs.Loading.{shut}
 use Rattle.bk_stores.specs.StandLaws.{rest-crash}
 use Rattle.bk_stores.specs.Standing.{AreNumbered, AreShut}
 use Rattle.bk_stores.specs.Stores.{AreEntries}
+use Rattle.bk_stores.specs.TouchLaws.{none-touched}
 use Rattle.bk_stores.proofs.Loaded.{entries-differ, shut-none}
 use Rattle.bk_stores.proofs.stores.Stores.settle_in.Goals as goal
 
@@ -26,3 +27,9 @@ returns-clause-standing g c t =
     let numbers : AreNumbered c.self.inside.master.record = subst AreNumbered record_is (c.is_sound.ensures.numbered c.if-not-is_sound.false) in
     let none : AreShut c.in_ok-self-inside.field-0.items = shut-none _ c.in_ok-self-inside.field-0.items c.in_ok-self-inside.ensures in
     c.tidy.ensures.standing t numbers none
+
+pub returns-in_err-self-inside-clause-touches : goal.returns-in_err-self-inside-clause-touches
+returns-in_err-self-inside-clause-touches g c t = none-touched (g.D.Device.disk c.args.dev.now)
+
+pub returns-then-not-is_sound-clause-touches : goal.returns-then-not-is_sound-clause-touches
+returns-then-not-is_sound-clause-touches g c t = none-touched (g.D.Device.disk c.args.dev.now)

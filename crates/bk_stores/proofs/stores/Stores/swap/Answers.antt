@@ -6,6 +6,7 @@ use Rattle.bk_master.specs.Spelling.{KeepsRecord}
 use Rattle.bk_stores.specs.Records.{swapped, unfinished_at}
 use Rattle.bk_stores.specs.Stores.{AreStores, fixed_of}
 use Rattle.bk_stores.specs.SwapLaws.{swapped-keeps}
+use Rattle.bk_stores.specs.TouchLaws.{parts-touched}
 use Rattle.bk_stores.proofs.Swapped.{set-fixed}
 use Rattle.bk_stores.proofs.Aside.{aside-crash, aside-stands, swapped-aside, swaps-then}
 use Rattle.bk_stores.proofs.Created.{on-ok}
@@ -100,3 +101,9 @@ returns-clause-crash g c t tolds told new is may =
     let own = ap fixed_of it.3 ∙ set-fixed c.args.self.now.master.record c.args.at c.args.entry c.in_ok-number.number c.args.paths.now in
     swaps-then c.args.self.now then tolds c.args.at told new c.args.entry c.args.slot c.args.paths.now (disk c.args.dev.now) (disk c.put_in_place.new.dev) (disk c.rest.new.dev) own slots is may (c.put_in_place.ensures.crash t tolds told new is may)
     (effect_then (aside-crash then (set tolds c.args.at new) n c.args.paths.now unfinished here (c.remove_parts.ensures.crash t)) (c.rest.ensures.crash t (set tolds c.args.at new) after))
+
+pub returns-in_err-remove_parts-clause-touches : goal.returns-in_err-remove_parts-clause-touches
+returns-in_err-remove_parts-clause-touches g c t = effect_then (c.put_in_place.ensures.touches t) (parts-touched c.in_ok-number.number c.args.paths.now (c.remove_parts.ensures.crash t))
+
+pub returns-clause-touches : goal.returns-clause-touches
+returns-clause-touches g c t = effect_then (effect_then (c.put_in_place.ensures.touches t) (parts-touched c.in_ok-number.number c.args.paths.now (c.remove_parts.ensures.crash t))) (c.rest.ensures.touches t)

@@ -8,7 +8,8 @@ use Rattle.bk_stores.specs.StandLaws.{rest-crash}
 use Rattle.bk_stores.specs.Standing.{AreStanding}
 use Rattle.bk_stores.specs.StandingLaws.{shut-beside}
 use Rattle.bk_stores.specs.Stores.{AreStores, IsOurs, Kept, LeavesStores, sealed_at, fixed_of}
-use Rattle.bk_stores.proofs.Any.{any-crash, any-keeps-master, any-stands}
+use Rattle.bk_stores.specs.TouchLaws.{none-touched}
+use Rattle.bk_stores.proofs.Any.{any-crash, any-keeps-master, any-stands, any-touched}
 use Rattle.bk_stores.proofs.stores.Stores.tidy.Goals as goal
 
 pub returns-then-is_empty-clause-crash : goal.returns-then-is_empty-clause-crash
@@ -78,3 +79,12 @@ returns-clause-standing g c t numbers shut =
       stores = shut-beside c.args.self.now.master.record.databases c.args.self.now.slots shut;
     } in
     c.rest.ensures.standing t after
+
+pub returns-then-is_empty-clause-touches : goal.returns-then-is_empty-clause-touches
+returns-then-is_empty-clause-touches g c t = none-touched (g.D.Device.disk c.args.dev.now)
+
+pub returns-in_err-remove_all-clause-touches : goal.returns-in_err-remove_all-clause-touches
+returns-in_err-remove_all-clause-touches g c t = any-touched c.as_slice-2.result.now (c.remove_all.ensures.crash t)
+
+pub returns-clause-touches : goal.returns-clause-touches
+returns-clause-touches g c t = effect_then (any-touched c.as_slice-2.result.now (c.remove_all.ensures.crash t)) (c.rest.ensures.touches t)
