@@ -1,5 +1,5 @@
 -- The end of a run, on the device.
-use Rattle.std.proofs.Common.{◌≡◌, ◌⊎◌, inl, inr, ℕ, List, Option, None, sym, subst, ◌∙◌}
+use Rattle.std.proofs.Common.{◌≡◌, ◌⊎◌, inl, inr, ℕ, List, Option, None, refl, sym, subst, ◌∙◌}
 use Rattle.bk_archive.specs.Media.{KeepsMedia}
 use Rattle.bk_archive.specs.MediaLaws.{media-in}
 use Rattle.bk_device.specs.Disk.{Disk, Files}
@@ -19,7 +19,7 @@ module _ (number : ℕ) (a : Disk) (e : Kept) (w : World) (own : Own) (is : Stan
   -- an image under the own part that reserves no more
   left-ended : (image : Files) → LeavesHosted own is.hosted image → KeepsMedia w None image → Stands number image (ended w)
   left-ended image left media =
-      ended-stands number w own is.hosted image is.sound ends idle (is.instance ∙ sym same_number) (is.counter ∙ sym same_counter) is.hosts rest left (subst (λ (making : Option (List ℕ)). KeepsMedia w making image) (sym none) media)
+      ended-stands number w own is.hosted image is.sound ends idle (is.instance ∙ sym same_number) (is.counter ∙ sym same_counter) is.hosts rest none left (subst (λ (making : Option (List ℕ)). KeepsMedia w making image) (sym none) media)
 
   pub closed-crash : (b : Disk) → IsReady e → Effect IsOfStores (λ image. LeavesHosted (own_in e) is.hosted image ⊎ LeavesHosted own is.hosted image) a b → Effect IsOurs (λ image. Covers w image ⊎ Stands number image (ended w)) a b
   closed-crash b ready effect = stores-wide (λ image left others.
@@ -29,7 +29,8 @@ module _ (number : ℕ) (a : Disk) (e : Kept) (w : World) (own : Own) (is : Stan
         | inr after ↦ inr (left-ended image after media)
       ]) effect
 
-  pub closed-leaves : {P : Files → Type 0} (b c : Disk) → Effect IsOfStores P a b → Effect IsOfStores (LeavesHosted own is.hosted) b c → Leaves number c (ended w)
-  closed-leaves b c put effect = λ image mine.
-      left-ended image (effect.now image (λ name store. mine name (inl store)))
-      (media-then w None c image (calm-beside effect (calm-beside put is.calm)) (λ name off at. mine name at) (media-in w None b.files c.files (media-beside effect) (media-in w None a.files b.files (media-beside put) is.media)))
+-- whatever is left between two calls stands for the world in which the run has ended, where no GUID is reserved
+pub rest-leaves : (number : ℕ) (b c : Disk) (e : Kept) (w : World) → IsReady e → (is : StandsFor b e w) → (own_in e).counter ≡ e.drawn → AreIdle w → IsSound (ended w) → Hosts (ended w) is.hosted → Effect IsOfStores (LeavesHosted (own_in e) is.hosted) b c → Leaves number c (ended w)
+rest-leaves number b c e w ready is exact idle ends rest effect = λ image mine.
+    left-ended number b e w (own_in e) is idle ends rest refl exact ready.no_medium image (effect.now image (λ name store. mine name (inl store)))
+    (media-then w None c image (calm-beside effect is.calm) (λ name off at. mine name at) (media-in w None b.files c.files (media-beside effect) is.media))

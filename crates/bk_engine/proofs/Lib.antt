@@ -4,6 +4,9 @@ mod Changed
 mod Reserved
 mod Made
 mod Marked
+mod Said
 mod Sealed
 mod Copied
 mod Closed
+mod Fills
+mod Brought

@@ -22,7 +22,10 @@ use Rattle.bk_undo.specs.Spelled.{spelled}
 use Rattle.bk_world.specs.declared.transaction.Open.{Open}
 use Rattle.bk_world.specs.Cut.{end_behind}
 use Rattle.bk_world.specs.Records.{Logged, Said, numbered}
+use Rattle.bk_ids.specs.declared.guid.Guid.{Guid}
+use Rattle.bk_master.specs.declared.record.Own.{Own}
 use Rattle.bk_engine.specs.Acts.{MaySayIn}
+use Rattle.bk_engine.specs.Stands.{Kept, NamesSet, own_in}
 
 -- ---- results
 
@@ -82,3 +85,18 @@ module _ (w : World) (name : List ℕ) (said : List Said) (ts : List Open) (reco
           opens = subst (λ (db : Database). AllByRecursion (λ (t : Open). has_begin ts t.begin ≡ true) db.transactions) (sym same) (may.waits is).1;
         };
       }
+
+-- ---- the own part
+
+-- it keeps its number, and names the same set, where it stays
+pub own-kept : {A E : Type 0} (result : Result A E) (e old new : Kept) → e ≡ old → OnOk result (own_in new ≡ own_in e) → OnOk result (NamesSet (own_in old).staging old new)
+own-kept (Ok value) e old new is stays =
+    let whole : own_in new ≡ own_in old = stays ∙ ap own_in is in
+    (ap (λ (o : Own). o.number) whole, ap (λ (o : Own). o.staging) whole)
+own-kept (Err error) e old new is stays = tt
+
+-- it names this set where it is put so
+pub own-put : {A E : Type 0} (result : Result A E) (e old new : Kept) (own : Own) (set : Option Guid) → e ≡ old → own.number ≡ (own_in e).number → own.staging ≡ set → OnOk result (own_in new ≡ own) → OnOk result (NamesSet set old new)
+own-put (Ok value) e old new own set is number staging put =
+    (ap (λ (o : Own). o.number) put ∙ number ∙ ap (λ (k : Kept). (own_in k).number) is, ap (λ (o : Own). o.staging) put ∙ staging)
+own-put (Err error) e old new own set is number staging put = tt

@@ -1,9 +1,12 @@
 -- What acts leave of a world's instance, counter, sessions and media.
-use Rattle.std.proofs.Common.{◌≡◌, ℕ, ◌+◌, List, Option, Some, None, refl, arith}
-use Rattle.bk_machine.specs.Acts.{Act, based, created, done, dropped, goes_online, logged, medium_made, recovered, replaced, restored, says, seated, set_sealed, turned, where_found}
-use Rattle.bk_machine.specs.MayDo.{HoldsOf, MayDo, MayRecover}
+use Rattle.std.proofs.Common.{◌≡◌, ◌∙◌, ℕ, ◌+◌, List, Option, Some, None, refl, arith}
+use Rattle.bk_hosted.specs.Hosted.{bringing_up}
+use Rattle.bk_machine.specs.Acts.{Act, Recovery, based, created, done, done_all, dropped, goes_online, logged, medium_made, recovered, replaced, restored, says, seated, set_sealed, turned, where_found}
+use Rattle.bk_machine.specs.MayDo.{HoldsOf, MayDo, MayDoAll, MayRecover}
 use Rattle.bk_machine.specs.World.{Database, World, database_named}
+use Rattle.bk_machine.specs.statements.Restore.{base_of}
 use Rattle.bk_machine.specs.Writes.{IsTurn}
+use Rattle.bk_world.specs.declared.header.Header.{Header}
 use Rattle.bk_world.specs.declared.transaction.Open.{Open}
 use Rattle.bk_world.specs.Records.{Said}
 
@@ -98,6 +101,16 @@ pub done-behind : (w : World) (act : Act) → MayDo w act → (IsTurn act → �
 done-behind w act may other =
     let seats : SeatsStay w (done w act) = done-seats w act other in
     record { instance = done-instance w act; counter = done-counter w act may; session = seats.session; sessions = seats.sessions }
+
+-- one in which a database was brought up
+pub up-behind : (w : World) (name : List ℕ) (header : Header) (r : Recovery) → MayDoAll w (bringing_up name header r) → IsBehind w (done_all w (bringing_up name header r)) 1
+up-behind w name header r may =
+    let mid : World = done w (restored name (base_of header) header.last) in
+    let first : IsBehind w mid 0 = done-behind w (restored name (base_of header) header.last) tt (λ turn. turn) in
+    let second : IsBehind mid (done mid (recovered name r)) 1 = done-behind mid (recovered name r) may.1.0 (λ turn. turn) in
+    let one = first.counter in
+    let two = second.counter in
+    record { instance = second.instance ∙ first.instance; counter = omega (arith, one, two); session = second.session ∙ first.session; sessions = second.sessions ∙ first.sessions }
 
 -- the world itself
 pub same-behind : (w : World) → IsBehind w w 0

@@ -1,5 +1,5 @@
 -- A run ends in which nothing is open: then each database is as it is settled.
-use Rattle.std.proofs.Common.{◌≡◌, inr, ℕ, true, List, [], ◌∷◌, map, refl, sym, ap, subst, ◌∙◌}
+use Rattle.std.proofs.Common.{◌≡◌, inr, ℕ, true, List, [], ◌∷◌, map, None, refl, sym, ap, subst, ◌∙◌}
 use Rattle.std.proofs.lemmas.List.{append-nil}
 use Rattle.std.specs.List.{AllByRecursion}
 use Rattle.bk_archive.specs.Media.{KeepsMedia}
@@ -79,9 +79,9 @@ all-idle [] idle = tt
 all-idle (h ∷ hosted) idle = (idle.0.transactions, all-idle hosted idle.1)
 
 -- what a crash leaves of a run in which nothing is open stands for the world in which the run has ended, where no more GUIDs are reserved than are drawn
-pub ended-stands : (number : ℕ) (w : World) (own : Own) (hosted : List Hosted) (image : Files) → IsSound w → IsSound (ended w) → AreIdle w → w.instance ≡ own.number → w.counter ≡ own.counter → Hosts w hosted → Hosts (ended w) hosted → LeavesHosted own hosted image → KeepsMedia w own.making image → Stands number image (ended w)
+pub ended-stands : (number : ℕ) (w : World) (own : Own) (hosted : List Hosted) (image : Files) → IsSound w → IsSound (ended w) → AreIdle w → w.instance ≡ own.number → w.counter ≡ own.counter → Hosts w hosted → Hosts (ended w) hosted → own.making ≡ None → LeavesHosted own hosted image → KeepsMedia w own.making image → Stands number image (ended w)
 unfolding ended
-ended-stands number w own hosted image sound ends idle instance counter hosts rest left media =
+ended-stands number w own hosted image sound ends idle instance counter hosts rest none left media =
     let opens : AllByRecursion (OpenBy w.history) (map database_of hosted) = subst (λ (dbs : List Database). AllByRecursion (OpenBy w.history) dbs) hosts.same sound.opens in
     let idles : AllByRecursion IsIdle (map database_of hosted) = subst (λ (dbs : List Database). AllByRecursion IsIdle dbs) hosts.same idle in
     record {
@@ -94,4 +94,5 @@ ended-stands number w own hosted image sound ends idle instance counter hosts re
       hosts = subst (Hosts (ended w)) (sym (all-settled w.history hosted hosts.each opens idles)) rest;
       holds = inr (subst (HoldsHosted own image) (none-lost hosted left.0 (all-idle hosted idles) left.1) left.2);
       media = media-on w (ended w) own.making image refl (λ path header in_it. refl) media;
+      finished = λ closed. none;
     }

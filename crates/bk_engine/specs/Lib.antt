@@ -11,5 +11,11 @@ pub mod Amid
 pub mod AmidLaws
 pub mod CloseLaws
 pub mod SeatLaws
+pub mod Saying
 pub mod Sealing
 pub mod Copying
+pub mod Touched
+pub mod TouchLaws
+pub mod Bringing
+pub mod GivenLaws
+pub mod BringingLaws

@@ -63,6 +63,7 @@ undoing-stands number files image w is left media = record {
   hosts = subst (Hosts w) (sym (all-settle is.hosted left.0 is.pends left.1)) is.hosts;
   holds = left.2;
   media = media;
+  finished = is.finished;
 }
 
 all-calm : (a : Disk) → IsSettled a → MediaAreDurable a
@@ -83,14 +84,15 @@ load-opens number a b x w settled is hosting own effect = record {
   hosts = is.hosts;
   hosting = hosting;
   media = subst (λ (o : Own). KeepsMedia w o.making b.files) (sym own) (media-in w is.own.making a.files b.files (media-beside effect) is.media);
+  finished = λ closed. ap (λ (o : Own). o.making) own ∙ is.finished closed;
   calm = calm-beside effect (all-calm a settled);
 }
 
 -- ---- what was being made is finished or removed
 
 -- a crash between two steps leaves files that stand for the world
-pub opened-left : (number : ℕ) (a : Disk) (x : Kept) (w : World) (own : Own) (image : Files) → (is : Opened a x w) → own.number ≡ (own_of x).number → own.counter ≡ (own_of x).counter → LeavesHosted own (map settling is.hosted) image → KeepsMedia w own.making image → Stands number image w
-opened-left number a x w own image is same_number same_counter left media = record {
+pub opened-left : (number : ℕ) (a : Disk) (x : Kept) (w : World) (own : Own) (image : Files) → (is : Opened a x w) → own.number ≡ (own_of x).number → own.counter ≡ (own_of x).counter → (w.closed ≡ true → own.making ≡ None) → LeavesHosted own (map settling is.hosted) image → KeepsMedia w own.making image → Stands number image w
+opened-left number a x w own image is same_number same_counter finished left media = record {
   sound = is.sound;
   own = own;
   instance = is.instance ∙ sym same_number;
@@ -100,17 +102,18 @@ opened-left number a x w own image is same_number same_counter left media = reco
   hosts = subst (Hosts w) (sym (settled-settle is.hosted is.pends)) is.hosts;
   holds = inr (subst (HoldsHosted own image) (none-lost (map settling is.hosted) left.0 (settled-idle is.hosted) left.1) left.2);
   media = media;
+  finished = finished;
 }
 
 -- so between two calls, and while what is done is done to stores
 pub opened-crash : (number : ℕ) (a b : Disk) (x : Kept) (w : World) → (is : Opened a x w) → Effect IsOfStores (LeavesHosted (own_of x) (map settling is.hosted)) a b → Effect IsOurs (λ image. Stands number image w) a b
-opened-crash number a b x w is effect = stores-wide (λ image left others. opened-left number a x w (own_of x) image is refl refl left (media-then w (own_of x).making a image is.calm others is.media)) effect
+opened-crash number a b x w is effect = stores-wide (λ image left others. opened-left number a x w (own_of x) image is refl refl is.finished left (media-then w (own_of x).making a image is.calm others is.media)) effect
 
 -- and while it is done to media or sets that are being written
 pub beside-crash : {own : List ℕ → Type 0} {P : Files → Type 0} (number : ℕ) (a b : Disk) (x : Kept) (w : World) → (is : Opened a x w) → ((name : List ℕ) → own name → IsBeside name) → ((image : Files) → MayLeaveOwn IsOfStores a image → LeavesHosted (own_of x) (map settling is.hosted) image)
     → ((image : Files) → P image → ((name : List ℕ) → (own name → ⊥) → IsOurs name → a.may name (image name)) → KeepsMedia w (own_of x).making image) → Effect own P a b → Effect IsOurs (λ image. Stands number image w) a b
 beside-crash number a b x w is within left media effect =
-    effect_widen (λ name at. inr (within name at)) (λ image done others. opened-left number a x w (own_of x) image is refl refl (left image (λ name store. others name (λ at. beside-store name (within name at) store) (inl store))) (media image done others)) effect
+    effect_widen (λ name at. inr (within name at)) (λ image done others. opened-left number a x w (own_of x) image is refl refl is.finished (left image (λ name store. others name (λ at. beside-store name (within name at) store) (inl store))) (media image done others)) effect
 
 -- the media behind it, as the record names them and as one that names none does
 pub record Cleared (disk : Disk) (x : Kept) (w : World) : Type 0 where
@@ -129,6 +132,7 @@ finished-opens a b x w is finished calm effect = record {
     hosts = is.hosts;
     hosting = hosting-stays x (map settling is.hosted) (stores-keep (λ name at. inl at) effect) is.hosting;
     media = (finished w is.media).0;
+    finished = is.finished;
     calm = calm;
   };
   media = (finished w is.media).1;
@@ -149,6 +153,7 @@ removed-opens a b x w cleared effect =
         hosts = is.hosts;
         hosting = hosting-stays x (map settling is.hosted) (stores-keep (λ name at. inr at) effect) is.hosting;
         media = media-in w (own_of x).making a.files b.files same is.media;
+        finished = is.finished;
         calm = media-durable a b medium-apart effect is.calm;
       };
       media = media-in w None a.files b.files same cleared.media;
@@ -172,6 +177,7 @@ cleared-opens a b x y w cleared number counter none hosting effect =
       hosts = is.hosts;
       hosting = hosting;
       media = subst (λ (making : Option (List ℕ)). KeepsMedia w making b.files) (sym none) (media-in w None a.files b.files (media-beside effect) cleared.media);
+      finished = λ closed. none;
       calm = calm-beside effect is.calm;
     }
 
@@ -180,8 +186,8 @@ pub cleared-crash : (number : ℕ) (a b : Disk) (x : Kept) (w : World) (own : Ow
 cleared-crash number a b x w own cleared same_number same_counter none effect =
     let is : Opened a x w = cleared.opened in
     stores-wide (λ image left others. elim left [
-      | inl before ↦ opened-left number a x w (own_of x) image is refl refl before (media-then w (own_of x).making a image is.calm others is.media)
-      | inr after ↦ opened-left number a x w own image is same_number same_counter after
+      | inl before ↦ opened-left number a x w (own_of x) image is refl refl is.finished before (media-then w (own_of x).making a image is.calm others is.media)
+      | inr after ↦ opened-left number a x w own image is same_number same_counter (λ closed. none) after
           (subst (λ (making : Option (List ℕ)). KeepsMedia w making image) (sym none) (media-then w None a image is.calm others cleared.media))
     ]) effect
 

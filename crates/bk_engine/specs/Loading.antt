@@ -19,7 +19,7 @@ use Rattle.bk_engine.specs.Stands.{IsOurs}
 abbrev pub PendsInOrder : Hosted → Type 0
 PendsInOrder h = is_up h ≡ true → PendingRise (pending h.records)
 
--- Files stand for a sound world: it hosts the databases that they hold, of each with all undone that is pending, and they keep its media. An instance that isn't made yet has this number.
+-- Files stand for a sound world: it hosts the databases that they hold, of each with all undone that is pending, and they keep its media. Where a run has ended no medium is being made. An instance that isn't made yet has this number.
 pub record Stands (number : ℕ) (files : Files) (w : World) : Type 0 where
   pub sound : IsSound w
   pub own : Own
@@ -30,6 +30,7 @@ pub record Stands (number : ℕ) (files : Files) (w : World) : Type 0 where
   pub hosts : Hosts w (map settling hosted)
   pub holds : HoldsHosting number own files hosted
   pub media : KeepsMedia w own.making files
+  pub finished : w.closed ≡ true → own.making ≡ None
 
 -- Databases that were opened stand for a sound world: it hosts them, of each with all undone that was pending. Nothing is pending in its media, and the record may name one that was being made.
 pub record Opened (disk : Disk) (x : KeptHosting) (w : World) : Type 0 where
@@ -41,6 +42,7 @@ pub record Opened (disk : Disk) (x : KeptHosting) (w : World) : Type 0 where
   pub hosts : Hosts w (map settling hosted)
   pub hosting : IsHosting disk x (map settling hosted)
   pub media : KeepsMedia w (own_of x).making disk.files
+  pub finished : w.closed ≡ true → (own_of x).making ≡ None
   pub calm : MediaAreDurable disk
 
 -- ---- what was being made

@@ -79,10 +79,15 @@ stores-wide then effect = effect_widen (λ name own. inl own) then effect
 pub rest-crash : (a b : Disk) (e : Kept) (w : World) → IsReady e → (is : StandsFor a e w) → Effect IsOfStores (LeavesHosted (own_in e) is.hosted) a b → Effect IsOurs (Covers w) a b
 rest-crash a b e w ready is effect = stores-wide (λ image left others. world-kept a e w image ready is left (media-then w None a image is.calm others is.media)) effect
 
--- an act that writes to no medium: a crash leaves the world before it, or the one behind it
+-- what comes to another world without a write to a medium: a crash leaves the one or the other
+pub world-crash : {P : Files → Type 0} (a b : Disk) (e : Kept) (w v : World) (n : ℕ) (hosted : List Hosted) → IsReady e → (is : StandsFor a e w) → IsBehind w v n → e.drawn + n ≤ (own_in e).counter → Hosts v hosted
+    → KeepsMedia v None a.files → ((image : Files) → P image → LeavesHosted (own_in e) is.hosted image ⊎ LeavesHosted (own_in e) hosted image) → Effect IsOfStores P a b → Effect IsOurs (λ image. Covers w image ⊎ Covers v image) a b
+world-crash a b e w v n hosted ready is behind reserved hosts media leaves effect = stores-wide (λ image left others. elim (leaves image left) [
+  | inl before ↦ inl (world-kept a e w image ready is before (media-then w None a image is.calm others is.media))
+  | inr after ↦ inr (world-left a e w v n hosted image ready is behind reserved hosts after (media-then v None a image is.calm others media))
+]) effect
+
+-- an act
 pub act-crash : {P : Files → Type 0} (a b : Disk) (e : Kept) (w : World) (act : Act) (hosted : List Hosted) → IsReady e → (is : StandsFor a e w) → IsBehind w (done w act) (draws act) → e.drawn + draws act ≤ (own_in e).counter → Hosts (done w act) hosted
     → KeepsMedia (done w act) None a.files → ((image : Files) → P image → LeavesHosted (own_in e) is.hosted image ⊎ LeavesHosted (own_in e) hosted image) → Effect IsOfStores P a b → Effect IsOurs (CutsAct w act) a b
-act-crash a b e w act hosted ready is behind reserved hosts media leaves effect = stores-wide (λ image left others. elim (leaves image left) [
-  | inl before ↦ inl (world-kept a e w image ready is before (media-then w None a image is.calm others is.media))
-  | inr after ↦ inr (world-left a e w (done w act) (draws act) hosted image ready is behind reserved hosts after (media-then (done w act) None a image is.calm others media))
-]) effect
+act-crash a b e w act hosted ready is behind reserved hosts media leaves effect = world-crash a b e w (done w act) (draws act) hosted ready is behind reserved hosts media leaves effect

@@ -1,6 +1,6 @@
 -- Which worlds an instance over its stores stands for, and which its files hold.
 -- SQL Server: "Database Files and Filegroups"; "Media Sets, Media Families, and Backup Sets".
-use Rattle.std.specs.Prelude.{◌≡◌, ◌≤◌, ◌+◌, ◌⊎◌, ℕ, List, map, None}
+use Rattle.std.specs.Prelude.{◌≡◌, ◌≤◌, ◌+◌, ◌⊎◌, ℕ, List, map, Option, None}
 use Rattle.bk_archive.specs.Media.{IsMediumFile, KeepsMedia, MediaAreDurable}
 use Rattle.bk_device.specs.Disk.{Disk, Files}
 use Rattle.bk_hosted.specs.Hosted.{Hosted, Hosts}
@@ -28,6 +28,10 @@ pub record Kept : Type 0 where
 -- what its record keeps of itself
 abbrev pub own_in : Kept → Own
 own_in e = own_of e.hosting
+
+-- its record names this set as being written, or none, and keeps the instance's number
+abbrev pub NamesSet : Option Guid → Kept → Kept → Type 0
+NamesSet set old new = ((own_in new).number ≡ (own_in old).number) × ((own_in new).staging ≡ set)
 
 -- Between two calls no medium is being made, and the record reserves at most 1,024 GUIDs that weren't drawn.
 pub record IsReady (e : Kept) : Type 0 where

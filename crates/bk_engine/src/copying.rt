@@ -12,7 +12,8 @@ ghost use Rattle.bk_store.specs.Told.{Told};
 ghost use Rattle.bk_stores.specs.Standing.{AreStanding};
 ghost use Rattle.bk_volume.specs.Staging.{HoldsParts, IsStaged};
 ghost use Rattle.bk_engine.specs.Copying.{IsToldOf};
-ghost use Rattle.bk_engine.specs.Stands.{Covers, IsOurs, IsReady, IsStagingFile, StandsFor};
+ghost use Rattle.bk_engine.specs.Stands.{Covers, IsOurs, IsReady, IsStagingFile, NamesSet, StandsFor, own_in};
+ghost use Rattle.bk_engine.specs.Touched.{NoMedium, TouchesOnly};
 
 use crate::engine::Engine;
 use bk_copying::CopyError;
@@ -50,6 +51,7 @@ impl Engine {
         requires few { staged.old.extents + length extents.now < 2 ^ 32 }
         requires staged { D.tells → IsStaged (D.disk dev.old) staged.old }
         ensures ready { OnOk result (IsReady self.new) }
+        ensures own { OnOk result (NamesSet (own_in self.old).staging self.old self.new) }
         ensures same { OnOk result (AreAsBefore self.old.hosting.stores at self.new.hosting.stores) }
         ensures counted { OnOk result (staged.new ≡ record staged.old { extents = staged.old.extents + length extents.now }) }
         ensures name { staged.new.name ≡ staged.old.name }
@@ -59,6 +61,7 @@ impl Engine {
         ensures added { D.tells → (w : World) (db : Database) → StandsFor (D.disk dev.old) self.old w → slice_get w.databases at ≡ Some db → (before : List Extent) → HoldsParts (D.disk dev.old) staged.old before []
             → OnOk result ((told : Told) × IsToldOf w db told × HoldsCopies (D.disk dev.new) staged.new before told extents.now) }
         ensures crash { D.tells → (w : World) → StandsFor (D.disk dev.old) self.old w → Effect IsOurs (Covers w) (D.disk dev.old) (D.disk dev.new) }
+        ensures touches { D.tells → TouchesOnly NoMedium (D.disk dev.old) (D.disk dev.new) }
         ensures cause { HasCause D.disk_faults D.tell_faults dev.old dev.new (IsErrOf result CopyError.Fault) }
     {
         self.hosting
@@ -90,6 +93,7 @@ impl Engine {
         ensures added { D.tells → (w : World) (db : Database) → StandsFor (D.disk dev.old) self.now w → slice_get w.databases at ≡ Some db → (extents : List Extent) (before : List ℕ) → HoldsParts (D.disk dev.old) staged.old extents before
             → OnOk result (HoldsLog (D.disk dev.new) staged.new extents before (log_of w.history db) from to) }
         ensures crash { D.tells → (w : World) → StandsFor (D.disk dev.old) self.now w → Effect IsOurs (Covers w) (D.disk dev.old) (D.disk dev.new) }
+        ensures touches { D.tells → TouchesOnly NoMedium (D.disk dev.old) (D.disk dev.new) }
         ensures cause { HasCause D.disk_faults D.tell_faults dev.old dev.new (IsErrOf result CopyError.Fault) }
     {
         self.hosting.copy_log(self.alloc, dev, at, staged, from, to)

@@ -3,14 +3,16 @@ ghost use Rattle.std.specs.Prelude.{◌≡◌, ◌⊎◌, ℕ, true, None, IfErr
 ghost use Rattle.bk_archive.specs.Calls.{HasFinished, LeavesFinishing};
 ghost use Rattle.bk_archive.specs.Media.{IfDurable, IsMediumFile, MediaAreDurable};
 ghost use Rattle.bk_device.specs.Counts.{HasCause};
-ghost use Rattle.bk_device.specs.Effects.{Effect};
+ghost use Rattle.bk_device.specs.Effects.{Effect, IsName};
 ghost use Rattle.bk_hosting.specs.Hosting.{IsReady as AreReady, own_of};
 ghost use Rattle.bk_machine.specs.World.{World};
 ghost use Rattle.bk_stores.specs.Errors.{IsTrouble};
 ghost use Rattle.bk_stores.specs.Standing.{AreStanding};
+ghost use Rattle.bk_volume.specs.Names.{medium_file};
 ghost use Rattle.bk_engine.specs.LoadLaws.{Cleared};
 ghost use Rattle.bk_engine.specs.Loading.{HasFinishedAny, LeavesFinishingAny, Opened, Stands};
 ghost use Rattle.bk_engine.specs.Stands.{IsOurs, IsStagingFile};
+ghost use Rattle.bk_engine.specs.Touched.{IsMadeAt, NoMedium, TouchesOnly};
 
 use bk_archive::{ArchiveError, finish_medium};
 use bk_device::Device;
@@ -26,6 +28,7 @@ fn finish_at<D: Device>(alloc: Global, dev: &mut D, path: &str) -> Result<(), St
     ensures finished { D.tells → OnOk result (HasFinished path.now (D.disk dev.old).files (D.disk dev.new).files) }
     ensures calm { D.tells → MediaAreDurable (D.disk dev.old) → OnOk result (MediaAreDurable (D.disk dev.new)) }
     ensures crash { D.tells → Effect IsMediumFile (IfDurable (D.disk dev.old) (LeavesFinishing path.now (D.disk dev.old).files)) (D.disk dev.old) (D.disk dev.new) }
+    ensures spares { D.tells → Effect (IsName (medium_file path.now)) (λ image. Unit {0}) (D.disk dev.old) (D.disk dev.new) }
     ensures trouble { IfErr result IsTrouble }
     ensures cause { HasCause D.disk_faults D.tell_faults dev.old dev.new (IsErrOf result StoresError.Fault) }
 {
@@ -45,6 +48,7 @@ fn finish_making<D: Device>(
     ensures finished { D.tells → OnOk result (HasFinishedAny making.now (D.disk dev.old).files (D.disk dev.new).files) }
     ensures calm { D.tells → MediaAreDurable (D.disk dev.old) → OnOk result (MediaAreDurable (D.disk dev.new)) }
     ensures crash { D.tells → Effect IsMediumFile (IfDurable (D.disk dev.old) (LeavesFinishingAny making.now (D.disk dev.old).files)) (D.disk dev.old) (D.disk dev.new) }
+    ensures touches { D.tells → TouchesOnly (IsMadeAt making.now) (D.disk dev.old) (D.disk dev.new) }
     ensures trouble { IfErr result IsTrouble }
     ensures cause { HasCause D.disk_faults D.tell_faults dev.old dev.new (IsErrOf result StoresError.Fault) }
 {
@@ -57,6 +61,7 @@ fn finish_making<D: Device>(
 // Removes what was written of this set.
 fn remove_at<D: Device>(alloc: Global, dev: &mut D, set: Guid) -> Result<(), StoresError>
     ensures crash { D.tells → Effect IsStagingFile (λ image. Unit {0}) (D.disk dev.old) (D.disk dev.new) }
+    ensures touches { D.tells → TouchesOnly NoMedium (D.disk dev.old) (D.disk dev.new) }
     ensures trouble { IfErr result IsTrouble }
     ensures cause { HasCause D.disk_faults D.tell_faults dev.old dev.new (IsErrOf result StoresError.Fault) }
 {
@@ -74,6 +79,7 @@ fn remove_set<D: Device>(
     staging: Option<Guid>,
 ) -> Result<(), StoresError>
     ensures crash { D.tells → Effect IsStagingFile (λ image. Unit {0}) (D.disk dev.old) (D.disk dev.new) }
+    ensures touches { D.tells → TouchesOnly NoMedium (D.disk dev.old) (D.disk dev.new) }
     ensures trouble { IfErr result IsTrouble }
     ensures cause { HasCause D.disk_faults D.tell_faults dev.old dev.new (IsErrOf result StoresError.Fault) }
 {
@@ -89,6 +95,7 @@ fn clear<D: Device>(alloc: Global, dev: &mut D, hosting: &Hosting) -> Result<(),
     ensures standing { D.tells → AreStanding (D.disk dev.new) hosting.now.stores }
     ensures stands { D.tells → (w : World) → Opened (D.disk dev.old) hosting.now w → OnOk result (Cleared (D.disk dev.new) hosting.now w) }
     ensures crash { D.tells → (number : ℕ) (w : World) → Opened (D.disk dev.old) hosting.now w → Effect IsOurs (λ image. Stands number image w) (D.disk dev.old) (D.disk dev.new) }
+    ensures touches { D.tells → TouchesOnly (IsMadeAt (own_of hosting.now).making) (D.disk dev.old) (D.disk dev.new) }
     ensures trouble { IfErr result IsTrouble }
     ensures cause { HasCause D.disk_faults D.tell_faults dev.old dev.new (IsErrOf result StoresError.Fault) }
 {
@@ -121,6 +128,7 @@ pub(crate) fn finish<D: Device>(
     ensures standing { D.tells → OnOk result (AreStanding (D.disk dev.new) hosting.new.stores) }
     ensures stands { D.tells → (w : World) → Opened (D.disk dev.old) hosting.old w → OnOk result (Opened (D.disk dev.new) hosting.new w) }
     ensures crash { D.tells → (number : ℕ) (w : World) → Opened (D.disk dev.old) hosting.old w → Effect IsOurs (λ image. Stands number image w) (D.disk dev.old) (D.disk dev.new) }
+    ensures touches { D.tells → TouchesOnly (IsMadeAt (own_of hosting.old).making) (D.disk dev.old) (D.disk dev.new) }
     ensures trouble { IfErr result IsTrouble }
     ensures cause { HasCause D.disk_faults D.tell_faults dev.old dev.new (IsErrOf result StoresError.Fault) }
 {

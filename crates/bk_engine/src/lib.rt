@@ -1,8 +1,10 @@
 //! An instance over its stores: the databases that it hosts, its media, and what it keeps in memory beside them. It does the acts of the machine, and a crash leaves the world before an act or behind it.
 #![tactic(auto)]
 
+mod bringing;
 mod checkpointing;
 mod closing;
+mod coming;
 mod copying;
 mod creating;
 mod dropping;
@@ -14,6 +16,7 @@ mod making;
 mod noting;
 mod parking;
 mod reserving;
+mod saying;
 mod sealing;
 mod seating;
 mod staging;

@@ -1,13 +1,15 @@
 // An instance is loaded.
-ghost use Rattle.std.specs.Prelude.{◌≡◌, ℕ, IfOk, OnOk, IsErrOf};
+ghost use Rattle.std.specs.Prelude.{◌≡◌, ◌≢◌, ℕ, None, IfOk, OnOk, IsErrOf, MatchResult};
+ghost use Rattle.bk_device.specs.Calls.{ChangesNothing};
 ghost use Rattle.bk_device.specs.Counts.{HasCause};
 ghost use Rattle.bk_device.specs.Disk.{IsSettled};
 ghost use Rattle.bk_device.specs.Effects.{Effect};
 ghost use Rattle.bk_machine.specs.World.{World, opened};
-ghost use Rattle.bk_master.specs.Master.{IsNoInstance};
+ghost use Rattle.bk_master.specs.Master.{IsMade, IsNoInstance};
 ghost use Rattle.bk_stores.specs.Standing.{AreStanding};
 ghost use Rattle.bk_engine.specs.Loading.{Stands};
-ghost use Rattle.bk_engine.specs.Stands.{IsOurs, IsReady, StandsFor};
+ghost use Rattle.bk_engine.specs.Stands.{IsOurs, IsReady, StandsFor, own_in};
+ghost use Rattle.bk_engine.specs.Touched.{IsMadeAt, IsPath, TouchesOnly};
 
 use crate::engine::Engine;
 use crate::finishing::finish;
@@ -31,9 +33,16 @@ impl Engine {
         number: u64,
     ) -> Result<Engine, StoresError>
         ensures ready { IfOk result IsReady }
+        ensures none { IfOk result (λ e. (own_in e).staging ≡ None) }
+        ensures exact { IfOk result (λ e. (own_in e).counter ≡ e.drawn) }
         ensures standing { D.tells → IfOk result (λ e. AreStanding (D.disk dev.new) e.hosting.stores) }
         ensures stands { D.tells → IsSettled (D.disk dev.old) → (w : World) → Stands number (D.disk dev.old).files w → IfOk result (λ e. StandsFor (D.disk dev.new) e (opened w)) }
         ensures crash { D.tells → IsSettled (D.disk dev.old) → (w : World) → Stands number (D.disk dev.old).files w → Effect IsOurs (λ image. Stands number image w) (D.disk dev.old) (D.disk dev.new) }
+        ensures touches { D.tells → OnOk result (TouchesOnly IsPath (D.disk dev.old) (D.disk dev.new)) }
+        ensures spares { D.tells → IsSettled (D.disk dev.old) → (w : World) (is : Stands number (D.disk dev.old).files w) → TouchesOnly (IsMadeAt is.own.making) (D.disk dev.old) (D.disk dev.new) }
+        ensures made { D.tells → OnOk result (IsMade (D.disk dev.new).files) }
+        ensures no_instance { D.tells → IsNoInstance (D.disk dev.old).files → MatchResult result (λ _. ⊥) (λ e. e ≢ StoresError.Broken) }
+        ensures untouched { D.tells → IsErrOf result StoresError.NotAnInstance → ChangesNothing (D.disk dev.old) (D.disk dev.new) }
         ensures not_an_instance { D.tells → IsErrOf result StoresError.NotAnInstance → IsNoInstance (D.disk dev.old).files }
         ensures broken { D.tells → IsErrOf result StoresError.Broken → IsSettled (D.disk dev.old) → (w : World) → Stands number (D.disk dev.old).files w → ⊥ }
         ensures cause { HasCause D.disk_faults D.tell_faults dev.old dev.new (IsErrOf result StoresError.Fault) }

@@ -11,7 +11,8 @@ ghost use Rattle.bk_stores.specs.Errors.{IsTrouble};
 ghost use Rattle.bk_stores.specs.Standing.{AreStanding};
 ghost use Rattle.bk_world.specs.Records.{Said};
 ghost use Rattle.bk_engine.specs.Acts.{CutsSaying, MaySayIn};
-ghost use Rattle.bk_engine.specs.Stands.{IsOurs, IsReady, StandsFor};
+ghost use Rattle.bk_engine.specs.Stands.{IsOurs, IsReady, NamesSet, StandsFor, own_in};
+ghost use Rattle.bk_engine.specs.Touched.{NoMedium, TouchesOnly};
 
 use crate::engine::Engine;
 use bk_device::Device;
@@ -38,9 +39,11 @@ impl Engine {
         requires limits { AllByRecursion (λ (r : Recs). KeepsLimits r.body) records.now }
         requires standing { D.tells → AreStanding (D.disk dev.old) self.old.hosting.stores }
         ensures ready { OnOk result (IsReady self.new) }
+        ensures own { OnOk result (NamesSet (own_in self.old).staging self.old self.new) }
         ensures standing { D.tells → OnOk result (AreStanding (D.disk dev.new) self.new.hosting.stores) }
         ensures stands { D.tells → (w : World) (said : List Said) → StandsFor (D.disk dev.old) self.old w → MaySayIn w name.now said transactions records.now lasting → OnOk result (StandsFor (D.disk dev.new) self.new (done w (logged name.now said transactions))) }
         ensures crash { D.tells → (w : World) (said : List Said) → StandsFor (D.disk dev.old) self.old w → MaySayIn w name.now said transactions records.now lasting → Effect IsOurs (CutsSaying w name.now said transactions) (D.disk dev.old) (D.disk dev.new) }
+        ensures touches { D.tells → TouchesOnly NoMedium (D.disk dev.old) (D.disk dev.new) }
         ensures trouble { IfErr result IsTrouble }
         ensures cause { HasCause D.disk_faults D.tell_faults dev.old dev.new (IsErrOf result StoresError.Fault) }
     {

@@ -4,7 +4,7 @@ ghost use Rattle.bk_archive.specs.Calls.{HasMade, LeavesMaking};
 ghost use Rattle.bk_archive.specs.Media.{IfDurable, IsMediumFile, KeepsMedia, MediaAreDurable};
 ghost use Rattle.bk_bytes.specs.Field.{AreBytes};
 ghost use Rattle.bk_device.specs.Counts.{HasCause};
-ghost use Rattle.bk_device.specs.Effects.{Effect};
+ghost use Rattle.bk_device.specs.Effects.{Effect, IsName};
 ghost use Rattle.bk_hosted.specs.Hosted.{Hosts};
 ghost use Rattle.bk_hosting.specs.Hosting.{IsReady as AreReady};
 ghost use Rattle.bk_machine.specs.Acts.{done, medium_made};
@@ -12,10 +12,12 @@ ghost use Rattle.bk_machine.specs.World.{World};
 ghost use Rattle.bk_master.specs.Spelling.{IsShort};
 ghost use Rattle.bk_stores.specs.Errors.{IsTrouble};
 ghost use Rattle.bk_stores.specs.Standing.{AreStanding};
+ghost use Rattle.bk_volume.specs.Names.{medium_file};
 ghost use Rattle.bk_world.specs.Medium.{medium_at};
 ghost use Rattle.bk_engine.specs.Acts.{CutsAct};
 ghost use Rattle.bk_engine.specs.Amid.{Amid};
-ghost use Rattle.bk_engine.specs.Stands.{Covers, IsOurs, IsReady, StandsFor, own_in};
+ghost use Rattle.bk_engine.specs.Stands.{Covers, IsOurs, IsReady, NamesSet, StandsFor, own_in};
+ghost use Rattle.bk_engine.specs.Touched.{IsAt, NoMedium, TouchesOnly};
 
 use crate::engine::Engine;
 use bk_archive::{ArchiveError, make_medium, media_stay};
@@ -41,6 +43,7 @@ fn make_at<D: Device>(alloc: Global, dev: &mut D, path: &Text) -> Result<(), Sto
     ensures made { D.tells → OnOk result (HasMade path.now (D.disk dev.old).files (D.disk dev.new).files) }
     ensures calm { D.tells → MediaAreDurable (D.disk dev.old) → OnOk result (MediaAreDurable (D.disk dev.new)) }
     ensures crash { D.tells → Effect IsMediumFile (IfDurable (D.disk dev.old) (LeavesMaking path.now (D.disk dev.old).files)) (D.disk dev.old) (D.disk dev.new) }
+    ensures spares { D.tells → Effect (IsName (medium_file path.now)) (λ image. Unit {0}) (D.disk dev.old) (D.disk dev.new) }
     ensures trouble { IfErr result IsTrouble }
     ensures cause { HasCause D.disk_faults D.tell_faults dev.old dev.new (IsErrOf result StoresError.Fault) }
 {
@@ -67,6 +70,7 @@ impl Engine {
         ensures standing { D.tells → OnOk result (AreStanding (D.disk dev.new) self.new.hosting.stores) }
         ensures stands { D.tells → (w : World) → Amid (D.disk dev.old) self.old.hosting w → KeepsMedia w making (D.disk dev.old).files → OnOk result (Amid (D.disk dev.new) self.new.hosting w) }
         ensures crash { D.tells → (w : World) → Amid (D.disk dev.old) self.old.hosting w → KeepsMedia w making (D.disk dev.old).files → Effect IsOurs (Covers w) (D.disk dev.old) (D.disk dev.new) }
+        ensures touches { D.tells → TouchesOnly NoMedium (D.disk dev.old) (D.disk dev.new) }
         ensures trouble { IfErr result IsTrouble }
         ensures cause { HasCause D.disk_faults D.tell_faults dev.old dev.new (IsErrOf result StoresError.Fault) }
     {
@@ -88,6 +92,7 @@ impl Engine {
             → OnOk result (Amid (D.disk dev.new) self.now.hosting (done w (medium_made path.now)) × KeepsMedia (done w (medium_made path.now)) None (D.disk dev.new).files) }
         ensures crash { D.tells → (w : World) → Amid (D.disk dev.old) self.now.hosting w → (own_in self.now).making ≡ Some path.now → w.counter + 1 ≤ (own_in self.now).counter → medium_at w.media path.now ≡ None
             → Effect IsOurs (CutsAct w (medium_made path.now)) (D.disk dev.old) (D.disk dev.new) }
+        ensures touches { D.tells → TouchesOnly (IsAt path.now) (D.disk dev.old) (D.disk dev.new) }
         ensures trouble { IfErr result IsTrouble }
         ensures cause { HasCause D.disk_faults D.tell_faults dev.old dev.new (IsErrOf result StoresError.Fault) }
     {
@@ -104,9 +109,11 @@ impl Engine {
         requires short { IsShort (Some path.now) }
         requires standing { D.tells → AreStanding (D.disk dev.old) self.old.hosting.stores }
         ensures ready { OnOk result (IsReady self.new) }
+        ensures own { OnOk result (NamesSet (own_in self.old).staging self.old self.new) }
         ensures standing { D.tells → OnOk result (AreStanding (D.disk dev.new) self.new.hosting.stores) }
         ensures stands { D.tells → (w : World) → StandsFor (D.disk dev.old) self.old w → medium_at w.media path.now ≡ None → OnOk result (StandsFor (D.disk dev.new) self.new (done w (medium_made path.now))) }
         ensures crash { D.tells → (w : World) → StandsFor (D.disk dev.old) self.old w → medium_at w.media path.now ≡ None → Effect IsOurs (CutsAct w (medium_made path.now)) (D.disk dev.old) (D.disk dev.new) }
+        ensures touches { D.tells → TouchesOnly (IsAt path.now) (D.disk dev.old) (D.disk dev.new) }
         ensures trouble { IfErr result IsTrouble }
         ensures cause { HasCause D.disk_faults D.tell_faults dev.old dev.new (IsErrOf result StoresError.Fault) }
     {

@@ -7,7 +7,8 @@ ghost use Rattle.bk_machine.specs.World.{World};
 ghost use Rattle.bk_stores.specs.Errors.{IsTrouble};
 ghost use Rattle.bk_stores.specs.Standing.{AreStanding};
 ghost use Rattle.bk_engine.specs.Acts.{CutsAct, DoesAct};
-ghost use Rattle.bk_engine.specs.Stands.{IsOurs, IsReady, StandsFor};
+ghost use Rattle.bk_engine.specs.Stands.{IsOurs, IsReady, NamesSet, StandsFor, own_in};
+ghost use Rattle.bk_engine.specs.Touched.{NoMedium, TouchesOnly};
 
 use crate::engine::Engine;
 use bk_archive::acts_keep_media;
@@ -30,9 +31,11 @@ impl Engine {
         requires ready { IsReady self.old }
         requires standing { D.tells → AreStanding (D.disk dev.old) self.old.hosting.stores }
         ensures ready { OnOk result (IsReady self.new) }
+        ensures own { OnOk result (NamesSet (own_in self.old).staging self.old self.new) }
         ensures standing { D.tells → OnOk result (AreStanding (D.disk dev.new) self.new.hosting.stores) }
         ensures stands { D.tells → OnOk result (DoesAct self.old (D.disk dev.old) (based name.now header.now) self.new (D.disk dev.new)) }
         ensures crash { D.tells → (w : World) → StandsFor (D.disk dev.old) self.old w → Effect IsOurs (CutsAct w (based name.now header.now)) (D.disk dev.old) (D.disk dev.new) }
+        ensures touches { D.tells → TouchesOnly NoMedium (D.disk dev.old) (D.disk dev.new) }
         ensures trouble { IfErr result IsTrouble }
         ensures cause { HasCause D.disk_faults D.tell_faults dev.old dev.new (IsErrOf result StoresError.Fault) }
     {

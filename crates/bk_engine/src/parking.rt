@@ -9,9 +9,9 @@ ghost use Rattle.bk_machine.specs.MayDo.{MayDo};
 ghost use Rattle.bk_machine.specs.World.{World};
 ghost use Rattle.bk_stores.specs.Errors.{IsTrouble};
 ghost use Rattle.bk_stores.specs.Standing.{AreStanding};
-ghost use Rattle.bk_world.specs.declared.database.State.TheVariants as state;
 ghost use Rattle.bk_engine.specs.Acts.{CutsAct, IsSetKnown};
-ghost use Rattle.bk_engine.specs.Stands.{IsOurs, IsReady, StandsFor};
+ghost use Rattle.bk_engine.specs.Stands.{IsOurs, IsReady, NamesSet, StandsFor, own_in};
+ghost use Rattle.bk_engine.specs.Touched.{NoMedium, TouchesOnly};
 
 use crate::engine::Engine;
 use bk_archive::acts_keep_media;
@@ -25,15 +25,19 @@ use bk_stores::StoresError;
 use bk_world::{Header, HeaderFile, State, Status, Unit};
 use std::alloc::{AllocError, Global};
 
-// Each file of a set, in this state.
-fn units_of(alloc: Global, files: &[HeaderFile]) -> Result<Vec<Unit>, AllocError>
-    ensures { IfOk result (λ units. units.items ≡ file_units state.Bad files.now) }
+/// Each file of a set, in this state.
+pub(crate) fn units_of(
+    alloc: Global,
+    files: &[HeaderFile],
+    state: State,
+) -> Result<Vec<Unit>, AllocError>
+    ensures { IfOk result (λ units. units.items ≡ file_units state files.now) }
 {
     let mut units = Vec::new(alloc);
     for file in files {
         units.push(Unit {
             id: UnitId::File(file.spec.number),
-            state: State::Bad,
+            state,
         })?;
     }
     Ok(units)
@@ -43,7 +47,7 @@ fn units_of(alloc: Global, files: &[HeaderFile]) -> Result<Vec<Unit>, AllocError
 fn points_of(alloc: Global, header: &Header) -> Result<Points, AllocError>
     ensures { IfOk result (λ points. points ≡ parked_points header.now) }
 {
-    let units = units_of(alloc, header.files.as_slice())?;
+    let units = units_of(alloc, header.files.as_slice(), State::Bad)?;
     Ok(Points {
         next_checkpoint: 0,
         next_kept: 0,
@@ -73,11 +77,13 @@ impl Engine {
         requires keeps { KeepsKnown known }
         requires standing { D.tells → AreStanding (D.disk dev.old) self.old.hosting.stores }
         ensures ready { OnOk result (IsReady self.new) }
+        ensures own { OnOk result (NamesSet (own_in self.old).staging self.old self.new) }
         ensures standing { D.tells → OnOk result (AreStanding (D.disk dev.new) self.new.hosting.stores) }
         ensures stands { D.tells → (w : World) → StandsFor (D.disk dev.old) self.old w → MayDo w (replaced known.spec.name header.now) → IsSetKnown w header.now known
             → OnOk result (StandsFor (D.disk dev.new) self.new (done w (replaced known.spec.name header.now))) }
         ensures crash { D.tells → (w : World) → StandsFor (D.disk dev.old) self.old w → MayDo w (replaced known.spec.name header.now) → IsSetKnown w header.now known
             → Effect IsOurs (CutsAct w (replaced known.spec.name header.now)) (D.disk dev.old) (D.disk dev.new) }
+        ensures touches { D.tells → TouchesOnly NoMedium (D.disk dev.old) (D.disk dev.new) }
         ensures trouble { IfErr result IsTrouble }
         ensures cause { HasCause D.disk_faults D.tell_faults dev.old dev.new (IsErrOf result StoresError.Fault) }
     {

@@ -1,11 +1,13 @@
 // GUIDs that are reserved.
 ghost use Rattle.std.specs.Prelude.{◌≡◌, ◌≤◌, ◌<◌, ◌+◌, ◌^◌, None, IfErr, OnOk, IsErrOf};
+ghost use Rattle.bk_archive.specs.MediaLaws.{SameFiles};
 ghost use Rattle.bk_device.specs.Counts.{HasCause};
 ghost use Rattle.bk_device.specs.Effects.{Effect};
 ghost use Rattle.bk_machine.specs.World.{World};
 ghost use Rattle.bk_stores.specs.Errors.{IsTrouble};
 ghost use Rattle.bk_stores.specs.Standing.{AreStanding};
-ghost use Rattle.bk_engine.specs.Stands.{Covers, IsOurs, IsReady, StandsFor, own_in};
+ghost use Rattle.bk_engine.specs.Stands.{Covers, IsOurs, IsReady, NamesSet, StandsFor, own_in};
+ghost use Rattle.bk_engine.specs.Touched.{NoMedium, TouchesOnly};
 
 use crate::engine::Engine;
 use bk_device::Device;
@@ -25,6 +27,7 @@ impl Engine {
         requires few { n ≤ 2 }
         requires standing { D.tells → AreStanding (D.disk dev.old) self.old.hosting.stores }
         ensures ready { OnOk result (IsReady self.new) }
+        ensures own { OnOk result (NamesSet (own_in self.old).staging self.old self.new) }
         ensures reserved { OnOk result (self.new.drawn + n ≤ (own_in self.new).counter) }
         ensures drawn { OnOk result (self.new.drawn ≡ self.old.drawn) }
         ensures small { OnOk result (self.new.drawn < 2 ^ 62) }
@@ -32,6 +35,8 @@ impl Engine {
         ensures standing { D.tells → OnOk result (AreStanding (D.disk dev.new) self.new.hosting.stores) }
         ensures stands { D.tells → (w : World) → StandsFor (D.disk dev.old) self.old w → OnOk result (StandsFor (D.disk dev.new) self.new w) }
         ensures crash { D.tells → (w : World) → StandsFor (D.disk dev.old) self.old w → Effect IsOurs (Covers w) (D.disk dev.old) (D.disk dev.new) }
+        ensures touches { D.tells → TouchesOnly NoMedium (D.disk dev.old) (D.disk dev.new) }
+        ensures media { D.tells → (w : World) → StandsFor (D.disk dev.old) self.old w → SameFiles (D.disk dev.old).files (D.disk dev.new).files }
         ensures trouble { IfErr result IsTrouble }
         ensures cause { HasCause D.disk_faults D.tell_faults dev.old dev.new (IsErrOf result StoresError.Fault) }
     {

@@ -4,7 +4,7 @@ ghost use Rattle.bk_archive.specs.Calls.{HasSealed, LeavesSealing};
 ghost use Rattle.bk_archive.specs.Media.{IfDurable, IsMediumFile, MediaAreDurable};
 ghost use Rattle.bk_body.specs.Body.{Body};
 ghost use Rattle.bk_device.specs.Counts.{HasCause};
-ghost use Rattle.bk_device.specs.Effects.{Effect};
+ghost use Rattle.bk_device.specs.Effects.{Effect, IsName};
 ghost use Rattle.bk_header.specs.Conditions.{KeepsConditions};
 ghost use Rattle.bk_machine.specs.Acts.{done, set_sealed};
 ghost use Rattle.bk_machine.specs.World.{World};
@@ -15,6 +15,7 @@ ghost use Rattle.bk_volume.specs.Staging.{IsSetOf, IsStaged};
 ghost use Rattle.bk_engine.specs.Acts.{CutsAct};
 ghost use Rattle.bk_engine.specs.Sealing.{MaySeal};
 ghost use Rattle.bk_engine.specs.Stands.{IsOurs, IsReady, IsStagingFile, StandsFor};
+ghost use Rattle.bk_engine.specs.Touched.{IsAt, TouchesOnly};
 
 use crate::engine::Engine;
 use bk_archive::{SealError, seal_set};
@@ -44,6 +45,7 @@ fn seal_at<D: Device>(
     ensures sealed { D.tells → (body : Body) → IsSetOf (D.disk dev.old) staged.now header.now tables.now body → OnOk result (HasSealed path.now body (D.disk dev.old).files (D.disk dev.new).files) }
     ensures calm { D.tells → (body : Body) → IsSetOf (D.disk dev.old) staged.now header.now tables.now body → MediaAreDurable (D.disk dev.old) → OnOk result (MediaAreDurable (D.disk dev.new)) }
     ensures crash { D.tells → (body : Body) → IsSetOf (D.disk dev.old) staged.now header.now tables.now body → Effect IsMediumFile (IfDurable (D.disk dev.old) (LeavesSealing path.now body (D.disk dev.old).files)) (D.disk dev.old) (D.disk dev.new) }
+    ensures spares { D.tells → (body : Body) → IsSetOf (D.disk dev.old) staged.now header.now tables.now body → Effect (IsName (medium_file path.now)) (λ image. Unit {0}) (D.disk dev.old) (D.disk dev.new) }
     ensures trouble { IfErr result IsTrouble }
     ensures cause { HasCause D.disk_faults D.tell_faults dev.old dev.new (IsErrOf result StoresError.Fault) }
 {
@@ -76,6 +78,7 @@ impl Engine {
         ensures standing { D.tells → (body : Body) → IsSetOf (D.disk dev.old) staged.now header.now tables.now body → AreStanding (D.disk dev.new) self.now.hosting.stores }
         ensures stands { D.tells → (w : World) (body : Body) → StandsFor (D.disk dev.old) self.now w → MaySeal (D.disk dev.old) w staged.now header.now tables.now body → OnOk result (StandsFor (D.disk dev.new) self.now (done w (set_sealed path.now header.now))) }
         ensures crash { D.tells → (w : World) (body : Body) → StandsFor (D.disk dev.old) self.now w → MaySeal (D.disk dev.old) w staged.now header.now tables.now body → Effect IsOurs (CutsAct w (set_sealed path.now header.now)) (D.disk dev.old) (D.disk dev.new) }
+        ensures touches { D.tells → (body : Body) → IsSetOf (D.disk dev.old) staged.now header.now tables.now body → TouchesOnly (IsAt path.now) (D.disk dev.old) (D.disk dev.new) }
         ensures trouble { IfErr result IsTrouble }
         ensures cause { HasCause D.disk_faults D.tell_faults dev.old dev.new (IsErrOf result StoresError.Fault) }
     {

@@ -1,13 +1,15 @@
 // Sets that are being written.
-ghost use Rattle.std.specs.Prelude.{◌≡◌, [], false, None, IfErr, IfOk, OnOk, IsErrOf};
+ghost use Rattle.std.specs.Prelude.{◌≡◌, [], false, None, Some, IfErr, IfOk, OnOk, IsErrOf};
 ghost use Rattle.bk_device.specs.Counts.{HasCause};
 ghost use Rattle.bk_device.specs.Effects.{Effect, IsName};
 ghost use Rattle.bk_machine.specs.World.{World};
 ghost use Rattle.bk_stores.specs.Errors.{IsTrouble};
 ghost use Rattle.bk_stores.specs.Standing.{AreStanding};
+ghost use Rattle.bk_stores.specs.Stores.{TouchesOurs};
 ghost use Rattle.bk_volume.specs.Names.{staging_file};
 ghost use Rattle.bk_volume.specs.Staging.{HoldsParts};
-ghost use Rattle.bk_engine.specs.Stands.{Covers, IsOurs, IsReady, IsStagingFile, StandsFor, own_in};
+ghost use Rattle.bk_engine.specs.Stands.{Covers, IsOurs, IsReady, IsStagingFile, NamesSet, StandsFor};
+ghost use Rattle.bk_engine.specs.Touched.{NoMedium, TouchesOnly};
 
 use crate::engine::Engine;
 use bk_device::Device;
@@ -34,6 +36,7 @@ fn begin_at<D: Device>(alloc: Global, dev: &mut D, set: Guid) -> Result<Staged, 
 
 // Removes the file of a set that was written.
 fn remove_file<D: Device>(dev: &mut D, staged: Staged) -> Result<(), StoresError>
+    ensures removed { D.tells → OnOk result ((D.disk dev.new).files staged.name ≡ None) }
     ensures crash { D.tells → Effect (IsName staged.name) (λ image. Unit {0}) (D.disk dev.old) (D.disk dev.new) }
     ensures trouble { IfErr result IsTrouble }
     ensures cause { HasCause D.disk_faults D.tell_faults dev.old dev.new (IsErrOf result StoresError.Fault) }
@@ -50,11 +53,12 @@ impl Engine {
         requires ready { IsReady self.old }
         requires standing { D.tells → AreStanding (D.disk dev.old) self.old.hosting.stores }
         ensures ready { OnOk result (IsReady self.new) }
-        ensures named { OnOk result ((own_in self.new).staging ≡ staging) }
+        ensures own { OnOk result (NamesSet staging self.old self.new) }
         ensures same { self.new ≡ record self.old { hosting = self.new.hosting } }
         ensures standing { D.tells → OnOk result (AreStanding (D.disk dev.new) self.new.hosting.stores) }
         ensures stands { D.tells → (w : World) → StandsFor (D.disk dev.old) self.old w → OnOk result (StandsFor (D.disk dev.new) self.new w) }
         ensures crash { D.tells → (w : World) → StandsFor (D.disk dev.old) self.old w → Effect IsOurs (Covers w) (D.disk dev.old) (D.disk dev.new) }
+        ensures touches { D.tells → TouchesOurs (D.disk dev.old) (D.disk dev.new) }
         ensures trouble { IfErr result IsTrouble }
         ensures cause { HasCause D.disk_faults D.tell_faults dev.old dev.new (IsErrOf result StoresError.Fault) }
     {
@@ -75,11 +79,13 @@ impl Engine {
         requires ready { IsReady self.old }
         requires standing { D.tells → AreStanding (D.disk dev.old) self.old.hosting.stores }
         ensures ready { OnOk result (IsReady self.new) }
+        ensures own { OnOk result (NamesSet (Some set) self.old self.new) }
         ensures begun { IfOk result (λ s. s ≡ record { name = staging_file set; extents = 0; log = 0; failed = false }) }
         ensures empty { D.tells → IfOk result (λ s. HoldsParts (D.disk dev.new) s [] []) }
         ensures standing { D.tells → OnOk result (AreStanding (D.disk dev.new) self.new.hosting.stores) }
         ensures stands { D.tells → (w : World) → StandsFor (D.disk dev.old) self.old w → OnOk result (StandsFor (D.disk dev.new) self.new w) }
         ensures crash { D.tells → (w : World) → StandsFor (D.disk dev.old) self.old w → Effect IsOurs (Covers w) (D.disk dev.old) (D.disk dev.new) }
+        ensures touches { D.tells → TouchesOnly NoMedium (D.disk dev.old) (D.disk dev.new) }
         ensures trouble { IfErr result IsTrouble }
         ensures cause { HasCause D.disk_faults D.tell_faults dev.old dev.new (IsErrOf result StoresError.Fault) }
     {
@@ -95,6 +101,8 @@ impl Engine {
         ensures standing { D.tells → AreStanding (D.disk dev.new) self.now.hosting.stores }
         ensures stands { D.tells → (w : World) → IsReady self.now → StandsFor (D.disk dev.old) self.now w → StandsFor (D.disk dev.new) self.now w }
         ensures crash { D.tells → (w : World) → IsReady self.now → StandsFor (D.disk dev.old) self.now w → Effect IsOurs (Covers w) (D.disk dev.old) (D.disk dev.new) }
+        ensures touches { D.tells → TouchesOnly NoMedium (D.disk dev.old) (D.disk dev.new) }
+        ensures removed { D.tells → OnOk result ((D.disk dev.new).files staged.name ≡ None) }
         ensures trouble { IfErr result IsTrouble }
         ensures cause { HasCause D.disk_faults D.tell_faults dev.old dev.new (IsErrOf result StoresError.Fault) }
     {
@@ -110,9 +118,12 @@ impl Engine {
         requires named { IsStagingFile staged.name }
         requires standing { D.tells → AreStanding (D.disk dev.old) self.old.hosting.stores }
         ensures ready { OnOk result (IsReady self.new) }
+        ensures own { OnOk result (NamesSet None self.old self.new) }
         ensures standing { D.tells → OnOk result (AreStanding (D.disk dev.new) self.new.hosting.stores) }
         ensures stands { D.tells → (w : World) → StandsFor (D.disk dev.old) self.old w → OnOk result (StandsFor (D.disk dev.new) self.new w) }
         ensures crash { D.tells → (w : World) → StandsFor (D.disk dev.old) self.old w → Effect IsOurs (Covers w) (D.disk dev.old) (D.disk dev.new) }
+        ensures touches { D.tells → TouchesOnly NoMedium (D.disk dev.old) (D.disk dev.new) }
+        ensures gone { D.tells → OnOk result ((D.disk dev.new).files staged.name ≡ None) }
         ensures trouble { IfErr result IsTrouble }
         ensures cause { HasCause D.disk_faults D.tell_faults dev.old dev.new (IsErrOf result StoresError.Fault) }
     {

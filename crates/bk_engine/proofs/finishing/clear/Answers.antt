@@ -10,6 +10,8 @@ use Rattle.bk_engine.specs.BesideLaws.{stores-keep, stores-stand}
 use Rattle.bk_engine.specs.LoadLaws.{Cleared, beside-crash, finished-opens, removed-media, removed-opens}
 use Rattle.bk_engine.specs.Loading.{HasFinishedAny, LeavesFinishingAny}
 use Rattle.bk_engine.proofs.Named.{moved, on-all, plain}
+use Rattle.bk_engine.specs.TouchLaws.{wider-touch}
+use Rattle.bk_engine.specs.Touched.{IsMadeAt, TouchesOnly}
 use Rattle.bk_engine.proofs.finishing.clear.Goals as goal
 
 pub returns-in_err-finish_making-clause-standing : goal.returns-in_err-finish_making-clause-standing
@@ -59,3 +61,9 @@ returns-clause-stands g c = λ tells w is.
     let calm : MediaAreDurable b = c.in_ok-finish_making.ensures.calm tells (subst (λ d. MediaAreDurable (g.D.Device.disk d)) (sym c.at_rest.ensures.same) is.calm) in
     let cleared : Cleared b x w = finished-opens a b x w is finished calm effect in
     on-all c.remove_set.result (λ value ok. removed-opens b (g.D.Device.disk c.remove_set.new.dev) x w cleared (moved g.D.Device.disk c.finish_making.new.dev c.at_rest-2.new.dev c.at_rest-2.ensures.same (c.remove_set.ensures.crash tells)))
+
+pub returns-in_err-finish_making-clause-touches : goal.returns-in_err-finish_making-clause-touches
+returns-in_err-finish_making-clause-touches g c = λ tells. subst (λ (o : Own). TouchesOnly (IsMadeAt o.making) (g.D.Device.disk c.args.dev.now) (g.D.Device.disk c.finish_making.new.dev)) c.own-own.ensures (moved g.D.Device.disk c.args.dev.now c.at_rest.new.dev c.at_rest.ensures.same (c.finish_making.ensures.touches tells))
+
+pub returns-clause-touches : goal.returns-clause-touches
+returns-clause-touches g c = λ tells. effect_then (subst (λ (o : Own). TouchesOnly (IsMadeAt o.making) (g.D.Device.disk c.args.dev.now) (g.D.Device.disk c.finish_making.new.dev)) c.own-own.ensures (moved g.D.Device.disk c.args.dev.now c.at_rest.new.dev c.at_rest.ensures.same (c.finish_making.ensures.touches tells))) (moved g.D.Device.disk c.finish_making.new.dev c.at_rest-2.new.dev c.at_rest-2.ensures.same (wider-touch (λ path bad. absurd bad) (c.remove_set.ensures.touches tells)))

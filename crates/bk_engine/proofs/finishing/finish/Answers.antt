@@ -5,6 +5,7 @@ use Rattle.bk_master.specs.declared.record.Own.{Own}
 use Rattle.bk_engine.specs.LoadLaws.{Cleared, cleared-crash, cleared-opens, opened-crash}
 use Rattle.bk_engine.specs.Loading.{Opened}
 use Rattle.bk_engine.proofs.Named.{moved, of-ok, on-all}
+use Rattle.bk_engine.specs.TouchLaws.{rest-touch, stores-touch}
 use Rattle.bk_engine.proofs.finishing.finish.Goals as goal
 
 pub returns-then-is_whole-clause-crash : goal.returns-then-is_whole-clause-crash
@@ -29,3 +30,12 @@ returns-clause-crash g c = λ tells number w is.
     effect_then (moved g.D.Device.disk c.args.dev.now c.at_rest.new.dev c.at_rest.ensures.same (c.clear.ensures.crash tells number w (subst (λ d. Opened (g.D.Device.disk d) c.args.hosting.now w) (sym c.at_rest.ensures.same) is)))
     (cleared-crash number (g.D.Device.disk c.clear.new.dev) (g.D.Device.disk c.put_own.new.dev) c.args.hosting.now w _ cleared (ap (λ (o : Own). o.number) c.own-own.ensures) (ap (λ (o : Own). o.counter) c.own-own.ensures) refl
     (c.put_own.ensures.crash tells (map settling cleared.opened.hosted) cleared.opened.hosting))
+
+pub returns-then-is_whole-clause-touches : goal.returns-then-is_whole-clause-touches
+returns-then-is_whole-clause-touches g c = λ tells. rest-touch g.D.Device.disk c.args.dev.now c.at_rest.new.dev c.at_rest.ensures.same
+
+pub returns-in_err-clear-clause-touches : goal.returns-in_err-clear-clause-touches
+returns-in_err-clear-clause-touches g c = λ tells. moved g.D.Device.disk c.args.dev.now c.at_rest.new.dev c.at_rest.ensures.same (c.clear.ensures.touches tells)
+
+pub returns-clause-touches : goal.returns-clause-touches
+returns-clause-touches g c = λ tells. effect_then (moved g.D.Device.disk c.args.dev.now c.at_rest.new.dev c.at_rest.ensures.same (c.clear.ensures.touches tells)) (stores-touch (c.put_own.ensures.touches tells))

@@ -11,8 +11,9 @@ use Rattle.bk_master.specs.declared.record.Own.{Own}
 use Rattle.bk_engine.specs.ActLaws.{done-behind}
 use Rattle.bk_engine.specs.PartLaws.{act-crash, calm-beside, media-beside, rest-crash, world-stands}
 use Rattle.bk_engine.specs.Stands.{IsReady, Kept, StandsFor}
-use Rattle.bk_engine.proofs.Named.{found-at, of-ok, on-all}
+use Rattle.bk_engine.proofs.Named.{found-at, of-ok, on-all, own-kept}
 use Rattle.bk_engine.proofs.Changed.{based-hosts}
+use Rattle.bk_engine.specs.TouchLaws.{rest-touch, stores-touch}
 use Rattle.bk_engine.proofs.engine.Engine.base.Goals as goal
 
 pub returns-in_default-clause-crash : goal.returns-in_default-clause-crash
@@ -54,3 +55,13 @@ returns-clause-crash g c = λ tells w is.
     act-crash a b e w (based c.args.name.now c.args.header.now) (set is'.hosted at (basing c.args.header.now (folding there.0))) ready' is' (done-behind w (based c.args.name.now c.args.header.now) tt (λ turn. turn)) (let low = ready'.no_less in omega (arith, low))
     (based-hosts c.hosted_databases_follow_acts.ensures.folded c.hosted_databases_follow_acts.ensures.based w c.args.name.now c.args.header.now is'.hosted at there.0 is'.sound is'.hosts place there.1)
     (c.acts_keep_media.ensures.act w (based c.args.name.now c.args.header.now) None a.files is'.sound tt (λ path bad. bad) is'.media) (λ image left. left) (c.base.ensures.crash tells is'.hosted there.0 is'.hosting there.1)
+
+pub returns-clause-own : goal.returns-clause-own
+returns-clause-own g c =
+    own-kept c.base.result (record { hosting = c.self.inside.hosting; drawn = c.self.inside.drawn; session = c.self.inside.session; sessions = c.self.inside.sessions.items }) _ (record { hosting = c.base.new.self; drawn = c.self.inside.drawn; session = c.self.inside.session; sessions = c.self.inside.sessions.items }) c.self.view_is c.base.ensures.own
+
+pub returns-in_default-clause-touches : goal.returns-in_default-clause-touches
+returns-in_default-clause-touches g c = λ tells. rest-touch g.D.Device.disk c.args.dev.now c.at_rest.new.dev c.at_rest.ensures.same
+
+pub returns-clause-touches : goal.returns-clause-touches
+returns-clause-touches g c = λ tells. stores-touch (c.base.ensures.touches tells)

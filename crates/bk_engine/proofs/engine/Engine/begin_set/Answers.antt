@@ -1,4 +1,4 @@
-use Rattle.std.proofs.Common.{inr, sym, subst}
+use Rattle.std.proofs.Common.{inr, sym, subst, refl}
 use Rattle.bk_hosting.specs.Hosting.{own_of}
 use Rattle.bk_engine.specs.Stands.{IsReady, Kept, StandsFor}
 use Rattle.bk_engine.proofs.Named.{moved, on-all}
@@ -8,6 +8,8 @@ use Rattle.bk_hosting.specs.Hosting.{LeavesHosted}
 use Rattle.bk_stores.specs.Stores.{IsOurs as IsOfStores}
 use Rattle.bk_engine.specs.AmidLaws.{amid-stands, staging-amid, staging-crash, stands-amid}
 use Rattle.bk_engine.specs.BesideLaws.{stores-keep, stores-stand}
+use Rattle.bk_engine.specs.TouchLaws.{staged-touch, stores-touch}
+use Rattle.bk_volume.specs.Names.{staging_file}
 use Rattle.bk_engine.proofs.engine.Engine.begin_set.Goals as goal
 
 pub returns-clause-standing : goal.returns-clause-standing
@@ -36,3 +38,12 @@ returns-clause-crash g c = λ tells w is.
     let effect = moved g.D.Device.disk c.name_set.new.dev c.at_rest.new.dev c.at_rest.ensures.same (c.begin_at.ensures.crash tells) in
     let left = subst (λ d. (image : _) → MayLeaveOwn IsOfStores (g.D.Device.disk d) image → LeavesHosted (own_of e.hosting) is'.hosted image) c.at_rest.ensures.same (λ image mine. (c.at_rest.ensures.crash tells is'.hosted is'.hosting).now image mine) in
     effect_then (c.name_set.ensures.crash tells w is) (staging-crash a b e.hosting w (stands-amid a e w ready' is') (λ name at. (c.args.set, at)) left effect)
+
+pub returns-clause-own : goal.returns-clause-own
+returns-clause-own g c = on-all c.begin_at.result (λ value ok. c.in_ok-name_set.ensures.own)
+
+pub returns-in_err-name_set-clause-touches : goal.returns-in_err-name_set-clause-touches
+returns-in_err-name_set-clause-touches g c = λ tells. stores-touch (c.name_set.ensures.touches tells)
+
+pub returns-clause-touches : goal.returns-clause-touches
+returns-clause-touches g c = λ tells. effect_then (stores-touch (c.name_set.ensures.touches tells)) (moved g.D.Device.disk c.name_set.new.dev c.at_rest.new.dev c.at_rest.ensures.same (staged-touch (staging_file c.args.set) (c.args.set, refl) (c.begin_at.ensures.crash tells)))

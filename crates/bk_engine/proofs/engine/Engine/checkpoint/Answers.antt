@@ -14,7 +14,8 @@ use Rattle.bk_engine.specs.Acts.{marking}
 use Rattle.bk_engine.specs.PartLaws.{calm-beside, media-beside, media-then, rest-crash, stores-wide, world-kept, world-left, world-stands}
 use Rattle.bk_engine.specs.Stands.{IsReady, Kept, StandsFor}
 use Rattle.bk_engine.proofs.Marked.{checks-hosts, notes-hosts}
-use Rattle.bk_engine.proofs.Named.{found-at, of-ok, on-all}
+use Rattle.bk_engine.proofs.Named.{found-at, of-ok, on-all, own-kept}
+use Rattle.bk_engine.specs.TouchLaws.{rest-touch, stores-touch}
 use Rattle.bk_engine.proofs.engine.Engine.checkpoint.Goals as goal
 
 pub returns-in_default-clause-crash : goal.returns-in_default-clause-crash
@@ -70,3 +71,13 @@ returns-clause-crash g c = λ tells w db is may.
             made (media-then (done w act) None a image is'.calm others media))
       ]
     ]) (c.checkpoint.ensures.crash tells is'.hosted there.0 is'.hosting there.1)
+
+pub returns-clause-own : goal.returns-clause-own
+returns-clause-own g c =
+    own-kept c.checkpoint.result (record { hosting = c.self.inside.hosting; drawn = c.self.inside.drawn; session = c.self.inside.session; sessions = c.self.inside.sessions.items }) _ (record { hosting = c.checkpoint.new.self; drawn = c.self.inside.drawn; session = c.self.inside.session; sessions = c.self.inside.sessions.items }) c.self.view_is c.checkpoint.ensures.own
+
+pub returns-in_default-clause-touches : goal.returns-in_default-clause-touches
+returns-in_default-clause-touches g c = λ tells. rest-touch g.D.Device.disk c.args.dev.now c.at_rest.new.dev c.at_rest.ensures.same
+
+pub returns-clause-touches : goal.returns-clause-touches
+returns-clause-touches g c = λ tells. stores-touch (c.checkpoint.ensures.touches tells)

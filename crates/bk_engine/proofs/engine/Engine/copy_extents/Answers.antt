@@ -2,12 +2,13 @@ use Rattle.std.proofs.Common.{◌∙◌, sym, ap, subst}
 use Rattle.bk_master.specs.declared.record.Own.{Own}
 use Rattle.bk_engine.specs.Amid.{Amid}
 use Rattle.bk_engine.specs.Stands.{IsReady, Kept, StandsFor}
-use Rattle.bk_engine.proofs.Named.{of-ok, on-all}
+use Rattle.bk_engine.proofs.Named.{of-ok, on-all, own-kept}
 use Rattle.bk_engine.specs.AmidLaws.{amid-stands, copied-amid, copied-crash, stands-amid}
 use Rattle.bk_engine.proofs.Copied.{there-is, told-there}
 use Rattle.bk_hosting.specs.Copying.{HaveExtents}
 use Rattle.bk_volume.specs.Laws.{staging_letter}
 use Rattle.bk_volume.specs.Names.{letter}
+use Rattle.bk_engine.specs.TouchLaws.{copied-touch}
 use Rattle.bk_engine.proofs.engine.Engine.copy_extents.Goals as goal
 
 pub copy_extents-requires-clause-named : goal.copy_extents-requires-clause-named
@@ -50,3 +51,10 @@ returns-clause-crash g c = λ tells w is.
     let is' : StandsFor a e w = subst (λ (k : Kept). StandsFor a k w) (sym c.self.view_is) is in
     let ready' : IsReady e = subst IsReady (sym c.self.view_is) c.requires.ready in
     copied-crash a (g.D.Device.disk c.copy_extents.new.dev) e.hosting w c.args.staged.now (stands-amid a e w ready' is') c.requires.named (c.copy_extents.ensures.crash tells is'.hosted is'.hosting)
+
+pub returns-clause-own : goal.returns-clause-own
+returns-clause-own g c =
+    own-kept c.copy_extents.result (record { hosting = c.self.inside.hosting; drawn = c.self.inside.drawn; session = c.self.inside.session; sessions = c.self.inside.sessions.items }) _ (record { hosting = c.copy_extents.new.self; drawn = c.self.inside.drawn; session = c.self.inside.session; sessions = c.self.inside.sessions.items }) c.self.view_is c.copy_extents.ensures.own
+
+pub returns-clause-touches : goal.returns-clause-touches
+returns-clause-touches g c = λ tells. copied-touch c.args.staged.now c.requires.named (c.copy_extents.ensures.touches tells)

@@ -5,6 +5,7 @@ use Rattle.bk_engine.specs.AmidLaws.{amid-stands, copied-amid, copied-crash, sta
 use Rattle.bk_engine.proofs.Copied.{there-is}
 use Rattle.bk_volume.specs.Laws.{staging_letter}
 use Rattle.bk_volume.specs.Names.{letter}
+use Rattle.bk_engine.specs.TouchLaws.{copied-touch}
 use Rattle.bk_engine.proofs.engine.Engine.copy_log.Goals as goal
 
 pub copy_log-requires-clause-named : goal.copy_log-requires-clause-named
@@ -41,3 +42,6 @@ returns-clause-crash g c = λ tells w is.
     let is' : StandsFor a e w = subst (λ (k : Kept). StandsFor a k w) (sym c.self.view_is) is in
     let ready' : IsReady e = subst IsReady (sym c.self.view_is) c.requires.ready in
     copied-crash a (g.D.Device.disk c.copy_log.new.dev) e.hosting w c.args.staged.now (stands-amid a e w ready' is') c.requires.named (c.copy_log.ensures.crash tells is'.hosted is'.hosting)
+
+pub returns-clause-touches : goal.returns-clause-touches
+returns-clause-touches g c = λ tells. copied-touch c.args.staged.now c.requires.named (c.copy_log.ensures.touches tells)

@@ -1,4 +1,4 @@
-use Rattle.std.proofs.Common.{◌≤◌, ◌+◌, None, refl, inl, sym, ap, subst}
+use Rattle.std.proofs.Common.{◌≤◌, ◌+◌, ◌∙◌, None, refl, inl, sym, ap, subst}
 use Rattle.bk_archive.specs.Media.{KeepsMedia}
 use Rattle.bk_master.specs.declared.record.Own.{Own}
 use Rattle.bk_engine.specs.Stands.{IsReady, Kept, StandsFor, own_in}
@@ -15,6 +15,7 @@ use Rattle.bk_stores.specs.Stores.{IsOurs as IsOfStores}
 use Rattle.bk_engine.specs.ActLaws.{done-behind}
 use Rattle.bk_engine.specs.PartLaws.{act-crash, calm-beside, media-beside, world-stands}
 use Rattle.bk_engine.proofs.Made.{hosted-none}
+use Rattle.bk_engine.specs.TouchLaws.{stores-touch}
 use Rattle.bk_engine.proofs.engine.Engine.create.Goals as goal
 
 pub returns-in_err-reserve-clause-crash : goal.returns-in_err-reserve-clause-crash
@@ -69,3 +70,21 @@ returns-clause-stands g c = λ tells w is may none.
     (c.hosted_databases_follow_acts.ensures.created w c.args.creation is'.hosted is'.sound may is'.hosts)
     (subst (λ (s : DatabaseSpec). IsHosting b c.create.new.self (is'.hosted ++ newly s c.args.creation.time c.args.creation.branch ∷ [])) c.in_ok-spec.ensures (c.in_ok-create.ensures.stands tells is'.hosted is'.hosting without))
     (ap (λ (o : Own). o.number) c.in_ok-create.ensures.own) refl refl refl media (calm-beside effect is'.calm)
+
+pub returns-clause-own : goal.returns-clause-own
+returns-clause-own g c =
+    let reserved = c.in_ok-reserve.ensures.own in
+    let same = c.in_ok-create.ensures.own ∙ ap own_in c.self.view_is in
+    (ap (λ (o : Own). o.number) same ∙ reserved.0, ap (λ (o : Own). o.staging) same ∙ reserved.1)
+
+pub returns-in_err-reserve-clause-touches : goal.returns-in_err-reserve-clause-touches
+returns-in_err-reserve-clause-touches g c = λ tells. c.reserve.ensures.touches tells
+
+pub returns-in_err-spec-clause-touches : goal.returns-in_err-spec-clause-touches
+returns-in_err-spec-clause-touches g c = λ tells. c.reserve.ensures.touches tells
+
+pub returns-in_err-create-clause-touches : goal.returns-in_err-create-clause-touches
+returns-in_err-create-clause-touches g c = λ tells. effect_then (c.reserve.ensures.touches tells) (stores-touch (c.create.ensures.touches tells))
+
+pub returns-clause-touches : goal.returns-clause-touches
+returns-clause-touches g c = λ tells. effect_then (c.reserve.ensures.touches tells) (stores-touch (c.create.ensures.touches tells))

@@ -12,7 +12,8 @@ use Rattle.bk_stores.specs.ListLaws.{got-inside}
 use Rattle.bk_engine.specs.ActLaws.{done-behind}
 use Rattle.bk_engine.specs.PartLaws.{act-crash, calm-beside, media-beside, rest-crash, world-stands}
 use Rattle.bk_engine.specs.Stands.{IsReady, Kept, StandsFor}
-use Rattle.bk_engine.proofs.Named.{found-at, of-ok, on-all}
+use Rattle.bk_engine.proofs.Named.{found-at, of-ok, on-all, own-kept}
+use Rattle.bk_engine.specs.TouchLaws.{rest-touch, stores-touch}
 use Rattle.bk_engine.proofs.engine.Engine.drop.Goals as goal
 
 pub returns-in_default-clause-crash : goal.returns-in_default-clause-crash
@@ -56,3 +57,13 @@ returns-clause-crash g c = λ tells w is.
     act-crash a b e w (dropped c.args.name.now) (remove is'.hosted at) ready' is' (done-behind w (dropped c.args.name.now) tt (λ turn. turn)) (let low = ready'.no_less in omega (arith, low))
     (c.hosted_databases_follow_acts.ensures.dropped w c.args.name.now is'.hosted at there.0 is'.sound is'.hosts place there.1)
     (c.acts_keep_media.ensures.act w (dropped c.args.name.now) None a.files is'.sound tt (λ path bad. bad) is'.media) (λ image left. left) (c.drop.ensures.crash tells is'.hosted is'.hosting inside)
+
+pub returns-clause-own : goal.returns-clause-own
+returns-clause-own g c =
+    own-kept c.drop.result (record { hosting = c.self.inside.hosting; drawn = c.self.inside.drawn; session = c.self.inside.session; sessions = c.self.inside.sessions.items }) _ (record { hosting = c.drop.new.self; drawn = c.self.inside.drawn; session = c.self.inside.session; sessions = c.self.inside.sessions.items }) c.self.view_is c.drop.ensures.own
+
+pub returns-in_default-clause-touches : goal.returns-in_default-clause-touches
+returns-in_default-clause-touches g c = λ tells. rest-touch g.D.Device.disk c.args.dev.now c.at_rest.new.dev c.at_rest.ensures.same
+
+pub returns-clause-touches : goal.returns-clause-touches
+returns-clause-touches g c = λ tells. stores-touch (c.drop.ensures.touches tells)

@@ -1,12 +1,14 @@
-use Rattle.std.proofs.Common.{rules, refl, ap}
+use Rattle.std.proofs.Common.{rules, refl, ap, subst}
 use Rattle.std.specs.Prelude.{IsErrOf}
-use Rattle.bk_device.specs.Compose.{effect_then}
+use Rattle.bk_device.specs.Compose.{effect_then, effect_weaken}
 use Rattle.bk_master.specs.declared.record.Own.{Own}
 use Rattle.bk_master.specs.declared.record.Own.{Own}
 use Rattle.bk_stores.specs.declared.error.StoresError.TheVariants.{Broken}
 use Rattle.bk_engine.specs.LoadLaws.{load-crash, load-opens, run-begins}
 use Rattle.bk_engine.specs.Loading.{Opened}
 use Rattle.bk_engine.specs.Stands.{Kept}
+use Rattle.bk_engine.specs.TouchLaws.{stores-touch, wider-touch}
+use Rattle.bk_engine.specs.Touched.{IsMadeAt, TouchesOnly}
 use Rattle.bk_engine.proofs.engine.Engine.load.Goals as goal
 
 pub returns-in_err-hosting-clause-crash : goal.returns-in_err-hosting-clause-crash
@@ -43,3 +45,22 @@ returns-clause-stands g c = λ tells settled w is.
     let then = c.in_ok-finish.ensures.stands tells w opens in
     let e : Kept = record { hosting = c.finish.new.hosting; drawn = c.own.result.now.counter; session = 1; sessions = c.new.result.items } in
     run-begins (g.D.Device.disk c.finish.new.dev) e w then (c.runs_begin_and_end_in_sound_worlds.ensures.begins w then.sound) (c.hosted_databases_follow_acts.ensures.opened w _ then.hosts) (c.in_ok-finish.ensures.none).0 (ap (λ (o : Own). o.counter) c.own.ensures) refl c.new.ensures.items
+
+pub returns-clause-touches : goal.returns-clause-touches
+returns-clause-touches g c = λ tells. effect_then (stores-touch (c.in_ok-hosting.ensures.touches tells)) (wider-touch (λ path is. tt) (c.finish.ensures.touches tells))
+
+pub returns-in_err-hosting-clause-spares : goal.returns-in_err-hosting-clause-spares
+returns-in_err-hosting-clause-spares g c = λ tells settled w is. stores-touch (effect_weaken (λ image left. tt) (c.load.ensures.crash tells settled is.own is.hosted is.holds))
+
+pub returns-in_err-finish-clause-spares : goal.returns-in_err-finish-clause-spares
+returns-in_err-finish-clause-spares g c = λ tells settled w is.
+    effect_then (stores-touch (effect_weaken (λ image left. tt) (c.load.ensures.crash tells settled is.own is.hosted is.holds)))
+    (subst (λ (o : Own). TouchesOnly (IsMadeAt o.making) (g.D.Device.disk c.load.new.dev) (g.D.Device.disk c.finish.new.dev)) (c.in_ok-hosting.ensures.own tells settled is.own is.hosted is.holds) (c.finish.ensures.touches tells))
+
+pub returns-clause-spares : goal.returns-clause-spares
+returns-clause-spares g c = λ tells settled w is.
+    effect_then (stores-touch (effect_weaken (λ image left. tt) (c.load.ensures.crash tells settled is.own is.hosted is.holds)))
+    (subst (λ (o : Own). TouchesOnly (IsMadeAt o.making) (g.D.Device.disk c.load.new.dev) (g.D.Device.disk c.finish.new.dev)) (c.in_ok-hosting.ensures.own tells settled is.own is.hosted is.holds) (c.finish.ensures.touches tells))
+
+pub returns-clause-made : goal.returns-clause-made
+returns-clause-made g c = λ tells. (c.in_ok-finish.ensures.standing tells).master.made

@@ -11,8 +11,9 @@ use Rattle.bk_master.specs.declared.record.Own.{Own}
 use Rattle.bk_engine.specs.ActLaws.{said-behind}
 use Rattle.bk_engine.specs.PartLaws.{calm-beside, media-beside, rest-crash, world-stands}
 use Rattle.bk_engine.specs.Stands.{IsReady, Kept, StandsFor}
-use Rattle.bk_engine.proofs.Named.{found-at, of-ok, on-all, says-now, says-up}
+use Rattle.bk_engine.proofs.Named.{found-at, of-ok, on-all, own-kept, says-now, says-up}
 use Rattle.bk_engine.proofs.Logged.{said-crash, said-kept}
+use Rattle.bk_engine.specs.TouchLaws.{rest-touch, stores-touch}
 use Rattle.bk_engine.proofs.engine.Engine.log.Goals as goal
 
 pub returns-in_default-clause-crash : goal.returns-in_default-clause-crash
@@ -58,3 +59,13 @@ returns-clause-crash g c = λ tells w said is may.
     let up = says-up w c.args.name.now said c.args.transactions c.args.records.now c.args.lasting is'.hosted at there.0 is'.hosts place there.1 may in
     said-crash a e w c.args.name.now said c.args.transactions at there.0 c.hosted_databases_follow_acts.ensures.front c.hosted_databases_follow_acts.ensures.grows c.sets_that_stay.ensures.grown is' place there.1 up may.plain ready'
     (c.log.ensures.crash tells is'.hosted there.0 said is'.hosting there.1 now)
+
+pub returns-clause-own : goal.returns-clause-own
+returns-clause-own g c =
+    own-kept c.log.result (record { hosting = c.self.inside.hosting; drawn = c.self.inside.drawn; session = c.self.inside.session; sessions = c.self.inside.sessions.items }) _ (record { hosting = c.log.new.self; drawn = c.self.inside.drawn; session = c.self.inside.session; sessions = c.self.inside.sessions.items }) c.self.view_is c.log.ensures.own
+
+pub returns-in_default-clause-touches : goal.returns-in_default-clause-touches
+returns-in_default-clause-touches g c = λ tells. rest-touch g.D.Device.disk c.args.dev.now c.at_rest.new.dev c.at_rest.ensures.same
+
+pub returns-clause-touches : goal.returns-clause-touches
+returns-clause-touches g c = λ tells. stores-touch (c.log.ensures.touches tells)

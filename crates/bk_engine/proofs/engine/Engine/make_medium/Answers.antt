@@ -10,6 +10,7 @@ use Rattle.bk_machine.specs.Acts.{done, medium_made}
 use Rattle.bk_world.specs.Medium.{medium_at}
 use Rattle.bk_engine.specs.ActLaws.{done-behind}
 use Rattle.bk_engine.specs.AmidLaws.{amid-stands, stands-amid}
+use Rattle.bk_engine.specs.TouchLaws.{wider-touch}
 use Rattle.bk_engine.proofs.engine.Engine.make_medium.Goals as goal
 
 pub returns-in_err-reserve-clause-crash : goal.returns-in_err-reserve-clause-crash
@@ -109,3 +110,28 @@ returns-clause-stands g c = λ tells w is absent.
     (let now = behind.counter in let here = is1.counter in omega (arith, now, here, drawn))
     (behind.session ∙ is1.session ∙ sym (ap (λ (k : Kept). k.session) c.self-2.view_is ∙ ap (λ (k : Kept). k.session) old))
     (behind.sessions ∙ is1.sessions ∙ sym (ap (λ (k : Kept). map session_of k.sessions) c.self-2.view_is ∙ ap (λ (k : Kept). map session_of k.sessions) old))
+
+pub returns-clause-own : goal.returns-clause-own
+returns-clause-own g c =
+    let reserved = c.in_ok-reserve.ensures.own in
+    let first = c.in_ok-name_making.ensures.own in
+    let last = ap own_in c.self-2.view_is ∙ c.in_ok-name_making-2.ensures.own in
+    (ap (λ (o : Own). o.number) last ∙ ap (λ (o : Own). o.number) first ∙ reserved.0, ap (λ (o : Own). o.staging) last ∙ ap (λ (o : Own). o.staging) first ∙ reserved.1)
+
+pub returns-in_err-reserve-clause-touches : goal.returns-in_err-reserve-clause-touches
+returns-in_err-reserve-clause-touches g c = λ tells. wider-touch (λ path bad. absurd bad) (c.reserve.ensures.touches tells)
+
+pub returns-in_err-making-clause-touches : goal.returns-in_err-making-clause-touches
+returns-in_err-making-clause-touches g c = λ tells. wider-touch (λ path bad. absurd bad) (c.reserve.ensures.touches tells)
+
+pub returns-in_err-name_making-clause-touches : goal.returns-in_err-name_making-clause-touches
+returns-in_err-name_making-clause-touches g c = λ tells. effect_then (wider-touch (λ path bad. absurd bad) (c.reserve.ensures.touches tells)) (wider-touch (λ path bad. absurd bad) (c.name_making.ensures.touches tells))
+
+pub returns-in_err-make_named-clause-touches : goal.returns-in_err-make_named-clause-touches
+returns-in_err-make_named-clause-touches g c = λ tells. effect_then (effect_then (wider-touch (λ path bad. absurd bad) (c.reserve.ensures.touches tells)) (wider-touch (λ path bad. absurd bad) (c.name_making.ensures.touches tells))) (c.make_named.ensures.touches tells)
+
+pub returns-in_err-name_making-2-clause-touches : goal.returns-in_err-name_making-2-clause-touches
+returns-in_err-name_making-2-clause-touches g c = λ tells. effect_then (effect_then (effect_then (wider-touch (λ path bad. absurd bad) (c.reserve.ensures.touches tells)) (wider-touch (λ path bad. absurd bad) (c.name_making.ensures.touches tells))) (c.make_named.ensures.touches tells)) (wider-touch (λ path bad. absurd bad) (c.name_making-2.ensures.touches tells))
+
+pub returns-clause-touches : goal.returns-clause-touches
+returns-clause-touches g c = λ tells. effect_then (effect_then (effect_then (wider-touch (λ path bad. absurd bad) (c.reserve.ensures.touches tells)) (wider-touch (λ path bad. absurd bad) (c.name_making.ensures.touches tells))) (c.make_named.ensures.touches tells)) (wider-touch (λ path bad. absurd bad) (c.name_making-2.ensures.touches tells))

@@ -1,4 +1,4 @@
-use Rattle.std.proofs.Common.{◌≡◌, ◌≤◌, ◌+◌, Some, None, inl, sym, subst}
+use Rattle.std.proofs.Common.{◌≡◌, ◌≤◌, ◌+◌, Some, None, inl, sym, subst, refl}
 use Rattle.bk_archive.specs.Media.{KeepsMedia}
 use Rattle.bk_hosting.specs.Hosting.{own_of}
 use Rattle.bk_engine.specs.Amid.{Amid}
@@ -12,6 +12,7 @@ use Rattle.bk_machine.specs.Acts.{done, medium_made}
 use Rattle.bk_stores.specs.Stores.{IsOurs as IsOfStores}
 use Rattle.bk_engine.specs.BesideLaws.{stores-keep, stores-stand}
 use Rattle.bk_engine.proofs.Sealed.{made-amid, made-crash}
+use Rattle.bk_engine.specs.TouchLaws.{medium-touch}
 use Rattle.bk_engine.proofs.engine.Engine.make_named.Goals as goal
 
 pub returns-clause-standing : goal.returns-clause-standing
@@ -47,3 +48,6 @@ returns-clause-crash g c = λ tells w was its enough absent.
     let effect = subst (λ d. Effect IsMediumFile (IfDurable (g.D.Device.disk d) (LeavesMaking c.args.path.now (g.D.Device.disk d).files)) (g.D.Device.disk d) b) c.at_rest.ensures.same (c.make_at.ensures.crash tells) in
     let left = subst (λ d. (image : _) → MayLeaveOwn IsOfStores (g.D.Device.disk d) image → LeavesHosted (own_of x) is.hosted image) c.at_rest.ensures.same (λ image mine. (c.at_rest.ensures.crash tells is.hosted is.hosting).now image mine) in
     made-crash a b x w c.args.path.now is named reserved absent hosts left effect
+
+pub returns-clause-touches : goal.returns-clause-touches
+returns-clause-touches g c = λ tells. moved g.D.Device.disk c.args.dev.now c.at_rest.new.dev c.at_rest.ensures.same (medium-touch c.args.path.now refl (c.make_at.ensures.spares tells))

@@ -1,8 +1,8 @@
-use Rattle.std.proofs.Common.{sym, ap, subst}
+use Rattle.std.proofs.Common.{sym, ap, subst, refl}
 use Rattle.bk_master.specs.declared.record.Own.{Own}
 use Rattle.bk_engine.specs.Amid.{Amid}
 use Rattle.bk_engine.specs.Stands.{IsReady, Kept, StandsFor}
-use Rattle.bk_engine.proofs.Named.{of-ok, on-all}
+use Rattle.bk_engine.proofs.Named.{of-ok, on-all, own-put}
 use Rattle.bk_engine.specs.AmidLaws.{amid-stands, named-amid, named-crash, stands-amid}
 use Rattle.bk_engine.proofs.engine.Engine.name_set.Goals as goal
 
@@ -30,3 +30,10 @@ returns-clause-crash g c = λ tells w is.
     let is' : StandsFor a e w = subst (λ (k : Kept). StandsFor a k w) (sym c.self.view_is) is in
     let ready' : IsReady e = subst IsReady (sym c.self.view_is) c.requires.ready in
     named-crash a (g.D.Device.disk c.put_own.new.dev) e.hosting w _ (stands-amid a e w ready' is') (ap (λ (o : Own). o.number) c.own-own.ensures) (ap (λ (o : Own). o.counter) c.own-own.ensures) is'.media (c.put_own.ensures.crash tells is'.hosted is'.hosting)
+
+pub returns-clause-own : goal.returns-clause-own
+returns-clause-own g c =
+    own-put c.put_own.result (record { hosting = c.self.inside.hosting; drawn = c.self.inside.drawn; session = c.self.inside.session; sessions = c.self.inside.sessions.items }) _ (record { hosting = c.put_own.new.self; drawn = c.self.inside.drawn; session = c.self.inside.session; sessions = c.self.inside.sessions.items }) _ _ c.self.view_is (ap (λ (o : Own). o.number) c.own-own.ensures) (refl) c.put_own.ensures.own
+
+pub returns-clause-touches : goal.returns-clause-touches
+returns-clause-touches g c = λ tells. c.put_own.ensures.touches tells

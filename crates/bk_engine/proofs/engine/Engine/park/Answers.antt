@@ -2,7 +2,7 @@ use Rattle.std.proofs.Common.{◌≡◌, ◌∙◌, ℕ, List, Some, None, refl,
 use Rattle.bk_archive.specs.Media.{KeepsMedia}
 use Rattle.bk_master.specs.declared.record.Own.{Own}
 use Rattle.bk_engine.specs.Stands.{IsReady, Kept, StandsFor}
-use Rattle.bk_engine.proofs.Named.{found-at, moved, of-ok, on-all}
+use Rattle.bk_engine.proofs.Named.{found-at, moved, of-ok, on-all, own-kept}
 use Rattle.std.specs.Prelude.{set, ◌++◌, ◌∷◌, []}
 use Rattle.std.specs.List.{position}
 use Rattle.bk_archive.specs.MediaLaws.{media-in}
@@ -14,6 +14,7 @@ use Rattle.bk_machine.specs.Acts.{done, replaced}
 use Rattle.bk_engine.specs.ActLaws.{done-behind}
 use Rattle.bk_engine.specs.PartLaws.{act-crash, calm-beside, media-beside, rest-crash, world-stands}
 use Rattle.bk_engine.proofs.Made.{parked-as}
+use Rattle.bk_engine.specs.TouchLaws.{rest-touch, stores-touch}
 use Rattle.bk_engine.proofs.engine.Engine.park.Goals as goal
 
 pub returns-in_err-points-clause-crash : goal.returns-in_err-points-clause-crash
@@ -109,3 +110,20 @@ returns-in-None-clause-crash g c = λ tells w is may known.
     act-crash a (g.D.Device.disk c.park.new.dev) e w act (is'.hosted ++ h ∷ []) ready' is' (done-behind w act may (λ turn. turn)) (omega (arith, low))
     (c.hosted_databases_follow_restores.ensures.new w name header is'.hosted is'.sound is'.hosts may place)
     (c.acts_keep_media.ensures.act w act None a.files is'.sound may (λ path bad. bad) is'.media) (λ image left. left) (moved g.D.Device.disk c.args.dev.now c.at_rest.new.dev c.at_rest.ensures.same (c.park.ensures.crash tells is'.hosted h hosting parked))
+
+pub returns-in-Some-clause-own : goal.returns-in-Some-clause-own
+returns-in-Some-clause-own g c =
+    own-kept c.park_at.result (record { hosting = c.self.inside.hosting; drawn = c.self.inside.drawn; session = c.self.inside.session; sessions = c.self.inside.sessions.items }) _ (record { hosting = c.park_at.new.self; drawn = c.self.inside.drawn; session = c.self.inside.session; sessions = c.self.inside.sessions.items }) c.self.view_is c.park_at.ensures.own
+
+pub returns-in-None-clause-own : goal.returns-in-None-clause-own
+returns-in-None-clause-own g c =
+    own-kept c.park.result (record { hosting = c.self.inside.hosting; drawn = c.self.inside.drawn; session = c.self.inside.session; sessions = c.self.inside.sessions.items }) _ (record { hosting = c.park.new.self; drawn = c.self.inside.drawn; session = c.self.inside.session; sessions = c.self.inside.sessions.items }) c.self.view_is c.park.ensures.own
+
+pub returns-in_err-points-clause-touches : goal.returns-in_err-points-clause-touches
+returns-in_err-points-clause-touches g c = λ tells. rest-touch g.D.Device.disk c.args.dev.now c.at_rest.new.dev c.at_rest.ensures.same
+
+pub returns-in-Some-clause-touches : goal.returns-in-Some-clause-touches
+returns-in-Some-clause-touches g c = λ tells. moved g.D.Device.disk c.args.dev.now c.at_rest.new.dev c.at_rest.ensures.same (stores-touch (c.park_at.ensures.touches tells))
+
+pub returns-in-None-clause-touches : goal.returns-in-None-clause-touches
+returns-in-None-clause-touches g c = λ tells. moved g.D.Device.disk c.args.dev.now c.at_rest.new.dev c.at_rest.ensures.same (stores-touch (c.park.ensures.touches tells))

@@ -8,6 +8,7 @@ use Rattle.bk_stores.specs.Stores.{IsOurs as IsOfStores}
 use Rattle.bk_engine.specs.AmidLaws.{amid-stands, staging-amid, staging-crash, stands-amid}
 use Rattle.bk_engine.specs.BesideLaws.{stores-keep, stores-stand}
 use Rattle.bk_engine.specs.Stands.{IsStagingFile}
+use Rattle.bk_engine.specs.TouchLaws.{staged-touch}
 use Rattle.bk_engine.proofs.engine.Engine.remove_staged.Goals as goal
 
 pub returns-clause-standing : goal.returns-clause-standing
@@ -36,3 +37,6 @@ returns-clause-crash g c = λ tells w ready is.
     let effect = moved g.D.Device.disk c.args.dev.now c.at_rest.new.dev c.at_rest.ensures.same (c.remove_file.ensures.crash tells) in
     let left = subst (λ d. (image : _) → MayLeaveOwn IsOfStores (g.D.Device.disk d) image → LeavesHosted (own_of e.hosting) is'.hosted image) c.at_rest.ensures.same (λ image mine. (c.at_rest.ensures.crash tells is'.hosted is'.hosting).now image mine) in
     staging-crash a b e.hosting w (stands-amid a e w ready' is') (λ name at. subst IsStagingFile (sym at) c.requires.named) left effect
+
+pub returns-clause-touches : goal.returns-clause-touches
+returns-clause-touches g c = λ tells. moved g.D.Device.disk c.args.dev.now c.at_rest.new.dev c.at_rest.ensures.same (staged-touch c.args.staged.name c.requires.named (c.remove_file.ensures.crash tells))

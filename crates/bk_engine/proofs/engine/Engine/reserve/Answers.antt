@@ -1,10 +1,11 @@
 use Rattle.std.proofs.Common.{◌∙◌, refl, sym, ap, subst}
 use Rattle.bk_master.specs.declared.record.Own.{Own}
-use Rattle.bk_engine.specs.Stands.{IsReady, Kept, StandsFor}
-use Rattle.bk_engine.proofs.Named.{moved, of-ok, on-all}
+use Rattle.bk_engine.specs.Stands.{IsReady, Kept, StandsFor, own_in}
+use Rattle.bk_engine.proofs.Named.{moved, of-ok, on-all, own-put}
 use Rattle.bk_hosting.specs.Hosting.{IsHosting}
-use Rattle.bk_engine.specs.PartLaws.{rest-crash}
+use Rattle.bk_engine.specs.PartLaws.{media-beside, rest-crash}
 use Rattle.bk_engine.proofs.Reserved.{reserved-crash, reserved-stands}
+use Rattle.bk_engine.specs.TouchLaws.{rest-touch, stores-touch}
 use Rattle.bk_engine.proofs.engine.Engine.reserve.Goals as goal
 
 pub returns-then-self-ge-KEPT_NUMBERS-clause-crash : goal.returns-then-self-ge-KEPT_NUMBERS-clause-crash
@@ -44,3 +45,24 @@ returns-clause-crash g c = λ tells w is.
     let hosting : IsHosting (g.D.Device.disk c.at_rest.new.dev) e.hosting is'.hosted = subst (λ d. IsHosting (g.D.Device.disk d) e.hosting is'.hosted) (sym c.at_rest.ensures.same) is'.hosting in
     reserved-crash a (g.D.Device.disk c.put_own.new.dev) e w _ ready' is' (ap (λ (o : Own). o.number) c.own-own.ensures) refl refl
     (moved g.D.Device.disk c.args.dev.now c.at_rest.new.dev c.at_rest.ensures.same (c.put_own.ensures.crash tells is'.hosted hosting))
+
+pub returns-clause-own : goal.returns-clause-own
+returns-clause-own g c =
+    own-put c.put_own.result (record { hosting = c.self.inside.hosting; drawn = c.self.inside.drawn; session = c.self.inside.session; sessions = c.self.inside.sessions.items }) _ (record { hosting = c.put_own.new.self; drawn = c.self.inside.drawn; session = c.self.inside.session; sessions = c.self.inside.sessions.items }) _ _ c.self.view_is (ap (λ (o : Own). o.number) c.own-own.ensures) (ap (λ (o : Own). o.staging) c.own-own.ensures ∙ ap (λ (k : Kept). (own_in k).staging) c.self.view_is) c.put_own.ensures.own
+
+pub returns-then-self-ge-KEPT_NUMBERS-clause-touches : goal.returns-then-self-ge-KEPT_NUMBERS-clause-touches
+returns-then-self-ge-KEPT_NUMBERS-clause-touches g c = λ tells. rest-touch g.D.Device.disk c.args.dev.now c.at_rest.new.dev c.at_rest.ensures.same
+
+pub returns-then-self-n-clause-touches : goal.returns-then-self-n-clause-touches
+returns-then-self-n-clause-touches g c = λ tells. rest-touch g.D.Device.disk c.args.dev.now c.at_rest.new.dev c.at_rest.ensures.same
+
+pub returns-clause-touches : goal.returns-clause-touches
+returns-clause-touches g c = λ tells. moved g.D.Device.disk c.args.dev.now c.at_rest.new.dev c.at_rest.ensures.same (stores-touch (c.put_own.ensures.touches tells))
+
+pub returns-clause-media : goal.returns-clause-media
+returns-clause-media g c = λ tells w is.
+    let a = g.D.Device.disk c.args.dev.now in
+    let e : Kept = record { hosting = c.self.inside.hosting; drawn = c.self.inside.drawn; session = c.self.inside.session; sessions = c.self.inside.sessions.items } in
+    let is' : StandsFor a e w = subst (λ (k : Kept). StandsFor a k w) (sym c.self.view_is) is in
+    let hosting : IsHosting (g.D.Device.disk c.at_rest.new.dev) e.hosting is'.hosted = subst (λ d. IsHosting (g.D.Device.disk d) e.hosting is'.hosted) (sym c.at_rest.ensures.same) is'.hosting in
+    media-beside (moved g.D.Device.disk c.args.dev.now c.at_rest.new.dev c.at_rest.ensures.same (c.put_own.ensures.crash tells is'.hosted hosting))

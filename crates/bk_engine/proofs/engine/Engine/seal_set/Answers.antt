@@ -1,4 +1,4 @@
-use Rattle.std.proofs.Common.{◌∙◌, ℕ, List, inl, sym, subst, arith}
+use Rattle.std.proofs.Common.{◌∙◌, ℕ, List, inl, sym, subst, arith, refl}
 use Rattle.bk_hosting.specs.Hosting.{own_of}
 use Rattle.bk_engine.specs.Amid.{Amid}
 use Rattle.bk_engine.specs.Stands.{IsReady, Kept, StandsFor}
@@ -18,6 +18,7 @@ use Rattle.bk_engine.specs.AmidLaws.{amid-stands, stands-amid}
 use Rattle.bk_engine.specs.BesideLaws.{stores-keep, stores-stand}
 use Rattle.bk_engine.specs.Stands.{IsOurs}
 use Rattle.bk_engine.proofs.Sealed.{sealed-amid, sealed-crash}
+use Rattle.bk_engine.specs.TouchLaws.{medium-touch}
 use Rattle.bk_engine.proofs.engine.Engine.seal_set.Goals as goal
 
 pub seal_at-requires-clause-apart : goal.seal_at-requires-clause-apart
@@ -64,3 +65,8 @@ returns-clause-crash g c = λ tells w body is may.
     let left = subst (λ d. (image : _) → MayLeaveOwn IsOfStores (g.D.Device.disk d) image → LeavesHosted (own_of e.hosting) is'.hosted image) c.at_rest.ensures.same (λ image mine. (c.at_rest.ensures.crash tells is'.hosted is'.hosting).now image mine) in
     subst (λ (h : Header). Effect IsOurs (CutsAct w (set_sealed path h)) a b) may.is.header
     (sealed-crash a b e.hosting w path body (stands-amid a e w ready' is') ready'.no_medium may.carries hosts left effect)
+
+pub returns-clause-touches : goal.returns-clause-touches
+returns-clause-touches g c = λ tells body is.
+    let set : IsSetOf (g.D.Device.disk c.at_rest.new.dev) c.args.staged.now c.args.header.now c.args.tables.now body = subst (λ d. IsSetOf (g.D.Device.disk d) c.args.staged.now c.args.header.now c.args.tables.now body) (sym c.at_rest.ensures.same) is in
+    moved g.D.Device.disk c.args.dev.now c.at_rest.new.dev c.at_rest.ensures.same (medium-touch c.args.path.now refl (c.seal_at.ensures.spares tells body set))
