@@ -1,0 +1,4 @@
+pub mod Cuts
+pub mod Crashes
+pub mod CutLaws
+pub mod Events
