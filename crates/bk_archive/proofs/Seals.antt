@@ -108,10 +108,10 @@ spares-nothing a b path call = effect_of_nothing (λ image left. tt) call
 pub spares-synced : (a b : Disk) (path name : List ℕ) → name ≡ medium_file path → CallsOn name LeavesSame a b → Effect (IsName (medium_file path)) (λ image. Unit {0}) a b
 spares-synced a b path name is_name call = effect_of_sync is_name (λ image left. tt) call
 
-pub spares-added : (a c d : Disk) (path name : List ℕ) (body : Body) → SealsOn a c path name → Adds name body c d → Effect (IsName (medium_file path)) (λ image. Unit {0}) a d
-spares-added a c d path name body on effect =
-    let At : List ℕ → Type 0 = λ n. Adds n body c d in
-    effect_then (spares-nothing a c path on.call) (effect_weaken (λ image here. tt) (subst At on.is_name effect))
+pub spares-added : (a c d : Disk) (path name : List ℕ) → ChangesNothing a c → name ≡ medium_file path → Effect (IsName name) (λ image. Unit {0}) c d → Effect (IsName (medium_file path)) (λ image. Unit {0}) a d
+spares-added a c d path name call is_name effect =
+    let At : List ℕ → Type 0 = λ n. Effect (IsName n) (λ image. Unit {0}) c d in
+    effect_then (spares-nothing a c path call) (subst At is_name effect)
 
 -- ---- there is no medium
 

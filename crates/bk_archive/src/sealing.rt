@@ -22,7 +22,8 @@ use std::alloc::Global;
 
 /// Seals the set whose extents and log were added, behind those on the medium at a path, with this header and these tables.
 /// What a read shows of the medium is made durable first: a process that was stopped may have left writes there that are
-/// still pending. A crash leaves the sets that there were, or this one too. Of the files only the medium's is touched.
+/// still pending. A crash leaves the sets that there were, or this one too. Whatever was added, of the files only the medium's is
+/// touched.
 ///
 /// `NoMedium` is answered only where there is no medium at the path.
 pub fn seal_set<D: Device>(
@@ -42,7 +43,7 @@ pub fn seal_set<D: Device>(
     ensures durable { D.tells → OnOk result (IsDurable (D.disk dev.new) (names.medium_file path.now)) }
     ensures media { D.tells → (body : Body) → IsSetOf (D.disk dev.old) staged.now header.now tables.now body → MediaAreDurable (D.disk dev.old) → OnOk result (MediaAreDurable (D.disk dev.new)) }
     ensures crash { D.tells → (body : Body) → IsSetOf (D.disk dev.old) staged.now header.now tables.now body → Effect IsMediumFile (IfDurable (D.disk dev.old) (LeavesSealing path.now body (D.disk dev.old).files)) (D.disk dev.old) (D.disk dev.new) }
-    ensures spares { D.tells → (body : Body) → IsSetOf (D.disk dev.old) staged.now header.now tables.now body → Effect (IsName (names.medium_file path.now)) (λ image. Unit {0}) (D.disk dev.old) (D.disk dev.new) }
+    ensures spares { D.tells → Effect (IsName (names.medium_file path.now)) (λ image. Unit {0}) (D.disk dev.old) (D.disk dev.new) }
     ensures no_medium { D.tells → IsErrOf result NoMedium → ((D.disk dev.old).files (names.medium_file path.now) ≡ None) ⊎ (read_medium ((D.disk dev.old).files (names.medium_file path.now)) ≡ Some not_media) }
     ensures cause { HasCause D.disk_faults D.tell_faults dev.old dev.new (IsErrOf result Fault) }
 {

@@ -121,14 +121,14 @@ pub record CrashLaws : Type 0 where
 
 module _ (before cut : World) (h f : Hosted) (is : IsHosted cut.history h) (front : IsFrontOf (open_begins before (database_of h)) h f) where
   -- the front may stay
-  is-front : (kept : List Logged) → kept ≡ f.records → IsFront before cut (database_of h) kept
-  is-front kept same = subst (IsFront before cut (database_of h)) (sym same) (record {
+  is-front : is_up h ≡ true → (kept : List Logged) → kept ≡ f.records → IsFront before cut (database_of h) kept
+  is-front up kept same = subst (IsFront before cut (database_of h)) (sym same) (record {
     lost = front.lost;
     splits = is.log ∙ front.splits;
     of_open = front.of_open;
     of_some = front.of_some;
     quiet = front.quiet;
-    loads = front.loads;
+    loads = front.loads up;
   })
 
   lost-plain : AllByRecursion (λ (r : Logged). is_checkpoint r.deed ≡ false) front.lost
@@ -247,7 +247,7 @@ module _ (laws : CrashLaws) (before whole cut : World) (is_whole : IsWhole cut) 
       subst (AllByRecursion (λ (db : Database). db.status ≡ Online → MayStay before whole cut db (kept db))) (sym hosts.same)
       (all-map (λ (db : Database). db.status ≡ Online → MayStay before whole cut db (kept db)) database_of hosted
       (zip-first (λ (h : Hosted). Known (database_of h)) (Cut before cut kept) (λ (h : Hosted). h.points.status ≡ Online → MayStay before whole cut (database_of h) (kept (database_of h)))
-      (λ h f knows one up. laws.stay before whole cut (database_of h) (kept (database_of h)) knows.0 (knows.1 up) (is-front before cut h f one.is one.front (kept (database_of h)) one.records))
+      (λ h f knows one up. laws.stay before whole cut (database_of h) (kept (database_of h)) knows.0 (knows.1 up) (is-front before cut h f one.is one.front (ap is_online up) (kept (database_of h)) one.records))
       hosted fronts known cuts))
 
   pub fronts-left : (counter : ℕ) → cut.counter ≤ counter → counter ≤ cut.counter + 1024 → Left before whole cut counter fronts

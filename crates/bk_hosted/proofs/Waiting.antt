@@ -28,7 +28,7 @@ none-waits [] all = refl
 none-waits (r ∷ lost) all = absurd (cc (all.0.of_open))
 
 pub front-waits : (begins : List ℕ) (h : Hosted) (records lost : List Logged) → h.records ≡ records ++ lost → AllByRecursion (Waits h.transactions) lost
-    → AllByRecursion (λ (t : Open). is_among begins t.begin ≡ true) h.transactions → NoLoadPends records → (is_up h ≡ false → h.transactions ≡ []) → IsFrontOf begins h (record h { records = records })
+    → AllByRecursion (λ (t : Open). is_among begins t.begin ≡ true) h.transactions → (is_up h ≡ true → NoLoadPends records) → (is_up h ≡ false → h.transactions ≡ []) → IsFrontOf begins h (record h { records = records })
 front-waits begins h records lost splits waits among loads idle = record {
   same = refl;
   lost = lost;

@@ -19,7 +19,7 @@ pub record Waits (transactions : List Open) (r : Logged) : Type 0 where
   pub of_open : has_begin transactions r.begin ≡ true
   pub quiet : telling r.deed ≡ None
 
--- A database with a front of its records: what is lost behind it is of transactions that began at these numbers, and tells no entry. No load is cut, and nothing is lost where it is being restored.
+-- A database with a front of its records: what is lost behind it is of transactions that began at these numbers, and tells no entry. No load is cut where it can be used, and nothing is lost where it is being restored.
 pub record IsFrontOf (begins : List ℕ) (h front : Hosted) : Type 0 where
   pub same : front ≡ record h { records = front.records }
   pub lost : List Logged
@@ -27,7 +27,7 @@ pub record IsFrontOf (begins : List ℕ) (h front : Hosted) : Type 0 where
   pub of_open : AllByRecursion (λ (r : Logged). is_among begins r.begin ≡ true) lost
   pub of_some : AllByRecursion (λ (r : Logged). 0 < r.begin) lost
   pub quiet : AllByRecursion (λ (r : Logged). telling r.deed ≡ None) lost
-  pub loads : NoLoadPends front.records
+  pub loads : is_up h ≡ true → NoLoadPends front.records
   pub whole : is_up h ≡ false → lost ≡ []
 
 -- so each of some databases where a statement is cut: what is lost was open before the statement, or is of the statement

@@ -44,7 +44,7 @@ pub fn crashes_leave_settled_fronts()
 /// Where an end of a database's records waits in memory, and what is open in it is of some transactions, a crash may lose that end. Nothing is open in one that is being restored.
 pub fn what_waits_may_be_lost()
     ensures front { (begins : List ℕ) (h : Hosted) (records lost : List Logged) → h.records ≡ records ++ lost → AllByRecursion (Waits h.transactions) lost
-        → AllByRecursion (λ (t : Open). is_among begins t.begin ≡ true) h.transactions → NoLoadPends records → (is_up h ≡ false → h.transactions ≡ []) → IsFrontOf begins h (record h { records = records }) }
+        → AllByRecursion (λ (t : Open). is_among begins t.begin ≡ true) h.transactions → (is_up h ≡ true → NoLoadPends records) → (is_up h ≡ false → h.transactions ≡ []) → IsFrontOf begins h (record h { records = records }) }
 {}
 
 /// Of what a database says in one act of a statement, or of a closing, only the last record tells an entry. So an act may be cut inside.

@@ -99,7 +99,7 @@ impl Hosting {
             → OnOk result (IsHosting (D.disk dev.new) self.new (set hosted at h)) }
         ensures crash { D.tells → (hosted : List Hosted) (told : Told) (r : Logged) (h : Hosted) → IsHosting (D.disk dev.old) self.old hosted → ComesUp (D.disk dev.old) self.old hosted at medium.now.name stored.now files.items checkpoint known.now points last.now told r → IsUpAs told r points h
             → Effect IsOurs (LeavesEither (own_of self.old) hosted (set hosted at h)) (D.disk dev.old) (D.disk dev.new) }
-        ensures touches { D.tells → OnOk result (TouchesOurs (D.disk dev.old) (D.disk dev.new)) }
+        ensures touches { D.tells → TouchesOurs (D.disk dev.old) (D.disk dev.new) }
         ensures broken { D.tells → IsErrOf result StoresError.Broken → (hosted : List Hosted) (told : Told) (r : Logged) → IsHosting (D.disk dev.old) self.old hosted
             → ComesUp (D.disk dev.old) self.old hosted at medium.now.name stored.now files.items checkpoint known.now points last.now told r → ⊥ }
         ensures not_an_instance { IsErrOf result StoresError.NotAnInstance → ⊥ }

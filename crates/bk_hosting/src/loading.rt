@@ -11,6 +11,7 @@ ghost use Rattle.bk_store.specs.Told.{Told};
 ghost use Rattle.bk_master.specs.Master.{IsMade, IsNoInstance};
 ghost use Rattle.bk_master.specs.declared.record.Entry.{Entry as Entries};
 ghost use Rattle.bk_master.specs.declared.record.Own.{Own};
+ghost use Rattle.bk_stores.specs.Quiet.{AreQuiet};
 ghost use Rattle.bk_stores.specs.Standing.{AreStanding};
 ghost use Rattle.bk_stores.specs.Stores.{AreStores, IsOurs, TouchesOurs};
 ghost use Rattle.bk_hosting.specs.Hosting.{IsHosting, IsReady, IsSealedAt, Tells, own_of, state_of};
@@ -101,7 +102,8 @@ impl Hosting {
         ensures standing { D.tells → OnOk result (AreStanding (D.disk dev.new) self.new.stores) }
         ensures stands { D.tells → (hosted : List Hosted) → IsOpening (D.disk dev.old) self.old hosted → OnOk result (IsOpening (D.disk dev.new) self.new hosted) }
         ensures crash { D.tells → (number : ℕ) (hosted : List Hosted) → IsOpening (D.disk dev.old) self.old hosted → Effect IsOurs (LeavesUndoing number (own_of self.old) hosted) (D.disk dev.old) (D.disk dev.new) }
-        ensures touches { D.tells → OnOk result (TouchesOurs (D.disk dev.old) (D.disk dev.new)) }
+        ensures touches { D.tells → TouchesOurs (D.disk dev.old) (D.disk dev.new) }
+        ensures still { D.tells → AreQuiet (D.disk dev.old).files → OnOk result (ChangesNothing (D.disk dev.old) (D.disk dev.new)) }
         ensures broken { D.tells → IsErrOf result StoresError.Broken → (hosted : List Hosted) → IsOpening (D.disk dev.old) self.old hosted → ⊥ }
         ensures not_an_instance { IsErrOf result StoresError.NotAnInstance → ⊥ }
         ensures cause { HasCause D.disk_faults D.tell_faults dev.old dev.new (IsErrOf result StoresError.Fault) }
@@ -129,6 +131,7 @@ impl Hosting {
         ensures stands { D.tells → (hosted : List Hosted) → IsOpening (D.disk dev.old) self.old hosted → OnOk result (IsOpening (D.disk dev.new) self.new hosted) }
         ensures crash { D.tells → (number : ℕ) (hosted : List Hosted) → IsOpening (D.disk dev.old) self.old hosted → Effect IsOurs (LeavesUndoing number (own_of self.old) hosted) (D.disk dev.old) (D.disk dev.new) }
         ensures touches { D.tells → TouchesOurs (D.disk dev.old) (D.disk dev.new) }
+        ensures still { D.tells → OnOk result (ChangesNothing (D.disk dev.old) (D.disk dev.new)) }
         ensures broken { D.tells → IsErrOf result StoresError.Broken → (hosted : List Hosted) → IsOpening (D.disk dev.old) self.old hosted → ⊥ }
         ensures not_an_instance { IsErrOf result StoresError.NotAnInstance → ⊥ }
         ensures cause { HasCause D.disk_faults D.tell_faults dev.old dev.new (IsErrOf result StoresError.Fault) }
@@ -155,7 +158,8 @@ impl Hosting {
         ensures standing { D.tells → OnOk result (AreStanding (D.disk dev.new) self.new.stores) }
         ensures stands { D.tells → (hosted : List Hosted) → IsOpening (D.disk dev.old) self.old hosted → OnOk result (IsOpening (D.disk dev.new) self.new hosted) }
         ensures crash { D.tells → (number : ℕ) (hosted : List Hosted) → IsOpening (D.disk dev.old) self.old hosted → Effect IsOurs (LeavesUndoing number (own_of self.old) hosted) (D.disk dev.old) (D.disk dev.new) }
-        ensures touches { D.tells → OnOk result (TouchesOurs (D.disk dev.old) (D.disk dev.new)) }
+        ensures touches { D.tells → TouchesOurs (D.disk dev.old) (D.disk dev.new) }
+        ensures still { D.tells → AreQuiet (D.disk dev.old).files → OnOk result (ChangesNothing (D.disk dev.old) (D.disk dev.new)) }
         ensures broken { D.tells → IsErrOf result StoresError.Broken → (hosted : List Hosted) → IsOpening (D.disk dev.old) self.old hosted → ⊥ }
         ensures not_an_instance { IsErrOf result StoresError.NotAnInstance → ⊥ }
         ensures cause { HasCause D.disk_faults D.tell_faults dev.old dev.new (IsErrOf result StoresError.Fault) }
@@ -180,7 +184,8 @@ impl Hosting {
         ensures standing { D.tells → OnOk result (AreStanding (D.disk dev.new) self.new.stores) }
         ensures stands { D.tells → (hosted : List Hosted) → IsOpening (D.disk dev.old) self.old hosted → OnOk result (IsHosting (D.disk dev.new) self.new (map settling hosted)) }
         ensures crash { D.tells → (number : ℕ) (hosted : List Hosted) → IsOpening (D.disk dev.old) self.old hosted → Effect IsOurs (LeavesUndoing number (own_of self.old) hosted) (D.disk dev.old) (D.disk dev.new) }
-        ensures touches { D.tells → OnOk result (TouchesOurs (D.disk dev.old) (D.disk dev.new)) }
+        ensures touches { D.tells → TouchesOurs (D.disk dev.old) (D.disk dev.new) }
+        ensures still { D.tells → AreQuiet (D.disk dev.old).files → OnOk result (ChangesNothing (D.disk dev.old) (D.disk dev.new)) }
         ensures broken { D.tells → IsErrOf result StoresError.Broken → (hosted : List Hosted) → IsOpening (D.disk dev.old) self.old hosted → ⊥ }
         ensures not_an_instance { IsErrOf result StoresError.NotAnInstance → ⊥ }
         ensures cause { HasCause D.disk_faults D.tell_faults dev.old dev.new (IsErrOf result StoresError.Fault) }
@@ -192,7 +197,8 @@ impl Hosting {
     }
 
     /// Opens the databases that an instance hosts, or makes an instance with this number where none is made: of each all is undone that was pending, and nothing is open then; one that is being restored stays so.
-    /// What was being made or removed of databases is removed. A crash leaves the databases that there were, of each perhaps some of what undoes; then this call opens them again.
+    /// What was being made or removed of databases is removed. A crash leaves the databases that there were, of each perhaps some of what undoes; then this call opens them again. Where nothing is
+    /// to be finished, removed or undone the files stay as they are.
     ///
     /// `NotAnInstance` is answered only where an instance is made and its control file holds no control, and `Broken` only where the files hold no hosted databases. `NoMemory` may come after files were touched.
     pub fn load<R: Threads + Sync, D: Device>(
@@ -207,8 +213,9 @@ impl Hosting {
         ensures stands { D.tells → IsSettled (D.disk dev.old) → (own : Own) (hosted : List Hosted) → HoldsHosting number own (D.disk dev.old).files hosted → IfOk result (λ x. IsHosting (D.disk dev.new) x (map settling hosted)) }
         ensures own { D.tells → IsSettled (D.disk dev.old) → (own : Own) (hosted : List Hosted) → HoldsHosting number own (D.disk dev.old).files hosted → IfOk result (λ x. own_of x ≡ own) }
         ensures crash { D.tells → IsSettled (D.disk dev.old) → (own : Own) (hosted : List Hosted) → HoldsHosting number own (D.disk dev.old).files hosted → Effect IsOurs (LeavesUndoing number own hosted) (D.disk dev.old) (D.disk dev.new) }
-        ensures touches { D.tells → OnOk result (TouchesOurs (D.disk dev.old) (D.disk dev.new)) }
+        ensures touches { D.tells → TouchesOurs (D.disk dev.old) (D.disk dev.new) }
         ensures untouched { D.tells → IsErrOf result StoresError.NotAnInstance → ChangesNothing (D.disk dev.old) (D.disk dev.new) }
+        ensures still { D.tells → IsSettled (D.disk dev.old) → AreQuiet (D.disk dev.old).files → OnOk result (ChangesNothing (D.disk dev.old) (D.disk dev.new)) }
         ensures not_an_instance { D.tells → IsErrOf result StoresError.NotAnInstance → IsNoInstance (D.disk dev.old).files }
         ensures no_instance { D.tells → IsNoInstance (D.disk dev.old).files → MatchResult result (λ _. ⊥) (λ e. e ≢ StoresError.Broken) }
         ensures broken { D.tells → IsErrOf result StoresError.Broken → IsSettled (D.disk dev.old) → (own : Own) (hosted : List Hosted) → HoldsHosting number own (D.disk dev.old).files hosted → ⊥ }

@@ -7,8 +7,9 @@ use Rattle.bk_control.specs.Control.{IsControl, control_kept, Kept as KeptContro
 use Rattle.bk_control.specs.Slots.{control_of}
 use Rattle.bk_device.specs.Calls.{ChangesNothing}
 use Rattle.bk_device.specs.Compose.{effect_of_nothing, effect_then, effect_weaken, effect_widen, keeps_by_effect, durable_kept}
-use Rattle.bk_device.specs.Disk.{Files, Disk}
+use Rattle.bk_device.specs.Disk.{Files, Disk, IsLawful}
 use Rattle.bk_device.specs.Effects.{Effect, IsName}
+use Rattle.bk_device.specs.Laws.{nothing_then}
 use Rattle.bk_gate.specs.Blobs.{sealed}
 use Rattle.bk_gate.specs.Laws.{gate_kept}
 use Rattle.bk_ids.specs.declared.record.Rec.{Rec}
@@ -18,7 +19,7 @@ use Rattle.bk_segments.specs.Control.{read_control, IsSound}
 use Rattle.bk_segments.specs.Records.{records_of, IsRun}
 use Rattle.bk_segments.specs.RunLaws.{records_append, run_split}
 use Rattle.bk_log.specs.Log.{value_of, Kept, IsLog}
-use Rattle.bk_segments.specs.Files.{control_file, segment_file, IsOwn, IsBeside, IsNamed, BeginsAt, IsFirstAt, blobs_at, blobs_from, blobs_of, shown, cut_at, AreBegun, Holds, IsTidy, Logged, LogIs, AreDurable}
+use Rattle.bk_segments.specs.Files.{control_file, segment_file, AreTidy, HasNoRest, IsOwn, IsBeside, IsNamed, BeginsAt, IsFirstAt, blobs_at, blobs_from, blobs_of, shown, cut_at, AreBegun, Holds, IsTidy, Logged, LogIs, AreDurable}
 use Rattle.bk_segments.specs.FileLaws.{control_not_segment, one_segment, blobs_same, begun_same, log_is, shown_same, shown_cut}
 use Rattle.bk_segments.specs.SegmentLaws.{get_dropped, blobs_split, segments_same, segments_dropped}
 use Rattle.bk_log.specs.Laws.{control_there, control_is, still, segment_left}
@@ -334,3 +335,9 @@ least_cut old new to count rest same i s low there =
 -- which files opening a log touches
 pub load_touches : (db : ℕ) (head : Head) (a b c : Disk) → ChangesNothing a b → Effect (IsBeside db head) (λ _. Unit {0}) b c → Effect (IsOwn db) (λ _. Unit {0}) a c
 load_touches db head a b c call effect = effect_then (effect_of_nothing (λ image mine. tt) call) (effect_widen (λ name at. inr (at.0, at.3)) (λ image here left. tt) effect)
+
+-- opening a log behind whose segments nothing is left changes nothing
+pub load_still : (db : ℕ) (head : Head) {a b c : Disk} → IsLawful a → AreTidy a.files db → Holds a.files db head → ChangesNothing a b → (HasNoRest b.files db head → ChangesNothing b c) → ChangesNothing a c
+load_still db head lawful tidy holds call swept =
+    let none = tidy head holds in
+    nothing_then lawful call (swept (record { below = λ n low high. call.files (segment_file db n) ∙ none.below n low high; behind = call.files (segment_file db (head.back + 1)) ∙ none.behind }))

@@ -179,6 +179,9 @@ none_added from to blob part same = empty (records_in blob) (omega (arith, part.
     empty [] e = refl
     empty (r ∷ rs) e = absurd (omega (arith, e))
 
+pub none_waits : (from to : ℕ) (blob : List ℕ) → IsPart from blob to → records_in blob ≡ [] → to ≡ from
+none_waits from to blob part none = omega (arith, part.ends, ap (λ (rs : List Rec). length rs) none)
+
 -- ---- nothing was done
 
 pub none_crash : {Q : Files → Type 0} (log : Kept) (a : Disk) → IsLog a log → Effect (IsOwn log.db) (λ image. LogIs image log.db (value_of a.files log) ⊎ Q image) a a

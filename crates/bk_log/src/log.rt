@@ -10,7 +10,7 @@ ghost use Rattle.bk_segments.specs.declared.head.Head.{Head};
 ghost use Rattle.bk_segments.specs.Control.{IsSound};
 ghost use Rattle.bk_gate.specs.Gate.{IsGate};
 ghost use Rattle.bk_log.specs.Log.{Kept, IsLog, IsSame, KeepsSpare, value_of};
-ghost use Rattle.bk_segments.specs.Files.{control_file, segment_file, blobs_at, AreGone, BeginsAt, Holds, IsAdded, IsFirstAt, IsOwn, IsTidy, LogIs, IsForeign, AreDurable, AreSettled, Logged, blobs_of, cut_at, emptied, with_more};
+ghost use Rattle.bk_segments.specs.Files.{control_file, segment_file, blobs_at, AreGone, AreTidy, BeginsAt, Holds, IsAdded, IsFirstAt, IsOwn, IsTidy, LogIs, IsForeign, AreDurable, AreSettled, Logged, blobs_of, cut_at, emptied, with_more};
 ghost use Rattle.bk_segments.specs.Records.{IsPart, records_in, records_of};
 ghost use Rattle.bk_record.specs.Spelling.{IsRecord, KeepsLimits, spelling};
 
@@ -79,7 +79,8 @@ impl Model for Log {
 
 impl Log {
     /// Opens the log of a database, of which what counts is durable (`settle`), and reads the bytes of its records, each segment in
-    /// one read. Segments that no longer count, and one that was begun behind the last, are removed. Nothing else is changed.
+    /// one read. Segments that no longer count, and one that was begun behind the last, are removed. Nothing else is changed, and
+    /// nothing at all where none of these is there.
     ///
     /// `Foreign` is answered exactly where the files are no log: where the control file holds no control record, where one of
     /// the segments that it names holds no blob, or where they hold anything but records whose numbers follow each other. Then
@@ -97,6 +98,7 @@ impl Log {
         ensures foreign { D.tells → IsErrOf result LogError.Foreign → IsForeign (D.disk dev.old).files db }
         ensures still { D.tells → IsErrOf result LogError.Foreign → ChangesNothing (D.disk dev.old) (D.disk dev.new) }
         ensures crash { D.tells → AreDurable db (D.disk dev.old) → Effect (IsOwn db) (λ image. (log : Logged) → LogIs (D.disk dev.old).files db log → LogIs image db log) (D.disk dev.old) (D.disk dev.new) }
+        ensures rests { D.tells → AreTidy (D.disk dev.old).files db → ChangesNothing (D.disk dev.old) (D.disk dev.new) }
         ensures touches { D.tells → Effect (IsOwn db) (λ _. Unit {0}) (D.disk dev.old) (D.disk dev.new) }
         ensures cause { HasCause D.disk_faults D.tell_faults dev.old dev.new (IsErrOf result LogError.Fault) }
     {
@@ -120,6 +122,7 @@ impl Log {
         ensures foreign { D.tells → IsErrOf result LogError.Foreign → IsForeign (D.disk dev.old).files db }
         ensures still { D.tells → IsErrOf result LogError.Foreign → ChangesNothing (D.disk dev.old) (D.disk dev.new) }
         ensures crash { D.tells → AreDurable db (D.disk dev.old) → Effect (IsOwn db) (λ image. (log : Logged) → LogIs (D.disk dev.old).files db log → LogIs image db log) (D.disk dev.old) (D.disk dev.new) }
+        ensures rests { D.tells → AreTidy (D.disk dev.old).files db → ChangesNothing (D.disk dev.old) (D.disk dev.new) }
         ensures touches { D.tells → Effect (IsOwn db) (λ _. Unit {0}) (D.disk dev.old) (D.disk dev.new) }
         ensures cause { HasCause D.disk_faults D.tell_faults dev.old dev.new (IsErrOf result LogError.Fault) }
     {
@@ -358,7 +361,7 @@ impl Log {
     }
 
     /// Makes the records that wait durable. Where the last segment has 1 MiB or more a new one is begun first. The spare flushes
-    /// don't fall. A crash leaves the log as it was, or with all of them.
+    /// don't fall. Where none waits nothing is changed. A crash leaves the log as it was, or with all of them.
     ///
     /// `NoMemory` leaves the log as it was; a segment may have been begun. `Foreign` isn't answered.
     pub fn flush<D: Device>(&mut self, alloc: Global, dev: &mut D) -> Result<(), LogError>
@@ -374,6 +377,7 @@ impl Log {
         ensures failed { IsErrOf result LogError.Fault → self.new.failed ≡ true }
         ensures no_memory { IsErrOf result LogError.NoMemory → self.new ≡ self.old }
         ensures stays { D.tells → IsErrOf result LogError.NoMemory → IsLog (D.disk dev.new) self.new }
+        ensures still { D.tells → self.old.waiting ≡ [] → ChangesNothing (D.disk dev.old) (D.disk dev.new) }
         ensures foreign { IsErrOf result LogError.Foreign → ⊥ }
         ensures crash { D.tells → Effect (IsOwn self.old.db) (λ image. LogIs image self.old.db (value_of (D.disk dev.old).files self.old) ⊎ LogIs image self.old.db (with_more (value_of (D.disk dev.old).files self.old) self.old.waiting)) (D.disk dev.old) (D.disk dev.new) }
         ensures cause { HasCause D.disk_faults D.tell_faults dev.old dev.new (IsErrOf result LogError.Fault) }

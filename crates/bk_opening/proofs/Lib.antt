@@ -3,5 +3,6 @@ mod Causes
 mod Loading
 mod NoteFacts
 mod Places
+mod Resting
 mod Settled
 mod Undoing

@@ -1,1 +1,4 @@
 pub mod Opening
+pub mod Quiet
+pub mod QuietLaws
+pub mod TouchLaws

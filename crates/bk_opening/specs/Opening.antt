@@ -1,6 +1,8 @@
 -- Opening a database: its pages in frames, and what brings them to the end.
 use Rattle.std.specs.Prelude.{◌≡◌, ◌≢◌, ◌≤◌, ◌<◌, ◌⊎◌, ℕ, List, [], length, Option, None, Some, true, slice_get, slice_index_or}
 use Rattle.std.specs.List.{AllPairs}
+use Rattle.bk_device.specs.Disk.{Disk}
+use Rattle.bk_device.specs.Effects.{Effect}
 use Rattle.bk_facts.specs.declared.facts.DataFile.{DataFile}
 use Rattle.bk_facts.specs.declared.facts.Facts.{Facts}
 use Rattle.bk_ids.specs.declared.record.Rec.{Rec}
@@ -10,7 +12,7 @@ use Rattle.bk_pool.specs.Pool.{IsIn, Pool}
 use Rattle.bk_record.specs.Log.{IsLog}
 use Rattle.bk_redo.specs.declared.place.PageAt.{PageAt}
 use Rattle.bk_paged.specs.Holds.{IsStored, Stood}
-use Rattle.bk_paged.specs.Names.{IsThere}
+use Rattle.bk_paged.specs.Names.{IsOwn, IsThere}
 use Rattle.bk_paged.specs.Paged.{Kept}
 
 -- a page lies in a data file below this number, or is one of the first so many pages of that file
@@ -57,3 +59,11 @@ AreIn files pool = (at : PageAt) → IsThere files at → (i : ℕ) × IsIn pool
 -- these bytes are the records that the log of a database holds
 abbrev pub AreHeld : Kept → Stood → List ℕ → Type 0
 AreHeld p stood bytes = IsLog bytes (kept_from p.log.head.kept stood.records) None
+
+-- a name is one of the files of a database of this number, whichever its data files are
+abbrev pub IsOfDatabase : ℕ → List ℕ → Type 0
+IsOfDatabase db name = (files : List DataFile) × IsOwn db files name
+
+-- a call touched such files alone, whatever they hold, and told nothing
+abbrev pub TouchesDatabase : ℕ → Disk → Disk → Type 0
+TouchesDatabase db old new = Effect (IsOfDatabase db) (λ _. Unit {0}) old new

@@ -11,14 +11,15 @@ ghost use Rattle.bk_log.specs.Log.{IsLog, value_of};
 ghost use Rattle.bk_segments.specs.Files.{AreSettled};
 ghost use Rattle.bk_paged.specs.Holds.{HaveRoom, Holds, Leaves, Stood, recovered};
 ghost use Rattle.bk_paged.specs.Names.{AreDurable, IsOwn, names_of};
-ghost use Rattle.bk_opening.specs.Opening.{AreHeld, AreIn};
+ghost use Rattle.bk_opening.specs.Opening.{AreHeld, AreIn, TouchesDatabase};
+ghost use Rattle.bk_opening.specs.Quiet.{IsQuiet};
 ghost use Rattle.bk_paged.specs.Paged.{IsPaged, Standing, Touches, sealed_count};
 ghost use Rattle.bk_paths.specs.Paths.{numbered};
 ghost use Rattle.bk_record.specs.Log.{IsLog as AreRecords};
 ghost use Rattle.bk_record.specs.Spelling.{IsRecord, KeepsLimits, spelling};
 ghost use Rattle.bk_side.specs.Names.{AreDifferent, side_file, IsOwn as IsOfSide};
 ghost use Rattle.bk_side.specs.Pages.{Shows, shown};
-ghost use Rattle.bk_side.specs.Side.{IsSide, added_of};
+ghost use Rattle.bk_side.specs.Side.{HasNoBatch, IsSide, added_of};
 ghost use Rattle.bk_undo.specs.Losers.{compensation};
 
 use crate::reading::open_pool;
@@ -47,6 +48,7 @@ fn load_side<D: Device>(
     ensures none { D.tells → IfOk result (λ s. added_of (D.disk dev.new) s ≡ []) }
     ensures different { OnOk result (AreDifferent (names_of facts.now.files)) }
     ensures same { D.tells → OnOk result (Shows (side_file db) (names_of facts.now.files) (shown (side_file db) (names_of facts.now.files) (D.disk dev.old).files) (D.disk dev.new).files) }
+    ensures still { D.tells → HasNoBatch (side_file db) (D.disk dev.old).files → OnOk result (ChangesNothing (D.disk dev.old) (D.disk dev.new)) }
     ensures foreign { IsErrOf result PagedError.Foreign → AreDifferent (names_of facts.now.files) → ⊥ }
     ensures crash { D.tells → Effect (IsOfSide (side_file db) (names_of facts.now.files)) (λ image. MayLeaveOwn (IsOfSide (side_file db) (names_of facts.now.files)) (D.disk dev.old) image ⊎ Shows (side_file db) (names_of facts.now.files) (shown (side_file db) (names_of facts.now.files) (D.disk dev.old).files) image) (D.disk dev.old) (D.disk dev.new) }
     ensures cause { HasCause D.disk_faults D.tell_faults dev.old dev.new (IsErrOf result PagedError.Fault) }
@@ -159,7 +161,10 @@ fn open<R: Threads + Sync, D: Device>(
     ensures fit { IfOk result (λ o. (o.paged.failed ≡ false) × (o.paged.log.failed ≡ false)) }
     ensures standing { D.tells → IfOk result (λ o. Standing (D.disk dev.new) o.paged) }
     ensures touches { D.tells → IfOk result (λ o. Touches o.paged (D.disk dev.old) (D.disk dev.new)) }
+    ensures mine { D.tells → TouchesDatabase db (D.disk dev.old) (D.disk dev.new) }
     ensures whole { IfOk result (λ o. AreIn o.paged.facts.files o.paged.pool) }
+    ensures none { D.tells → IsQuiet db (D.disk dev.old).files → IfOk result (λ o. o.paged.log.waiting ≡ []) }
+    ensures still { D.tells → IsQuiet db (D.disk dev.old).files → OnOk result (ChangesNothing (D.disk dev.old) (D.disk dev.new)) }
     ensures stands { D.tells → (stood : Stood) → AreDurable db stood.files (D.disk dev.old) → Holds db stood (D.disk dev.old).files → IfOk result (λ o. IsPaged (D.disk dev.new) o.paged (recovered stood) × (sealed_count o.paged ≡ length stood.records)) }
     ensures records { D.tells → (stood : Stood) → AreDurable db stood.files (D.disk dev.old) → Holds db stood (D.disk dev.old).files → IfOk result (λ o. AreHeld o.paged (recovered stood) o.records) }
     ensures foreign { D.tells → IsErrOf result PagedError.Foreign → (stood : Stood) → AreDurable db stood.files (D.disk dev.old) → Holds db stood (D.disk dev.old).files → ⊥ }
@@ -177,7 +182,8 @@ fn open<R: Threads + Sync, D: Device>(
 }
 
 /// Opens a database: makes durable what counts of its log, finishes a batch of pages that is sealed, brings the pages in memory to the end by the log from the latest checkpoint on, and undoes by
-/// durable records what is pending. Then each page lies in a frame. A crash leaves the records that there were, and perhaps some of those.
+/// durable records what is pending. Then each page lies in a frame. A crash leaves the records that there were, and perhaps some of those. Where nothing is to be finished or undone the files stay as
+/// they are.
 ///
 /// `Foreign` is answered only where the files hold no database.
 pub fn load<R: Threads + Sync, D: Device>(
@@ -191,7 +197,9 @@ pub fn load<R: Threads + Sync, D: Device>(
     ensures sealed { IfOk result (λ o. o.paged.log.stored ≡ o.paged.log.end) }
     ensures standing { D.tells → IfOk result (λ o. Standing (D.disk dev.new) o.paged) }
     ensures touches { D.tells → IfOk result (λ o. Touches o.paged (D.disk dev.old) (D.disk dev.new)) }
+    ensures mine { D.tells → TouchesDatabase db (D.disk dev.old) (D.disk dev.new) }
     ensures whole { IfOk result (λ o. AreIn o.paged.facts.files o.paged.pool) }
+    ensures still { D.tells → IsQuiet db (D.disk dev.old).files → OnOk result (ChangesNothing (D.disk dev.old) (D.disk dev.new)) }
     ensures stands { D.tells → (stood : Stood) → AreDurable db stood.files (D.disk dev.old) → Holds db stood (D.disk dev.old).files → IfOk result (λ o. IsPaged (D.disk dev.new) o.paged (recovered stood)) }
     ensures records { D.tells → (stood : Stood) → AreDurable db stood.files (D.disk dev.old) → Holds db stood (D.disk dev.old).files → IfOk result (λ o. AreHeld o.paged (recovered stood) o.records) }
     ensures foreign { D.tells → IsErrOf result PagedError.Foreign → (stood : Stood) → AreDurable db stood.files (D.disk dev.old) → Holds db stood (D.disk dev.old).files → ⊥ }

@@ -1,5 +1,6 @@
 // A database's log and pages.
 ghost use Rattle.std.specs.Prelude.{◌≡◌, ◌≤◌, ◌<◌, ◌⊎◌, ◌^◌, ◌+◌, ◌||◌, [], length, false, IfOk, OnOk, IsErrOf, IsErr};
+ghost use Rattle.bk_device.specs.Calls.{ChangesNothing};
 ghost use Rattle.bk_device.specs.Counts.{HasCause};
 ghost use Rattle.bk_device.specs.Effects.{Effect};
 ghost use Rattle.bk_facts.specs.Facts.{HasPath};
@@ -110,7 +111,7 @@ impl Paged {
         &self.note
     }
 
-    /// Makes the records that wait durable. The log stands on the device, whatever else does. A crash leaves the records that were durable, or some more of them.
+    /// Makes the records that wait durable. The log stands on the device, whatever else does. Where none waits nothing is changed. A crash leaves the records that were durable, or some more of them.
     pub fn flush<D: Device>(&mut self, alloc: Global, dev: &mut D) -> Result<(), PagedError>
         requires fit { self.old.failed ≡ false }
         requires stands { D.tells → IsLog (D.disk dev.old) self.old.log }
@@ -122,6 +123,7 @@ impl Paged {
         ensures sealed { OnOk result ((self.new.log.db ≡ self.old.log.db) × (self.new.log.end ≡ self.old.log.end) × (self.new.log.stored ≡ self.old.log.end) × (self.new.log.waiting ≡ [])) }
         ensures kept { OnOk result (self.new.log.head.kept ≡ self.old.log.head.kept) }
         ensures spare { OnOk result (KeepsSpare self.old.log self.new.log) }
+        ensures still { D.tells → self.old.log.waiting ≡ [] → ChangesNothing (D.disk dev.old) (D.disk dev.new) }
         ensures foreign { IsErrOf result PagedError.Foreign → ⊥ }
         ensures crash { D.tells → (stood : Stood) → IsPaged (D.disk dev.old) self.old stood → Effect (IsOwn self.old.log.db stood.files) (Leaves self.old.log.db (sealed_count self.old) stood) (D.disk dev.old) (D.disk dev.new) }
         ensures touches { D.tells → Touches self.old (D.disk dev.old) (D.disk dev.new) }

@@ -5,6 +5,7 @@ ghost use Rattle.bk_device.specs.Counts.{HasCause};
 ghost use Rattle.bk_device.specs.Effects.{Effect};
 ghost use Rattle.bk_filling.specs.Filling.{MayFill};
 ghost use Rattle.bk_known.specs.Known.{KeepsKnown};
+ghost use Rattle.bk_opening.specs.Opening.{TouchesDatabase};
 ghost use Rattle.bk_paged.specs.Names.{IsOwn};
 ghost use Rattle.bk_paged.specs.Paged.{Standing, Touches};
 ghost use Rattle.bk_record.specs.Spelling.{KeepsLimits};
@@ -48,6 +49,7 @@ fn open_set<R: Threads + Sync, D: Device>(
     ensures standing { D.tells → IfOk result (λ s. Standing (D.disk dev.new) s.paged) }
     ensures ends { IfOk result (λ s. (s.paged.log.db ≡ db) × (s.paged.log.stored ≡ s.paged.log.«end»)) }
     ensures touches { D.tells → IfOk result (λ s. TouchesWith db files.items s (D.disk dev.old) (D.disk dev.new)) }
+    ensures mine { D.tells → TouchesDatabase db (D.disk dev.old) (D.disk dev.new) }
     ensures stands { D.tells → LogsAreDurable db (D.disk dev.old) → (told : Told) → Makes (contents ((D.disk dev.old).files medium.now.name)) set.now files.items db checkpoint note.now known.now told → IfOk result (λ s. IsStore (D.disk dev.new) s (settled told)) }
     ensures unfit { D.tells → LogsAreDurable db (D.disk dev.old) → (told : Told) → Makes (contents ((D.disk dev.old).files medium.now.name)) set.now files.items db checkpoint note.now known.now told → IsErrOf result RecoverError.Unfit → ⊥ }
     ensures crash { D.tells → LogsAreDurable db (D.disk dev.old) → (told : Told) → Makes (contents ((D.disk dev.old).files medium.now.name)) set.now files.items db checkpoint note.now known.now told
@@ -85,7 +87,8 @@ fn say_last<D: Device>(
 /// Makes the database of this number of a full set that was opened on a medium, in place of what was there, with these data files, the number of its latest checkpoint, what is known of it, and these bytes, at most 12,288,
 /// as the note of the layer above; opens it, which undoes what was pending in the backup, and says this record behind that, which is durable then.
 ///
-/// `Unfit` is answered only where the set makes no database with these data files. Where it makes one, only files of this number are touched, and a crash may leave anything there. After an error they may hold anything.
+/// `Unfit` is answered only where the set makes no database with these data files. Whatever it makes, only files of a database of this number are touched; where it makes one, only those with these data files, and a crash may leave
+/// anything there. After an error they may hold anything.
 pub fn recover<R: Threads + Sync, D: Device>(
     rt: &R,
     alloc: Global,
@@ -108,6 +111,7 @@ pub fn recover<R: Threads + Sync, D: Device>(
     ensures standing { D.tells → IfOk result (λ s. Standing (D.disk dev.new) s.paged) }
     ensures ends { IfOk result (λ s. (s.paged.log.db ≡ db) × (s.paged.log.stored ≡ s.paged.log.«end»)) }
     ensures touches { D.tells → IfOk result (λ s. TouchesWith db files.items s (D.disk dev.old) (D.disk dev.new)) }
+    ensures mine { D.tells → TouchesDatabase db (D.disk dev.old) (D.disk dev.new) }
     ensures stands { D.tells → LogsAreDurable db (D.disk dev.old) → (told : Told) (r : Logged) → Makes (contents ((D.disk dev.old).files medium.now.name)) set.now files.items db checkpoint note.now known.now told → EndsWith told r last.now
         → IfOk result (λ s. IsStore (D.disk dev.new) s (said (settled told) r)) }
     ensures unfit { D.tells → LogsAreDurable db (D.disk dev.old) → (told : Told) → Makes (contents ((D.disk dev.old).files medium.now.name)) set.now files.items db checkpoint note.now known.now told → IsErrOf result RecoverError.Unfit → ⊥ }

@@ -1,3 +1,4 @@
 pub mod Cells
 pub mod Reopening
 pub mod Errors
+pub mod QuietLaws

@@ -1,13 +1,17 @@
 // Opening a database over its files.
-ghost use Rattle.std.specs.Prelude.{◌≡◌, ◌≤◌, false, IfOk, IsErrOf};
+ghost use Rattle.std.specs.Prelude.{◌≡◌, ◌≤◌, [], false, IfOk, OnOk, IsErrOf};
+ghost use Rattle.bk_device.specs.Calls.{ChangesNothing};
 ghost use Rattle.bk_device.specs.Counts.{HasCause};
 ghost use Rattle.bk_groups.specs.Groups.{AreFiles};
 ghost use Rattle.bk_known.specs.declared.known.Known.{Known as Knowns};
+ghost use Rattle.bk_opening.specs.Opening.{TouchesDatabase};
+ghost use Rattle.bk_opening.specs.Quiet.{IsFinished, IsQuiet};
 ghost use Rattle.bk_paged.specs.Paged.{Standing, Touches};
 ghost use Rattle.bk_reopening.specs.Reopening.{IsClosed, IsSettled, Recovers, Tells, settled};
 ghost use Rattle.bk_shown.specs.Shown.{Shows};
 ghost use Rattle.bk_store.specs.Store.{IsStore};
 ghost use Rattle.bk_store.specs.Told.{Told, files_of};
+ghost use Rattle.bk_world.specs.Pending.{pending};
 
 use crate::error::OpenError;
 use crate::noting::{Noted, noted_in, recent_of};
@@ -52,7 +56,7 @@ fn read_parts(alloc: Global, paged: &Paged, records: &[u8]) -> Result<(Noted, Sh
 }
 
 /// Opens a database over its files: what counts of its log is made durable, its log and pages are brought to the end, what is pending is undone by durable records, and its rows are read from the
-/// pages. A crash leaves the records that there were, and perhaps some of those that undo; then this call opens it again.
+/// pages. A crash leaves the records that there were, and perhaps some of those that undo; then this call opens it again. Where nothing is to be finished or undone the files stay as they are.
 ///
 /// `Foreign` is answered only where the files hold no database, and `Fault` only where the device failed. After an error files may have been touched, but no record is lost.
 pub fn load<R: Threads + Sync, D: Device>(
@@ -64,7 +68,10 @@ pub fn load<R: Threads + Sync, D: Device>(
     ensures fit { IfOk result (λ s. s.paged.failed ≡ false) }
     ensures standing { D.tells → IfOk result (λ s. Standing (D.disk dev.new) s.paged) }
     ensures touches { D.tells → IfOk result (λ s. Touches s.paged (D.disk dev.old) (D.disk dev.new)) }
+    ensures mine { D.tells → TouchesDatabase db (D.disk dev.old) (D.disk dev.new) }
     ensures ends { IfOk result (λ s. (s.paged.log.db ≡ db) × (s.paged.log.stored ≡ s.paged.log.«end»)) }
+    ensures still { D.tells → IsQuiet db (D.disk dev.old).files → OnOk result (ChangesNothing (D.disk dev.old) (D.disk dev.new)) }
+    ensures rests { D.tells → (told : Told) → IsClosed db told (D.disk dev.old) → pending told.records ≡ [] → IsFinished db (D.disk dev.old).files → OnOk result (ChangesNothing (D.disk dev.old) (D.disk dev.new)) }
     ensures stands { D.tells → (told : Told) → IsClosed db told (D.disk dev.old) → IfOk result (λ s. IsStore (D.disk dev.new) s (settled told)) }
     ensures foreign { D.tells → IsErrOf result OpenError.Foreign → (told : Told) → IsClosed db told (D.disk dev.old) → ⊥ }
     ensures crash { D.tells → (told : Told) → IsClosed db told (D.disk dev.old) → Recovers db told (D.disk dev.old) (D.disk dev.new) }

@@ -1,13 +1,15 @@
 -- What removing segments did to the device.
 use Rattle.std.proofs.Common.{◌≡◌, ◌≤◌, ◌<◌, ℕ, zero, suc, ◌+◌, List, [], ◌∷◌, length, Some, None, refl, inl, inr, sym, ap, subst, ◌∙◌, arith}
+use Rattle.bk_device.specs.Calls.{ChangesNothing}
 use Rattle.bk_device.specs.Compose.{effect_then, effect_widen, effect_none}
-use Rattle.bk_device.specs.Disk.{Files, Disk}
+use Rattle.bk_device.specs.Disk.{Files, Disk, IsLawful}
 use Rattle.bk_device.specs.Effects.{Effect, IsName}
+use Rattle.bk_device.specs.Laws.{nothing_then}
 use Rattle.bk_device.specs.Names.{same_or_other}
 use Rattle.std.specs.Prelude.{slice_get, string_bytes}
 use Rattle.bk_segments.specs.declared.head.Head.{Head}
 use Rattle.bk_segments.specs.declared.segments.Segment.{Segment}
-use Rattle.bk_segments.specs.Files.{segment_file, IsBeside, IsBetween, IsNamed}
+use Rattle.bk_segments.specs.Files.{segment_file, HasNoRest, IsBeside, IsBetween, IsNamed}
 
 -- none was removed yet
 pub between_none : (db from to : ℕ) (a : Disk) → Effect (IsBetween db from to) (λ _. Unit {0}) a a
@@ -26,6 +28,10 @@ gone_more db from n b c so_far effect gone m low high = elim (same_or_other (seg
   where
     differ : (db m n : ℕ) → (segment_file db m ≡ segment_file db n → ⊥) → (m ≡ n → ⊥)
     differ db m n other same = other (ap (segment_file db) same)
+
+-- none was there
+pub still_more : (db from to n : ℕ) {a b c : Disk} → IsLawful a → ((m : ℕ) → from ≤ m → m < to → a.files (segment_file db m) ≡ None) → from ≤ n → n < to → ChangesNothing a b → (b.files (segment_file db n) ≡ None → ChangesNothing b c) → ChangesNothing a c
+still_more db from to n lawful none low high so_far more = nothing_then lawful so_far (more (so_far.files (segment_file db n) ∙ none n low high))
 
 -- ---- removing segments by their names
 
@@ -68,3 +74,9 @@ beside_first db head a b order effect = effect_widen (λ name at. (at.0, omega (
 pub beside_second : (db : ℕ) (head : Head) (a b c : Disk) → head.front ≤ head.back → Effect (IsBetween db head.gone head.front) (λ _. Unit {0}) a b → Effect (IsName (segment_file db (head.back + 1))) (λ _. Unit {0}) b c → Effect (IsBeside db head) (λ _. Unit {0}) a c
 beside_second db head a b c order first second =
     effect_then (beside_first db head a b order first) (effect_widen (λ name at. (head.back + 1, omega arith, inr (omega arith), at)) (λ image here left. tt) second)
+
+-- none was there
+pub beside_still : (db : ℕ) (head : Head) {a b c : Disk} → IsLawful a → HasNoRest a.files db head → (((n : ℕ) → head.gone ≤ n → n < head.front → a.files (segment_file db n) ≡ None) → ChangesNothing a b) → (b.files (segment_file db (head.back + 1)) ≡ None → ChangesNothing b c) → ChangesNothing a c
+beside_still db head lawful none first second =
+    let call = first none.below in
+    nothing_then lawful call (second (call.files (segment_file db (head.back + 1)) ∙ none.behind))

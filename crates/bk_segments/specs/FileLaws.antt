@@ -15,7 +15,7 @@ use Rattle.bk_ids.specs.declared.record.Rec.{Rec}
 use Rattle.bk_segments.specs.declared.head.Head.{Head}
 use Rattle.bk_segments.specs.Control.{read_control, IsSound}
 use Rattle.bk_segments.specs.Records.{records_in, records_of, IsRun}
-use Rattle.bk_segments.specs.Files.{control_file, segment_file, blobs_at, blobs_from, blobs_of, shown, cut_at, with_more, AreBegun, Logged, LogIs, IsForeign, IsOwn, AreDurable, AreSettled, Holds}
+use Rattle.bk_segments.specs.Files.{control_file, segment_file, blobs_at, blobs_from, blobs_of, shown, cut_at, with_more, AreBegun, Logged, LogIs, IsForeign, IsOwn, AreDurable, AreTidy, AreSettled, Holds}
 use Rattle.bk_segments.specs.RunLaws.{records_append, records_one}
 
 -- ---- names
@@ -211,6 +211,15 @@ settled_moved db call settled = record {
 -- and leaves the log
 pub log_moved : {a b : Disk} (db : ℕ) (log : Logged) → ChangesNothing a b → LogIs a.files db log → LogIs b.files db log
 log_moved db log call is = log_same db log (ap control_of (call.files (control_file db))) (λ n. blobs_moved db n call) is
+
+-- files that read the same are the same log, and no less tidy
+pub log_read : {f g : Files} (db : ℕ) (log : Logged) → ((name : List ℕ) → g name ≡ f name) → LogIs f db log → LogIs g db log
+log_read db log same is = log_same db log (ap control_of (same (control_file db))) (λ n. ap sealed (same (segment_file db n))) is
+
+pub tidy_read : {f g : Files} (db : ℕ) → ((name : List ℕ) → g name ≡ f name) → AreTidy f db → AreTidy g db
+tidy_read db same is head holds =
+    let none = is head (holds.0, ap (λ (file : Option (List ℕ)). control_of file >>= read_control) (sym (same (control_file db))) ∙ holds.1, holds.2) in
+    record { below = λ n low high. same (segment_file db n) ∙ none.below n low high; behind = same (segment_file db (head.back + 1)) ∙ none.behind }
 
 -- each crash leaves a log of which that is durable
 pub log_stays : (db : ℕ) (disk : Disk) (image : Files) (log : Logged) → AreSettled db disk → MayLeaveOwn (IsOwn db) disk image → LogIs disk.files db log → LogIs image db log

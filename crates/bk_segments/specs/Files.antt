@@ -132,6 +132,15 @@ AreGone old new db = (head : Head) → Holds old db head → (n : ℕ) → head.
 abbrev pub IsTidy : Files → Files → ℕ → Head → Type 0
 IsTidy old new db now = (head : Head) → Holds old db head → (n : ℕ) → head.gone ≤ n → n ≤ head.back + 1 → (n < now.front) ⊎ (now.back < n) → new (segment_file db n) ≡ None
 
+-- No segment is there that doesn't count, by this head: of those that are left below the first one none, nor one that was begun behind the last.
+pub record HasNoRest (files : Files) (db : ℕ) (head : Head) : Type 0 where
+  pub below : (n : ℕ) → head.gone ≤ n → n < head.front → files (segment_file db n) ≡ None
+  pub behind : files (segment_file db (head.back + 1)) ≡ None
+
+-- the same by the head that the control file holds, if there is one
+abbrev pub AreTidy : Files → ℕ → Type 0
+AreTidy files db = (head : Head) → Holds files db head → HasNoRest files db head
+
 -- what counts of a log is durable
 pub record AreSettled (db : ℕ) (disk : Disk) : Type 0 where
   -- its control file

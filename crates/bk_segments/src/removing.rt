@@ -4,7 +4,7 @@ ghost use Rattle.bk_device.specs.Calls.{ChangesNothing};
 ghost use Rattle.bk_device.specs.Counts.{HasCause};
 ghost use Rattle.bk_device.specs.Effects.{Effect, IsName};
 ghost use Rattle.bk_segments.specs.Control.{IsSound};
-ghost use Rattle.bk_segments.specs.Files.{segment_file, Holds, IsBeside, IsBetween, IsNamed, IsUnheld};
+ghost use Rattle.bk_segments.specs.Files.{segment_file, HasNoRest, Holds, IsBeside, IsBetween, IsNamed, IsUnheld};
 
 use crate::error::LogError;
 use crate::head::Head;
@@ -18,6 +18,7 @@ use std::alloc::Global;
 fn remove_segment<D: Device>(alloc: Global, dev: &mut D, db: u32, n: u64) -> Result<(), LogError>
     ensures gone { D.tells → OnOk result ((D.disk dev.new).files (segment_file db n) ≡ None) }
     ensures crash { D.tells → Effect (IsName (segment_file db n)) (λ _. Unit {0}) (D.disk dev.old) (D.disk dev.new) }
+    ensures still { D.tells → (D.disk dev.old).files (segment_file db n) ≡ None → ChangesNothing (D.disk dev.old) (D.disk dev.new) }
     ensures foreign { IsErrOf result LogError.Foreign → ⊥ }
     ensures cause { HasCause D.disk_faults D.tell_faults dev.old dev.new (IsErrOf result LogError.Fault) }
 {
@@ -29,7 +30,7 @@ fn remove_segment<D: Device>(alloc: Global, dev: &mut D, db: u32, n: u64) -> Res
     Ok(())
 }
 
-/// Removes the segments from one number to below another.
+/// Removes the segments from one number to below another. Where none of them is there it changes nothing.
 pub fn remove_segments<D: Device>(
     alloc: Global,
     dev: &mut D,
@@ -39,6 +40,7 @@ pub fn remove_segments<D: Device>(
 ) -> Result<(), LogError>
     ensures gone { D.tells → OnOk result ((n : ℕ) → from ≤ n → n < to → (D.disk dev.new).files (segment_file db n) ≡ None) }
     ensures crash { D.tells → Effect (IsBetween db from to) (λ _. Unit {0}) (D.disk dev.old) (D.disk dev.new) }
+    ensures still { D.tells → ((n : ℕ) → from ≤ n → n < to → (D.disk dev.old).files (segment_file db n) ≡ None) → ChangesNothing (D.disk dev.old) (D.disk dev.new) }
     ensures foreign { IsErrOf result LogError.Foreign → ⊥ }
     ensures cause { HasCause D.disk_faults D.tell_faults dev.old dev.new (IsErrOf result LogError.Fault) }
 {
@@ -48,12 +50,14 @@ pub fn remove_segments<D: Device>(
     Ok(())
 }
 
-/// Removes the segments that don't count: those that are left below the first one, and one that was begun behind the last.
+/// Removes the segments that don't count: those that are left below the first one, and one that was begun behind the last. Where
+/// none of them is there it changes nothing.
 pub fn tidy<D: Device>(alloc: Global, dev: &mut D, db: u32, head: Head) -> Result<(), LogError>
     requires order { head.front ≤ head.back }
     requires small { head.back < 2 ^ 62 }
     ensures gone { D.tells → OnOk result ((n : ℕ) → head.gone ≤ n → n ≤ head.back + 1 → (n < head.front) ⊎ (head.back < n) → (D.disk dev.new).files (segment_file db n) ≡ None) }
     ensures crash { D.tells → Effect (IsBeside db head) (λ _. Unit {0}) (D.disk dev.old) (D.disk dev.new) }
+    ensures still { D.tells → HasNoRest (D.disk dev.old).files db head → ChangesNothing (D.disk dev.old) (D.disk dev.new) }
     ensures foreign { IsErrOf result LogError.Foreign → ⊥ }
     ensures cause { HasCause D.disk_faults D.tell_faults dev.old dev.new (IsErrOf result LogError.Fault) }
 {

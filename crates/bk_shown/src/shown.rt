@@ -1,6 +1,6 @@
 //! What a log shows.
 
-ghost use Rattle.std.specs.Prelude.{IfOk, []};
+ghost use Rattle.std.specs.Prelude.{◌≡◌, IfOk, []};
 ghost use Rattle.bk_groups.specs.Groups.{AreFiles};
 
 use crate::rows::Rows;
@@ -57,5 +57,14 @@ impl Shown {
             time: 0,
             end: 1,
         })
+    }
+
+    /// What nothing is known of but the number that its next record gets.
+    pub fn ended(alloc: Global, end: Lsn) -> Result<Shown, AllocError>
+        ensures { IfOk result (λ shown. shown.«end» ≡ «end») }
+    {
+        let mut shown = Shown::new(alloc, &[])?;
+        shown.end = end;
+        Ok(shown)
     }
 }

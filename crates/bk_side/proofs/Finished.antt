@@ -1,18 +1,18 @@
 -- What is shown while a batch is sealed, copied and cleared.
 use Rattle.std.proofs.Common.{◌≡◌, ◌⊎◌, ℕ, List, [], ◌∷◌, length, map, Option, Some, refl, inl, inr, sym, ap, subst, ◌∙◌, arith}
 use Rattle.std.specs.Prelude.{slice_get, unwrap_or}
-use Rattle.bk_device.specs.Calls.{contents, read_at, LeavesSame, CallsOn}
+use Rattle.bk_device.specs.Calls.{contents, read_at, LeavesSame, CallsOn, ChangesNothing}
 use Rattle.bk_device.specs.Compose.{effect_none, effect_then, effect_widen, effect_then_sync, durable_kept, keeps_by_effect}
 use Rattle.bk_device.specs.Disk.{Files, Disk, IsDurable, IsLawful}
 use Rattle.bk_device.specs.Effects.{Effect, IsName, KeepsFiles, MayLeaveOwn}
-use Rattle.bk_device.specs.Laws.{keeps_by_same}
+use Rattle.bk_device.specs.Laws.{keeps_by_same, nothing_then}
 use Rattle.bk_device.specs.Names.{same_or_other}
-use Rattle.bk_gate.specs.Blobs.{sealed, part_of}
+use Rattle.bk_gate.specs.Blobs.{sealed, part_of, IsGateFile}
 use Rattle.bk_gate.specs.Gate.{IsGate, Kept as KeptGate}
 use Rattle.bk_gate.specs.Laws.{gate_kept, gate_sealed}
 use Rattle.bk_side.specs.Names.{IsData, IsOwn, AreApart}
 use Rattle.bk_side.specs.Pages.{Entry, page_of, entries_of, batched, first_batch, batch_of, shown, Shows}
-use Rattle.bk_side.specs.Side.{AreDurable}
+use Rattle.bk_side.specs.Side.{AreDurable, HasNoBatch}
 use Rattle.bk_side.specs.BatchLaws.{twice}
 use Rattle.bk_side.specs.Laws.{batch_same, page_same, shows_same, plain}
 use Rattle.bk_side.proofs.Steps.{batch_whole}
@@ -25,6 +25,13 @@ no_parts file (s ∷ spans) none = absurd (omega (arith, none))
 
 pub none_sealed : (a : Disk) (gate : KeptGate) → IsGate a gate → length gate.spans ≡ 0 → sealed (a.files gate.name) ≡ []
 none_sealed a gate is none = gate_sealed is ∙ no_parts (contents (a.files gate.name)) gate.spans none
+
+no_spans : (file : List ℕ) (spans : List (ℕ × ℕ)) → map (part_of file) spans ≡ [] → length spans ≡ 0
+no_spans file [] none = refl
+no_spans file (s ∷ spans) none = absurd cc
+
+pub none_there : (a : Disk) (gate : KeptGate) → IsGate a gate → sealed (a.files gate.name) ≡ [] → length gate.spans ≡ 0
+none_there a gate is none = no_spans (contents (a.files gate.name)) gate.spans (sym (gate_sealed is) ∙ none)
 
 first_of : (file : List ℕ) (spans : List (ℕ × ℕ)) (span : ℕ × ℕ) → slice_get spans 0 ≡ Some span → first_batch (map (part_of file) spans) ≡ entries_of (read_at file span.0 span.1)
 first_of file [] span there = absurd cc
@@ -133,6 +140,15 @@ copied_gate {names} side a b s gate same apart lawful is kept durable synced eff
     let Kept' : List ℕ → Type 0 = λ n. b.files n ≡ a.files n in
     let Durable : List ℕ → Type 0 = λ n. IsDurable b n in
     same_gate a s gate lawful is (synced gate.name ∙ subst Kept' same kept) (side_durable apart effect (subst Durable same durable))
+
+-- ---- nothing is sealed
+
+-- the files were made durable, the side file opened, and nothing finished
+pub settle_still : (side name : List ℕ) {a b o d : Disk} → name ≡ side → IsLawful a → ChangesNothing a b → (IsGateFile (contents (b.files side)) → ChangesNothing b o) → (sealed (o.files name) ≡ [] → ChangesNothing o d) → HasNoBatch side a.files → ChangesNothing a d
+settle_still side name {a} {b} {o} {d} same lawful first second third is =
+    let Gate : Option (List ℕ) → Type 0 = λ file. IsGateFile (contents file) in
+    let opened = nothing_then lawful first (second (subst Gate (sym (first.files side)) is.is_gate)) in
+    nothing_then lawful opened (third (ap (λ (n : List ℕ). sealed (o.files n)) same ∙ ap sealed (opened.files side) ∙ is.none))
 
 -- ---- making the files durable first
 

@@ -1,16 +1,16 @@
 -- What the layers above may take of a side.
-use Rattle.std.proofs.Common.{◌≡◌, ◌+◌, ℕ, List, [], ◌∷◌, length, Option, refl, inl, inr, ap, ◌∙◌}
+use Rattle.std.proofs.Common.{◌≡◌, ◌+◌, ℕ, List, [], ◌∷◌, length, Option, refl, inl, inr, sym, ap, subst, ◌∙◌}
 use Rattle.std.specs.Prelude.{unwrap_or}
 use Rattle.bk_device.specs.Calls.{contents, read_at}
 use Rattle.bk_device.specs.Compose.{durable_kept}
 use Rattle.bk_device.specs.Disk.{Files, Disk}
 use Rattle.bk_device.specs.Effects.{IsName, KeepsFiles, MayLeaveOwn}
-use Rattle.bk_gate.specs.Blobs.{sealed}
+use Rattle.bk_gate.specs.Blobs.{IsGateFile, sealed}
 use Rattle.bk_gate.specs.Gate.{begun_of, Kept as KeptGate}
 use Rattle.bk_gate.specs.Laws.{gate_kept, gate_left}
 use Rattle.bk_side.specs.Names.{IsData, IsOwn}
 use Rattle.bk_side.specs.Pages.{Entry, page_in, page_of, entries_of, batched, first_batch, batch_of, shown, Shows}
-use Rattle.bk_side.specs.Side.{Kept, IsSide, IsOwnOf, pages_of, ShowsPages, AreDurable, added_of}
+use Rattle.bk_side.specs.Side.{Kept, HasNoBatch, IsSide, IsOwnOf, pages_of, ShowsPages, AreDurable, added_of}
 use Rattle.bk_side.specs.BatchLaws.{content_same}
 
 -- batches in files
@@ -84,3 +84,9 @@ side_kept {a = a} {b = b} {side = side} keeps is =
 -- and what was added
 pub added_kept : {a b : Disk} (side : Kept) → KeepsFiles (IsOwnOf side) a b → added_of b side ≡ added_of a side
 added_kept {a = a} {b = b} side keeps = ap entries_of (begun_kept a b side.gate (keeps.same side.gate.name (inl refl)))
+
+-- files that read the same have no batch either
+pub batch_read : (side : List ℕ) {f g : Files} → ((name : List ℕ) → g name ≡ f name) → HasNoBatch side f → HasNoBatch side g
+batch_read side same is =
+    let Gate : Option (List ℕ) → Type 0 = λ file. IsGateFile (contents file) in
+    record { is_gate = subst Gate (sym (same side)) is.is_gate; none = ap sealed (same side) ∙ is.none }

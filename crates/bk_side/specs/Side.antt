@@ -1,7 +1,8 @@
 -- The data files and the side file of a database, on a device.
 use Rattle.std.specs.Prelude.{◌≡◌, ◌*◌, ℕ, Bool, List, [], length}
+use Rattle.bk_device.specs.Calls.{contents}
 use Rattle.bk_device.specs.Disk.{Files, Disk, IsDurable}
-use Rattle.bk_gate.specs.Blobs.{sealed}
+use Rattle.bk_gate.specs.Blobs.{IsGateFile, sealed}
 use Rattle.bk_gate.specs.Gate.{IsGate, begun_of, Kept as KeptGate}
 use Rattle.bk_side.specs.Names.{IsData, IsOwn, AreApart}
 use Rattle.bk_side.specs.Pages.{Entry, entries_of, shown, Shows}
@@ -31,6 +32,11 @@ added_of disk side = entries_of (begun_of disk side.gate)
 -- nothing is pending in these files
 abbrev pub AreDurable : (List ℕ → Type 0) → Disk → Type 0
 AreDurable own disk = (name : List ℕ) → own name → IsDurable disk name
+
+-- the side file is there, and no batch is sealed in it
+pub record HasNoBatch (side : List ℕ) (files : Files) : Type 0 where
+  pub is_gate : IsGateFile (contents (files side))
+  pub none : sealed (files side) ≡ []
 
 -- no batch is sealed, and nothing is pending in the data files
 pub record IsSide (disk : Disk) (side : Kept) : Type 0 where

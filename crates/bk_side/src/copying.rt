@@ -89,6 +89,7 @@ pub fn copy_entries<D: Device>(
 pub fn sync_files<D: Device>(dev: &mut D, names: &[Text]) -> Result<(), Failed>
     ensures same { D.tells → OnOk result ((name : List ℕ) → (D.disk dev.new).files name ≡ (D.disk dev.old).files name) }
     ensures durable { D.tells → OnOk result (AreDurable (IsData names.now) (D.disk dev.new)) }
+    ensures effect { D.tells → OnOk result (ChangesNothing (D.disk dev.old) (D.disk dev.new)) }
     ensures crash { D.tells → Effect (IsData names.now) (MayLeaveOwn (IsData names.now) (D.disk dev.old)) (D.disk dev.old) (D.disk dev.new) }
     ensures cause { HasCause D.disk_faults D.tell_faults dev.old dev.new (IsErr result) }
 {
@@ -103,6 +104,7 @@ pub fn sync_own<D: Device>(dev: &mut D, side: &str, names: &[Text]) -> Result<()
     requires { D.tells → AreApart side.now names.now }
     ensures same { D.tells → OnOk result ((name : List ℕ) → (D.disk dev.new).files name ≡ (D.disk dev.old).files name) }
     ensures durable { D.tells → OnOk result (AreDurable (IsOwn side.now names.now) (D.disk dev.new)) }
+    ensures effect { D.tells → OnOk result (ChangesNothing (D.disk dev.old) (D.disk dev.new)) }
     ensures crash { D.tells → Effect (IsOwn side.now names.now) (MayLeaveOwn (IsOwn side.now names.now) (D.disk dev.old)) (D.disk dev.old) (D.disk dev.new) }
     ensures cause { HasCause D.disk_faults D.tell_faults dev.old dev.new (IsErr result) }
 {

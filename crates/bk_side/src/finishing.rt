@@ -1,12 +1,13 @@
 // Finishing a sealed batch.
 ghost use Rattle.std.specs.Prelude.{◌≡◌, ◌⊎◌, ◌≤◌, ◌+◌, [], None, false, length, IfOk, IsErr, IsErrOf, OnOk};
+ghost use Rattle.bk_device.specs.Calls.{ChangesNothing};
 ghost use Rattle.bk_device.specs.Counts.{HasCause};
 ghost use Rattle.bk_device.specs.Effects.{Effect, MayLeaveOwn};
 ghost use Rattle.bk_gate.specs.Blobs.{sealed};
 ghost use Rattle.bk_gate.specs.Gate.{IsGate};
 ghost use Rattle.bk_side.specs.Names.{IsData, IsOwn, AreApart};
 ghost use Rattle.bk_side.specs.Pages.{shown, Shows};
-ghost use Rattle.bk_side.specs.Side.{AreDurable};
+ghost use Rattle.bk_side.specs.Side.{AreDurable, HasNoBatch};
 
 use crate::copying::{copy_entries, sync_files, sync_own};
 use crate::error::SideError;
@@ -17,7 +18,7 @@ use bk_ids::Text;
 use std::alloc::Global;
 
 // Writes the pages of the sealed batch, if there is one, to their data files, and removes the batch. No page counts as another one
-// behind it, nor at any crash meanwhile.
+// behind it, nor at any crash meanwhile. Where there is none it changes nothing.
 pub fn finish<D: Device>(gate: &mut Gate, dev: &mut D, names: &[Text]) -> Result<(), Failed>
     requires fit { gate.old.failed ≡ false }
     requires none { gate.old.begun ≡ None }
@@ -32,6 +33,7 @@ pub fn finish<D: Device>(gate: &mut Gate, dev: &mut D, names: &[Text]) -> Result
     ensures empty { D.tells → OnOk result (sealed ((D.disk dev.new).files gate.old.name) ≡ []) }
     ensures durable { D.tells → OnOk result (AreDurable (IsData names.now) (D.disk dev.new)) }
     ensures same { D.tells → OnOk result (Shows gate.old.name names.now (shown gate.old.name names.now (D.disk dev.old).files) (D.disk dev.new).files) }
+    ensures still { D.tells → sealed ((D.disk dev.old).files gate.old.name) ≡ [] → OnOk result (ChangesNothing (D.disk dev.old) (D.disk dev.new)) }
     ensures crash { D.tells → Effect (IsOwn gate.old.name names.now) (Shows gate.old.name names.now (shown gate.old.name names.now (D.disk dev.old).files)) (D.disk dev.old) (D.disk dev.new) }
     ensures cause { HasCause D.disk_faults D.tell_faults dev.old dev.new (IsErr result) }
 {
@@ -45,7 +47,8 @@ pub fn finish<D: Device>(gate: &mut Gate, dev: &mut D, names: &[Text]) -> Result
     Ok(())
 }
 
-// Makes the files durable, opens the side file, makes it where there is none, and finishes a batch that is sealed.
+// Makes the files durable, opens the side file, makes it where there is none, and finishes a batch that is sealed. Where it is there
+// with no batch, nothing is changed.
 pub fn settle<D: Device>(
     alloc: Global,
     dev: &mut D,
@@ -61,6 +64,7 @@ pub fn settle<D: Device>(
     ensures empty { D.tells → OnOk result (sealed ((D.disk dev.new).files name.now) ≡ []) }
     ensures durable { D.tells → OnOk result (AreDurable (IsData names.now) (D.disk dev.new)) }
     ensures same { D.tells → OnOk result (Shows name.now names.now (shown name.now names.now (D.disk dev.old).files) (D.disk dev.new).files) }
+    ensures still { D.tells → HasNoBatch name.now (D.disk dev.old).files → OnOk result (ChangesNothing (D.disk dev.old) (D.disk dev.new)) }
     ensures crash { D.tells → Effect (IsOwn name.now names.now) (λ image. MayLeaveOwn (IsOwn name.now names.now) (D.disk dev.old) image ⊎ Shows name.now names.now (shown name.now names.now (D.disk dev.old).files) image) (D.disk dev.old) (D.disk dev.new) }
     ensures cause { HasCause D.disk_faults D.tell_faults dev.old dev.new (IsErrOf result SideError.Fault) }
 {

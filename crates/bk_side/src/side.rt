@@ -7,7 +7,7 @@ ghost use Rattle.bk_page.specs.Page.{fresh_page};
 ghost use Rattle.bk_side.specs.Making.{ShowsOthers};
 ghost use Rattle.bk_side.specs.Names.{data_file, side_file, name_of, IsOwn, AreDifferent};
 ghost use Rattle.bk_side.specs.Pages.{shown, batched, Shows, IsSound};
-ghost use Rattle.bk_side.specs.Side.{Kept, IsSide, IsOwnOf, pages_of, ShowsPages, added_of};
+ghost use Rattle.bk_side.specs.Side.{Kept, HasNoBatch, IsSide, IsOwnOf, pages_of, ShowsPages, added_of};
 
 use crate::entry::spell_entry;
 use crate::error::SideError;
@@ -45,7 +45,8 @@ impl Model for Side {
 impl Side {
     /// Opens the side file of a database whose data files are at these paths, and makes it where there is none. What the files
     /// hold is made durable first, and a batch that is sealed is finished: no page counts as another one behind that, nor at any
-    /// crash meanwhile. All the room is made that `add` and `apply` need. No two data files have one name.
+    /// crash meanwhile. Where the side file is there with no batch sealed in it, nothing is changed. All the room is made that `add`
+    /// and `apply` need. No two data files have one name.
     pub fn load<D: Device>(
         alloc: Global,
         dev: &mut D,
@@ -59,6 +60,7 @@ impl Side {
         ensures stands { D.tells → IfOk result (λ s. IsSide (D.disk dev.new) s) }
         ensures none { D.tells → IfOk result (λ s. added_of (D.disk dev.new) s ≡ []) }
         ensures same { D.tells → OnOk result (Shows (side_file db) (map data_file paths.now) (shown (side_file db) (map data_file paths.now) (D.disk dev.old).files) (D.disk dev.new).files) }
+        ensures still { D.tells → HasNoBatch (side_file db) (D.disk dev.old).files → OnOk result (ChangesNothing (D.disk dev.old) (D.disk dev.new)) }
         ensures crash { D.tells → Effect (IsOwn (side_file db) (map data_file paths.now)) (λ image. MayLeaveOwn (IsOwn (side_file db) (map data_file paths.now)) (D.disk dev.old) image ⊎ Shows (side_file db) (map data_file paths.now) (shown (side_file db) (map data_file paths.now) (D.disk dev.old).files) image) (D.disk dev.old) (D.disk dev.new) }
         ensures cause { HasCause D.disk_faults D.tell_faults dev.old dev.new (IsErrOf result SideError.Fault) }
     {

@@ -1,5 +1,5 @@
 -- A database is made of a set, and put in the place of one of which a note alone told.
-use Rattle.std.proofs.Common.{◌≡◌, ◌≤◌, ◌<◌, ◌∙◌, ℕ, true, false, List, [], ◌∷◌, length, map, set, Option, None, Some, inl, refl, sym, ap, subst, arith}
+use Rattle.std.proofs.Common.{◌≡◌, ◌≤◌, ◌∙◌, ℕ, true, false, List, [], ◌∷◌, length, map, set, Option, None, Some, inl, refl, sym, ap, subst, arith}
 use Rattle.std.proofs.lemmas.List.{length-map}
 use Rattle.std.specs.List.{AllByRecursion}
 use Rattle.std.specs.Prelude.{slice_get}
@@ -25,7 +25,7 @@ use Rattle.bk_stores.specs.Bringing.{IsNamed, MakesNext}
 use Rattle.bk_stores.specs.ListLaws.{got-one}
 use Rattle.bk_stores.specs.Making.{IsSealed, MaySwap, Swaps}
 use Rattle.bk_stores.specs.NumberLaws.{begun-new}
-use Rattle.bk_stores.specs.Records.{AreSmall, IsApart, SharesNone, begun, stored_entry}
+use Rattle.bk_stores.specs.Records.{AreSmall, IsApart, SharesNone, stored_entry}
 use Rattle.bk_stores.specs.Standing.{AreNumbered, AreStanding, AreUnused, IsStanding, Joins}
 use Rattle.bk_stores.specs.StandingLaws.{both-standing, unused-without}
 use Rattle.bk_stores.specs.Stores.{AreEntries, AreStores, IsOurs, Kept, LeavesStores, at_paths, files_by, fixed_of, its_files, sealed_at}

@@ -12,7 +12,6 @@ use Rattle.bk_filling.specs.Removing.{IsPart}
 use Rattle.bk_ids.specs.declared.guid.Guid.{Guid}
 use Rattle.bk_known.specs.declared.known.DatabaseSpec.{DatabaseSpec}
 use Rattle.bk_master.specs.declared.record.Entry.{Entry}
-use Rattle.bk_master.specs.declared.record.Own.{Own}
 use Rattle.bk_master.specs.declared.record.Record.{Record}
 use Rattle.bk_master.specs.Spelling.{IsShortPath}
 use Rattle.bk_paged.specs.Names.{IsOwn, names_of}
@@ -140,8 +139,3 @@ may-join s then paths spec time branch store d same slots numbers unused fit num
 pub on-ok : {A E P Q : Type 0} (result : Result A E) → (P → Q) → OnOk result P → OnOk result Q
 on-ok (Ok a) leads ok = leads ok
 on-ok (Err e) leads ok = tt
-
--- what is so whatever it answers
-pub so-on-ok : {A E P : Type 0} (result : Result A E) → P → OnOk result P
-so-on-ok (Ok a) so = so
-so-on-ok (Err e) so = tt

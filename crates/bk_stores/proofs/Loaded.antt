@@ -8,10 +8,9 @@ use Rattle.bk_device.specs.Disk.{Disk, Files, IsDurable, IsSettled}
 use Rattle.bk_device.specs.Effects.{Effect, MayLeaveOwn}
 use Rattle.bk_device.specs.Laws.{durable_by_nothing}
 use Rattle.bk_control.specs.Slots.{control_of}
-use Rattle.bk_master.specs.declared.record.Own.{Own}
 use Rattle.bk_master.specs.declared.record.Record.{Record}
 use Rattle.bk_master.specs.Laws.{holds_same, one_record, own_made}
-use Rattle.bk_master.specs.Master.{AreDurable, HoldsRecord, IsMade, IsMaster, IsNoInstance, IsNotMade, IsOwn as IsOfMaster, Kept as KeptMaster, Makes, fresh, fresh_own, made_file, control_file}
+use Rattle.bk_master.specs.Master.{AreDurable, HoldsRecord, IsMade, IsMaster, IsNoInstance, IsNotMade, IsOwn as IsOfMaster, Kept as KeptMaster, Makes, fresh, made_file, control_file}
 use Rattle.bk_store.specs.Store.{Kept as KeptStore}
 use Rattle.bk_store.specs.Told.{Told}
 use Rattle.bk_stores.specs.ListLaws.{got, got-inside, got-none}

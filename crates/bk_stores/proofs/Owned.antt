@@ -1,5 +1,5 @@
 -- The record with another own part is put.
-use Rattle.std.proofs.Common.{◌≡◌, ◌≤◌, ◌<◌, ◌⊎◌, ℕ, List, refl, sym, ap, subst, arith}
+use Rattle.std.proofs.Common.{◌≡◌, ◌≤◌, ◌⊎◌, List, refl, sym, ap, subst, arith}
 use Rattle.bk_device.specs.Disk.{Disk, Files}
 use Rattle.bk_device.specs.Effects.{Effect}
 use Rattle.bk_master.specs.declared.record.Own.{Own}
@@ -11,7 +11,7 @@ use Rattle.bk_stores.specs.Records.{owned}
 use Rattle.bk_stores.specs.StandLaws.{put-either, put-stands}
 use Rattle.bk_stores.specs.Standing.{AreNumbered, AreStanding}
 use Rattle.bk_stores.specs.StandingLaws.{put-standing}
-use Rattle.bk_stores.specs.Stores.{AreEntries, AreStores, IsOurs, IsReady, Kept, LeavesStores, sealed_at, fixed_of}
+use Rattle.bk_stores.specs.Stores.{AreEntries, AreStores, IsOurs, Kept, LeavesStores, sealed_at, fixed_of}
 
 pub owned-keeps : (r : Record) (own : Own) → IsShort own.making → KeepsRecord r → KeepsRecord (owned r own)
 owned-keeps r own short is = record { path = short; few = is.few; one = is.one; small = is.small }

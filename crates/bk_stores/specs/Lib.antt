@@ -19,3 +19,5 @@ pub mod StandingLaws
 pub mod SwapLaws
 pub mod TouchLaws
 pub mod Loading
+pub mod Quiet
+pub mod QuietLaws

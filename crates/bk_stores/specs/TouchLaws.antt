@@ -1,12 +1,13 @@
 -- Which files a call on an instance's stores touched: the instance's own, and those of stores.
 use Rattle.std.proofs.Common.{◌⊎◌, ℕ, List, map, inl, inr, subst, sym}
 use Rattle.bk_device.specs.Calls.{ChangesNothing}
-use Rattle.bk_device.specs.Compose.{effect_none, effect_of_nothing, effect_then, effect_widen}
+use Rattle.bk_device.specs.Compose.{effect_none, effect_of_nothing, effect_widen}
 use Rattle.bk_device.specs.Disk.{Disk, Files}
 use Rattle.bk_device.specs.Effects.{Effect}
 use Rattle.bk_facts.specs.declared.facts.DataFile.{DataFile}
 use Rattle.bk_filling.specs.Removing.{IsPart}
 use Rattle.bk_master.specs.Master.{IsOwn as IsOfMaster}
+use Rattle.bk_opening.specs.Opening.{TouchesDatabase}
 use Rattle.bk_paged.specs.Names.{IsOwn}
 use Rattle.bk_segments.specs.Files.{IsOwn as IsOfLog}
 use Rattle.bk_side.specs.Names.{data_file, side_file, IsOwn as IsOfSide}
@@ -33,9 +34,9 @@ master-touched effect = ours-touched (λ name own. inl own) effect
 pub own-touched : (db : ℕ) (files : List DataFile) {P : Files → Type 0} {a b : Disk} → Effect (IsOwn db files) P a b → TouchesOurs a b
 own-touched db files effect = ours-touched (λ name own. inr (db, files, own)) effect
 
--- those of a store with data files of two lists
-pub both-touched : (db : ℕ) (files others : List DataFile) {P : Files → Type 0} {a b : Disk} → Effect (λ name. IsOwn db files name ⊎ IsOwn db others name) P a b → TouchesOurs a b
-both-touched db files others effect = ours-touched (λ name own. elim own [ inl one ↦ inr (db, files, one) | inr two ↦ inr (db, others, two) ]) effect
+-- whichever its data files are
+pub database-touched : {a b : Disk} (db : ℕ) → TouchesDatabase db a b → TouchesOurs a b
+database-touched db touches = ours-touched (λ name own. inr (db, own.0, own.1)) touches
 
 -- a part of a store with data files at these paths is one of its names
 pub part-ours : (db : ℕ) (paths : List (List ℕ)) (name : List ℕ) → IsPart db (map data_file paths) name → IsOurs name

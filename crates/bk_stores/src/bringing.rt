@@ -97,7 +97,7 @@ impl Stores {
             → OnOk result (AreStores (D.disk dev.new) self.new tolds) }
         ensures crash { D.tells → (tolds : List Told) (told : Told) → AreStores (D.disk dev.old) self.old tolds → SharesNone self.old.master.record.databases tolds files.items → MakesNext (D.disk dev.old) self.old medium.now.name stored.now files.items checkpoint note.now known.now told
             → Effect IsOurs (LeavesStores (fixed_of self.old.master.record) (sealed_at self.old tolds) tolds) (D.disk dev.old) (D.disk dev.new) }
-        ensures touches { D.tells → OnOk result (TouchesOurs (D.disk dev.old) (D.disk dev.new)) }
+        ensures touches { D.tells → TouchesOurs (D.disk dev.old) (D.disk dev.new) }
         ensures broken { D.tells → IsErrOf result StoresError.Broken → (tolds : List Told) (told : Told) (r : Logged) → AreStores (D.disk dev.old) self.old tolds → SharesNone self.old.master.record.databases tolds files.items
             → MakesNext (D.disk dev.old) self.old medium.now.name stored.now files.items checkpoint note.now known.now told → EndsWith told r last.now → ⊥ }
         ensures not_an_instance { IsErrOf result StoresError.NotAnInstance → ⊥ }
@@ -148,7 +148,7 @@ impl Stores {
             → OnOk result (AreStores (D.disk dev.new) self.new (set tolds at (said (settled told) r))) }
         ensures crash { D.tells → (tolds : List Told) (told : Told) (r : Logged) → AreStores (D.disk dev.old) self.old tolds → SharesNone self.old.master.record.databases tolds files.items → MakesNext (D.disk dev.old) self.old medium.now.name stored.now files.items checkpoint note.now known.now told → EndsWith told r last.now
             → Swaps self.old tolds at true (said (settled told) r) (D.disk dev.old) (D.disk dev.new) }
-        ensures touches { D.tells → OnOk result (TouchesOurs (D.disk dev.old) (D.disk dev.new)) }
+        ensures touches { D.tells → TouchesOurs (D.disk dev.old) (D.disk dev.new) }
         ensures broken { D.tells → IsErrOf result StoresError.Broken → (tolds : List Told) (told : Told) (r : Logged) → AreStores (D.disk dev.old) self.old tolds → SharesNone self.old.master.record.databases tolds files.items
             → MakesNext (D.disk dev.old) self.old medium.now.name stored.now files.items checkpoint note.now known.now told → EndsWith told r last.now → ⊥ }
         ensures not_an_instance { IsErrOf result StoresError.NotAnInstance → ⊥ }

@@ -9,6 +9,7 @@ ghost use Rattle.bk_master.specs.Spelling.{IsShort, IsShortPath, IsSmall, KeepsR
 ghost use Rattle.bk_stores.specs.Errors.{IsTrouble};
 ghost use Rattle.bk_store.specs.Told.{Told};
 ghost use Rattle.bk_stores.specs.Loading.{HoldsInstance, IsOfAny, Opens, shut};
+ghost use Rattle.bk_stores.specs.Quiet.{AreQuiet};
 ghost use Rattle.bk_stores.specs.Standing.{AreDifferent, AreNumbered, AreShut, AreStanding, LieBelow, LieUnder};
 ghost use Rattle.bk_stores.specs.Stores.{AreEntries, AreStores, Fixed, IsOurs, IsReady, LeavesStores, TouchesOurs, fixed_of, sealed_at};
 
@@ -34,6 +35,7 @@ fn open_master<D: Device>(alloc: Global, dev: &mut D, number: u64) -> Result<Mas
     ensures crash { D.tells → IsSettled (D.disk dev.old) → (fixed : Fixed) (tolds : List Told) → HoldsInstance number fixed (D.disk dev.old).files tolds → Opens number fixed tolds (D.disk dev.old) (D.disk dev.new) }
     ensures touches { D.tells → TouchesOurs (D.disk dev.old) (D.disk dev.new) }
     ensures untouched { D.tells → IsErrOf result StoresError.NotAnInstance → ChangesNothing (D.disk dev.old) (D.disk dev.new) }
+    ensures still { D.tells → IsMade (D.disk dev.old).files → OnOk result (ChangesNothing (D.disk dev.old) (D.disk dev.new)) }
     ensures cause { HasCause D.disk_faults D.tell_faults dev.old dev.new (IsErrOf result StoresError.Fault) }
 {
     sync_own(dev)?;
@@ -166,6 +168,7 @@ impl Stores {
         ensures stands { D.tells → (tolds : List Told) → AreStores (D.disk dev.old) (shut self.old.master) tolds → OnOk result (AreStores (D.disk dev.new) self.new tolds) }
         ensures crash { D.tells → (tolds : List Told) → AreStores (D.disk dev.old) (shut self.old.master) tolds → Effect IsOurs (LeavesStores (fixed_of self.old.master.record) (sealed_at (shut self.old.master) tolds) tolds) (D.disk dev.old) (D.disk dev.new) }
         ensures touches { D.tells → TouchesOurs (D.disk dev.old) (D.disk dev.new) }
+        ensures still { D.tells → self.old.master.record.unfinished ≡ [] → OnOk result (ChangesNothing (D.disk dev.old) (D.disk dev.new)) }
         ensures broken { IsErrOf result StoresError.Broken → (tolds : List Told) → AreEntries self.old.master.record tolds → ⊥ }
         ensures not_an_instance { IsErrOf result StoresError.NotAnInstance → ⊥ }
         ensures cause { HasCause D.disk_faults D.tell_faults dev.old dev.new (IsErrOf result StoresError.Fault) }
@@ -178,7 +181,7 @@ impl Stores {
     }
 
     /// Opens what an instance keeps of its stores, or makes an instance with this number where none is made; what was being made or removed is removed. No store is open then. A crash leaves the databases
-    /// that there were, and the record's own part, which is as it was.
+    /// that there were, and the record's own part, which is as it was. Where nothing is to be made or removed the files stay as they are.
     ///
     /// `NotAnInstance` is answered only where an instance is made and its control file holds no control, and `Broken` only where it is made and its control holds no record, or one that doesn't keep its limits:
     /// 16 databases, and two stores that are being made or removed, each with 16 data files at paths of 1 to 100 bytes; each store with a number of its own below the next one. `NoMemory` may come after files
@@ -196,6 +199,7 @@ impl Stores {
         ensures crash { D.tells → IsSettled (D.disk dev.old) → (fixed : Fixed) (tolds : List Told) → HoldsInstance number fixed (D.disk dev.old).files tolds → Opens number fixed tolds (D.disk dev.old) (D.disk dev.new) }
         ensures touches { D.tells → TouchesOurs (D.disk dev.old) (D.disk dev.new) }
         ensures untouched { D.tells → IsErrOf result StoresError.NotAnInstance → ChangesNothing (D.disk dev.old) (D.disk dev.new) }
+        ensures still { D.tells → IsSettled (D.disk dev.old) → AreQuiet (D.disk dev.old).files → OnOk result (ChangesNothing (D.disk dev.old) (D.disk dev.new)) }
         ensures cause { HasCause D.disk_faults D.tell_faults dev.old dev.new (IsErrOf result StoresError.Fault) }
     {
         let master = open_master(alloc, dev, number)?;

@@ -1,5 +1,6 @@
 // Opening a store.
 ghost use Rattle.std.specs.Prelude.{◌≡◌, ◌<◌, List, None, Some, true, length, set, slice_get, IfErr, IfOk, OnOk, IsErrOf};
+ghost use Rattle.bk_device.specs.Calls.{ChangesNothing};
 ghost use Rattle.bk_device.specs.Counts.{HasCause};
 ghost use Rattle.bk_device.specs.Effects.{Effect};
 ghost use Rattle.bk_master.specs.declared.record.Entry.{Entry as Entries};
@@ -7,6 +8,7 @@ ghost use Rattle.bk_reopening.specs.Reopening.{settled};
 ghost use Rattle.bk_store.specs.Store.{Kept as KeptStore};
 ghost use Rattle.bk_store.specs.Told.{Told};
 ghost use Rattle.bk_stores.specs.Making.{IsSealed};
+ghost use Rattle.bk_stores.specs.Quiet.{AreQuiet};
 ghost use Rattle.bk_stores.specs.Standing.{AreStanding, AreUnused};
 ghost use Rattle.bk_stores.specs.Stores.{AreStores, IsOurs, IsReady, LeavesStores, TouchesOurs, fixed_of, sealed_at};
 
@@ -35,7 +37,7 @@ impl Stores {
     }
 
     /// Opens the store of the database at this place, which counts from 0, where it is stored and not open: what is pending in it is undone. A crash leaves the databases that there were, and in this one perhaps
-    /// some of the records that undo.
+    /// some of the records that undo. Where nothing is to be finished or undone the files stay as they are.
     ///
     /// `Broken` is answered only where the files hold no database, or one that has a data file of another open store.
     pub fn open<R: Threads + Sync, D: Device>(
@@ -54,7 +56,8 @@ impl Stores {
         ensures standing { D.tells → OnOk result (AreStanding (D.disk dev.new) self.new) }
         ensures stands { D.tells → (tolds : List Told) (told : Told) → AreStores (D.disk dev.old) self.old tolds → slice_get tolds at ≡ Some told → OnOk result (AreStores (D.disk dev.new) self.new (set tolds at (settled told))) }
         ensures crash { D.tells → (tolds : List Told) (told : Told) → AreStores (D.disk dev.old) self.old tolds → slice_get tolds at ≡ Some told → Effect IsOurs (LeavesStores (fixed_of self.old.master.record) (sealed_at self.old tolds) (set tolds at (settled told))) (D.disk dev.old) (D.disk dev.new) }
-        ensures touches { D.tells → OnOk result (TouchesOurs (D.disk dev.old) (D.disk dev.new)) }
+        ensures touches { D.tells → TouchesOurs (D.disk dev.old) (D.disk dev.new) }
+        ensures still { D.tells → AreQuiet (D.disk dev.old).files → OnOk result (ChangesNothing (D.disk dev.old) (D.disk dev.new)) }
         ensures broken { D.tells → IsErrOf result StoresError.Broken → (tolds : List Told) → AreStores (D.disk dev.old) self.old tolds → ⊥ }
         ensures not_an_instance { IsErrOf result StoresError.NotAnInstance → ⊥ }
         ensures cause { HasCause D.disk_faults D.tell_faults dev.old dev.new (IsErrOf result StoresError.Fault) }

@@ -103,7 +103,8 @@ impl Medium {
     }
 
     /// Seals the set whose extents and log were added, behind the others, with this header and these tables. It is written
-    /// in pieces of at most 1 MiB. A crash leaves the sets that there were, or this one too. Takes the memory first.
+    /// in pieces of at most 1 MiB. A crash leaves the sets that there were, or this one too. Takes the memory first. Whatever was
+    /// added, the medium's file alone is touched.
     pub fn seal_set<D: Device>(
         &mut self,
         alloc: Global,
@@ -127,6 +128,7 @@ impl Medium {
         ensures failed { IsErrOf result WriteError.Fault → self.new.failed ≡ true }
         ensures fit { OnOk result (self.new.failed ≡ false) }
         ensures no_memory { IsErrOf result WriteError.NoMemory → (self.new ≡ self.old) × (dev.new ≡ dev.old) }
+        ensures touches { D.tells → Effect (IsName self.old.name) (λ image. Unit {0}) (D.disk dev.old) (D.disk dev.new) }
         ensures crash { D.tells → (body : Body) → IsSetOf (D.disk dev.old) set.now header.now tables.now body → Effect (IsName self.old.name) (λ image. LeavesAdded (sets_of ((D.disk dev.old).files self.old.name)) body (image self.old.name)) (D.disk dev.old) (D.disk dev.new) }
         ensures cause { HasCause D.disk_faults D.tell_faults dev.old dev.new (IsErrOf result WriteError.Fault) }
     {

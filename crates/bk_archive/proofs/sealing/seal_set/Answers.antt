@@ -30,14 +30,9 @@ returns-in_err-seal_set-clause-crash g c tells body is =
     seal-added a loaded (g.D.Device.disk c.seal_set.new.dev) c.args.path.now name body on (c.seal_set.ensures.crash tells body (set-on c.args.staged.now c.args.header.now c.args.tables.now body on.call is))
 
 pub returns-in_err-seal_set-clause-spares : goal.returns-in_err-seal_set-clause-spares
-returns-in_err-seal_set-clause-spares g c tells body is =
-    let a = g.D.Device.disk c.args.dev.now in
-    let loaded = g.D.Device.disk c.load.new.dev in
-    let name = c.in_ok-medium.medium.name in
-    let bytes = subst AreBytes c.as_str.ensures (text-bytes c.as_str.result.now c.as_str.utf8) in
-    let on = seals-on a (g.D.Device.disk c.sync.new.self) loaded c.args.path.now name (g.met.D.Device.lawful tells c.args.dev.now) (c.sync.ensures.effect tells) (c.in_ok-sync.ensures.same tells) (c.load.ensures.effect tells)
-    bytes (c.in_ok-medium.ensures.name ∙ ap medium_file c.as_str-2.ensures) (c.in_ok-medium.ensures.shows tells).sets in
-    spares-added a loaded (g.D.Device.disk c.seal_set.new.dev) c.args.path.now name body on (c.seal_set.ensures.crash tells body (set-on c.args.staged.now c.args.header.now c.args.tables.now body on.call is))
+returns-in_err-seal_set-clause-spares g c tells =
+    let call = nothing_then (g.met.D.Device.lawful tells c.args.dev.now) (nothing_by_sync (c.sync.ensures.effect tells) (c.in_ok-sync.ensures.same tells)) (c.load.ensures.effect tells) in
+    spares-added (g.D.Device.disk c.args.dev.now) (g.D.Device.disk c.load.new.dev) (g.D.Device.disk c.seal_set.new.dev) c.args.path.now c.in_ok-medium.medium.name call (c.in_ok-medium.ensures.name ∙ ap medium_file c.as_str-2.ensures) (c.seal_set.ensures.touches tells)
 
 pub returns-clause-crash : goal.returns-clause-crash
 returns-clause-crash g c tells body is =
@@ -71,24 +66,19 @@ returns-clause-media g c tells body is =
     seal-calm a loaded (g.D.Device.disk c.seal_set.new.dev) c.args.path.now name body on (c.seal_set.ensures.crash tells body (set-on c.args.staged.now c.args.header.now c.args.tables.now body on.call is)) (c.in_ok-seal_set.ensures.durable tells)
 
 pub returns-clause-spares : goal.returns-clause-spares
-returns-clause-spares g c tells body is =
-    let a = g.D.Device.disk c.args.dev.now in
-    let loaded = g.D.Device.disk c.load.new.dev in
-    let name = c.in_ok-medium.medium.name in
-    let bytes = subst AreBytes c.as_str.ensures (text-bytes c.as_str.result.now c.as_str.utf8) in
-    let on = seals-on a (g.D.Device.disk c.sync.new.self) loaded c.args.path.now name (g.met.D.Device.lawful tells c.args.dev.now) (c.sync.ensures.effect tells) (c.in_ok-sync.ensures.same tells) (c.load.ensures.effect tells)
-    bytes (c.in_ok-medium.ensures.name ∙ ap medium_file c.as_str-2.ensures) (c.in_ok-medium.ensures.shows tells).sets in
-    spares-added a loaded (g.D.Device.disk c.seal_set.new.dev) c.args.path.now name body on (c.seal_set.ensures.crash tells body (set-on c.args.staged.now c.args.header.now c.args.tables.now body on.call is))
+returns-clause-spares g c tells =
+    let call = nothing_then (g.met.D.Device.lawful tells c.args.dev.now) (nothing_by_sync (c.sync.ensures.effect tells) (c.in_ok-sync.ensures.same tells)) (c.load.ensures.effect tells) in
+    spares-added (g.D.Device.disk c.args.dev.now) (g.D.Device.disk c.load.new.dev) (g.D.Device.disk c.seal_set.new.dev) c.args.path.now c.in_ok-medium.medium.name call (c.in_ok-medium.ensures.name ∙ ap medium_file c.as_str-2.ensures) (c.seal_set.ensures.touches tells)
 
 pub returns-in_err-file-clause-spares : goal.returns-in_err-file-clause-spares
-returns-in_err-file-clause-spares g c tells body is = spares-nothing (g.D.Device.disk c.args.dev.now) (g.D.Device.disk c.args.dev.now) c.args.path.now (nothing_yet (g.D.Device.disk c.args.dev.now))
+returns-in_err-file-clause-spares g c tells = spares-nothing (g.D.Device.disk c.args.dev.now) (g.D.Device.disk c.args.dev.now) c.args.path.now (nothing_yet (g.D.Device.disk c.args.dev.now))
 
 pub returns-in_err-sync-clause-spares : goal.returns-in_err-sync-clause-spares
-returns-in_err-sync-clause-spares g c tells body is =
+returns-in_err-sync-clause-spares g c tells =
     spares-synced (g.D.Device.disk c.args.dev.now) (g.D.Device.disk c.sync.new.self) c.args.path.now c.deref.result.now (c.deref.ensures ∙ c.in_ok-file.ensures ∙ ap medium_file c.as_str.ensures) (c.sync.ensures.effect tells)
 
 pub returns-in_err-medium-clause-spares : goal.returns-in_err-medium-clause-spares
-returns-in_err-medium-clause-spares g c tells body is =
+returns-in_err-medium-clause-spares g c tells =
     let call = nothing_then (g.met.D.Device.lawful tells c.args.dev.now) (nothing_by_sync (c.sync.ensures.effect tells) (c.in_ok-sync.ensures.same tells)) (c.load.ensures.effect tells) in
     spares-nothing (g.D.Device.disk c.args.dev.now) (g.D.Device.disk c.load.new.dev) c.args.path.now call
 

@@ -1,7 +1,7 @@
 use Rattle.std.proofs.Common.{◌≡◌, ℕ, None, arith, sym, ap, subst}
 use Rattle.std.proofs.lemmas.Result.{err_from_is_err_and}
 use Rattle.bk_device.specs.Compose.{effect_then}
-use Rattle.bk_device.specs.Laws.{effect_after_nothing}
+use Rattle.bk_device.specs.Laws.{effect_after_nothing, nothing_then}
 use Rattle.bk_lemmas.specs.Tests.{same_error}
 use Rattle.bk_paged.specs.declared.error.PagedError.TheVariants.{Foreign}
 use Rattle.bk_paged.specs.Holds.{recovered}
@@ -9,6 +9,8 @@ use Rattle.bk_paged.specs.Laws.{crash_as}
 use Rattle.bk_paged.specs.Paged.{Kept, sealed_count}
 use Rattle.bk_paged.specs.StandLaws.{nothing-touches, touches-as}
 use Rattle.bk_opening.specs.Opening.{AreIn}
+use Rattle.bk_opening.specs.QuietLaws.{quiet_same}
+use Rattle.bk_opening.specs.TouchLaws.{log-touched, nothing-touched, own-touched}
 use Rattle.bk_paths.specs.Paths.{kept_from}
 use Rattle.bk_record.specs.Log.{IsLog}
 use Rattle.bk_opening.proofs.Causes.{as_error, foreign_log, same_cause}
@@ -80,3 +82,24 @@ returns-clause-touches g c t =
     let files : p.facts.files ≡ c.flush.new.self.facts.files = sym (ap (λ (k : Kept). k.facts.files) c.in_ok-flush.ensures.same) in
     touches-as c.flush.new.self p (sym c.in_ok-flush.ensures.sealed.0) files
     (effect_then (nothing-touches p (c.in_ok-settle.ensures.effect t)) (effect_then (c.in_ok-opened.ensures.touches t) (c.flush.ensures.touches t)))
+
+pub returns-clause-still : goal.returns-clause-still
+returns-clause-still g c t quiet =
+    let lawful = g.met.D.Device.lawful t c.args.dev.now in
+    let call = c.in_ok-settle.ensures.effect t in
+    let here = quiet_same c.args.db call.files quiet in
+    nothing_then lawful (nothing_then lawful call (c.in_ok-opened.ensures.still t here)) (c.flush.ensures.still t (c.in_ok-opened.ensures.none t here))
+
+pub returns-in_err-settle-clause-mine : goal.returns-in_err-settle-clause-mine
+returns-in_err-settle-clause-mine g c t = log-touched c.args.db (c.settle.ensures.crash t)
+
+pub returns-in_err-opened-clause-mine : goal.returns-in_err-opened-clause-mine
+returns-in_err-opened-clause-mine g c t = effect_then (nothing-touched c.args.db (c.in_ok-settle.ensures.effect t)) (c.open.ensures.mine t)
+
+pub returns-in_err-flush-clause-mine : goal.returns-in_err-flush-clause-mine
+returns-in_err-flush-clause-mine g c t =
+    effect_then (effect_then (nothing-touched c.args.db (c.in_ok-settle.ensures.effect t)) (c.open.ensures.mine t)) (own-touched c.args.db c.in_ok-opened.opened.paged c.in_ok-opened.ensures.db (c.flush.ensures.touches t))
+
+pub returns-clause-mine : goal.returns-clause-mine
+returns-clause-mine g c t =
+    effect_then (effect_then (nothing-touched c.args.db (c.in_ok-settle.ensures.effect t)) (c.open.ensures.mine t)) (own-touched c.args.db c.in_ok-opened.opened.paged c.in_ok-opened.ensures.db (c.flush.ensures.touches t))

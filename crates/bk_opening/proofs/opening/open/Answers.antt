@@ -1,7 +1,7 @@
 use Rattle.std.proofs.Common.{◌≡◌, ◌∙◌, ℕ, List, None, inl, sym, ap, subst}
 use Rattle.std.specs.Prelude.{◌||◌}
 use Rattle.std.proofs.lemmas.Result.{err_from_is_err_and}
-use Rattle.bk_device.specs.Compose.{effect_then_nothing}
+use Rattle.bk_device.specs.Compose.{effect_then, effect_then_nothing}
 use Rattle.bk_facts.specs.declared.facts.DataFile.{DataFile}
 use Rattle.bk_ids.specs.declared.record.Rec.{Rec}
 use Rattle.bk_lemmas.specs.Tests.{same_error}
@@ -14,9 +14,11 @@ use Rattle.bk_paged.specs.declared.error.PagedError.TheVariants.{Foreign}
 use Rattle.bk_paged.specs.Holds.{recovered}
 use Rattle.bk_paged.specs.Names.{names_of}
 use Rattle.bk_opening.specs.Opening.{AreHeld, AreIn, Brings}
+use Rattle.bk_opening.specs.TouchLaws.{log-touched, side-touched}
 use Rattle.bk_paged.specs.Paged.{IsPaged, Kept, Standing, Touches, sealed_count}
 use Rattle.bk_opening.proofs.Causes.{as_error, foreign_log, same_cause}
 use Rattle.bk_opening.proofs.Loading.{SideOpened, brings, grown_bytes, grown_is, held_bytes, log_crash, log_read, noted_then, opened_count, opened_held, opened_standing, opened_stands, opened_touches, room, side_crash}
+use Rattle.bk_opening.proofs.Resting.{none_waits, open_still}
 use Rattle.bk_opening.proofs.Settled.{Settles}
 use Rattle.bk_opening.proofs.opening.open.Goals as goal
 
@@ -236,3 +238,35 @@ returns-clause-touches g c t =
     let same : new.db ≡ c.args.db = ap (λ (l : KeptLog). l.db) c.in_ok-append_undoing.ensures.waits ∙ c.in_ok-log.ensures.db in
     subst (λ (k : Kept). Touches k a e) (sym c.from_parts-paged.ensures)
     (opened_touches c.args.db new.db c.in_ok-facts.facts.files same (c.read.ensures.touches t) (c.load_side.ensures.crash t) (c.open_pool.ensures.effect t))
+
+pub returns-clause-none : goal.returns-clause-none
+returns-clause-none g c t quiet =
+    let a = g.D.Device.disk c.args.dev.now in
+    let b = g.D.Device.disk c.read.new.dev in
+    let mine = c.requires.settled t in
+    let none = none_waits c.args.db a b c.in_ok-log.log c.append_undoing.new.log c.in_ok-log.records quiet (c.in_ok-log.ensures.loaded t) (c.in_ok-log.ensures.value t mine) (c.in_ok-log.ensures.stands t mine) c.in_ok-log.ensures.none c.in_ok-log.ensures.end (c.in_ok-log.ensures.bytes t)
+    c.in_ok-append_undoing.ensures.log in
+    ap (λ (k : Kept). k.log.waiting) c.from_parts-paged.ensures ∙ none
+
+pub returns-clause-still : goal.returns-clause-still
+returns-clause-still g c t quiet = open_still c.args.db (g.met.D.Device.lawful t c.args.dev.now) quiet (c.read.ensures.rests t) (c.in_ok-side.ensures.still t) (c.open_pool.ensures.effect t)
+
+pub returns-in_err-log-clause-mine : goal.returns-in_err-log-clause-mine
+returns-in_err-log-clause-mine g c t = log-touched c.args.db (c.read.ensures.touches t)
+
+pub returns-in_err-facts-clause-mine : goal.returns-in_err-facts-clause-mine
+returns-in_err-facts-clause-mine g c t = log-touched c.args.db (c.read.ensures.touches t)
+
+pub returns-in_err-append_undoing-clause-mine : goal.returns-in_err-append_undoing-clause-mine
+returns-in_err-append_undoing-clause-mine g c t = log-touched c.args.db (c.read.ensures.touches t)
+
+pub returns-in_err-side-clause-mine : goal.returns-in_err-side-clause-mine
+returns-in_err-side-clause-mine g c t = effect_then (log-touched c.args.db (c.read.ensures.touches t)) (side-touched c.args.db c.in_ok-facts.facts.files (c.load_side.ensures.crash t))
+
+pub returns-in_err-pool-clause-mine : goal.returns-in_err-pool-clause-mine
+returns-in_err-pool-clause-mine g c t =
+    effect_then_nothing (effect_then (log-touched c.args.db (c.read.ensures.touches t)) (side-touched c.args.db c.in_ok-facts.facts.files (c.load_side.ensures.crash t))) (c.open_pool.ensures.effect t)
+
+pub returns-clause-mine : goal.returns-clause-mine
+returns-clause-mine g c t =
+    effect_then_nothing (effect_then (log-touched c.args.db (c.read.ensures.touches t)) (side-touched c.args.db c.in_ok-facts.facts.files (c.load_side.ensures.crash t))) (c.open_pool.ensures.effect t)

@@ -1,6 +1,7 @@
 use Rattle.std.proofs.Common.{rules}
 use Rattle.std.specs.Prelude.{IsErrOf}
 use Rattle.bk_device.specs.Compose.{effect_then}
+use Rattle.bk_opening.specs.TouchLaws.{files-touched}
 use Rattle.bk_reopening.specs.declared.error.OpenError.TheVariants.{Foreign}
 use Rattle.bk_reopening.specs.Reopening.{IsClosed}
 use Rattle.bk_recovering.proofs.Recovered.{opened-both, opened-touches}
@@ -30,3 +31,12 @@ returns-clause-crash g c = λ tells durable told makes.
 pub returns-clause-touches : goal.returns-clause-touches
 returns-clause-touches g c = λ tells.
     opened-both (g.D.Device.disk c.args.dev.now) (g.D.Device.disk c.arrive.new.dev) (g.D.Device.disk c.load.new.dev) c.args.db c.args.files.items c.in_ok-store.store c.in_ok-store.ensures.ends.0 (c.arrive.ensures.crash tells) (c.in_ok-store.ensures.touches tells)
+
+pub returns-in_err-arrive-clause-mine : goal.returns-in_err-arrive-clause-mine
+returns-in_err-arrive-clause-mine g c = λ tells. files-touched c.args.db c.args.files.items (c.arrive.ensures.crash tells)
+
+pub returns-in_err-store-clause-mine : goal.returns-in_err-store-clause-mine
+returns-in_err-store-clause-mine g c = λ tells. effect_then (files-touched c.args.db c.args.files.items (c.arrive.ensures.crash tells)) (c.load.ensures.mine tells)
+
+pub returns-clause-mine : goal.returns-clause-mine
+returns-clause-mine g c = λ tells. effect_then (files-touched c.args.db c.args.files.items (c.arrive.ensures.crash tells)) (c.load.ensures.mine tells)

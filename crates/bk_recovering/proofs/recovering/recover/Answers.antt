@@ -1,6 +1,7 @@
 use Rattle.std.proofs.Common.{rules}
 use Rattle.std.specs.Prelude.{IsErrOf}
 use Rattle.bk_device.specs.Compose.{effect_then}
+use Rattle.bk_opening.specs.TouchLaws.{own-touched}
 use Rattle.bk_recovering.specs.declared.error.RecoverError.TheVariants.{Unfit}
 use Rattle.bk_recovering.proofs.Recovered.{said-both, said-touches}
 use Rattle.bk_recovering.proofs.recovering.recover.Goals as goal
@@ -30,3 +31,9 @@ pub returns-in-Ok-clause-touches : goal.returns-in-Ok-clause-touches
 returns-in-Ok-clause-touches g c = λ tells.
     said-both (g.D.Device.disk c.args.dev.now) (g.D.Device.disk c.open_set.new.dev) (g.D.Device.disk c.say_last.new.dev) c.args.db c.args.files.items c.in_ok-store.store c.say_last.new.store c.in_ok-store.ensures.ends.0 c.in-Ok.ensures.files
     (c.in_ok-store.ensures.touches tells) (c.say_last.ensures.touches tells)
+
+pub returns-in-Ok-clause-mine : goal.returns-in-Ok-clause-mine
+returns-in-Ok-clause-mine g c = λ tells. effect_then (c.open_set.ensures.mine tells) (own-touched c.args.db c.in_ok-store.store.paged c.in_ok-store.ensures.ends.0 (c.say_last.ensures.touches tells))
+
+pub returns-in-Err-clause-mine : goal.returns-in-Err-clause-mine
+returns-in-Err-clause-mine g c = λ tells. effect_then (c.open_set.ensures.mine tells) (own-touched c.args.db c.in_ok-store.store.paged c.in_ok-store.ensures.ends.0 (c.say_last.ensures.touches tells))

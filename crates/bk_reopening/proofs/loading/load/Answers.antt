@@ -6,6 +6,7 @@ use Rattle.bk_paged.specs.Holds.{recovered}
 use Rattle.bk_paged.specs.Paged.{Touches}
 use Rattle.bk_store.specs.Store.{IsStore, Kept}
 use Rattle.bk_store.specs.Told.{stood_of}
+use Rattle.bk_reopening.specs.QuietLaws.{records-quiet}
 use Rattle.bk_reopening.specs.Reopening.{settled}
 use Rattle.bk_reopening.specs.declared.error.OpenError.TheVariants.{Foreign}
 use Rattle.bk_reopening.proofs.Causes.{as_error, foreign-paged, same_cause}
@@ -64,3 +65,7 @@ returns-clause-stands g c t told closed =
 
 pub returns-clause-touches : goal.returns-clause-touches
 returns-clause-touches g c t = subst (λ (s : Kept). Touches s.paged (g.D.Device.disk c.args.dev.now) (g.D.Device.disk c.load.new.dev)) (sym c.from_parts.ensures) (c.in_ok-opened.ensures.touches t)
+
+-- nothing is pending in what was told, so in no log that the files hold
+pub returns-clause-rests : goal.returns-clause-rests
+returns-clause-rests g c t told closed quiet finished = c.in_ok-opened.ensures.still t (records-quiet c.settling_law.ensures.machine c.settling_law.ensures.enough c.args.db told (g.D.Device.disk c.args.dev.now).files closed.holds quiet finished)

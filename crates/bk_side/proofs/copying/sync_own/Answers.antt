@@ -1,3 +1,4 @@
+use Rattle.bk_device.specs.Laws.{nothing_by_sync, nothing_then}
 use Rattle.bk_side.proofs.Finished.{own_synced, own_synced_files, own_synced_same, own_synced_durable}
 use Rattle.bk_side.proofs.copying.sync_own.Goals as goal
 
@@ -15,3 +16,6 @@ returns-clause-durable g c t = own_synced_durable c.args.names.now (c.in_ok-sync
 
 pub returns-clause-crash : goal.returns-clause-crash
 returns-clause-crash g c t = own_synced (c.requires t) (c.sync_files.ensures.crash t) (c.sync.ensures.effect t)
+
+pub returns-clause-effect : goal.returns-clause-effect
+returns-clause-effect g c t = nothing_then (g.met.D.Device.lawful t c.args.dev.now) (c.in_ok-sync_files.ensures.effect t) (nothing_by_sync (c.sync.ensures.effect t) (c.in_ok-sync.ensures.same t))

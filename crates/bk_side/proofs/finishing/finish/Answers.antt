@@ -5,7 +5,7 @@ use Rattle.bk_gate.specs.Laws.{gate_inside}
 use Rattle.bk_side.specs.Names.{IsOwn, AreApart}
 use Rattle.bk_side.specs.Pages.{batch_of, entries_of, shown, Shows}
 use Rattle.bk_side.specs.Side.{AreDurable}
-use Rattle.bk_side.proofs.Finished.{none_sealed, rest_effect, rest_shows, batch_there, finish_crash, sync_crash, copied_at, copied_gate, clear_shows, datas_durable}
+use Rattle.bk_side.proofs.Finished.{none_sealed, none_there, rest_effect, rest_shows, batch_there, finish_crash, sync_crash, copied_at, copied_gate, clear_shows, datas_durable}
 use Rattle.bk_side.proofs.finishing.finish.Goals as goal
 
 pub returns-then-count-eq0-clause-empty : goal.returns-then-count-eq0-clause-empty
@@ -82,3 +82,7 @@ returns-clause-crash g c t =
     let s = g.D.Device.disk c.sync_files.new.dev in
     finish_crash c.name.result.now c.args.gate.now.name a b s (g.D.Device.disk c.clear.new.dev) c.name.ensures (c.requires.apart t) (c.copy_entries.ensures.crash t) (c.sync_files.ensures.crash t)
     (copied_at c.name.result.now c.args.gate.now.name a b s c.name.ensures (c.in_ok-copy_entries.ensures.same t) (c.in_ok-copy_entries.ensures.pages t) (c.in_ok-sync_files.ensures.same t) (c.in_ok-sync_files.ensures.durable t)) (c.clear.ensures.crash t)
+
+-- there is a batch
+pub returns-clause-still : goal.returns-clause-still
+returns-clause-still g c t none = absurd (c.if-count-eq0.false (c.count.ensures ∙ none_there (g.D.Device.disk c.args.dev.now) c.args.gate.now (c.requires.stands t) none))

@@ -4,6 +4,7 @@ use Rattle.bk_gate.specs.Gate.{IsGate, Kept as KeptGate}
 use Rattle.bk_gate.specs.Laws.{gate_reserved}
 use Rattle.bk_side.specs.Names.{IsOwn, AreApart}
 use Rattle.bk_side.specs.Side.{AreDurable}
+use Rattle.bk_side.proofs.Finished.{settle_still}
 use Rattle.bk_side.proofs.Sides.{own_durable, open_crash, open_shown, settle_crash, settle_shows}
 use Rattle.bk_side.proofs.finishing.settle.Goals as goal
 
@@ -56,3 +57,8 @@ returns-clause-crash g c t =
     settle_crash c.args.name.now c.reserve.new.self.name named
     (open_crash (c.requires t) (c.sync_own.ensures.crash t) (c.in_ok-sync_own.ensures.same t) (c.in_ok-sync_own.ensures.durable t) (c.open.ensures.crash t at))
     (open_shown (g.D.Device.disk c.args.dev.now) (c.requires t) (c.in_ok-sync_own.ensures.same t) (c.open.ensures.crash t at) (c.in_ok-gate.ensures.same t)) (c.finish.ensures.crash t)
+
+pub returns-clause-still : goal.returns-clause-still
+returns-clause-still g c t none =
+    let named : c.reserve.new.self.name ≡ c.args.name.now = ap (λ (k : KeptGate). k.name) c.in_ok-reserve.ensures.same ∙ c.in_ok-gate.ensures.name in
+    settle_still c.args.name.now c.reserve.new.self.name named (g.met.D.Device.lawful t c.args.dev.now) (c.in_ok-sync_own.ensures.effect t) (c.open.ensures.still t) (c.in_ok-finish.ensures.still t) none

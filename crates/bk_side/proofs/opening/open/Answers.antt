@@ -11,3 +11,6 @@ pub returns-in-Err-Foreign-clause-crash : goal.returns-in-Err-Foreign-clause-cra
 returns-in-Err-Foreign-clause-crash g c t durable =
     made_effect (g.met.D.Device.lawful t c.args.dev.now) (c.load.ensures.effect t) durable
     (foreign_sealed ((g.D.Device.disk c.args.dev.now).files c.args.name.now) (c.load.ensures.foreign t (search rules))) (c.make.ensures.crash t)
+
+pub returns-in-Err-Foreign-clause-still : goal.returns-in-Err-Foreign-clause-still
+returns-in-Err-Foreign-clause-still g c t is = absurd (c.load.ensures.foreign t (search rules) is)

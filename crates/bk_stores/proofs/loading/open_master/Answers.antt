@@ -1,7 +1,8 @@
-use Rattle.std.proofs.Common.{inl, inr}
+use Rattle.std.proofs.Common.{inl, inr, sym, ◌∙◌}
 use Rattle.bk_device.specs.Calls.{ChangesNothing}
 use Rattle.bk_device.specs.Compose.{effect_then}
 use Rattle.bk_device.specs.Disk.{IsSettled}
+use Rattle.bk_device.specs.Laws.{nothing_then}
 use Rattle.bk_master.specs.Master.{IsMaster, made_file}
 use Rattle.bk_stores.specs.Loading.{HoldsInstance, Opens}
 use Rattle.bk_stores.specs.TouchLaws.{master-touched}
@@ -66,3 +67,8 @@ returns-clause-touches g c t = load-touched c.args.number (c.in_ok-sync_own.ensu
 
 pub returns-clause-no_instance : goal.returns-clause-no_instance
 returns-clause-no_instance g c t = λ is. c.in_ok-master.ensures.no_instance t (no-instance-moved (c.in_ok-sync_own.ensures.effect t) is)
+
+pub returns-clause-still : goal.returns-clause-still
+returns-clause-still g c t made =
+    let call : ChangesNothing (g.D.Device.disk c.args.dev.now) (g.D.Device.disk c.sync_own.new.dev) = c.in_ok-sync_own.ensures.effect t in
+    nothing_then (g.met.D.Device.lawful t c.args.dev.now) call (c.load.ensures.effect t (λ none. made (sym (call.files made_file) ∙ none)))

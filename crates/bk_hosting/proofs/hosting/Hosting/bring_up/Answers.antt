@@ -9,6 +9,7 @@ use Rattle.bk_stores.specs.Bringing.{MakesNext}
 use Rattle.bk_stores.specs.ListLaws.{got-set}
 use Rattle.bk_stores.specs.Standing.{AreStanding, AreUnused}
 use Rattle.bk_stores.specs.Stores.{Fixed, Kept as KeptStores}
+use Rattle.bk_stores.specs.TouchLaws.{none-touched}
 use Rattle.bk_stores.specs.declared.error.StoresError.TheVariants.{Broken}
 use Rattle.bk_hosting.specs.Bringing.{ComesUp}
 use Rattle.bk_hosting.specs.Hosting.{IsHosting, IsReady, IsSealedAt, Kept, LeavesEither, own_of}
@@ -112,3 +113,6 @@ returns-clause-crash g c = λ tells hosted told r h is comes up.
     as-viewed (λ own. LeavesEither own hosted (set hosted c.args.at h)) x c.args.self.now c.self.view_is
     (up-crash a (g.D.Device.disk c.bring_up.new.dev) x hosted c.args.at c.args.medium.now.name c.args.stored.now c.args.files.items c.args.checkpoint c.args.known.now c.args.points c.args.last.now told r h is' comes' c.in_ok-note.ensures.spelled up
     (c.bring_up.ensures.crash tells is'.tolds told r is'.stores shares makes comes'.ends))
+
+pub returns-in_err-note-clause-touches : goal.returns-in_err-note-clause-touches
+returns-in_err-note-clause-touches g c = λ tells. none-touched (g.D.Device.disk c.args.dev.now)

@@ -3,9 +3,11 @@ use Rattle.std.specs.Prelude.{IsErrOf}
 use Rattle.bk_device.specs.Compose.{effect_then}
 use Rattle.bk_device.specs.Disk.{Disk}
 use Rattle.bk_device.specs.Effects.{Effect}
+use Rattle.bk_device.specs.Laws.{nothing_then}
 use Rattle.bk_hosted.specs.Hosted.{Hosted}
 use Rattle.bk_master.specs.declared.record.Own.{Own}
 use Rattle.bk_stores.specs.declared.error.StoresError.TheVariants.{Broken}
+use Rattle.bk_stores.specs.QuietLaws.{quiet-moved}
 use Rattle.bk_stores.specs.Stores.{Fixed, IsOurs, fixed_of}
 use Rattle.bk_hosting.specs.declared.hosting.State.{State}
 use Rattle.bk_hosting.specs.Hosting.{own_of}
@@ -83,7 +85,15 @@ returns-clause-crash g c = λ tells settled own hosted holds.
     effect_then first (as-own c.args.number hosted (ap (λ (f : Fixed). f.own) same ∙ its.is_own) (c.open_all.ensures.crash tells c.args.number hosted opening))
 
 pub returns-clause-touches : goal.returns-clause-touches
-returns-clause-touches g c = λ tells. effect_then (c.load.ensures.touches tells) (c.in_ok-open_all.ensures.touches tells)
+returns-clause-touches g c = λ tells. effect_then (c.load.ensures.touches tells) (c.open_all.ensures.touches tells)
+
+pub returns-in_err-open_all-clause-touches : goal.returns-in_err-open_all-clause-touches
+returns-in_err-open_all-clause-touches g c = λ tells. effect_then (c.load.ensures.touches tells) (c.open_all.ensures.touches tells)
+
+pub returns-clause-still : goal.returns-clause-still
+returns-clause-still g c = λ tells settled quiet.
+    let call = c.in_ok-stores.ensures.still tells settled quiet in
+    nothing_then (g.met.D.Device.lawful tells c.args.dev.now) call (c.in_ok-open_all.ensures.still tells (quiet-moved call quiet))
 
 pub returns-clause-made : goal.returns-clause-made
 returns-clause-made g c = λ tells. (c.in_ok-open_all.ensures.standing tells).master.made

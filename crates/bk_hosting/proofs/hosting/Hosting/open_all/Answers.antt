@@ -3,8 +3,10 @@ use Rattle.std.specs.Prelude.{IsErrOf}
 use Rattle.bk_device.specs.Compose.{effect_then}
 use Rattle.bk_device.specs.Disk.{Disk}
 use Rattle.bk_device.specs.Effects.{Effect}
+use Rattle.bk_device.specs.Laws.{nothing_then, nothing_yet}
 use Rattle.bk_hosted.specs.Hosted.{Hosted}
 use Rattle.bk_master.specs.declared.record.Own.{Own}
+use Rattle.bk_stores.specs.QuietLaws.{quiet-moved}
 use Rattle.bk_stores.specs.Stores.{IsOurs}
 use Rattle.bk_hosting.specs.Loading.{LeavesUndoing}
 use Rattle.bk_stores.specs.TouchLaws.{none-touched}
@@ -25,6 +27,7 @@ stores-init g c = record {
   own = refl;
   crash = λ tells number hosted is. rest-undoing (g.D.Device.disk c.args.dev.now) c.args.self.now hosted is c.requires.partly number;
   touches = λ tells. none-touched (g.D.Device.disk c.args.dev.now);
+  still = λ tells quiet. nothing_yet (g.D.Device.disk c.args.dev.now);
   cause = search rules;
 }
 
@@ -35,12 +38,18 @@ stores-preserved g c = record {
   opening = λ tells hosted is. c.in_ok-open_next.ensures.stands tells hosted (c.stores.invariant.opening tells hosted is);
   own = c.in_ok-open_next.ensures.own ∙ c.stores.invariant.own;
   crash = λ tells number hosted is. effect_then (c.stores.invariant.crash tells number hosted is) (next-crash number hosted c.stores.invariant.own (c.open_next.ensures.crash tells number hosted (c.stores.invariant.opening tells hosted is)));
-  touches = λ tells. effect_then (c.stores.invariant.touches tells) (c.in_ok-open_next.ensures.touches tells);
+  touches = λ tells. effect_then (c.stores.invariant.touches tells) (c.open_next.ensures.touches tells);
+  still = λ tells quiet.
+      let call = c.stores.invariant.still tells quiet in
+      nothing_then (g.met.D.Device.lawful tells c.args.dev.now) call (c.in_ok-open_next.ensures.still tells (quiet-moved call quiet));
   cause = search rules;
 }
 
 pub returns-in_err-open_next-clause-crash : goal.returns-in_err-open_next-clause-crash
 returns-in_err-open_next-clause-crash g c = λ tells number hosted is. effect_then (c.stores.invariant.crash tells number hosted is) (next-crash number hosted c.stores.invariant.own (c.open_next.ensures.crash tells number hosted (c.stores.invariant.opening tells hosted is)))
+
+pub returns-in_err-open_next-clause-touches : goal.returns-in_err-open_next-clause-touches
+returns-in_err-open_next-clause-touches g c = λ tells. effect_then (c.stores.invariant.touches tells) (c.open_next.ensures.touches tells)
 
 pub returns-in_err-open_next-clause-broken : goal.returns-in_err-open_next-clause-broken
 returns-in_err-open_next-clause-broken g c = λ tells broken hosted is.

@@ -1,7 +1,9 @@
 use Rattle.std.proofs.Common.{◌≡◌, ◌-◌, ℕ, List, length}
+use Rattle.bk_device.specs.Calls.{ChangesNothing}
 use Rattle.bk_device.specs.Counts.{HasCause}
 use Rattle.bk_device.specs.Effects.{Effect}
 use Rattle.bk_hosted.specs.Hosted.{Hosted}
+use Rattle.bk_stores.specs.Quiet.{AreQuiet}
 use Rattle.bk_stores.specs.Standing.{AreStanding}
 use Rattle.bk_stores.specs.Stores.{IsOurs, TouchesOurs}
 use Rattle.bk_hosting.specs.Hosting.{own_of}
@@ -16,6 +18,7 @@ invariant-stores g l = record {
   own : own_of l.self ≡ own_of l.fn.self;
   crash : g.D.Device.tells → (number : ℕ) (hosted : List Hosted) → IsOpening (g.D.Device.disk l.fn.dev) l.fn.self hosted → Effect IsOurs (LeavesUndoing number (own_of l.fn.self) hosted) (g.D.Device.disk l.fn.dev) (g.D.Device.disk l.dev);
   touches : g.D.Device.tells → TouchesOurs (g.D.Device.disk l.fn.dev) (g.D.Device.disk l.dev);
+  still : g.D.Device.tells → AreQuiet (g.D.Device.disk l.fn.dev).files → ChangesNothing (g.D.Device.disk l.fn.dev) (g.D.Device.disk l.dev);
   cause : HasCause g.D.Device.disk_faults g.D.Device.tell_faults l.fn.dev l.dev ⊥;
 }
 

@@ -2,6 +2,7 @@ use Rattle.std.proofs.Common.{rules, true, map, ◌≡◌, ◌<◌, ◌∙◌, �
 use Rattle.std.specs.Prelude.{slice_get, IsErrOf}
 use Rattle.bk_device.specs.Compose.{effect_then_nothing, effect_then}
 use Rattle.bk_device.specs.Effects.{Effect}
+use Rattle.bk_device.specs.Laws.{nothing_then}
 use Rattle.bk_hosted.specs.Fronts.{settling}
 use Rattle.bk_hosted.specs.Hosted.{folded, is_up}
 use Rattle.bk_master.specs.declared.record.Entry.{Entry}
@@ -182,4 +183,16 @@ returns-then-not-is_online-clause-broken g c = λ tells broken hosted is.
     absurd (cc (both))
 
 pub returns-clause-touches : goal.returns-clause-touches
-returns-clause-touches g c = λ tells. effect_then (c.in_ok-open.ensures.touches tells) (nothing-touched (c.read_at.ensures.effect tells))
+returns-clause-touches g c = λ tells. effect_then (c.open.ensures.touches tells) (nothing-touched (c.read_at.ensures.effect tells))
+
+pub returns-in_err-state-clause-touches : goal.returns-in_err-state-clause-touches
+returns-in_err-state-clause-touches g c = λ tells. effect_then (c.open.ensures.touches tells) (nothing-touched (c.read_at.ensures.effect tells))
+
+pub returns-in_err-push-clause-touches : goal.returns-in_err-push-clause-touches
+returns-in_err-push-clause-touches g c = λ tells. effect_then (c.open.ensures.touches tells) (nothing-touched (c.read_at.ensures.effect tells))
+
+pub returns-then-not-is_online-clause-touches : goal.returns-then-not-is_online-clause-touches
+returns-then-not-is_online-clause-touches g c = λ tells. effect_then (c.open.ensures.touches tells) (nothing-touched (c.read_at.ensures.effect tells))
+
+pub returns-clause-still : goal.returns-clause-still
+returns-clause-still g c = λ tells quiet. nothing_then (g.met.D.Device.lawful tells c.args.dev.now) (c.in_ok-open.ensures.still tells quiet) (c.read_at.ensures.effect tells)

@@ -1,13 +1,14 @@
 use Rattle.std.proofs.Common.{◌≡◌, ◌≤◌, ◌<◌, ◌⊎◌, ◌+◌, ℕ, None, subst, ◌∙◌}
 use Rattle.std.proofs.lemmas.Result.{err_from_is_err_and}
+use Rattle.bk_device.specs.Calls.{ChangesNothing}
 use Rattle.bk_device.specs.Compose.{effect_of_nothing}
 use Rattle.bk_device.specs.Effects.{Effect}
 use Rattle.bk_segments.specs.declared.error.LogError.TheVariants.{Foreign}
 use Rattle.bk_lemmas.specs.Tests.{same_error}
 use Rattle.bk_log.specs.Log.{Kept}
-use Rattle.bk_segments.specs.Files.{IsBeside, control_file, segment_file}
+use Rattle.bk_segments.specs.Files.{HasNoRest, IsBeside, control_file, segment_file}
 use Rattle.bk_segments.specs.FileLaws.{control_not_segment, durable_settles}
-use Rattle.bk_log.proofs.Cuts.{load_then, load_stands, load_tidy, load_touches}
+use Rattle.bk_log.proofs.Cuts.{load_still, load_then, load_stands, load_tidy, load_touches}
 use Rattle.bk_log.proofs.Makes.{load_nothing}
 use Rattle.bk_log.proofs.log.Log.load.Goals as goal
 
@@ -53,3 +54,15 @@ pub returns-clause-touches : goal.returns-clause-touches
 returns-clause-touches g c t =
     load_touches c.args.db c.in_ok-log.log.head (g.D.Device.disk c.args.dev.now) (g.D.Device.disk c.open.new.dev) (g.D.Device.disk c.tidy.new.dev) (c.open.ensures.effect t)
     (subst (λ (k : Kept). Effect (IsBeside c.args.db k.head) (λ _. Unit {0}) (g.D.Device.disk c.open.new.dev) (g.D.Device.disk c.tidy.new.dev)) c.log.view_is (c.tidy.ensures.crash t))
+
+pub returns-in_err-tidy-clause-rests : goal.returns-in_err-tidy-clause-rests
+returns-in_err-tidy-clause-rests g c t none =
+    let b = g.D.Device.disk c.open.new.dev in
+    let d = g.D.Device.disk c.tidy.new.dev in
+    load_still c.args.db c.in_ok-log.log.head (g.met.D.Device.lawful t c.args.dev.now) none (c.in_ok-log.ensures.holds t) (c.open.ensures.effect t) (subst (λ (k : Kept). HasNoRest b.files c.args.db k.head → ChangesNothing b d) c.log.view_is (c.tidy.ensures.still t))
+
+pub returns-clause-rests : goal.returns-clause-rests
+returns-clause-rests g c t none =
+    let b = g.D.Device.disk c.open.new.dev in
+    let d = g.D.Device.disk c.tidy.new.dev in
+    load_still c.args.db c.in_ok-log.log.head (g.met.D.Device.lawful t c.args.dev.now) none (c.in_ok-log.ensures.holds t) (c.open.ensures.effect t) (subst (λ (k : Kept). HasNoRest b.files c.args.db k.head → ChangesNothing b d) c.log.view_is (c.tidy.ensures.still t))

@@ -1,4 +1,4 @@
-use Rattle.std.proofs.Common.{◌≡◌, ℕ, List, ap, refl, sym, subst}
+use Rattle.std.proofs.Common.{◌≡◌, ◌∙◌, ℕ, List, ap, refl, sym, subst}
 use Rattle.bk_device.specs.Effects.{Effect}
 use Rattle.bk_facts.specs.Facts.{Notes}
 use Rattle.bk_segments.specs.Files.{IsOwn, Logged}
@@ -54,3 +54,9 @@ returns-clause-touches g c t =
     let b = g.D.Device.disk c.flush.new.dev in
     let To : Kept → Type 0 = λ k. Touches k a b in
     subst To c.self.view_is (log-touches (the_view c.self.inside) (c.flush.ensures.crash t))
+
+pub returns-in_err-flush-clause-still : goal.returns-in_err-flush-clause-still
+returns-in_err-flush-clause-still g c t none = c.flush.ensures.still t (ap (λ (k : Kept). k.log.waiting) c.self.view_is ∙ none)
+
+pub returns-clause-still : goal.returns-clause-still
+returns-clause-still g c t none = c.flush.ensures.still t (ap (λ (k : Kept). k.log.waiting) c.self.view_is ∙ none)

@@ -4,7 +4,7 @@ use Rattle.bk_gate.specs.Blobs.{sealed}
 use Rattle.bk_gate.specs.Gate.{begun_of, Kept as KeptGate}
 use Rattle.bk_side.specs.Names.{data_file, side_file, IsOwn, IsData, AreApart}
 use Rattle.bk_side.specs.Pages.{shown, Shows, entries_of}
-use Rattle.bk_side.specs.Side.{IsSide, AreDurable}
+use Rattle.bk_side.specs.Side.{HasNoBatch, IsSide, AreDurable}
 use Rattle.bk_side.proofs.Names.{are_apart}
 use Rattle.bk_side.proofs.Sides.{fresh_side, none_added}
 use Rattle.bk_side.proofs.side.Side.load.Goals as goal
@@ -53,3 +53,9 @@ returns-clause-crash g c t =
     let Named : List ℕ → Type 0 = λ n. Effect (IsOwn n c.deref.result.now) (λ image. MayLeaveOwn (IsOwn n c.deref.result.now) a image ⊎ Shows n c.deref.result.now (shown n c.deref.result.now a.files) image) a d in
     let Listed : List (List ℕ) → Type 0 = λ ns. Effect (IsOwn (side_file c.args.db) ns) (λ image. MayLeaveOwn (IsOwn (side_file c.args.db) ns) a image ⊎ Shows (side_file c.args.db) ns (shown (side_file c.args.db) ns a.files) image) a d in
     subst Listed listed (subst Named named (c.settle.ensures.crash t))
+
+pub returns-clause-still : goal.returns-clause-still
+returns-clause-still g c t none =
+    let a = g.D.Device.disk c.args.dev.now in
+    let named : c.as_str.result.now ≡ side_file c.args.db = c.as_str.ensures.value ∙ c.in_ok-name.ensures in
+    c.in_ok-gate.ensures.still t (subst (λ (n : List ℕ). HasNoBatch n a.files) (sym named) none)

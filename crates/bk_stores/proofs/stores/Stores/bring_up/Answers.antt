@@ -1,7 +1,6 @@
 use Rattle.std.proofs.Common.{rules, ◌≡◌, ◌<◌, ◌∙◌, ℕ, true, List, [], length, Option, Some, set, ap, sym, subst}
 use Rattle.std.specs.Prelude.{IsErrOf}
 use Rattle.bk_device.specs.Compose.{effect_then}
-use Rattle.bk_facts.specs.declared.facts.DataFile.{DataFile}
 use Rattle.bk_master.specs.declared.record.Record.{Record}
 use Rattle.bk_reopening.specs.Reopening.{settled}
 use Rattle.bk_store.specs.Store.{IsStore, Kept as KeptStore}
@@ -12,7 +11,7 @@ use Rattle.bk_stores.specs.Records.{stored_entry}
 use Rattle.bk_stores.specs.Stores.{AreStores, Kept, fixed_of}
 use Rattle.bk_stores.specs.declared.error.StoresError.TheVariants.{Broken}
 use Rattle.bk_stores.proofs.Brought.{before-swap, brought-crash, brought-joins, brought-may-swap, named-count, named-keeps}
-use Rattle.bk_stores.proofs.Created.{begun-below, on-ok, so-on-ok}
+use Rattle.bk_stores.proofs.Created.{begun-below, on-ok}
 use Rattle.bk_stores.proofs.Noted.{told-at}
 use Rattle.bk_stores.proofs.Parked.{unused-none}
 use Rattle.bk_stores.proofs.stores.Stores.bring_up.Goals as goal
@@ -97,4 +96,4 @@ returns-clause-crash g c t tolds told r is shares makes last =
     brought-crash s then c.args.files.items tolds c.args.at new named (c.recover_next.ensures.crash t tolds told is shares makes) (c.swap.ensures.crash t tolds old.0 new here may)
 
 pub returns-clause-touches : goal.returns-clause-touches
-returns-clause-touches g c t = so-on-ok c.swap.result (effect_then (c.in_ok-store.ensures.touches t) (c.swap.ensures.touches t))
+returns-clause-touches g c t = effect_then (c.recover_next.ensures.touches t) (c.swap.ensures.touches t)

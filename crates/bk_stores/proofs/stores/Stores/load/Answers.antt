@@ -1,9 +1,13 @@
-use Rattle.std.proofs.Common.{rules, ◌∙◌, subst}
+use Rattle.std.proofs.Common.{rules, ◌≡◌, ◌∙◌, ap, subst}
 use Rattle.std.specs.Prelude.{IsErrOf}
+use Rattle.bk_device.specs.Calls.{ChangesNothing}
 use Rattle.bk_device.specs.Compose.{effect_then, effect_weaken}
 use Rattle.bk_device.specs.Effects.{Effect}
-use Rattle.bk_master.specs.declared.record.Own.{Own}
+use Rattle.bk_device.specs.Laws.{nothing_then}
+use Rattle.bk_master.specs.declared.record.Record.{Record}
 use Rattle.bk_stores.specs.Loading.{shut}
+use Rattle.bk_stores.specs.Quiet.{AreQuiet}
+use Rattle.bk_stores.specs.QuietLaws.{quiet-moved, quiet-record}
 use Rattle.bk_stores.specs.Stores.{AreStores, IsOurs, LeavesStores, sealed_at, Fixed}
 use Rattle.bk_stores.specs.declared.error.StoresError.TheVariants.{Broken}
 use Rattle.bk_stores.proofs.Loaded.{shut-leaves}
@@ -50,3 +54,12 @@ returns-clause-touches g c t = effect_then (c.open_master.ensures.touches t) (c.
 
 pub returns-clause-made : goal.returns-clause-made
 returns-clause-made g c t = (c.in_ok-settle_in.ensures.standing t).master.made
+
+pub returns-clause-still : goal.returns-clause-still
+returns-clause-still g c t settled quiet =
+    let a = g.D.Device.disk c.args.dev.now in
+    let b = g.D.Device.disk c.open_master.new.dev in
+    let call : ChangesNothing a b = c.in_ok-master.ensures.still t quiet.is_record.made in
+    let here : AreQuiet b.files = quiet-moved call quiet in
+    let same : c.in_ok-master.master.record ≡ here.«record» = quiet-record c.in_ok-master.master (c.in_ok-master.ensures.master t) here in
+    nothing_then (g.met.D.Device.lawful t c.args.dev.now) call (c.in_ok-settle_in.ensures.still t (ap (λ (r : Record). r.unfinished) same ∙ here.none))

@@ -6,11 +6,13 @@ use Rattle.bk_reopening.specs.Reopening.{IsClosed, Recovers, settled}
 use Rattle.bk_store.specs.Store.{Kept as KeptStore}
 use Rattle.bk_store.specs.Told.{Told}
 use Rattle.bk_stores.specs.ListLaws.{got, got-inside, got-one}
+use Rattle.bk_opening.specs.Quiet.{IsQuiet}
 use Rattle.bk_stores.specs.Making.{IsSealed}
+use Rattle.bk_stores.specs.QuietLaws.{quiet-entry}
 use Rattle.bk_stores.specs.Standing.{AreStanding, AreUnused, IsStanding}
 use Rattle.bk_stores.specs.StandingLaws.{opened-standing}
 use Rattle.bk_stores.specs.Stores.{AreStores, IsShut, Kept}
-use Rattle.bk_stores.specs.TouchLaws.{own-touched}
+use Rattle.bk_stores.specs.TouchLaws.{database-touched}
 use Rattle.bk_stores.proofs.Opened.{opened-crash, opened-stands, opened-unused, shut-closed}
 use Rattle.bk_stores.proofs.stores.Stores.open.Goals as goal
 
@@ -144,4 +146,20 @@ returns-clause-opens g c =
     )
 
 pub returns-clause-touches : goal.returns-clause-touches
-returns-clause-touches g c t = own-touched c.in_ok-opened.opened.paged.log.db c.in_ok-opened.opened.paged.facts.files (c.in_ok-opened.ensures.touches t)
+returns-clause-touches g c t = database-touched c.store_at-number.result (c.load.ensures.mine t)
+
+pub returns-in_err-opened-clause-touches : goal.returns-in_err-opened-clause-touches
+returns-in_err-opened-clause-touches g c t = database-touched c.store_at-number.result (c.load.ensures.mine t)
+
+pub returns-in_err-store-clause-touches : goal.returns-in_err-store-clause-touches
+returns-in_err-store-clause-touches g c t = database-touched c.store_at-number.result (c.load.ensures.mine t)
+
+pub returns-clause-still : goal.returns-clause-still
+returns-clause-still g c t quiet =
+    let a = g.D.Device.disk c.args.dev.now in
+    let s : Kept = c.args.self.now in
+    let it = c.store_at-number.ensures in
+    let e : Entry = it.0 in
+    let there : slice_get s.master.record.databases c.args.at ≡ Some e = search rules in
+    let stored : e.is_stored ≡ true = subst (λ (f : Entry). f.is_stored ≡ true) (got-one s.master.record.databases c.args.at c.requires.stored.0 e c.requires.stored.1 there) c.requires.stored.2 in
+    c.in_ok-opened.ensures.still t (subst (λ (m : ℕ). IsQuiet m a.files) it.2 (quiet-entry s.master c.args.at e (c.requires.standing t).master quiet there stored))

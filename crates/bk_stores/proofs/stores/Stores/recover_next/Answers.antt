@@ -15,8 +15,10 @@ use Rattle.bk_stores.specs.Making.{IsSealed}
 use Rattle.bk_stores.specs.Records.{SharesNone}
 use Rattle.bk_stores.specs.Standing.{AreUnused}
 use Rattle.bk_stores.specs.Stores.{AreStores, Kept}
-use Rattle.bk_stores.specs.TouchLaws.{both-touched}
+use Rattle.bk_stores.specs.TouchLaws.{database-touched}
 use Rattle.bk_stores.proofs.Brought.{made-crash, made-standing, made-stands, makes-on}
+use Rattle.bk_stores.specs.declared.error.StoresError.TheVariants.{Broken}
+use Rattle.bk_stores.proofs.stores.Stores.recover_next.Given.{Over}
 use Rattle.bk_stores.proofs.stores.Stores.recover_next.Goals as goal
 
 pub returns-in_err-number-clause-crash : goal.returns-in_err-number-clause-crash
@@ -48,6 +50,10 @@ returns-in_err-recovered-clause-crash g c t tolds told is shares makes =
     makes-on (disk c.args.dev.now) (disk c.begin_with.new.dev) s tolds n c.args.medium.now.name c.args.stored.now files c.args.checkpoint c.args.note.now c.args.known.now told number c.requires.elsewhere first makes in
     made-crash s then n files tolds named number is.standing.entries shares here first (c.recover.ensures.crash t free told made)
 
+-- it is told as broken where the set makes none
+unfit-of : (g : Over) (c : goal.After-from_residual-in_err-recovered g) → IsErrOf c.from_residual-in_err-recovered.result Broken → IsErrOf c.recover.result Unfit
+unfit-of g c broken = search rules
+
 pub returns-in_err-recovered-clause-broken : goal.returns-in_err-recovered-clause-broken
 returns-in_err-recovered-clause-broken g c t broken tolds told r is shares makes last =
     let disk = g.D.Device.disk in
@@ -61,8 +67,7 @@ returns-in_err-recovered-clause-broken g c t broken tolds told r is shares makes
     let free : LogsAreDurable n (disk c.begin_with.new.dev) = subst (λ (m : ℕ). LogsAreDurable m (disk c.begin_with.new.dev)) (sym number) (c.in_ok-number.ensures.free t tolds is) in
     let made : Makes (contents ((disk c.begin_with.new.dev).files c.args.medium.now.name)) c.args.stored.now files n c.args.checkpoint c.args.note.now c.args.known.now told =
     makes-on (disk c.args.dev.now) (disk c.begin_with.new.dev) s tolds n c.args.medium.now.name c.args.stored.now files c.args.checkpoint c.args.note.now c.args.known.now told number c.requires.elsewhere first makes in
-    let unfit : IsErrOf c.recover.result Unfit = search rules in
-    c.recover.ensures.unfit t free told made unfit
+    c.recover.ensures.unfit t free told made (unfit-of g c broken)
 
 pub returns-in_err-store-clause-crash : goal.returns-in_err-store-clause-crash
 returns-in_err-store-clause-crash g c t tolds told is shares makes =
@@ -200,4 +205,10 @@ returns-clause-crash g c t tolds told is shares makes =
     made-crash s then n files tolds named number is.standing.entries shares here first (c.recover.ensures.crash t free told made)
 
 pub returns-clause-touches : goal.returns-clause-touches
-returns-clause-touches g c t = effect_then (c.begin_with.ensures.touches t) (both-touched c.in_ok-number.number c.args.files.items c.in_ok-recovered.recovered.paged.facts.files (c.in_ok-recovered.ensures.touches t))
+returns-clause-touches g c t = effect_then (c.begin_with.ensures.touches t) (database-touched c.in_ok-number.number (c.recover.ensures.mine t))
+
+pub returns-in_err-recovered-clause-touches : goal.returns-in_err-recovered-clause-touches
+returns-in_err-recovered-clause-touches g c t = effect_then (c.begin_with.ensures.touches t) (database-touched c.in_ok-number.number (c.recover.ensures.mine t))
+
+pub returns-in_err-store-clause-touches : goal.returns-in_err-store-clause-touches
+returns-in_err-store-clause-touches g c t = effect_then (c.begin_with.ensures.touches t) (database-touched c.in_ok-number.number (c.recover.ensures.mine t))
