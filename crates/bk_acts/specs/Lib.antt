@@ -1,5 +1,3 @@
 pub mod Meaning
 pub mod MeaningLaws
-pub mod Reading
-pub mod Spelling
-pub mod Transactions
+pub mod Conditions

@@ -1,10 +1,8 @@
-use bk_ids::{Guid, Lsn, Name, Sequence};
-use bk_record::Records;
-use bk_set::SetBody;
-use bk_world::{Base, Creation, Header, Open};
+use bk_ids::{Lsn, Name, Rec, Sequence};
+use bk_world::{Creation, Header, Open};
 
-/// An act of the machine that outlasts a run, as a blob holds it. Times are milliseconds since 1970-01-01 00:00:00 UTC. A
-/// database is the first whose name is the same in any case of ASCII letters.
+/// An act of the machine that is done to a database. Times are milliseconds since 1970-01-01 00:00:00 UTC. A database is the first whose
+/// name is the same in any case of ASCII letters.
 #[derive(Drop)]
 pub enum StoredAct {
     /// A database was made, with its first log record.
@@ -19,29 +17,18 @@ pub enum StoredAct {
     Logged {
         name: Name,
         transactions: Sequence<Open>,
-        records: Records,
+        records: Sequence<Rec>,
+    },
+    /// A database marked a checkpoint at its end, behind which its live log holds what comes from `kept` on. What is open in it stays
+    /// open.
+    Checkpointed {
+        name: Name,
+        time: u64,
+        kept: Lsn,
     },
     /// A database was based on the set with this header.
     Based {
         name: Name,
         header: Header,
-    },
-    /// A set took the place of the database of this name, or came behind the others; its files aren't restored yet.
-    Replaced {
-        name: Name,
-        body: SetBody,
-    },
-    /// The files of a database were restored, as of `redo`.
-    Restored {
-        name: Name,
-        base: Option<Base>,
-        redo: Lsn,
-    },
-    /// A database went online at `at`, on a branch of its own, and said these log records there.
-    Recovered {
-        name: Name,
-        at: Lsn,
-        branch: Guid,
-        records: Records,
     },
 }

@@ -1,16 +1,10 @@
-//! The acts of the machine that outlast a run, as blobs of an instance's file.
+//! Acts of the machine that are done to databases, as values: each with what its database and its log are told.
 //!
-//! An act has one spelling, and what a blob's act means is an act of `bk_machine`.
+//! What an act means is an act of `bk_machine`.
 #![tactic(auto)]
 
 mod act;
 mod laws;
-mod reading;
-mod transactions_reading;
-mod transactions_writing;
-mod writing;
 
 pub use act::StoredAct;
-pub use laws::{acts_law, meaning_law, said_law};
-pub use reading::read_act;
-pub use writing::encode_act;
+pub use laws::said_law;

@@ -12,7 +12,7 @@ use Rattle.bk_world.specs.Lines.{RecordLines}
 use Rattle.bk_world.specs.declared.transaction.Open.{Open}
 use Rattle.bk_kept.specs.declared.kept.Database.{Database as KeptDatabase}
 use Rattle.bk_kept.specs.declared.kept.Kept.{Kept}
-use Rattle.bk_kept.specs.Keeps.{IsKept, IsSeenOf, Sees, database_of}
+use Rattle.bk_kept.specs.Keeps.{IsSeenOf, Sees, ShowsLog, database_of}
 use Rattle.bk_kept.specs.Numbers.{LeaveNumbers}
 use Rattle.bk_kept.specs.NumbersLaws.{kept-at}
 use Rattle.bk_asked.specs.Asked.{least_in, least_with}
@@ -52,7 +52,7 @@ some-open [] session t is = absurd (cc (is))
 some-open (u ∷ ts) session t is = omega arith
 
 pub held-kept : (history : RecordLines) (ds : List KeptDatabase) (session i : ℕ) (x : KeptDatabase) (found : Option Open) (t : Open) → i < length ds → x ≡ get_or ds i x → found ≡ transaction_of x.transactions session → found ≡ Some t
-    → LeaveNumbers ds → AllByRecursion (IsSeenOf history) ds → IsKept history x
+    → LeaveNumbers ds → AllByRecursion (IsSeenOf history) ds → ShowsLog history x
 held-kept history ds session i x found t lt at is some leave seen = kept-at history ds i x leave seen (slice_get_read ds (length ds) i x refl lt at) (some-open x.transactions session t (sym is ∙ some))
 
 -- The least session.

@@ -9,7 +9,7 @@ ghost use Rattle.bk_machine.specs.World as world;
 ghost use Rattle.bk_machine.specs.World.{World};
 ghost use Rattle.bk_machine.specs.statements.Target as target;
 ghost use Rattle.bk_world.specs.Lines.{RecordLines};
-ghost use Rattle.bk_kept.specs.Keeps.{IsKept, IsSeenOf, Sees, database_of};
+ghost use Rattle.bk_kept.specs.Keeps.{IsSeenOf, Sees, ShowsLog, database_of};
 ghost use Rattle.bk_kept.specs.Numbers.{CanEnd, LeaveNumbers};
 ghost use Rattle.bk_asked.specs.Asked.{held_of, least_in, least_with};
 
@@ -47,7 +47,7 @@ pub fn own_open<'a>(kept: &InstanceView<'_>, database: &DatabaseView<'a>) -> Opt
 // The open transaction of a session, in whichever of some databases it is.
 fn held_among<'a>(databases: &'a [DatabaseView<'a>], session: u8) -> Option<Held<'a>>
     ensures found { option_map held_of result ≡ world.held_in (map database_of databases.now) session }
-    ensures kept { LeaveNumbers databases.now → (history : RecordLines) → AllByRecursion (IsSeenOf history) databases.now → IfSome result (λ h. IsKept history h.database.now) }
+    ensures shows { LeaveNumbers databases.now → (history : RecordLines) → AllByRecursion (IsSeenOf history) databases.now → IfSome result (λ h. ShowsLog history h.database.now) }
     ensures numbers { LeaveNumbers databases.now → IfSome result (λ h. CanEnd h.database.now) }
 {
     for database in databases {
@@ -64,7 +64,7 @@ fn held_among<'a>(databases: &'a [DatabaseView<'a>], session: u8) -> Option<Held
 /// The open transaction of a session, in whichever database it is.
 pub fn held_by<'a>(kept: &'a InstanceView<'a>, session: u8) -> Option<Held<'a>>
     ensures found { (w : World) → Sees w kept.now → option_map held_of result ≡ world.held_in w.databases session }
-    ensures kept { LeaveNumbers kept.now.databases.items → (w : World) → Sees w kept.now → IfSome result (λ h. IsKept w.history h.database.now) }
+    ensures shows { LeaveNumbers kept.now.databases.items → (w : World) → Sees w kept.now → IfSome result (λ h. ShowsLog w.history h.database.now) }
     ensures numbers { LeaveNumbers kept.now.databases.items → IfSome result (λ h. CanEnd h.database.now) }
 {
     held_among(&kept.databases, session)
@@ -73,7 +73,7 @@ pub fn held_by<'a>(kept: &'a InstanceView<'a>, session: u8) -> Option<Held<'a>>
 /// The open transaction of the current session, in whichever database it is.
 pub fn own_held<'a>(kept: &'a InstanceView<'a>) -> Option<Held<'a>>
     ensures found { (w : World) → Sees w kept.now → option_map held_of result ≡ world.own_held w }
-    ensures kept { LeaveNumbers kept.now.databases.items → (w : World) → Sees w kept.now → IfSome result (λ h. IsKept w.history h.database.now) }
+    ensures shows { LeaveNumbers kept.now.databases.items → (w : World) → Sees w kept.now → IfSome result (λ h. ShowsLog w.history h.database.now) }
     ensures numbers { LeaveNumbers kept.now.databases.items → IfSome result (λ h. CanEnd h.database.now) }
 {
     held_by(kept, kept.session)
@@ -129,7 +129,7 @@ fn least_open(kept: &InstanceView<'_>) -> Option<u8>
 /// An open transaction of the least session of all that have one: the one that is rolled back first where a run ends.
 pub fn first_held<'a>(kept: &'a InstanceView<'a>) -> Option<Held<'a>>
     ensures first { (w : World) → Sees w kept.now → MatchOption result (AllByRecursion (λ db. db.transactions ≡ []) w.databases) (λ h. IsFirst w (held_of h)) }
-    ensures kept { LeaveNumbers kept.now.databases.items → (w : World) → Sees w kept.now → IfSome result (λ h. IsKept w.history h.database.now) }
+    ensures shows { LeaveNumbers kept.now.databases.items → (w : World) → Sees w kept.now → IfSome result (λ h. ShowsLog w.history h.database.now) }
     ensures numbers { LeaveNumbers kept.now.databases.items → IfSome result (λ h. CanEnd h.database.now) }
 {
     let session = least_open(kept)?;

@@ -9,22 +9,20 @@ use Rattle.std.proofs.lemmas.Grind.{flat_map-append}
 use Rattle.std.proofs.Math.Seq.{get_or-append_seam, take-append-add, take-append_seam, take-length}
 use Rattle.bk_device.specs.Calls.{Elapses, TellsFront}
 use Rattle.bk_device.specs.Disk.{Files, Disk}
-use Rattle.bk_instance.specs.BehindLaws.{covers-behind}
-use Rattle.bk_instance.specs.declared.instance.Instance.{Instance}
-use Rattle.bk_instance.specs.Stands.{CoversBehind, StandsFor}
-use Rattle.bk_executing.specs.Executing.{MayCome}
-use Rattle.bk_instance.specs.Touched.{IsTouched}
+use Rattle.bk_engine.specs.Stands.{Covers, Kept, StandsFor}
+use Rattle.bk_engine.specs.Touched.{IsTouched}
 use Rattle.bk_items.specs.declared.item.ScriptEntry.{ScriptEntry}
+use Rattle.bk_machine.specs.Machine.{May}
 use Rattle.bk_machine.specs.Outcome.{Outcome}
 use Rattle.bk_machine.specs.Run.{IsRun, behind_all, replies_of}
 use Rattle.bk_machine.specs.World.{World}
 use Rattle.bk_machine.specs.Writes.{ActsWrite}
+use Rattle.bk_restarts.specs.Crashes.{CrashLaws}
 use Rattle.bk_world.specs.declared.reply.Reply.{Reply}
 use Rattle.bk_world.specs.declared.reply.Reply.TheVariants.{Done, Nothing, Counted, Selected, SetMade, Recovered, Refused}
 use Rattle.bk_world.specs.Text.{reply_text, replies_text}
 use Rattle.bk_lemmas.specs.Tests.{first_false}
 use Rattle.bk_console.specs.Answers.{is_refusal, NoneRefused, EndsRefused, GoesOnAccepted, Asked, CrashLeaves, CutWithin, CutNowhere, Runs, Answered, CutTelling, CutExecuting, CutShort, AnsweredFront, Stopped, CutAll}
-use Rattle.bk_console.specs.Crashes.{CrashLaws}
 use Rattle.bk_console.specs.Spares.{AreStill, LeavesAlone, OutcomesWrite, Spares}
 use Rattle.bk_console.proofs.Asking.{elapses-none, elapses-then}
 use Rattle.bk_console.proofs.Sparing.{spares-more, spares-none, spares-then, spares-wider, still-front, writes-before, writes-last}
@@ -124,7 +122,7 @@ front_next : (told told1 told2 : List ℕ) (os : List Outcome) (o : Outcome) →
 front_next told told1 told2 os o before more =
     subst (λ rs. TellsFront (replies_text rs) told told2) (sym (replies-more os o)) (front_more told told1 told2 (replies_of os) o.reply before more)
 
-module _ (laws : CrashLaws) (stop : Bool) (old mid : Instance) (script ss : List ScriptEntry) (s : ScriptEntry) (ct : Type 0) (before middle after : ℕ → ℕ) (dt : Type 0) (disk disk1 disk2 : Disk)
+module _ (laws : CrashLaws) (stop : Bool) (old mid : Kept) (script ss : List ScriptEntry) (s : ScriptEntry) (ct : Type 0) (before middle after : ℕ → ℕ) (dt : Type 0) (disk disk1 disk2 : Disk)
     (so_far : AnsweredFront stop old mid ss ct before middle dt disk disk1) (front : take (length ss) script ≡ ss) (more : take (length ss + 1) script ≡ ss ++ s ∷ []) where
   front-is : take (length so_far.outcomes) script ≡ ss
   front-is = ap (λ k. take k script) so_far.each_outcome ∙ front
@@ -142,59 +140,53 @@ module _ (laws : CrashLaws) (stop : Bool) (old mid : Instance) (script ss : List
   more-is o = ap (λ k. take k script) (one-more o) ∙ more
 
   -- one statement more
-  run-next : dt → (now : ℕ) (o : Outcome) → MayCome mid disk1 s now o → (w : World) → StandsFor old disk w → IsRun w (ss ++ s ∷ []) (so_far.moments ++ now ∷ []) (so_far.outcomes ++ o ∷ [])
-  run-next t now o may w stands =
-      let to = so_far.runs t w stands in
-      run-more w ss so_far.moments so_far.outcomes s now o to.0 (may (behind_all w so_far.outcomes) to.1)
+  run-next : (now : ℕ) (o : Outcome) (w : World) → May (behind_all w so_far.outcomes) s now o → IsRun w ss so_far.moments so_far.outcomes → IsRun w (ss ++ s ∷ []) (so_far.moments ++ now ∷ []) (so_far.outcomes ++ o ∷ [])
+  run-next now o w may run = run-more w ss so_far.moments so_far.outcomes s now o run may
 
   -- Crashes.
 
   -- before anything is done
-  cut-nowhere : dt → (image : Files) (heard : List ℕ) → CutNowhere mid disk1 image heard → CrashLeaves old disk so_far.outcomes image heard
-  cut-nowhere t image heard cut durable number w stands =
+  crashes-nowhere : dt → ((w : World) → StandsFor disk1 mid w → Elapses disk1 disk2 (CutNowhere w disk1.told)) → (w : World) → StandsFor disk old w → Elapses disk disk2 (CrashLeaves w so_far.outcomes disk.told)
+  crashes-nowhere t one w stands =
       let to = so_far.runs t w stands in
-      LeavesOf-done laws number w stands.sound ss so_far.moments so_far.outcomes to.0 disk.told image heard
-      (covers-behind mid.waiting number image (behind_all w so_far.outcomes) (cut.0 (so_far.media t durable) number (behind_all w so_far.outcomes) to.1))
-      (front_same disk.told disk1.told heard (replies_of so_far.outcomes) (so_far.text t) cut.1)
+      elapses-then _ _ _ disk disk1 disk2 (λ image heard leaves. leaves)
+      (λ image heard cut number. LeavesOf-done laws number w stands.sound ss so_far.moments so_far.outcomes to.0 disk.told image heard cut.0
+      (front_same disk.told disk1.told heard (replies_of so_far.outcomes) (so_far.text t) cut.1)) (so_far.crashes t w stands) (one (behind_all w so_far.outcomes) to.1)
 
   -- before the reply is told, while it is, or behind it
-  cut-telling : dt → (now : ℕ) (o : Outcome) → MayCome mid disk1 s now o → (image : Files) (heard : List ℕ) → CutWithin mid disk1 o image heard
-      → CrashLeaves old disk (so_far.outcomes ++ o ∷ []) image heard
-  cut-telling t now o may image heard (inl cut) durable number w stands =
-      let to = so_far.runs t w stands in
-      let within = cut.0 (so_far.media t durable) number (behind_all w so_far.outcomes) to.1 in
-      LeavesOf-within laws number w stands.sound ss so_far.moments so_far.outcomes to.0 s now o (may (behind_all w so_far.outcomes) to.1) within.done disk.told image heard
-      within.covers (cut.1 ∙ so_far.text t)
-  cut-telling t now o may image heard (inr holds) durable number w stands =
-      let to = so_far.runs t w stands in
-      LeavesOf-done laws number w stands.sound (ss ++ s ∷ []) (so_far.moments ++ now ∷ []) (so_far.outcomes ++ o ∷ []) (run-next t now o may w stands) disk.told image heard
-      (subst (CoversBehind number image) (sym (behind-more w so_far.outcomes o)) (holds.0 (so_far.media t durable) number (behind_all w so_far.outcomes) to.1))
+  cut-telling : dt → (now : ℕ) (o : Outcome) (w : World) → StandsFor disk old w → May (behind_all w so_far.outcomes) s now o → (image : Files) (heard : List ℕ) → CutWithin (behind_all w so_far.outcomes) o disk1.told image heard
+      → CrashLeaves w (so_far.outcomes ++ o ∷ []) disk.told image heard
+  cut-telling t now o w stands may image heard (inl cut) number =
+      LeavesOf-within laws number w stands.sound ss so_far.moments so_far.outcomes (so_far.runs t w stands).0 s now o may disk.told image heard cut.0 (cut.1 ∙ so_far.text t)
+  cut-telling t now o w stands may image heard (inr holds) number =
+      LeavesOf-done laws number w stands.sound (ss ++ s ∷ []) (so_far.moments ++ now ∷ []) (so_far.outcomes ++ o ∷ []) (run-next now o w may (so_far.runs t w stands).0) disk.told image heard
+      (subst (λ v. Covers v image) (sym (behind-more w so_far.outcomes o)) holds.0)
       (front_next disk.told disk1.told heard so_far.outcomes o (so_far.text t) holds.1)
 
-  crashes-nowhere : dt → Elapses disk1 disk2 (CutNowhere mid disk1) → Elapses disk disk2 (CrashLeaves old disk so_far.outcomes)
-  crashes-nowhere t one = elapses-then _ _ _ disk disk1 disk2 (λ image heard leaves. leaves) (cut-nowhere t) (so_far.crashes t) one
-
-  crashes-telling : dt → (now : ℕ) (o : Outcome) → MayCome mid disk1 s now o → Elapses disk1 disk2 (CutWithin mid disk1 o) → Elapses disk disk2 (CrashLeaves old disk (so_far.outcomes ++ o ∷ []))
-  crashes-telling t now o may one = elapses-then _ _ _ disk disk1 disk2
-      (λ image heard leaves durable number w stands. LeavesOf-more number w so_far.outcomes o disk.told image heard (leaves durable number w stands))
-      (cut-telling t now o may) (so_far.crashes t) one
+  crashes-telling : dt → (now : ℕ) (o : Outcome) → ((w : World) → StandsFor disk1 mid w → May w s now o) → ((w : World) → StandsFor disk1 mid w → Elapses disk1 disk2 (CutWithin w o disk1.told))
+      → (w : World) → StandsFor disk old w → Elapses disk disk2 (CrashLeaves w (so_far.outcomes ++ o ∷ []) disk.told)
+  crashes-telling t now o may one w stands =
+      let to = so_far.runs t w stands in
+      elapses-then _ _ _ disk disk1 disk2
+      (λ image heard leaves number. LeavesOf-more number w so_far.outcomes o disk.told image heard (leaves number))
+      (cut-telling t now o w stands (may (behind_all w so_far.outcomes) to.1)) (so_far.crashes t w stands) (one (behind_all w so_far.outcomes) to.1)
 
   -- What is left alone.
 
-  spares-next : dt → (o : Outcome) → ((w : World) → StandsFor mid disk1 w → Spares (IsTouched (ActsWrite o.acts)) disk1 disk2) → (w : World) → StandsFor old disk w
+  spares-next : dt → (o : Outcome) → ((w : World) → StandsFor disk1 mid w → Spares (IsTouched (ActsWrite o.acts)) disk1 disk2) → (w : World) → StandsFor disk old w
       → Spares (IsTouched (OutcomesWrite (so_far.outcomes ++ o ∷ []))) disk disk2
   spares-next t o one w stands = spares-then (spares-more (writes-before so_far.outcomes (o ∷ [])) (so_far.spares t w stands))
       (spares-more (writes-last so_far.outcomes o) (one (behind_all w so_far.outcomes) (so_far.runs t w stands).1))
 
-  module _ (new : Instance) (refused : Bool) (one : Answered mid new s ct middle after dt disk1 disk2 refused) where
+  module _ (new : Kept) (refused : Bool) (one : Answered mid new s ct middle after dt disk1 disk2 refused) where
     runs-more : dt → Runs old disk (ss ++ s ∷ []) (so_far.moments ++ one.now ∷ []) (so_far.outcomes ++ one.outcome ∷ []) new disk2
     runs-more t w stands =
         let to = so_far.runs t w stands in (
-          run-next t one.now one.outcome (one.may t) w stands,
-          subst (StandsFor new disk2) (sym (behind-more w so_far.outcomes one.outcome)) (one.does t (behind_all w so_far.outcomes) to.1),
+          run-next one.now one.outcome w (one.may t (behind_all w so_far.outcomes) to.1) to.0,
+          subst (StandsFor disk2 new) (sym (behind-more w so_far.outcomes one.outcome)) (one.does t (behind_all w so_far.outcomes) to.1),
         )
 
-    still-more : dt → (w : World) → StandsFor old disk w → AreStill (so_far.outcomes ++ one.outcome ∷ []) → LeavesAlone old disk new disk2
+    still-more : dt → (w : World) → StandsFor disk old w → AreStill (so_far.outcomes ++ one.outcome ∷ []) → LeavesAlone old disk new disk2
     still-more t w stands all =
         let each = still-front so_far.outcomes one.outcome all in
         let before = so_far.still t w stands each.0 in
@@ -209,7 +201,6 @@ module _ (laws : CrashLaws) (stop : Bool) (old mid : Instance) (script ss : List
       each_outcome = omega (arith, length-append so_far.outcomes (one.outcome ∷ []), length-append ss (s ∷ []), so_far.each_outcome);
       asked = asked_more ct before middle after so_far.moments one.now so_far.asked one.asked;
       runs = runs-more;
-      media = λ t durable. one.media t (so_far.media t durable);
       crashes = λ t. crashes-telling t one.now one.outcome (one.may t) (one.crashes t);
       text = λ t. text_next disk.told disk1.told disk2.told so_far.outcomes one.outcome (so_far.text t) (one.text t);
       accepted = λ on. none-next so_far.outcomes one.outcome (so_far.accepted on) (sym one.which ∙ accepted on);
@@ -229,7 +220,6 @@ module _ (laws : CrashLaws) (stop : Bool) (old mid : Instance) (script ss : List
           within = omega arith;
           asked = asked_more ct before middle after so_far.moments one.now so_far.asked one.asked;
           runs = λ t. subst (λ xs. Runs old disk xs (so_far.moments ++ one.now ∷ []) outcomes new disk2) (sym (more-is one.outcome)) (runs-more t);
-          media = λ t durable. one.media t (so_far.media t durable);
           crashes = λ t. crashes-telling t one.now one.outcome (one.may t) (one.crashes t);
           text = λ t. text_next disk.told disk1.told disk2.told so_far.outcomes one.outcome (so_far.text t) (one.text t);
           stops = on;
@@ -256,7 +246,7 @@ module _ (laws : CrashLaws) (stop : Bool) (old mid : Instance) (script ss : List
         runs = λ t w stands.
             subst (λ xs. IsRun w xs (take (length outcomes) moments) outcomes) (sym (more-is last.outcome))
             (subst (λ xs. IsRun w (ss ++ s ∷ []) xs outcomes) (sym (ap (λ k. take k moments) (sym same) ∙ take-length moments))
-            (run-next t now last.outcome (last.may t) w stands));
+            (let to = so_far.runs t w stands in run-next now last.outcome w (last.may t (behind_all w so_far.outcomes) to.1) to.0));
         crashes = λ t. crashes-telling t now last.outcome (last.may t) (last.crashes t);
         front = λ t. front_next disk.told disk1.told disk2.told so_far.outcomes last.outcome (so_far.text t) (last.front t);
         some = λ h. omega arith;
@@ -287,7 +277,7 @@ module _ (laws : CrashLaws) (stop : Bool) (old mid : Instance) (script ss : List
   CutAll-from room has_reply asks weaker cut = cut-by room has_reply asks weaker cut.now cut.asked cut.front
 
 -- nothing is answered yet
-pub front-none : (stop : Bool) (old : Instance) (ct : Type 0) (before : ℕ → ℕ) (dt : Type 0) (disk : Disk) → AnsweredFront stop old old [] ct before before dt disk disk
+pub front-none : (stop : Bool) (old : Kept) (ct : Type 0) (before : ℕ → ℕ) (dt : Type 0) (disk : Disk) → AnsweredFront stop old old [] ct before before dt disk disk
 front-none stop old ct before dt disk = record {
   moments = [];
   outcomes = [];
@@ -295,8 +285,7 @@ front-none stop old ct before dt disk = record {
   each_outcome = refl;
   asked = record { shown = λ t i lt. absurd (omega (arith, lt)); moved = λ t i. ap before (omega arith) };
   runs = λ t w stands. (tt, stands);
-  media = λ t durable. durable;
-  crashes = λ t. elapses-none _ disk;
+  crashes = λ t w stands. elapses-none _ disk;
   text = λ t. sym (append-nil disk.told);
   accepted = λ on. refl;
   still = λ t w stands all. record { files = spares-none disk; reserves = λ exact. exact };

@@ -1,5 +1,5 @@
 -- What a crash of a run leaves, from the files that it leaves.
-use Rattle.std.proofs.Common.{◌≡◌, ◌<◌, ◌≤◌, ◌⊎◌, ℕ, List, [], ◌∷◌, ◌++◌, length, take, None, inl, inr, refl, sym, ◌∙◌, ap, subst, arith, length-append}
+use Rattle.std.proofs.Common.{◌≡◌, ◌<◌, ◌≤◌, ◌⊎◌, ℕ, List, [], ◌∷◌, ◌++◌, length, take, drop, None, inl, inr, refl, sym, ◌∙◌, ap, subst, arith, length-append}
 use Rattle.std.specs.List.{AllByRecursion}
 use Rattle.std.proofs.lemmas.List.{append-nil, take-append-le, take_all, length-map, map-append}
 use Rattle.std.proofs.lemmas.Bool.{cases_lt}
@@ -7,22 +7,24 @@ use Rattle.std.proofs.lemmas.Grind.{flat_map-append}
 use Rattle.std.proofs.Math.Seq.{take-append_seam, take-length, drop-append_seam}
 use Rattle.bk_device.specs.Calls.{TellsFront}
 use Rattle.bk_device.specs.Disk.{Files}
-use Rattle.bk_instance.specs.Stands.{CoversBehind, StandsNear}
+use Rattle.bk_engine.specs.Loading.{Stands}
+use Rattle.bk_engine.specs.Stands.{Covers}
 use Rattle.bk_items.specs.declared.item.ScriptEntry.{ScriptEntry}
 use Rattle.bk_machine.specs.Acts.{Act, done, done_all}
 use Rattle.bk_machine.specs.Closing.{AreClosing, closed_by}
 use Rattle.bk_machine.specs.ClosingLaws.{first-alone}
-use Rattle.bk_machine.specs.Crash.{Leaves, cut_between, next_acts}
+use Rattle.bk_machine.specs.Crash.{Leaves, next_acts}
 use Rattle.bk_machine.specs.Machine.{May, behind}
 use Rattle.bk_machine.specs.Outcome.{Outcome}
 use Rattle.bk_machine.specs.Run.{IsRun, behind_all, replies_of}
 use Rattle.bk_machine.specs.Sound.{IsSound}
-use Rattle.bk_machine.specs.World.{Database, World, held_by, held_in, opened, transaction_of}
+use Rattle.bk_machine.specs.World.{Database, World, ended, held_by, held_in, opened, transaction_of}
 use Rattle.bk_machine.specs.statements.Rollback.{rolls_back}
+use Rattle.bk_restarts.specs.Crashes.{CrashLaws, CutIn, LeavesFrom}
+use Rattle.bk_restarts.specs.CutLaws.{cut-first}
 use Rattle.bk_world.specs.declared.reply.Reply.{Reply}
 use Rattle.bk_world.specs.Text.{reply_text, replies_text}
 use Rattle.bk_console.specs.Answers.{told_whole, LeavesOf}
-use Rattle.bk_console.specs.Crashes.{CrashLaws, LeavesFrom}
 use Rattle.bk_console.proofs.Told.{told-none, told-all, told-front}
 
 -- Runs.
@@ -74,10 +76,10 @@ front-within bytes told heard front = by (cases_lt front.0 (length bytes))
     by (inr above) = (length bytes, front.1 ∙ ap (λ b. told ++ b) (take_all front.0 bytes above ∙ sym (take-length bytes)), omega arith)
 
 -- no statement was begun
-pub LeavesOf-none : CrashLaws → (number : ℕ) (w : World) (outcomes : List Outcome) (told : List ℕ) (image : Files) (heard : List ℕ) → StandsNear number image (opened w) → heard ≡ told
+pub LeavesOf-none : CrashLaws → (number : ℕ) (w : World) (outcomes : List Outcome) (told : List ℕ) (image : Files) (heard : List ℕ) → Stands number image w → heard ≡ told
     → LeavesOf number (opened w) outcomes told image heard
-LeavesOf-none laws number w outcomes told image heard near same =
-    let to = laws.begins number w image near in
+LeavesOf-none laws number w outcomes told image heard stands same =
+    let to = laws.begins number w image stands in
     record {
       count = 0;
       bytes = same ∙ sym (append-nil told);
@@ -89,20 +91,16 @@ LeavesOf-none laws number w outcomes told image heard near same =
       stands = to.2;
     }
 
--- behind some acts of the last one, once the texts of the replies to those before it were told
-pub LeavesOf-last : (number : ℕ) (first : World) (outcomes : List Outcome) (o : Outcome) → LeavesFrom number first (outcomes ++ o ∷ []) → (k : ℕ) (told : List ℕ) (image : Files) (heard : List ℕ)
-    → CoversBehind number image (done_all (behind_all first outcomes) (take k o.acts)) → heard ≡ told ++ replies_text (replies_of outcomes)
+-- within the last one, or behind it, once the texts of the replies to those before it were told
+LeavesOf-last : (number : ℕ) (first : World) (outcomes : List Outcome) (o : Outcome) (told : List ℕ) (image : Files) (heard : List ℕ)
+    → ((least : ℕ) → least ≤ length outcomes → (left : World) × Leaves first (outcomes ++ o ∷ []) least left × Stands number image left) → heard ≡ told ++ replies_text (replies_of outcomes)
     → LeavesOf number first (outcomes ++ o ∷ []) told image heard
-LeavesOf-last number first outcomes o cut k told image heard covers same =
+LeavesOf-last number first outcomes o told image heard leads same =
     let all : List Outcome = outcomes ++ o ∷ [] in
     let count : ℕ = length (replies_text (replies_of outcomes)) in
     let whole : told_whole (replies_of all) count ≡ told_whole (replies_of outcomes) count =
     ap (λ rs. told_whole rs count) (replies-more outcomes o) ∙ told-front (replies_of outcomes) (o.reply ∷ []) count (omega arith) in
-    let there : CoversBehind number image (cut_between first all (length outcomes) k) =
-    subst (λ os. CoversBehind number image (done_all (behind_all first (take (length outcomes) all)) (take k (next_acts os)))) (sym (drop-append_seam outcomes (o ∷ [])))
-    (subst (λ os. CoversBehind number image (done_all (behind_all first os) (take k o.acts))) (sym (take-append_seam outcomes (o ∷ []))) covers) in
-    let to = cut (told_whole (replies_of all) count) (length outcomes) k image
-    (omega (arith, whole, told-all (replies_of outcomes) count, replies-length outcomes)) (omega (arith, length-append outcomes (o ∷ []))) there in
+    let to = leads (told_whole (replies_of all) count) (omega (arith, whole, told-all (replies_of outcomes) count, replies-length outcomes)) in
     let texts : replies_text (replies_of all) ≡ replies_text (replies_of outcomes) ++ replies_text (o.reply ∷ []) =
     ap replies_text (replies-more outcomes o) ∙ flat_map-append reply_text (replies_of outcomes) (o.reply ∷ []) in
     record {
@@ -116,14 +114,26 @@ LeavesOf-last number first outcomes o cut k told image heard covers same =
       stands = to.2;
     }
 
+-- where it is cut
+cut-last : (number : ℕ) (first : World) (outcomes : List Outcome) (o : Outcome) (image : Files) → LeavesFrom number first (outcomes ++ o ∷ []) → CutIn (behind_all first outcomes) o.acts image
+    → (least : ℕ) → least ≤ length outcomes → (left : World) × Leaves first (outcomes ++ o ∷ []) least left × Stands number image left
+cut-last number first outcomes o image from cut least few =
+    let all : List Outcome = outcomes ++ o ∷ [] in
+    let there : CutIn (behind_all first (take (length outcomes) all)) (next_acts (drop (length outcomes) all)) image =
+    subst (λ os. CutIn (behind_all first (take (length outcomes) all)) (next_acts os) image) (sym (drop-append_seam outcomes (o ∷ [])))
+    (subst (λ os. CutIn (behind_all first os) o.acts image) (sym (take-append_seam outcomes (o ∷ []))) cut) in
+    from least (length outcomes) image few (omega (arith, length-append outcomes (o ∷ []))) there
+
 module _ (laws : CrashLaws) (number : ℕ) (first : World) (sound : IsSound first) (statements : List ScriptEntry) (moments : List ℕ) (outcomes : List Outcome) (run : IsRun first statements moments outcomes) where
   -- behind all of them, of whose replies' texts a front was told
-  pub LeavesOf-done : (told : List ℕ) (image : Files) (heard : List ℕ) → CoversBehind number image (behind_all first outcomes) → TellsFront (replies_text (replies_of outcomes)) told heard
+  pub LeavesOf-done : (told : List ℕ) (image : Files) (heard : List ℕ) → Covers (behind_all first outcomes) image → TellsFront (replies_text (replies_of outcomes)) told heard
       → LeavesOf number first outcomes told image heard
   LeavesOf-done told image heard covers front =
       let texts = front-within (replies_text (replies_of outcomes)) told heard front in
-      let there : CoversBehind number image (cut_between first outcomes (length outcomes) 0) = subst (λ os. CoversBehind number image (behind_all first os)) (sym (take-length outcomes)) covers in
-      let to = laws.runs number first statements moments outcomes sound run (told_whole (replies_of outcomes) texts.0) (length outcomes) 0 image
+      let n : ℕ = length outcomes in
+      let there : CutIn (behind_all first (take n outcomes)) (next_acts (drop n outcomes)) image =
+      cut-first (behind_all first (take n outcomes)) (next_acts (drop n outcomes)) image (subst (λ os. Covers (behind_all first os) image) (sym (take-length outcomes)) covers) in
+      let to = laws.runs number first statements moments outcomes sound run (told_whole (replies_of outcomes) texts.0) n image
       (omega (arith, told-all (replies_of outcomes) texts.0, replies-length outcomes)) (omega arith) there in
       record {
         count = texts.0;
@@ -136,18 +146,26 @@ module _ (laws : CrashLaws) (number : ℕ) (first : World) (sound : IsSound firs
         stands = to.2;
       }
 
-  -- behind some acts of the next one
-  pub LeavesOf-within : (s : ScriptEntry) (now : ℕ) (o : Outcome) → May (behind_all first outcomes) s now o → (k : ℕ) (told : List ℕ) (image : Files) (heard : List ℕ)
-      → CoversBehind number image (done_all (behind_all first outcomes) (take k o.acts)) → heard ≡ told ++ replies_text (replies_of outcomes)
+  -- within the next one
+  pub LeavesOf-within : (s : ScriptEntry) (now : ℕ) (o : Outcome) → May (behind_all first outcomes) s now o → (told : List ℕ) (image : Files) (heard : List ℕ)
+      → CutIn (behind_all first outcomes) o.acts image → heard ≡ told ++ replies_text (replies_of outcomes)
       → LeavesOf number first (outcomes ++ o ∷ []) told image heard
-  LeavesOf-within s now o may = LeavesOf-last number first outcomes o
-      (laws.runs number first (statements ++ s ∷ []) (moments ++ now ∷ []) (outcomes ++ o ∷ []) sound (run-more first statements moments outcomes s now o run may))
+  LeavesOf-within s now o may told image heard cut = LeavesOf-last number first outcomes o told image heard
+      (cut-last number first outcomes o image (laws.runs number first (statements ++ s ∷ []) (moments ++ now ∷ []) (outcomes ++ o ∷ []) sound (run-more first statements moments outcomes s now o run may)) cut)
 
-  -- behind some acts of its closing
-  pub LeavesOf-closing : (acts : List Act) → AreClosing (behind_all first outcomes) acts → (k : ℕ) (told : List ℕ) (image : Files) (heard : List ℕ)
-      → CoversBehind number image (done_all (behind_all first outcomes) (take k acts)) → heard ≡ told ++ replies_text (replies_of outcomes)
+  -- within its closing
+  pub LeavesOf-closing : (acts : List Act) → AreClosing (behind_all first outcomes) acts → (told : List ℕ) (image : Files) (heard : List ℕ)
+      → CutIn (behind_all first outcomes) acts image → heard ≡ told ++ replies_text (replies_of outcomes)
       → LeavesOf number first (outcomes ++ closed_by acts ∷ []) told image heard
-  LeavesOf-closing acts closing = LeavesOf-last number first outcomes (closed_by acts) (laws.closings number first statements moments outcomes acts sound run closing)
+  LeavesOf-closing acts closing told image heard cut = LeavesOf-last number first outcomes (closed_by acts) told image heard
+      (cut-last number first outcomes (closed_by acts) image (laws.closings number first statements moments outcomes acts sound run closing) cut)
+
+  -- behind that
+  pub LeavesOf-ended : (acts : List Act) → AreClosing (behind_all first outcomes) acts → (told : List ℕ) (image : Files) (heard : List ℕ)
+      → Stands number image (ended (done_all (behind_all first outcomes) acts)) → heard ≡ told ++ replies_text (replies_of outcomes)
+      → LeavesOf number first (outcomes ++ closed_by acts ∷ []) told image heard
+  LeavesOf-ended acts closing told image heard stands = LeavesOf-last number first outcomes (closed_by acts) told image heard
+      (λ least few. laws.ends number first statements moments outcomes acts sound run closing least image (omega (arith, few, length-append outcomes (closed_by acts ∷ []))) stands)
 
 -- one outcome more
 pub LeavesOf-more : (number : ℕ) (first : World) (outcomes : List Outcome) (o : Outcome) (told : List ℕ) (image : Files) (heard : List ℕ)

@@ -1,11 +1,12 @@
 pub mod Told
-pub mod Covering
 pub mod Leaving
 pub mod Asking
+pub mod Executing
 pub mod Sparing
 pub mod Answering
 pub mod OneByOne
 pub mod Running
+pub mod Settling
 pub mod Taking
 pub mod Causes
 pub mod Living

@@ -4,12 +4,10 @@ use Rattle.std.proofs.lemmas.Bool.{cases_lt}
 use Rattle.std.proofs.lemmas.List.{take-append-le}
 use Rattle.std.proofs.Math.Seq.{take-length}
 use Rattle.bk_bytes.specs.Field.{AreBytes}
-use Rattle.bk_device.specs.Disk.{Files, Disk, IsLawful}
-use Rattle.bk_home.specs.declared.record.Record.{Record}
-use Rattle.bk_home.specs.Home.{IsNotMade, IsNoInstance, fresh}
-use Rattle.bk_home.specs.Laws.{home_is_instance}
-use Rattle.bk_loading.specs.Events.{HappenOn, StandsAtRest}
-use Rattle.bk_instance.specs.Stands.{Holds, IsOurs, Stands}
+use Rattle.bk_device.specs.Disk.{Files, Disk, IsLawful, MayLeave}
+use Rattle.bk_engine.specs.Loading.{Stands}
+use Rattle.bk_engine.specs.Stands.{IsOurs}
+use Rattle.bk_hosting.specs.Loading.{HoldsHosting}
 use Rattle.bk_items.specs.declared.item.ScriptEntry.{ScriptEntry}
 use Rattle.bk_machine.specs.Acts.{Act, done_all}
 use Rattle.bk_machine.specs.Closing.{AreClosing, closed_by}
@@ -20,7 +18,11 @@ use Rattle.bk_machine.specs.Outcome.{Outcome}
 use Rattle.bk_machine.specs.Reached.{IsReached, nothing, ran, crashed, crashed_closing, happened}
 use Rattle.bk_machine.specs.Run.{IsRun, behind_all, replies_of}
 use Rattle.bk_machine.specs.World.{World, empty_world, opened, ended}
-use Rattle.bk_media.specs.Names.{medium_file}
+use Rattle.bk_master.specs.declared.record.Own.{Own}
+use Rattle.bk_master.specs.Laws.{record_is_instance}
+use Rattle.bk_master.specs.Master.{IsNotMade, IsNoInstance, fresh_own}
+use Rattle.bk_restarts.specs.Events.{HappenOn, StandsAtRest}
+use Rattle.bk_volume.specs.Names.{medium_file}
 use Rattle.bk_world.specs.Text.{replies_text}
 use Rattle.bk_console.specs.Answers.{LeavesOf, told_whole}
 use Rattle.bk_console.specs.Life.{SameFiles, IsEmpty, MayAsk, Live, Called, Lasts}
@@ -41,33 +43,26 @@ pub record EventLaws : Type 0 where
 stands-under : (number : ℕ) (files : Files) (w : World) → Stands number files w → (other : ℕ) → MayAsk other files w → Stands other files w
 stands-under number files w stands other asks = record {
   sound = stands.sound;
-  before = stands.before;
-  covers = record {
-    sound = stands.covers.sound;
-    «record» = stands.covers.«record»;
-    blobs = stands.covers.blobs;
-    holds = holds stands.covers.holds;
-    instance = stands.covers.instance;
-    no_less = stands.covers.no_less;
-    no_more = stands.covers.no_more;
-    made = stands.covers.made;
-    media = stands.covers.media;
-  };
-  settled = stands.settled;
+  own = stands.own;
+  instance = stands.instance;
   counter = stands.counter;
-  idle = stands.idle;
+  hosted = stands.hosted;
+  pends = stands.pends;
+  hosts = stands.hosts;
+  holds = holds stands.holds;
+  media = stands.media;
   finished = stands.finished;
 }
   where
-    holds : Holds number files stands.covers.«record» stands.covers.blobs → Holds other files stands.covers.«record» stands.covers.blobs
+    holds : HoldsHosting number stands.own files stands.hosted → HoldsHosting other stands.own files stands.hosted
     holds (inl new) =
-        let is : other ≡ number = asks new.0 ∙ stands.settled.media.instance ∙ stands.covers.instance ∙ ap (λ (r : Record). r.number) new.1 in
-        inl (new.0, new.1 ∙ ap fresh (sym is), new.2)
-    holds (inr home) = inr home
+        let is : other ≡ number = asks new.0 ∙ stands.instance ∙ ap (λ (o : Own). o.number) new.1 in
+        inl (new.0, new.1 ∙ ap fresh_own (sym is), new.2)
+    holds (inr held) = inr held
 
 -- files that stand for a world aren't those of no instance
 stands-instance : (number : ℕ) (files : Files) (w : World) → Stands number files w → IsNoInstance files → ⊥
-stands-instance number files w stands none = elim stands.covers.holds [ inl new ↦ none.0 new.0 | inr home ↦ home_is_instance home none ]
+stands-instance number files w stands none = elim stands.holds [ inl new ↦ none.0 new.0 | inr held ↦ record_is_instance held.holds.is_record none ]
 
 lives-for : (number : ℕ) (files : Files) (w : World) → IsReached w → Stands number files w → Live files w
 lives-for number files w reached stands = record { reached = reached; stands = stands-under number files w stands; instance = stands-instance number files w stands }
@@ -142,11 +137,13 @@ module _ {D : Type 0} (source_tells clock_tells device_tells : Type 0) (disk : D
   ended-lives : (options : WordOptions) (call : Call (Some options)) → MayAsk options.instance files w → (status ≡ 0) ⊎ (status ≡ 1)
       → (acts : List Act) × AreClosing (behind_all (opened w) call.ran.executed.outcomes) acts
       × Live (disk after).files (ended (done_all (behind_all (opened w) call.ran.executed.outcomes) acts))
+      × ((image : Files) → MayLeave (disk after) image → Live image (ended (done_all (behind_all (opened w) call.ran.executed.outcomes) acts)))
   ended-lives options call asks ends =
       let begins = call-begins options call asks in
       let run = call.ran.executed.runs call.tells call.settled w begins in
       let close = call.ran.executed.closes call.tells call.settled w begins in
-      (close.acts, close.closing, lives-for options.instance (disk after).files _ (ran w _ _ _ _ live.reached run close.closing) (close.stands ends))
+      let reached : IsReached (ended (done_all (behind_all (opened w) call.ran.executed.outcomes) close.acts)) = ran w _ _ _ _ live.reached run close.closing in
+      (close.acts, close.closing, lives-for options.instance (disk after).files _ reached (close.stands ends), λ image left. lives-for options.instance image _ reached (close.lasts ends image left))
 
   cut-lives : (options : WordOptions) (call : Call (Some options)) → MayAsk options.instance files w → (image : Files) (heard : List ℕ) → (disk after).left (disk before).moment image heard
       → (acts : List Act) × AreClosing (behind_all (opened w) call.ran.executed.outcomes) acts
@@ -174,7 +171,7 @@ module _ {D : Type 0} (source_tells clock_tells device_tells : Type 0) (disk : D
     live = live;
     ends = λ options before after status call asks ends.
         let found = ended-lives source_tells clock_tells device_tells disk lawful laws files w live before after status options call asks ends in
-        (found.0, found.1, live-lasts n _ _ found.2);
+        (found.0, found.1, live-lasts n _ _ found.2, λ image left. live-lasts n _ _ (found.3 image left));
     cuts = λ options before after status call asks image heard left.
         let found = cut-lives source_tells clock_tells device_tells disk lawful laws files w live before after status options call asks image heard left in
         (found.0, found.1, found.2, live-lasts n _ _ found.3);

@@ -2,25 +2,25 @@
 use Rattle.std.proofs.Common.{◌≡◌, ◌<◌, ℕ, ◌+◌, ◌-◌, Bool, true, false, List, [], ◌∷◌, ◌++◌, length, take, Some, None, refl, sym, ◌∙◌, ap, subst, arith, length-append, append-nil, append_assoc}
 use Rattle.std.proofs.Math.Seq.{take-append-add, take-append_seam, take-length}
 use Rattle.bk_device.specs.Disk.{Disk}
-use Rattle.bk_instance.specs.declared.instance.Instance.{Instance}
+use Rattle.bk_engine.specs.Stands.{Kept}
 use Rattle.bk_items.specs.declared.item.ScriptEntry.{ScriptEntry}
 use Rattle.bk_syntax.specs.Items.{AreItems}
 use Rattle.bk_syntax.specs.Reader.{HasItems, GivesItem}
 use Rattle.bk_syntax.specs.declared.reader.Reader.{Reader}
 use Rattle.bk_machine.specs.Run.{IsRun, replies_of}
+use Rattle.bk_restarts.specs.Crashes.{CrashLaws}
 use Rattle.bk_console.specs.Answers.{Answered, AnsweredFront, AnsweredAll, Stopped, CutShort, CutAll}
-use Rattle.bk_console.specs.Crashes.{CrashLaws}
 use Rattle.bk_console.proofs.Answering.{front-more, front-none, none-front, front_same, Stopped-from, CutAll-from}
 
 -- a front of the statements was answered, and the reader has the others before it
-pub record AnsweredSoFar (stop : Bool) (old mid : Instance) (src : List ℕ) (r : Reader) (script : List ScriptEntry) (ct : Type 0) (before middle : ℕ → ℕ) (dt : Type 0) (disk disk1 : Disk) : Type 0 where
+pub record AnsweredSoFar (stop : Bool) (old mid : Kept) (src : List ℕ) (r : Reader) (script : List ScriptEntry) (ct : Type 0) (before middle : ℕ → ℕ) (dt : Type 0) (disk disk1 : Disk) : Type 0 where
   pub front : List ScriptEntry
   pub rest : List ScriptEntry
   pub whole : script ≡ front ++ rest
   pub left : HasItems src r rest
   pub answered : AnsweredFront stop old mid front ct before middle dt disk disk1
 
-pub so_far-none : (stop : Bool) (old : Instance) (src : List ℕ) (r : Reader) (script : List ScriptEntry) (ct : Type 0) (before : ℕ → ℕ) (dt : Type 0) (disk : Disk)
+pub so_far-none : (stop : Bool) (old : Kept) (src : List ℕ) (r : Reader) (script : List ScriptEntry) (ct : Type 0) (before : ℕ → ℕ) (dt : Type 0) (disk : Disk)
     → ((es : List ScriptEntry) → AreItems src es → HasItems src r es) → AreItems src script → AnsweredSoFar stop old old src r script ct before before dt disk disk
 so_far-none stop old src r script ct before dt disk has items = record {
   front = [];
@@ -30,7 +30,7 @@ so_far-none stop old src r script ct before dt disk has items = record {
   answered = front-none stop old ct before dt disk;
 }
 
-module _ (laws : CrashLaws) (stop : Bool) (old mid : Instance) (src : List ℕ) (r : Reader) (script : List ScriptEntry) (ct : Type 0) (before middle : ℕ → ℕ) (dt : Type 0) (disk disk1 : Disk)
+module _ (laws : CrashLaws) (stop : Bool) (old mid : Kept) (src : List ℕ) (r : Reader) (script : List ScriptEntry) (ct : Type 0) (before middle : ℕ → ℕ) (dt : Type 0) (disk disk1 : Disk)
     (so_far : AnsweredSoFar stop old mid src r script ct before middle dt disk disk1) where
   front-is : take (length so_far.front) script ≡ so_far.front
   front-is = ap (take (length so_far.front)) so_far.whole ∙ take-append_seam so_far.front so_far.rest
@@ -80,7 +80,7 @@ module _ (laws : CrashLaws) (stop : Bool) (old mid : Instance) (src : List ℕ) 
     so_far-cut after disk2 has_reply asks weaker cut =
         CutAll-from laws stop old mid script so_far.front s ct before middle after dt disk disk1 disk2 so_far.answered front-is more-is room has_reply asks weaker cut
 
-    module _ (new : Instance) (after : ℕ → ℕ) (disk2 : Disk) (refused : Bool) (one : Answered mid new s ct middle after dt disk1 disk2 refused) where
+    module _ (new : Kept) (after : ℕ → ℕ) (disk2 : Disk) (refused : Bool) (one : Answered mid new s ct middle after dt disk1 disk2 refused) where
       pub so_far-more : (stop ≡ true → refused ≡ false) → AnsweredSoFar stop old new src r2 script ct before after dt disk disk2
       unfolding others
       so_far-more accepted = record {

@@ -4,20 +4,15 @@ use Rattle.std.specs.Prelude.{IsErrOf}
 use Rattle.std.proofs.lemmas.List.{append-nil}
 use Rattle.std.proofs.Math.Seq.{take-length}
 use Rattle.bk_device.specs.Calls.{ChangesNothing, Elapses}
-use Rattle.bk_device.specs.Compose.{keeps_then, left_begins, left_effect, left_weaken}
+use Rattle.bk_device.specs.Compose.{left_begins, left_effect, left_weaken}
 use Rattle.bk_device.specs.Disk.{Files, Disk, MayLeave, IsSettled, IsLawful}
-use Rattle.bk_device.specs.Effects.{Effect, KeepsFiles, LeavesSince}
-use Rattle.bk_home.specs.Home.{IsMade}
-use Rattle.bk_instance.specs.declared.error.ExecuteError.{ExecuteError}
-use Rattle.bk_instance.specs.declared.error.ExecuteError.TheVariants as execute
-use Rattle.bk_loading.specs.declared.error.LoadError.{LoadError}
-use Rattle.bk_loading.specs.declared.error.LoadError.TheVariants as load
-use Rattle.bk_instance.specs.declared.instance.Instance.{Instance}
-use Rattle.bk_loading.specs.Loading.{LeavesOpened, IsMaking}
-use Rattle.bk_instance.specs.Media.{MediaAreDurable, IfDurable}
-use Rattle.bk_instance.specs.Stands.{Covers, CoversBehind, Stands, StandsNear, IsStored, ReservesNone, StandsFor, IsOurs}
-use Rattle.bk_loading.specs.Closing.{CutsEnd, Closed}
-use Rattle.bk_instance.specs.Touched.{IsTouched, TouchesOnly, TouchesOwn}
+use Rattle.bk_device.specs.Effects.{Effect, LeavesSince}
+use Rattle.bk_engine.specs.Loading.{Leaves, Stands}
+use Rattle.bk_engine.specs.Stands.{IsOurs, Kept, StandsFor}
+use Rattle.bk_engine.specs.Touched.{IsMadeAt, IsPath, IsTouched, NoMedium, TouchesOnly}
+use Rattle.bk_executing.specs.Closing.{CutsEnd}
+use Rattle.bk_executing.specs.declared.error.ExecuteError.{ExecuteError}
+use Rattle.bk_executing.specs.declared.error.ExecuteError.TheVariants as execute
 use Rattle.bk_items.specs.declared.item.ScriptEntry.{ScriptEntry}
 use Rattle.bk_machine.specs.Acts.{Act, done_all}
 use Rattle.bk_machine.specs.Closing.{AreClosing, closed_by}
@@ -25,6 +20,12 @@ use Rattle.bk_machine.specs.Outcome.{Outcome}
 use Rattle.bk_machine.specs.Sound.{AreIdle, IsSound}
 use Rattle.bk_machine.specs.Run.{IsRun, behind_all, replies_of}
 use Rattle.bk_machine.specs.World.{World, opened, ended}
+use Rattle.bk_master.specs.Master.{IsMade}
+use Rattle.bk_master.specs.declared.record.Own.{Own}
+use Rattle.bk_restarts.specs.Crashes.{CrashLaws}
+use Rattle.bk_stores.specs.Quiet.{AreQuiet}
+use Rattle.bk_stores.specs.declared.error.StoresError.{StoresError}
+use Rattle.bk_stores.specs.declared.error.StoresError.TheVariants as load
 use Rattle.bk_syntax.specs.Items.{AreItems}
 use Rattle.bk_world.specs.Text.{replies_text}
 use Rattle.bk_console.specs.declared.reading.ReadError.{ReadError}
@@ -37,15 +38,14 @@ use Rattle.bk_console.specs.declared.command_line.WordsError.{WordsError}
 use Rattle.bk_console.specs.declared.command_line.WordsError.TheVariants as words
 use Rattle.bk_console.specs.declared.status.Status.{Status}
 use Rattle.bk_console.specs.declared.status.Status.TheVariants as status
-use Rattle.bk_console.specs.Answers.{NotOurs, NoneRefused, EndsRefused, GoesOnAccepted, Asked, LeavesOf, CrashLeaves, Runs, AnsweredAll, Stopped, AnsweredBy, CutAll}
+use Rattle.bk_console.specs.Answers.{NoneRefused, EndsRefused, GoesOnAccepted, Asked, LeavesOf, CrashLeaves, Runs, AnsweredAll, Stopped, AnsweredBy, CutAll}
 use Rattle.bk_console.proofs.Answering.{none-front}
-use Rattle.bk_console.proofs.Asking.{left-elapses, keeps-effect, settled-again}
-use Rattle.bk_console.proofs.Leaving.{LeavesOf-none, LeavesOf-closing, closing-alone}
-use Rattle.bk_console.specs.Crashes.{CrashLaws}
-use Rattle.bk_console.specs.Run.{code_of, words_status, read_status, answer_status, load_status, close_status, script_bytes, MayBegin, asked_number, IsWhole, LeavesRun, Closes, Executed, Ran}
-use Rattle.bk_console.specs.Spares.{AreStill, IsFinished, LeavesAlone, NoName, OutcomesWrite, RunWrites, Spares}
+use Rattle.bk_console.proofs.Asking.{left-elapses}
+use Rattle.bk_console.proofs.Leaving.{LeavesOf-none, LeavesOf-closing, LeavesOf-ended, closing-alone}
+use Rattle.bk_console.specs.Run.{code_of, ended_status, words_status, read_status, answer_status, load_status, close_status, script_bytes, MayBegin, asked_number, IsWhole, LeavesRun, Closes, Executed, Ran}
+use Rattle.bk_console.specs.Spares.{AreStill, IsMaking, LeavesAlone, NoName, OutcomesWrite, ReservesNone, RunWrites, Spares}
 use Rattle.bk_console.specs.Words.{WordOptions}
-use Rattle.bk_console.proofs.Sparing.{spares-effect, spares-more, spares-none, spares-nothing, spares-own, spares-then, still-idle}
+use Rattle.bk_console.proofs.Sparing.{spares-effect, spares-more, spares-none, spares-nothing, spares-then, still-idle}
 
 -- Statuses.
 
@@ -55,10 +55,9 @@ not_ended n above (inr h) = omega (arith, h)
 
 -- What comes only from what is broken.
 
-pub load-broken : (e : LoadError) → load_status e ≡ status.Broken → (e ≡ load.Broken) ⊎ (e ≡ load.Unsettled)
+pub load-broken : (e : StoresError) → load_status e ≡ status.Broken → e ≡ load.Broken
 load-broken load.NotAnInstance h = absurd cc
-load-broken load.Broken h = inl refl
-load-broken load.Unsettled h = inr refl
+load-broken load.Broken h = refl
 load-broken load.Fault h = absurd cc
 load-broken load.NoMemory h = absurd cc
 
@@ -75,37 +74,51 @@ close-broken execute.Broken h = refl
 
 -- Worlds.
 
+-- What is known of crashes, and of worlds in which a run begins.
+pub record Laws : Type 0 where
+  pub crashes : CrashLaws
+  pub begins : (w : World) → IsSound w → IsSound (opened w)
+  pub begins_idle : (w : World) → AreIdle w → AreIdle (opened w)
+
 -- a world with which the run may begin is sound as it is opened
-begin-sound : CrashLaws → (asks : Option WordOptions) (files : Files) (w : World) → MayBegin asks files w → IsSound (opened w)
+begin-sound : Laws → (asks : Option WordOptions) (files : Files) (w : World) → MayBegin asks files w → IsSound (opened w)
 begin-sound laws None files w may = absurd may
-begin-sound laws (Some options) files w may = (laws.opens options.instance w files files (λ name. refl) may).sound
+begin-sound laws (Some options) files w may = laws.begins w may.sound
 
--- where nothing is pending, a crash leaves files that stand near the world with which a run begins
-settled-near : CrashLaws → (number : ℕ) (disk : Disk) (w : World) (image : Files) → IsSettled disk → MayLeave disk image → Stands number disk.files w → StandsNear number image (opened w)
-settled-near laws number disk w image settled left stands = laws.opens number w disk.files image (λ name. settled name (image name) (left name)) stands
+-- where nothing is pending, a crash leaves files that stand for the world with which a run begins
+settled-stands : Laws → (number : ℕ) (disk : Disk) (w : World) (image : Files) → IsSettled disk → MayLeave disk image → Stands number disk.files w → Stands number image w
+settled-stands laws number disk w image settled left stands = laws.crashes.same number w disk.files image (λ name ours. settled name (image name) (left name)) stands
 
-begin-near : CrashLaws → (asks : Option WordOptions) (disk : Disk) (w : World) (image : Files) → IsSettled disk → MayLeave disk image → MayBegin asks disk.files w → StandsNear (asked_number asks) image (opened w)
-begin-near laws None disk w image settled left may = absurd may
-begin-near laws (Some options) disk w image settled left may = settled-near laws options.instance disk w image settled left may
+begin-stands : Laws → (asks : Option WordOptions) (disk : Disk) (w : World) (image : Files) → IsSettled disk → MayLeave disk image → MayBegin asks disk.files w → Stands (asked_number asks) image w
+begin-stands laws None disk w image settled left may = absurd may
+begin-stands laws (Some options) disk w image settled left may = settled-stands laws options.instance disk w image settled left may
+
+-- the medium that is being made is named in the record that the files hold
+made-making : (number : ℕ) (files : Files) (w : World) (is : Stands number files w) (path : List ℕ) → IsMadeAt is.own.making path → IsMaking files path
+made-making number files w is path made = elim is.holds [
+  | inl new ↦ let none : None ≡ Some path = sym (ap (λ (o : Own). o.making) new.1) ∙ made in absurd cc
+  | inr held ↦ (held.record, held.holds.is_record.is, ap (λ (o : Own). o.making) held.is_own ∙ made)
+]
 
 -- what a crash of a run leaves one of it and its closing leaves
 run-left : (number : ℕ) (first : World) (outcomes : List Outcome) (acts : List Act) (told : List ℕ) (image : Files) (heard : List ℕ) → LeavesOf number first outcomes told image heard → LeavesRun number first outcomes acts told image heard
 run-left number first outcomes acts told image heard leaves = record { cut = outcomes; which = inl refl; leaves = leaves }
 
 -- a run that wasn't closed
-not-closing : CrashLaws → (asks : Option WordOptions) (w : World) (disk disk1 : Disk) (code : ℕ) → MayBegin asks disk.files w → (statements : List ScriptEntry) (moments : List ℕ) (outcomes : List Outcome)
+not-closing : Laws → (asks : Option WordOptions) (w : World) (disk disk1 : Disk) (code : ℕ) → MayBegin asks disk.files w → (statements : List ScriptEntry) (moments : List ℕ) (outcomes : List Outcome)
     → IsRun (opened w) statements moments outcomes → LeavesSince disk.moment (LeavesOf (asked_number asks) (opened w) outcomes disk.told) disk1 → 1 < code → Closes asks (opened w) outcomes disk disk1 code
 not-closing laws asks w disk disk1 code may statements moments outcomes run since above =
-    let to = laws.closes (opened w) statements moments outcomes (begin-sound laws asks disk.files w may) run in
+    let to = laws.crashes.closes (opened w) statements moments outcomes (begin-sound laws asks disk.files w may) run in
     record {
       acts = to.0;
       closing = to.1;
       stands = λ h. absurd (not_ended code above h);
+      lasts = λ h. absurd (not_ended code above h);
       crashes = left_weaken (run-left (asked_number asks) (opened w) outcomes to.0 disk.told) since;
     }
 
 -- no statement was begun
-pub nothing-executed : CrashLaws → (asks : Option WordOptions) (statements : List ScriptEntry) (ct : Type 0) (coming : ℕ → ℕ) (dt : Type 0) (disk : Disk) (code : ℕ)
+pub nothing-executed : Laws → (asks : Option WordOptions) (statements : List ScriptEntry) (ct : Type 0) (coming : ℕ → ℕ) (dt : Type 0) (disk : Disk) (code : ℕ)
     → (dt → IsLawful disk) → 1 < code → (code ≡ 4 → ⊥) → Executed asks statements ct coming coming dt disk disk code
 nothing-executed laws asks statements ct coming dt disk code lawful above not_cut = record {
   moments = [];
@@ -114,8 +127,7 @@ nothing-executed laws asks statements ct coming dt disk code lawful above not_cu
   asked_each = (omega arith, omega arith);
   runs = λ t settled w may. tt;
   closes = λ t settled w may. not-closing laws asks w disk disk code may [] [] [] tt
-      (left_begins disk (lawful t) (λ image left. LeavesOf-none laws (asked_number asks) w [] disk.told image disk.told (begin-near laws asks disk w image settled left may) refl)) above;
-  settled = λ t settled h. absurd (not_ended code above h);
+      (left_begins disk (lawful t) (λ image left. LeavesOf-none laws.crashes (asked_number asks) w [] disk.told image disk.told (begin-stands laws asks disk w image settled left may) refl)) above;
   made = λ t h. absurd (not_ended code above h);
   spares = λ t settled w may. spares-none disk;
   still = λ t settled w may h. absurd (not_ended code above h);
@@ -127,20 +139,19 @@ nothing-executed laws asks statements ct coming dt disk code lawful above not_cu
 }
 
 -- What was answered, wherever it ended.
-pub record Came (stop : Bool) (old new : Instance) (ss : List ScriptEntry) (clock_tells : Type 0) (before after : ℕ → ℕ) (device_tells : Type 0) (disk disk_after : Disk) : Type 0 where
+pub record Came (stop : Bool) (old new : Kept) (ss : List ScriptEntry) (clock_tells : Type 0) (before after : ℕ → ℕ) (device_tells : Type 0) (disk disk_after : Disk) : Type 0 where
   pub moments : List ℕ
   pub outcomes : List Outcome
   pub each : length moments ≡ length outcomes
   pub asked : Asked clock_tells before after moments
   pub runs : device_tells → Runs old disk (take (length outcomes) ss) moments outcomes new disk_after
-  pub media : device_tells → MediaAreDurable disk → MediaAreDurable disk_after
-  pub crashes : device_tells → Elapses disk disk_after (CrashLeaves old disk outcomes)
+  pub crashes : device_tells → (w : World) → StandsFor disk old w → Elapses disk disk_after (CrashLeaves w outcomes disk.told)
   pub text : device_tells → disk_after.told ≡ disk.told ++ replies_text (replies_of outcomes)
   pub accepted : stop ≡ true → GoesOnAccepted (length moments) (replies_of outcomes)
-  pub still : device_tells → (w : World) → StandsFor old disk w → AreStill outcomes → LeavesAlone old disk new disk_after
-  pub spares : device_tells → (w : World) → StandsFor old disk w → Spares (IsTouched (OutcomesWrite outcomes)) disk disk_after
+  pub still : device_tells → (w : World) → StandsFor disk old w → AreStill outcomes → LeavesAlone old disk new disk_after
+  pub spares : device_tells → (w : World) → StandsFor disk old w → Spares (IsTouched (OutcomesWrite outcomes)) disk disk_after
 
-abbrev pub came-all : (stop : Bool) (old new : Instance) (ss : List ScriptEntry) (ct : Type 0) (before after : ℕ → ℕ) (dt : Type 0) (disk disk1 : Disk)
+abbrev pub came-all : (stop : Bool) (old new : Kept) (ss : List ScriptEntry) (ct : Type 0) (before after : ℕ → ℕ) (dt : Type 0) (disk disk1 : Disk)
     → AnsweredAll stop old new ss ct before after dt disk disk1 → Came stop old new ss ct before after dt disk disk1
 came-all stop old new ss ct before after dt disk disk1 all = record {
   moments = all.moments;
@@ -148,7 +159,6 @@ came-all stop old new ss ct before after dt disk disk1 all = record {
   each = all.each_moment ∙ sym all.each_outcome;
   asked = all.asked;
   runs = λ t. subst (λ xs. Runs old disk xs all.moments all.outcomes new disk1) (sym (ap (λ n. take n ss) all.each_outcome ∙ take-length ss)) (all.runs t);
-  media = all.media;
   crashes = all.crashes;
   text = all.text;
   accepted = λ on. none-front _ (replies_of all.outcomes) (all.accepted on);
@@ -156,7 +166,7 @@ came-all stop old new ss ct before after dt disk disk1 all = record {
   spares = all.spares;
 }
 
-abbrev pub came-stopped : (stop : Bool) (old new : Instance) (ss : List ScriptEntry) (ct : Type 0) (before after : ℕ → ℕ) (dt : Type 0) (disk disk1 : Disk)
+abbrev pub came-stopped : (stop : Bool) (old new : Kept) (ss : List ScriptEntry) (ct : Type 0) (before after : ℕ → ℕ) (dt : Type 0) (disk disk1 : Disk)
     → Stopped stop old new ss ct before after dt disk disk1 → Came stop old new ss ct before after dt disk disk1
 came-stopped stop old new ss ct before after dt disk disk1 there = record {
   moments = there.moments;
@@ -164,7 +174,6 @@ came-stopped stop old new ss ct before after dt disk disk1 there = record {
   each = there.each_moment;
   asked = there.asked;
   runs = there.runs;
-  media = there.media;
   crashes = there.crashes;
   text = there.text;
   accepted = λ on. subst (λ n. GoesOnAccepted n (replies_of there.outcomes)) (sym there.each_moment) there.accepted;
@@ -172,42 +181,52 @@ came-stopped stop old new ss ct before after dt disk disk1 there = record {
   spares = there.spares;
 }
 
-abbrev pub came : (end : Ended) (stop : Bool) (old new : Instance) (ss : List ScriptEntry) (ct : Type 0) (before after : ℕ → ℕ) (dt : Type 0) (disk disk1 : Disk)
+abbrev pub came : (end : Ended) (stop : Bool) (old new : Kept) (ss : List ScriptEntry) (ct : Type 0) (before after : ℕ → ℕ) (dt : Type 0) (disk disk1 : Disk)
     → AnsweredBy end stop old new ss ct before after dt disk disk1 → Came stop old new ss ct before after dt disk disk1
 came AtTheEnd stop old new ss ct before after dt disk disk1 all = came-all stop old new ss ct before after dt disk disk1 all
 came AtARefusal stop old new ss ct before after dt disk disk1 there = came-stopped stop old new ss ct before after dt disk disk1 there
 
--- what closing leaves
-abbrev pub Closing : Instance → Disk → Files → Type 0
-Closing finish disk = IfDurable disk (CutsEnd finish disk)
+-- What loading an instance did, whether it was loaded or not.
+pub record Loads (device_tells : Type 0) (number : ℕ) (disk disk_after : Disk) : Type 0 where
+  pub lawful : device_tells → IsLawful disk
+  pub crash : device_tells → IsSettled disk → (w : World) → Stands number disk.files w → Effect IsOurs (λ image. Stands number image w) disk disk_after
+  pub touches : device_tells → TouchesOnly IsPath disk disk_after
+  pub spares : device_tells → IsSettled disk → (w : World) (is : Stands number disk.files w) → TouchesOnly (IsMadeAt is.own.making) disk disk_after
 
--- What loading an instance leaves alone.
-pub record LoadSpares (device_tells : Type 0) (number : ℕ) (disk disk_after : Disk) (start : Instance) : Type 0 where
-  pub still : device_tells → IsMade disk.files → ((path : List ℕ) → IsMaking disk.files path → ⊥) → (w : World) → Covers number disk.files w → AreIdle w → ChangesNothing disk disk_after
+-- What was loaded.
+pub record Begins (device_tells : Type 0) (number : ℕ) (disk disk_after : Disk) (start : Kept) : Type 0 where
+  pub stands : device_tells → IsSettled disk → (w : World) → Stands number disk.files w → StandsFor disk_after start (opened w)
+  pub still : device_tells → IsSettled disk → AreQuiet disk.files → ChangesNothing disk disk_after
   pub exact : ReservesNone start
 
--- What closing it leaves alone.
-pub record CloseSpares (device_tells : Type 0) (finish : Instance) (disk disk_after : Disk) : Type 0 where
-  pub still : device_tells → ReservesNone finish → (w : World) → StandsFor finish disk w → AreIdle w → ChangesNothing disk disk_after
-  pub spares : device_tells → TouchesOwn disk disk_after
+-- What closing an instance did, whether it was closed or not.
+pub record Ends (device_tells : Type 0) (finish : Kept) (disk disk_after : Disk) : Type 0 where
+  pub lawful : device_tells → IsLawful disk_after
+  pub crash : device_tells → (number : ℕ) (w : World) → StandsFor disk finish w → (acts : List Act) × AreClosing w acts × Effect IsOurs (CutsEnd number w acts) disk disk_after
+  pub still : device_tells → ReservesNone finish → (w : World) → StandsFor disk finish w → AreIdle w → ChangesNothing disk disk_after
+  pub touches : device_tells → TouchesOnly NoMedium disk disk_after
 
-module _ (laws : CrashLaws) (options : WordOptions) (statements : List ScriptEntry) (ct : Type 0) (coming coming_after : ℕ → ℕ) (dt : Type 0) (disk disk1 : Disk)
-    (lawful : dt → IsLawful disk) (loading : dt → Effect IsOurs (LeavesOpened options.instance disk) disk disk1) (loading_spares : dt → TouchesOnly (IsMaking disk.files) disk disk1) where
+-- What was closed.
+pub record Closed (device_tells : Type 0) (finish : Kept) (disk disk_after : Disk) : Type 0 where
+  pub closes : device_tells → (number : ℕ) (w : World) → StandsFor disk finish w → (acts : List Act) × AreClosing w acts × Leaves number disk_after (ended (done_all w acts))
+  pub made : device_tells → IsMade disk_after.files
+
+module _ (laws : Laws) (options : WordOptions) (statements : List ScriptEntry) (ct : Type 0) (coming coming_after : ℕ → ℕ) (dt : Type 0) (disk disk1 : Disk) (loads : Loads dt options.instance disk disk1) where
   since-load : dt → IsSettled disk → (w : World) → Stands options.instance disk.files w → (outcomes : List Outcome)
       → LeavesSince disk.moment (LeavesOf options.instance (opened w) outcomes disk.told) disk1
   since-load t settled w stands outcomes = left_effect
-      (left_begins disk (lawful t) (λ image left.
-      LeavesOf-none laws options.instance w outcomes disk.told image disk.told (settled-near laws options.instance disk w image settled left stands) refl))
+      (left_begins disk (loads.lawful t) (λ image left.
+      LeavesOf-none laws.crashes options.instance w outcomes disk.told image disk.told (settled-stands laws options.instance disk w image settled left stands) refl))
       (λ image here others.
-      LeavesOf-none laws options.instance w outcomes disk.told image disk.told (here settled w stands) refl)
-      (loading t)
+      LeavesOf-none laws.crashes options.instance w outcomes disk.told image disk.told here refl)
+      (loads.crash t settled w stands)
 
   -- loading may touch a medium that was being made
-  spares-load : dt → (os : List Outcome) → Spares (IsTouched (RunWrites disk.files os)) disk disk1
-  spares-load t os = spares-more (λ path making. inl making) (spares-effect (loading_spares t))
+  spares-load : dt → IsSettled disk → (w : World) → Stands options.instance disk.files w → (os : List Outcome) → Spares (IsTouched (RunWrites disk.files os)) disk disk1
+  spares-load t settled w stands os = spares-more (λ path made. inl (made-making options.instance disk.files w stands path made)) (spares-effect (loads.spares t settled w stands))
 
   -- the instance wasn't loaded
-  pub not-loaded : (e : LoadError) → Executed (Some options) statements ct coming coming dt disk disk1 (code_of (load_status e))
+  pub not-loaded : (e : StoresError) → Executed (Some options) statements ct coming coming dt disk disk1 (code_of (load_status e))
   not-loaded e = record {
     moments = [];
     outcomes = [];
@@ -215,38 +234,34 @@ module _ (laws : CrashLaws) (options : WordOptions) (statements : List ScriptEnt
     asked_each = (omega arith, omega arith);
     runs = λ t settled w may. tt;
     closes = λ t settled w may. not-closing laws (Some options) w disk disk1 (code_of (load_status e)) may [] [] [] tt (since-load t settled w may []) (above e);
-    settled = λ t settled h. absurd (not_ended _ (above e) h);
     made = λ t h. absurd (not_ended _ (above e) h);
-    spares = λ t settled w may. spares-load t [];
+    spares = λ t settled w may. spares-load t settled w may [];
     still = λ t settled w may h. absurd (not_ended _ (above e) h);
-    front = λ t. (0, (loading t).told ∙ sym (append-nil disk.told));
+    front = λ t. (0, (loads.touches t).told ∙ sym (append-nil disk.told));
     accepted = λ asked. refl;
     done = λ h. absurd (not_ended _ (above e) (inl h));
     stopped = λ h. absurd (not_ended _ (above e) (inr h));
     cut = λ h. absurd (not_cut e h);
   }
     where
-      above : (e : LoadError) → 1 < code_of (load_status e)
+      above : (e : StoresError) → 1 < code_of (load_status e)
       above load.NotAnInstance = omega arith
       above load.Broken = omega arith
-      above load.Unsettled = omega arith
       above load.Fault = omega arith
       above load.NoMemory = omega arith
 
-      not_cut : (e : LoadError) → code_of (load_status e) ≡ 4 → ⊥
+      not_cut : (e : StoresError) → code_of (load_status e) ≡ 4 → ⊥
       not_cut load.NotAnInstance h = omega (arith, h)
       not_cut load.Broken h = omega (arith, h)
-      not_cut load.Unsettled h = omega (arith, h)
       not_cut load.Fault h = omega (arith, h)
       not_cut load.NoMemory h = omega (arith, h)
 
-  module _ (disk2 : Disk) (start : Instance) (calm : dt → IsSettled disk → MediaAreDurable disk1)
-      (begins : dt → IsSettled disk → (w : World) → Stands options.instance disk.files w → StandsFor start disk1 (opened w)) where
-    since-answers : dt → IsSettled disk → (w : World) → Stands options.instance disk.files w → (outcomes : List Outcome) → Elapses disk1 disk2 (CrashLeaves start disk1 outcomes)
+  module _ (disk2 : Disk) (start : Kept) (begins : Begins dt options.instance disk disk1 start) where
+    since-answers : dt → IsSettled disk → (w : World) → Stands options.instance disk.files w → (outcomes : List Outcome) → Elapses disk1 disk2 (CrashLeaves (opened w) outcomes disk1.told)
         → LeavesSince disk.moment (LeavesOf options.instance (opened w) outcomes disk.told) disk2
     since-answers t settled w stands outcomes crashes = left-elapses disk.moment _ _ disk1 disk2 (since-load t settled w stands outcomes)
         (λ image heard leaves.
-        subst (λ told. LeavesOf options.instance (opened w) outcomes told image heard) (loading t).told (leaves (calm t settled) options.instance (opened w) (begins t settled w stands))) crashes
+        subst (λ told. LeavesOf options.instance (opened w) outcomes told image heard) (loads.touches t).told (leaves options.instance)) crashes
 
     -- an answer was cut short
     pub cut-short : (e : AnswerError) → CutAll options.stop start statements ct coming coming_after dt disk1 disk2 (IsErrOf {T = Ended} (Err e) answer.Console)
@@ -256,14 +271,15 @@ module _ (laws : CrashLaws) (options : WordOptions) (statements : List ScriptEnt
       outcomes = cut.outcomes;
       asked = cut.asked;
       asked_each = cut.asked_each;
-      runs = λ t settled w may. cut.runs t (opened w) (begins t settled w may);
-      closes = λ t settled w may. not-closing laws (Some options) w disk disk2 (code_of (answer_status e)) may _ _ cut.outcomes (cut.runs t (opened w) (begins t settled w may))
-          (since-answers t settled w may cut.outcomes (cut.crashes t)) (above e);
-      settled = λ t settled h. absurd (not_ended _ (above e) h);
+      runs = λ t settled w may. cut.runs t (opened w) (begins.stands t settled w may);
+      closes = λ t settled w may.
+          let begin = begins.stands t settled w may in
+          not-closing laws (Some options) w disk disk2 (code_of (answer_status e)) may _ _ cut.outcomes (cut.runs t (opened w) begin)
+          (since-answers t settled w may cut.outcomes (cut.crashes t (opened w) begin)) (above e);
       made = λ t h. absurd (not_ended _ (above e) h);
-      spares = λ t settled w may. spares-then (spares-load t cut.outcomes) (spares-more (λ path writes. inr writes) (cut.spares t (opened w) (begins t settled w may)));
+      spares = λ t settled w may. spares-then (spares-load t settled w may cut.outcomes) (spares-more (λ path writes. inr writes) (cut.spares t (opened w) (begins.stands t settled w may)));
       still = λ t settled w may h. absurd (not_ended _ (above e) h);
-      front = λ t. let some = cut.front t in (some.0, some.1 ∙ ap (λ told. told ++ take some.0 (replies_text (replies_of cut.outcomes))) (loading t).told);
+      front = λ t. let some = cut.front t in (some.0, some.1 ∙ ap (λ told. told ++ take some.0 (replies_text (replies_of cut.outcomes))) (loads.touches t).told);
       accepted = cut.accepted;
       done = λ h. absurd (not_ended _ (above e) (inl h));
       stopped = λ h. absurd (not_ended _ (above e) (inr h));
@@ -282,89 +298,84 @@ module _ (laws : CrashLaws) (options : WordOptions) (statements : List ScriptEnt
         is_console answer.NoMemory h = absurd (omega (arith, h))
         is_console answer.Broken h = absurd (omega (arith, h))
 
-    -- no other file is touched
-    others-then : (disk3 : Disk) (finish : Instance) → (dt → Effect IsOurs (Closing finish disk2) disk2 disk3) → (dt → KeepsFiles NotOurs disk1 disk2) → dt → KeepsFiles NotOurs disk disk3
-    others-then disk3 finish closing others t =
-        keeps_then (keeps_then (keeps-effect (LeavesOpened options.instance disk) disk disk1 (loading t)) (others t)) (keeps-effect (Closing finish disk2) disk2 disk3 (closing t))
+    module _ (disk3 : Disk) (finish : Kept) (there : Came options.stop start finish statements ct coming coming_after dt disk1 disk2) (ends : Ends dt finish disk2 disk3) where
+      told-answers : dt → disk2.told ≡ disk.told ++ replies_text (replies_of there.outcomes)
+      told-answers t = there.text t ∙ ap (λ told. told ++ replies_text (replies_of there.outcomes)) (loads.touches t).told
 
-    module _ (disk3 : Disk) (finish : Instance) (there : Came options.stop start finish statements ct coming coming_after dt disk1 disk2)
-        (effect : dt → Effect IsOurs (Closing finish disk2) disk2 disk3) (load_spares : LoadSpares dt options.instance disk disk1 start) (close_spares : CloseSpares dt finish disk2 disk3) where
       told-then : dt → disk3.told ≡ disk.told ++ replies_text (replies_of there.outcomes)
-      told-then t = (effect t).told ∙ there.text t ∙ ap (λ told. told ++ replies_text (replies_of there.outcomes)) (loading t).told
+      told-then t = (ends.touches t).told ∙ told-answers t
 
       moments-are : take (length there.outcomes) there.moments ≡ there.moments
       moments-are = ap (λ n. take n there.moments) (sym there.each) ∙ take-length there.moments
 
-      -- the acts that close a world
-      run-closes : dt → IsSettled disk → (w : World) → Stands options.instance disk.files w → (acts : List Act) × AreClosing (behind_all (opened w) there.outcomes) acts
-      run-closes t settled w stands =
-          let begin = begins t settled w stands in
-          laws.closes (opened w) (take (length there.outcomes) statements) there.moments there.outcomes begin.sound (there.runs t (opened w) begin).0
+      -- the run, and the world behind it
+      run-there : dt → IsSettled disk → (w : World) → Stands options.instance disk.files w
+          → IsRun (opened w) (take (length there.outcomes) statements) there.moments there.outcomes × StandsFor disk2 finish (behind_all (opened w) there.outcomes)
+      run-there t settled w stands = there.runs t (opened w) (begins.stands t settled w stands)
 
-      -- a crash while they are done
+      -- a crash while the acts are done that close it, or behind them
       cut-closing : dt → IsSettled disk → (w : World) → Stands options.instance disk.files w → (acts : List Act) → AreClosing (behind_all (opened w) there.outcomes) acts → (image : Files)
-          → Closing finish disk2 image → LeavesRun options.instance (opened w) there.outcomes acts disk.told image disk2.told
+          → CutsEnd options.instance (behind_all (opened w) there.outcomes) acts image → LeavesRun options.instance (opened w) there.outcomes acts disk.told image disk2.told
       cut-closing t settled w stands acts closes image here =
-          let begin = begins t settled w stands in
-          let to = there.runs t (opened w) begin in
-          let cut = here (there.media t (calm t settled)) options.instance (behind_all (opened w) there.outcomes) to.1 in
-          let same : acts ≡ cut.0 = closing-alone (behind_all (opened w) there.outcomes) acts cut.0 closes cut.1 in
-          let told : disk2.told ≡ disk.told ++ replies_text (replies_of there.outcomes) = there.text t ∙ ap (λ told. told ++ replies_text (replies_of there.outcomes)) (loading t).told in
+          let sound : IsSound (opened w) = laws.begins w stands.sound in
+          let run = (run-there t settled w stands).0 in
           record {
             cut = there.outcomes ++ closed_by acts ∷ [];
-            which = inr (refl, told);
-            leaves = LeavesOf-closing laws options.instance (opened w) begin.sound (take (length there.outcomes) statements) there.moments there.outcomes to.0 acts closes cut.2.done disk.told image disk2.told
-                (subst (λ xs. CoversBehind options.instance image (done_all (behind_all (opened w) there.outcomes) (take cut.2.done xs))) (sym same) cut.2.covers) told;
+            which = inr (refl, told-answers t);
+            leaves = elim here [
+              | inl cut ↦ LeavesOf-closing laws.crashes options.instance (opened w) sound (take (length there.outcomes) statements) there.moments there.outcomes run acts closes disk.told image disk2.told cut (told-answers t)
+              | inr end' ↦ LeavesOf-ended laws.crashes options.instance (opened w) sound (take (length there.outcomes) statements) there.moments there.outcomes run acts closes disk.told image disk2.told end' (told-answers t)
+            ];
           }
 
       since-close : dt → (settled : IsSettled disk) (w : World) (stands : Stands options.instance disk.files w) (acts : List Act) → AreClosing (behind_all (opened w) there.outcomes) acts
-          → LeavesSince disk.moment (LeavesRun options.instance (opened w) there.outcomes acts disk.told) disk3
-      since-close t settled w stands acts closes = left_effect
-          (left_weaken (run-left options.instance (opened w) there.outcomes acts disk.told) (since-answers t settled w stands there.outcomes (there.crashes t)))
+          → Effect IsOurs (CutsEnd options.instance (behind_all (opened w) there.outcomes) acts) disk2 disk3 → LeavesSince disk.moment (LeavesRun options.instance (opened w) there.outcomes acts disk.told) disk3
+      since-close t settled w stands acts closes effect = left_effect
+          (left_weaken (run-left options.instance (opened w) there.outcomes acts disk.told)
+          (since-answers t settled w stands there.outcomes (there.crashes t (opened w) (begins.stands t settled w stands))))
           (λ image here others. cut-closing t settled w stands acts closes image here)
-          (effect t)
+          effect
 
       -- statements that were begun were answered
       spares-close : dt → IsSettled disk → (w : World) → Stands options.instance disk.files w → Spares (IsTouched (RunWrites disk.files there.outcomes)) disk disk3
-      spares-close t settled w may = spares-then (spares-load t there.outcomes)
-          (spares-then (spares-more (λ path writes. inr writes) (there.spares t (opened w) (begins t settled w may))) (spares-own (close_spares.spares t)))
+      spares-close t settled w may = spares-then (spares-load t settled w may there.outcomes)
+          (spares-then (spares-more (λ path writes. inr writes) (there.spares t (opened w) (begins.stands t settled w may))) (spares-more (λ path no. absurd no) (spares-effect (ends.touches t))))
 
       -- none of them stored something
-      still-close : dt → IsSettled disk → (w : World) → Stands options.instance disk.files w → IsFinished disk.files → AreStill there.outcomes → Spares NoName disk disk3
-      still-close t settled w may finished all =
-          let begin = begins t settled w may in
-          let rests = there.still t (opened w) begin all in
-          let idle : AreIdle (opened w) = laws.idle options.instance (opened w) disk.files (laws.opens options.instance w disk.files disk.files (λ name. refl) may) in
-          spares-then (spares-nothing (load_spares.still t finished.made finished.none may.before may.covers (finished.idle options.instance may.before may.covers)))
-          (spares-then rests.files (spares-nothing (close_spares.still t (rests.reserves load_spares.exact) (behind_all (opened w) there.outcomes) (there.runs t (opened w) begin).1 (still-idle (opened w) there.outcomes all idle))))
+      still-close : dt → IsSettled disk → (w : World) → Stands options.instance disk.files w → AreQuiet disk.files → AreStill there.outcomes → Spares NoName disk disk3
+      still-close t settled w may quiet all =
+          let rests = there.still t (opened w) (begins.stands t settled w may) all in
+          let idle : AreIdle (opened w) = laws.begins_idle w (laws.crashes.idle options.instance w disk.files may) in
+          spares-then (spares-nothing (begins.still t settled quiet))
+          (spares-then rests.files (spares-nothing (ends.still t (rests.reserves begins.exact) (behind_all (opened w) there.outcomes) (run-there t settled w may).1 (still-idle (opened w) there.outcomes all idle))))
 
       -- the instance was closed, or it failed
       pub ended-by : (code : ℕ) → (code ≡ 4 → ⊥)
-          → (dt → (code ≡ 0) ⊎ (code ≡ 1) → (w : World) (acts : List Act) → StandsFor finish disk2 w → AreClosing w acts → Stands options.instance disk3.files (ended (done_all w acts)))
-          → (dt → IsSettled disk → (code ≡ 0) ⊎ (code ≡ 1) → IsSettled disk3)
+          → (dt → (code ≡ 0) ⊎ (code ≡ 1) → (w : World) (acts : List Act) → StandsFor disk2 finish w → AreClosing w acts → (image : Files) → MayLeave disk3 image → Stands options.instance image (ended (done_all w acts)))
           → (dt → (code ≡ 0) ⊎ (code ≡ 1) → IsMade disk3.files)
           → (code ≡ 0 → (length there.outcomes ≡ length statements) × (options.stop ≡ true → NoneRefused (replies_of there.outcomes)))
           → (code ≡ 1 → (options.stop ≡ true) × EndsRefused (replies_of there.outcomes))
           → Executed (Some options) statements ct coming coming_after dt disk disk3 code
-      ended-by code not_cut stood still made all refused = record {
+      ended-by code not_cut stood made all refused = record {
         moments = there.moments;
         outcomes = there.outcomes;
         asked = there.asked;
         asked_each = (omega (arith, there.each), omega (arith, there.each));
         runs = λ t settled w may.
-            subst (λ ms. IsRun (opened w) (take (length there.outcomes) statements) ms there.outcomes) (sym moments-are) (there.runs t (opened w) (begins t settled w may)).0;
+            subst (λ ms. IsRun (opened w) (take (length there.outcomes) statements) ms there.outcomes) (sym moments-are) (run-there t settled w may).0;
         closes = λ t settled w may.
-            let acts = run-closes t settled w may in
+            let last = (run-there t settled w may).1 in
+            let cuts = ends.crash t options.instance (behind_all (opened w) there.outcomes) last in
             record {
-              acts = acts.0;
-              closing = acts.1;
-              stands = λ h. stood t h (behind_all (opened w) there.outcomes) acts.0 (there.runs t (opened w) (begins t settled w may)).1 acts.1;
-              crashes = since-close t settled w may acts.0 acts.1;
+              acts = cuts.0;
+              closing = cuts.1;
+              stands = λ h. stood t h (behind_all (opened w) there.outcomes) cuts.0 last cuts.1 disk3.files (ends.lawful t).reads;
+              lasts = λ h. stood t h (behind_all (opened w) there.outcomes) cuts.0 last cuts.1;
+              crashes = since-close t settled w may cuts.0 cuts.1 cuts.2;
             };
-        settled = still;
         made = made;
         spares = spares-close;
-        still = λ t settled w may h finished all. still-close t settled w may finished all;
+        still = λ t settled w may h quiet all. still-close t settled w may quiet all;
         front = λ t. let texts = replies_text (replies_of there.outcomes) in (length texts, told-then t ∙ ap (λ all. disk.told ++ all) (sym (take-length texts)));
         accepted = there.accepted;
         done = λ h. ((all h).0, there.each, told-then, (all h).1);
@@ -374,7 +385,7 @@ module _ (laws : CrashLaws) (options : WordOptions) (statements : List ScriptEnt
 
       -- closing failed
       pub not-closed : (e : ExecuteError) → Executed (Some options) statements ct coming coming_after dt disk disk3 (code_of (close_status e))
-      not-closed e = ended-by (code_of (close_status e)) (not_cut e) (λ t h. absurd (not_ended _ (above e) h)) (λ t settled h. absurd (not_ended _ (above e) h))
+      not-closed e = ended-by (code_of (close_status e)) (not_cut e) (λ t h. absurd (not_ended _ (above e) h))
           (λ t h. absurd (not_ended _ (above e) h)) (λ h. absurd (not_ended _ (above e) (inl h))) (λ h. absurd (not_ended _ (above e) (inr h)))
         where
           above : (e : ExecuteError) → 1 < code_of (close_status e)
@@ -388,34 +399,27 @@ module _ (laws : CrashLaws) (options : WordOptions) (statements : List ScriptEnt
           not_cut execute.Broken h = omega (arith, h)
 
     -- the acts by which it was closed are those that close its world
-    closed-stands : {finish : Instance} {disk3 : Disk} → dt → Closed dt finish disk2 disk3 → (w : World) (acts : List Act) → StandsFor finish disk2 w → AreClosing w acts
-        → Stands options.instance disk3.files (ended (done_all w acts))
-    closed-stands {finish} {disk3} t one w acts stands closes =
-        subst (λ xs. Stands options.instance disk3.files (ended (done_all w xs))) (closing-alone w one.acts acts (one.closes t w stands) closes) (one.stands t options.instance w stands)
+    closed-stands : {finish : Kept} {disk3 : Disk} → dt → Closed dt finish disk2 disk3 → (w : World) (acts : List Act) → StandsFor disk2 finish w → AreClosing w acts
+        → (image : Files) → MayLeave disk3 image → Stands options.instance image (ended (done_all w acts))
+    closed-stands {finish} {disk3} t closed w acts stands closes image left =
+        let one = closed.closes t options.instance w stands in
+        subst (λ xs. Stands options.instance image (ended (done_all w xs))) (closing-alone w one.0 acts one.1 closes) (one.2 image (λ name ours. left name))
 
-    -- every statement was answered, and the instance closed
-    pub all-ended : (disk3 : Disk) (finish closed : Instance) → AnsweredAll options.stop start finish statements ct coming coming_after dt disk1 disk2
-        → (dt → Effect IsOurs (Closing finish disk2) disk2 disk3) → LoadSpares dt options.instance disk disk1 start → CloseSpares dt finish disk2 disk3 → (dt → KeepsFiles NotOurs disk1 disk2) → (dt → IsStored disk3 closed)
-        → (dt → MediaAreDurable disk2 → MediaAreDurable disk3) → Closed dt finish disk2 disk3 → Executed (Some options) statements ct coming coming_after dt disk disk3 0
-    all-ended disk3 finish closed all closing load_spares close_spares others stored media closed_by_acts =
-        ended-by disk3 finish (came-all options.stop start finish statements ct coming coming_after dt disk1 disk2 all) closing load_spares close_spares 0 (λ h. omega (arith, h))
-        (λ t h w acts stands closes. closed-stands t closed_by_acts w acts stands closes)
-        (λ t settled h. settled-again closed disk disk3 settled (others-then disk3 finish closing others t) (stored t) (media t (all.media t (calm t settled))))
-        (λ t h. (stored t).made) (λ h. (all.each_outcome, all.accepted)) (λ h. absurd (omega (arith, h)))
-
-    -- a statement was refused where the run was to stop, and the instance closed
-    pub stopped-there : (disk3 : Disk) (finish closed : Instance) → Stopped options.stop start finish statements ct coming coming_after dt disk1 disk2
-        → (dt → Effect IsOurs (Closing finish disk2) disk2 disk3) → LoadSpares dt options.instance disk disk1 start → CloseSpares dt finish disk2 disk3 → (dt → KeepsFiles NotOurs disk1 disk2) → (dt → IsStored disk3 closed)
-        → (dt → MediaAreDurable disk2 → MediaAreDurable disk3) → Closed dt finish disk2 disk3 → Executed (Some options) statements ct coming coming_after dt disk disk3 1
-    stopped-there disk3 finish closed there closing load_spares close_spares others stored media closed_by_acts =
-        ended-by disk3 finish (came-stopped options.stop start finish statements ct coming coming_after dt disk1 disk2 there) closing load_spares close_spares 1 (λ h. omega (arith, h))
-        (λ t h w acts stands closes. closed-stands t closed_by_acts w acts stands closes)
-        (λ t settled h. settled-again closed disk disk3 settled (others-then disk3 finish closing others t) (stored t) (media t (there.media t (calm t settled))))
-        (λ t h. (stored t).made) (λ h. absurd (omega (arith, h))) (λ h. (there.stops, there.refused))
+    -- the statements were answered, and the instance closed
+    pub closed-there : (disk3 : Disk) (finish : Kept) (end' : Ended) → AnsweredBy end' options.stop start finish statements ct coming coming_after dt disk1 disk2 → Ends dt finish disk2 disk3 → Closed dt finish disk2 disk3
+        → Executed (Some options) statements ct coming coming_after dt disk disk3 (code_of (ended_status end'))
+    closed-there disk3 finish AtTheEnd all ends closed =
+        ended-by disk3 finish (came-all options.stop start finish statements ct coming coming_after dt disk1 disk2 all) ends 0 (λ h. omega (arith, h))
+        (λ t h w acts stands closes. closed-stands t closed w acts stands closes)
+        (λ t h. closed.made t) (λ h. (all.each_outcome, all.accepted)) (λ h. absurd (omega (arith, h)))
+    closed-there disk3 finish AtARefusal there ends closed =
+        ended-by disk3 finish (came-stopped options.stop start finish statements ct coming coming_after dt disk1 disk2 there) ends 1 (λ h. omega (arith, h))
+        (λ t h w acts stands closes. closed-stands t closed w acts stands closes)
+        (λ t h. closed.made t) (λ h. absurd (omega (arith, h))) (λ h. (there.stops, there.refused))
 
 -- Runs.
 
-module _ (laws : CrashLaws) (asks : Option WordOptions) (st : Type 0) (rest rest_after : List ℕ) (ct : Type 0) (coming : ℕ → ℕ) (dt : Type 0) (disk : Disk)
+module _ (laws : Laws) (asks : Option WordOptions) (st : Type 0) (rest rest_after : List ℕ) (ct : Type 0) (coming : ℕ → ℕ) (dt : Type 0) (disk : Disk)
     (lawful : dt → IsLawful disk) where
   -- no statement was begun
   nothing-ran : (code : ℕ) (bytes : List ℕ) → (st → rest ≡ bytes ++ rest_after) → length bytes ≤ script_bytes + 1 → (code ≡ 8 → script_bytes < length bytes)

@@ -1,26 +1,26 @@
 -- Which files are left alone by several calls.
-use Rattle.std.proofs.Common.{◌≡◌, inl, inr, ℕ, List, [], ◌∷◌, ◌++◌}
+use Rattle.std.proofs.Common.{◌≡◌, inl, inr, ℕ, List, [], ◌∷◌, ◌++◌, ap, sym, ◌∙◌}
 use Rattle.std.specs.List.{AllByRecursion}
 use Rattle.bk_device.specs.Calls.{ChangesNothing, Elapses, TellsBytes, TellsFront}
 use Rattle.bk_device.specs.Compose.{keeps_by_effect, keeps_by_nothing, keeps_by_telling, keeps_then}
 use Rattle.bk_device.specs.Disk.{Files, Disk, MayLeave}
 use Rattle.bk_device.specs.Effects.{Effect, MayLeaveOthers}
 use Rattle.bk_device.specs.Laws.{nothing_yet}
-use Rattle.bk_home.specs.Home.{IsOwn}
-use Rattle.bk_instance.specs.declared.instance.Instance.{Instance}
-use Rattle.bk_instance.specs.Stands.{StandsFor}
-use Rattle.bk_executing.specs.Executing.{Failed, MayCome}
-use Rattle.bk_instance.specs.Touched.{IsTouched}
+use Rattle.bk_engine.specs.Stands.{Kept, StandsFor}
+use Rattle.bk_engine.specs.Touched.{IsTouched, TouchesOnly}
+use Rattle.bk_executing.specs.Executing.{Failed, Rests}
 use Rattle.bk_items.specs.declared.item.ScriptEntry.{ScriptEntry}
 use Rattle.bk_machine.specs.Acts.{Act, done, done_all, turned, seated, created, dropped, logged, medium_made, set_sealed, based, replaced, restored, recovered}
+use Rattle.bk_machine.specs.Machine.{May}
 use Rattle.bk_machine.specs.Outcome.{Outcome}
 use Rattle.bk_machine.specs.Run.{behind_all}
 use Rattle.bk_machine.specs.Sound.{AreIdle}
 use Rattle.bk_machine.specs.World.{World}
 use Rattle.bk_machine.specs.Writes.{ActsWrite, IsStill, IsTurn}
+use Rattle.bk_master.specs.declared.record.Own.{Own}
 use Rattle.bk_world.specs.Text.{reply_text}
-use Rattle.bk_console.specs.Answers.{Asked, CutShort, CutWithin}
-use Rattle.bk_console.specs.Spares.{AreStill, OutcomesWrite, Spares}
+use Rattle.bk_console.specs.Answers.{Asked, CutShort, CutWithin, HoldsNow, IsNotDone}
+use Rattle.bk_console.specs.Spares.{AreStill, OutcomesWrite, ReservesNone, Spares}
 use Rattle.bk_console.proofs.Asking.{elapses-none, elapses-then, elapses-weaken, silent-cut, silent-front}
 
 pub spares-none : {touched : List ℕ → Type 0} (a : Disk) → Spares touched a a
@@ -63,18 +63,14 @@ spares-telling {touched} {bytes} {a} {b} call = record {
   crashes = elapses-weaken (λ image heard. MayLeave b image × TellsFront bytes a.told heard) (λ image heard. MayLeaveOthers touched a image) a b (λ image heard here name off. call.nothing_more name (image name) (here.0 name)) call.time;
 }
 
--- Own files, and media that are written to.
-
-pub spares-own : {written : List ℕ → Type 0} {P : Files → Type 0} {a b : Disk} → Effect IsOwn P a b → Spares (IsTouched written) a b
-spares-own effect = spares-wider (λ name own. inl own) (spares-effect effect)
-
--- more are
+-- more media may be
 pub spares-more : {written wider : List ℕ → Type 0} {a b : Disk} → ((path : List ℕ) → written path → wider path) → Spares (IsTouched written) a b → Spares (IsTouched wider) a b
 spares-more {written} {wider} within one = spares-wider within-touched one
   where
     within-touched : (name : List ℕ) → IsTouched written name → IsTouched wider name
-    within-touched name (inl own) = inl own
-    within-touched name (inr medium) = inr (medium.0, within medium.0 medium.1, medium.2)
+    within-touched name (inl store) = inl store
+    within-touched name (inr (inl set)) = inr (inl set)
+    within-touched name (inr (inr medium)) = inr (inr (medium.0, within medium.0 medium.1, medium.2))
 
 -- One statement more.
 
@@ -114,27 +110,34 @@ still-idle w (o ∷ os) all idle = still-idle (done_all w o.acts) os all.1 (turn
 -- An answer that is cut short.
 
 -- an answer that comes to something, and was told in part
-pub cut-in_reply : (old : Instance) (s : ScriptEntry) (ct : Type 0) (before after : ℕ → ℕ) (dt : Type 0) (disk disk_after : Disk) (has_reply : Type 0) (now : ℕ)
-    → Asked ct before after (now ∷ []) → (outcome : Outcome) → (dt → MayCome old disk s now outcome) → (dt → Elapses disk disk_after (CutWithin old disk outcome))
-    → (dt → TellsFront (reply_text outcome.reply) disk.told disk_after.told) → (dt → (w : World) → StandsFor old disk w → Spares (IsTouched (ActsWrite outcome.acts)) disk disk_after) → CutShort old s ct before after dt disk disk_after has_reply
+pub cut-in_reply : (old : Kept) (s : ScriptEntry) (ct : Type 0) (before after : ℕ → ℕ) (dt : Type 0) (disk disk_after : Disk) (has_reply : Type 0) (now : ℕ)
+    → Asked ct before after (now ∷ []) → (outcome : Outcome) → (dt → (w : World) → StandsFor disk old w → May w s now outcome) → (dt → (w : World) → StandsFor disk old w → Elapses disk disk_after (CutWithin w outcome disk.told))
+    → (dt → TellsFront (reply_text outcome.reply) disk.told disk_after.told) → (dt → (w : World) → StandsFor disk old w → Spares (IsTouched (ActsWrite outcome.acts)) disk disk_after) → CutShort old s ct before after dt disk disk_after has_reply
 cut-in_reply old s ct before after dt disk disk_after has_reply now asked outcome may crashes front spares =
     record { now = now; asked = asked; front = inl (record { outcome = outcome; may = may; crashes = crashes; front = front; spares = spares }) }
 
 -- one that wasn't executed
-pub cut-before_reply : (old : Instance) (s : ScriptEntry) (ct : Type 0) (before after : ℕ → ℕ) (dt : Type 0) (disk disk_after : Disk) (has_reply : Type 0) (now : ℕ)
-    → Asked ct before after (now ∷ []) → (has_reply → ⊥) → Failed dt old disk s now disk_after → CutShort old s ct before after dt disk disk_after has_reply
-cut-before_reply old s ct before after dt disk disk_after has_reply now asked none (inl nowhere) = record {
-  now = now;
-  asked = asked;
-  front = inr (
-    none,
-    record {
-      crashes = λ t. elapses-weaken _ _ disk disk_after (λ image heard here. (here.0, here.2)) (nowhere t).crash.time;
-      silent = λ t. (nowhere t).crash.told;
-      spares = λ t. spares-nothing (nowhere t).device;
-    },
-  );
-}
-cut-before_reply old s ct before after dt disk disk_after has_reply now asked none (inr off) =
-    cut-in_reply old s ct before after dt disk disk_after has_reply now asked off.outcome off.may (λ t. silent-cut old off.outcome disk disk_after (off.crash t))
-    (λ t. silent-front (reply_text off.outcome.reply) disk disk_after (off.crash t).told) (λ t w stands. spares-effect (off.spares t w stands))
+pub cut-before_reply : (old : Kept) (s : ScriptEntry) (ct : Type 0) (before after : ℕ → ℕ) (dt : Type 0) (disk disk_after : Disk) (has_reply : Type 0) (now : ℕ)
+    → Asked ct before after (now ∷ []) → (has_reply → ⊥) → IsNotDone dt old disk s now disk_after → (dt → disk_after.told ≡ disk.told) → CutShort old s ct before after dt disk disk_after has_reply
+cut-before_reply old s ct before after dt disk disk_after has_reply now asked none not_done silent = by not_done.failed
+  where
+    by : Failed dt old disk s now disk_after → CutShort old s ct before after dt disk disk_after has_reply
+    by (inl nothing) = record {
+      now = now;
+      asked = asked;
+      front = inr (
+        none,
+        record {
+          crashes = λ t w stands. elapses-weaken _ _ disk disk_after (λ image heard here. (not_done.held t w stands image (λ name. (nothing t).nothing_more name (image name) (here.0 name)), here.1)) (nothing t).time;
+          silent = silent;
+          spares = λ t. spares-nothing (nothing t);
+        },
+      );
+    }
+    by (inr off) =
+        cut-in_reply old s ct before after dt disk disk_after has_reply now asked off.outcome off.may (λ t w stands. silent-cut w off.outcome disk disk_after (off.crash t w stands))
+        (λ t. silent-front (reply_text off.outcome.reply) disk disk_after (silent t)) (λ t w stands. spares-effect (off.spares t w stands))
+
+-- where the device was left as it was, no GUID was reserved
+pub reserves-none : {old new : Kept} {disk disk_after : Disk} → Rests old disk new disk_after → ReservesNone old → ReservesNone new
+reserves-none rests exact = ap (λ (o : Own). o.counter) rests.own ∙ exact ∙ sym rests.drawn

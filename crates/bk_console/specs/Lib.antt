@@ -1,5 +1,4 @@
 pub mod Answers
-pub mod Crashes
 pub mod Causes
 pub mod Given
 pub mod Life

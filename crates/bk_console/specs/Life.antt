@@ -1,16 +1,16 @@
 -- The life of a device: calls with any words, crashes and events between calls, in any order, and what its files stand for meanwhile.
 use Rattle.std.specs.Prelude.{◌≡◌, ◌⊎◌, ℕ, zero, suc, true, List, Option, None, Some}
 use Rattle.bk_bytes.specs.Field.{AreBytes}
-use Rattle.bk_device.specs.Disk.{Files, Disk, IsSettled}
-use Rattle.bk_home.specs.Home.{IsNotMade, IsNoInstance}
-use Rattle.bk_loading.specs.Events.{HappenOn}
-use Rattle.bk_instance.specs.Stands.{Stands}
+use Rattle.bk_device.specs.Disk.{Files, Disk, IsSettled, MayLeave}
+use Rattle.bk_engine.specs.Loading.{Stands}
+use Rattle.bk_master.specs.Master.{IsNoInstance, IsNotMade}
+use Rattle.bk_restarts.specs.Events.{HappenOn}
 use Rattle.bk_machine.specs.Acts.{Act, done_all}
 use Rattle.bk_machine.specs.Closing.{AreClosing}
 use Rattle.bk_machine.specs.Reached.{IsReached}
 use Rattle.bk_machine.specs.Run.{behind_all}
 use Rattle.bk_machine.specs.World.{World, empty_world, opened, ended}
-use Rattle.bk_media.specs.Names.{medium_file}
+use Rattle.bk_volume.specs.Names.{medium_file}
 use Rattle.bk_console.specs.Run.{LeavesRun, Ran}
 use Rattle.bk_console.specs.Words.{WordOptions}
 
@@ -53,10 +53,12 @@ pub record Called {D : Type 0} (source_tells clock_tells device_tells : Type 0) 
 -- These files, which live for this world, live on: each thing that may come next leads to files and a world of which P holds.
 pub record LivesOn {D : Type 0} (source_tells clock_tells device_tells : Type 0) (disk : D → Disk) (P : Files → World → Type 0) (files : Files) (w : World) : Type 0 where
   pub live : Live files w
-  -- A call that came to its end, with status 0 or 1: the files behind it, for its last world, closed.
+  -- A call that came to its end, with status 0 or 1: the files behind it, and whatever a crash may leave of them then, for its last world, closed.
   pub ends : (options : WordOptions) (before after : D) (status : ℕ) (call : Called source_tells clock_tells device_tells disk (Some options) files before after status)
       → MayAsk options.instance files w → (status ≡ 0) ⊎ (status ≡ 1)
-      → (acts : List Act) × AreClosing (behind_all (opened w) call.ran.executed.outcomes) acts × P (disk after).files (ended (done_all (behind_all (opened w) call.ran.executed.outcomes) acts))
+      → (acts : List Act) × AreClosing (behind_all (opened w) call.ran.executed.outcomes) acts
+      × P (disk after).files (ended (done_all (behind_all (opened w) call.ran.executed.outcomes) acts))
+      × ((image : Files) → MayLeave (disk after) image → P image (ended (done_all (behind_all (opened w) call.ran.executed.outcomes) acts)))
   -- A call that was cut off at any moment, or that ended with any status before the device was switched off: files that were left, for a world that a crash
   -- of the machine leaves.
   pub cuts : (options : WordOptions) (before after : D) (status : ℕ) (call : Called source_tells clock_tells device_tells disk (Some options) files before after status)

@@ -1,15 +1,18 @@
 -- The run: what a call of the console read, told and did, and how it ended.
-use Rattle.std.specs.Prelude.{◌≡◌, ◌⊎◌, ◌<◌, ◌≤◌, ℕ, ◌+◌, true, List, [], ◌∷◌, ◌++◌, length, take, Option, None, Some, Result, Ok, Err}
-use Rattle.bk_device.specs.Calls.{TellsFront}
-use Rattle.bk_device.specs.Disk.{Files, Disk, IsSettled}
-use Rattle.bk_device.specs.Effects.{LeavesSince}
-use Rattle.bk_instance.specs.declared.error.ExecuteError.{ExecuteError}
-use Rattle.bk_instance.specs.declared.error.ExecuteError.TheVariants as execute
-use Rattle.bk_loading.specs.declared.error.LoadError.{LoadError}
-use Rattle.bk_loading.specs.declared.error.LoadError.TheVariants as load
-use Rattle.bk_instance.specs.Stands.{Stands}
-use Rattle.bk_instance.specs.Touched.{IsTouched}
-use Rattle.bk_home.specs.Home.{IsMade}
+use Rattle.std.specs.Prelude.{◌≡◌, ◌≢◌, ◌⊎◌, ◌<◌, ◌≤◌, ℕ, ◌+◌, true, List, [], ◌∷◌, ◌++◌, length, take, Option, None, Some, Result, Ok, Err, IfErr}
+use Rattle.bk_device.specs.Calls.{ChangesNothing, TellsFront}
+use Rattle.bk_device.specs.Disk.{Files, Disk, IsSettled, MayLeave}
+use Rattle.bk_device.specs.Effects.{KeepsFiles, LeavesSince}
+use Rattle.bk_engine.specs.Loading.{Stands}
+use Rattle.bk_engine.specs.Touched.{IsTouched}
+use Rattle.bk_executing.specs.declared.error.ExecuteError.{ExecuteError}
+use Rattle.bk_executing.specs.declared.error.ExecuteError.TheVariants as execute
+use Rattle.bk_master.specs.Master.{IsMade, IsNoInstance}
+use Rattle.bk_settling.specs.declared.error.SettleError.{SettleError}
+use Rattle.bk_settling.specs.declared.error.SettleError.TheVariants as settle
+use Rattle.bk_stores.specs.Quiet.{AreQuiet}
+use Rattle.bk_stores.specs.declared.error.StoresError.{StoresError}
+use Rattle.bk_stores.specs.declared.error.StoresError.TheVariants as load
 use Rattle.bk_items.specs.declared.item.ScriptEntry.{ScriptEntry}
 use Rattle.bk_machine.specs.Acts.{Act, done_all}
 use Rattle.bk_machine.specs.Closing.{AreClosing, closed_by}
@@ -24,10 +27,12 @@ use Rattle.bk_console.specs.declared.reading.ReadError.{ReadError}
 use Rattle.bk_console.specs.declared.reading.ReadError.TheVariants as read
 use Rattle.bk_console.specs.declared.answers.AnswerError.{AnswerError}
 use Rattle.bk_console.specs.declared.answers.AnswerError.TheVariants as answer
+use Rattle.bk_console.specs.declared.answers.Ended.{Ended}
+use Rattle.bk_console.specs.declared.answers.Ended.TheVariants.{AtTheEnd, AtARefusal}
 use Rattle.bk_console.specs.declared.command_line.WordsError.{WordsError}
 use Rattle.bk_console.specs.declared.command_line.WordsError.TheVariants as words
-use Rattle.bk_console.specs.Answers.{Asked, NoneRefused, EndsRefused, GoesOnAccepted, LeavesOf}
-use Rattle.bk_console.specs.Spares.{AreStill, IsFinished, NoName, RunWrites, Spares}
+use Rattle.bk_console.specs.Answers.{NotOurs, Asked, NoneRefused, EndsRefused, GoesOnAccepted, LeavesOf}
+use Rattle.bk_console.specs.Spares.{AreStill, NoName, RunWrites, Spares}
 use Rattle.bk_console.specs.Words.{WordOptions}
 
 -- the exit status
@@ -59,10 +64,9 @@ answer_status answer.Device = DeviceFault
 answer_status answer.NoMemory = NoMemory
 answer_status answer.Broken = Broken
 
-abbrev pub load_status : LoadError → Status
+abbrev pub load_status : StoresError → Status
 load_status load.NotAnInstance = NotAnInstance
 load_status load.Broken = Broken
-load_status load.Unsettled = Broken
 load_status load.Fault = DeviceFault
 load_status load.NoMemory = NoMemory
 
@@ -71,9 +75,18 @@ close_status execute.Fault = DeviceFault
 close_status execute.NoMemory = NoMemory
 close_status execute.Broken = Broken
 
+abbrev pub settle_status : SettleError → Status
+settle_status settle.Fault = DeviceFault
+settle_status settle.NoMemory = NoMemory
+
+-- how a run ended whose statements were answered
+abbrev pub ended_status : Ended → Status
+ended_status AtTheEnd = Done
+ended_status AtARefusal = StoppedAtRefusal
+
 -- how a run ended
-abbrev pub status_of : Result (Unit {0}) Status → Status
-status_of (Ok done) = Done
+abbrev pub status_of : Result Ended Status → Status
+status_of (Ok ended) = ended_status ended
 status_of (Err status) = status
 
 -- the greatest length of a script
@@ -114,6 +127,8 @@ pub record Closes (asks : Option WordOptions) (first : World) (outcomes : List O
   pub closing : AreClosing (behind_all first outcomes) acts
   -- at the end the files stand for the world behind that
   pub stands : (status ≡ 0) ⊎ (status ≡ 1) → MayBegin asks disk_after.files (ended (done_all (behind_all first outcomes) acts))
+  -- and so does whatever a crash may leave of them then
+  pub lasts : (status ≡ 0) ⊎ (status ≡ 1) → (image : Files) → MayLeave disk_after image → MayBegin asks image (ended (done_all (behind_all first outcomes) acts))
   -- each crash meanwhile left what a crash of the run or of its closing leaves, so that the next run with these words may begin with it
   pub crashes : LeavesSince disk.moment (LeavesRun (asked_number asks) first outcomes acts disk.told) disk_after
 
@@ -131,17 +146,14 @@ pub record Executed (asks : Option WordOptions) (statements : List ScriptEntry) 
       → IsRun (opened w) (take (length outcomes) statements) (take (length outcomes) moments) outcomes
   -- its closing, and what each crash meanwhile left
   pub closes : device_tells → IsSettled disk → (w : World) → MayBegin asks disk.files w → Closes asks (opened w) outcomes disk disk_after status
-  -- at the end nothing is pending
-  pub settled : device_tells → IsSettled disk → (status ≡ 0) ⊎ (status ≡ 1) → IsSettled disk_after
   -- the instance is made then, also by an empty script
   pub made : device_tells → (status ≡ 0) ⊎ (status ≡ 1) → IsMade disk_after.files
-  -- No file was touched but the instance's own three, a medium that was being made at entry, and media to which acts of the outcomes write: the others are byte
-  -- for byte as they were, and each crash meanwhile left them so.
+  -- No file was touched but the instance's own and its stores', those of sets that are being written, a medium that was being made at entry, and media to which acts of the
+  -- outcomes write: the others are byte for byte as they were, and each crash meanwhile left them so.
   pub spares : device_tells → IsSettled disk → (w : World) → MayBegin asks disk.files w
       → Spares (IsTouched (RunWrites disk.files outcomes)) disk disk_after
-  -- Where all that was executed stores nothing, as what is refused, USE, `:session` and SELECT, no file was touched at all. The instance was made, none of its
-  -- media was being made, and nothing was open in its files.
-  pub still : device_tells → IsSettled disk → (w : World) → MayBegin asks disk.files w → (status ≡ 0) ⊎ (status ≡ 1) → IsFinished disk.files → AreStill outcomes
+  -- Where all that was executed stores nothing, as what is refused, USE, `:session` and SELECT, and nothing was to be finished in the files, no file was touched at all.
+  pub still : device_tells → IsSettled disk → (w : World) → MayBegin asks disk.files w → (status ≡ 0) ⊎ (status ≡ 1) → AreQuiet disk.files → AreStill outcomes
       → Spares NoName disk disk_after
   -- whole texts of replies, and then perhaps a front of the next
   pub front : device_tells → TellsFront (replies_text (replies_of outcomes)) disk.told disk_after.told
@@ -155,6 +167,19 @@ pub record Executed (asks : Option WordOptions) (statements : List ScriptEntry) 
       × (device_tells → disk_after.told ≡ disk.told ++ replies_text (replies_of outcomes))
   -- a fault of the console comes where a reply is told
   pub cut : status ≡ 4 → 0 < length outcomes
+
+-- What executing a script over an instance comes to.
+pub record Over (options : WordOptions) (script : List ℕ) (clock_tells : Type 0) (coming coming_after : ℕ → ℕ) (device_tells : Type 0) (disk disk_after : Disk) (result : Result Ended Status) : Type 0 where
+  pub executed : (statements : List ScriptEntry) → AreItems script statements → Executed (Some options) statements clock_tells coming coming_after device_tells disk disk_after (code_of (status_of result))
+  -- how it doesn't end, and when it ends so
+  pub begun : (status_of result ≡ Usage) ⊎ (status_of result ≡ SourceFault) ⊎ (status_of result ≡ ScriptTooLong) → ⊥
+  pub fails : IfErr result (λ status. (status ≡ Done) ⊎ (status ≡ StoppedAtRefusal) → ⊥)
+  pub not_an_instance : device_tells → status_of result ≡ NotAnInstance → IsNoInstance disk.files
+  pub no_instance : device_tells → IsNoInstance disk.files → (status_of result ≡ Done) ⊎ (status_of result ≡ StoppedAtRefusal) ⊎ (status_of result ≡ ConsoleFault) → ⊥
+  pub unbroken : device_tells → IsSettled disk → (w : World) → Stands options.instance disk.files w → status_of result ≢ Broken
+  -- what is left alone
+  pub unchanged : device_tells → status_of result ≡ NotAnInstance → ChangesNothing disk disk_after
+  pub others : device_tells → KeepsFiles NotOurs disk disk_after
 
 -- A run: what was read, and what was executed of it.
 pub record Ran (asks : Option WordOptions) (source_tells : Type 0) (rest rest_after : List ℕ) (clock_tells : Type 0) (coming coming_after : ℕ → ℕ)

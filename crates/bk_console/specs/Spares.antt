@@ -1,17 +1,22 @@
 -- What statements and runs leave alone.
-use Rattle.std.specs.Prelude.{◌⊎◌, ℕ, List, [], ◌∷◌}
+use Rattle.std.specs.Prelude.{◌≡◌, ◌⊎◌, ℕ, List, [], ◌∷◌, Some}
 use Rattle.std.specs.List.{AllByRecursion}
 use Rattle.bk_device.specs.Calls.{Elapses}
 use Rattle.bk_device.specs.Disk.{Files, Disk}
 use Rattle.bk_device.specs.Effects.{KeepsFiles, MayLeaveOthers}
-use Rattle.bk_home.specs.Home.{IsMade}
-use Rattle.bk_instance.specs.declared.instance.Instance.{Instance}
-use Rattle.bk_instance.specs.Stands.{Covers, ReservesNone}
-use Rattle.bk_loading.specs.Loading.{IsMaking}
+use Rattle.bk_engine.specs.Stands.{Kept, own_in}
+use Rattle.bk_master.specs.Master.{record_of}
+use Rattle.bk_master.specs.declared.record.Record.{Record}
 use Rattle.bk_machine.specs.Outcome.{Outcome}
-use Rattle.bk_machine.specs.Sound.{AreIdle}
-use Rattle.bk_machine.specs.World.{World}
 use Rattle.bk_machine.specs.Writes.{ActsWrite, IsStill}
+
+-- the record of these files says that a medium is being made at a path: the next run lets it go
+abbrev pub IsMaking : Files → List ℕ → Type 0
+IsMaking files path = (r : Record) × (record_of files ≡ Some r) × (r.own.making ≡ Some path)
+
+-- it has reserved no GUID beyond those that were drawn
+abbrev pub ReservesNone : Kept → Type 0
+ReservesNone e = (own_in e).counter ≡ e.drawn
 
 -- no file at all
 abbrev pub NoName : List ℕ → Type 0
@@ -36,12 +41,6 @@ abbrev pub AreStill : List Outcome → Type 0
 AreStill outcomes = AllByRecursion IsStill outcomes
 
 -- No file was touched, and no GUID reserved.
-pub record LeavesAlone (old : Instance) (disk : Disk) (new : Instance) (disk_after : Disk) : Type 0 where
+pub record LeavesAlone (old : Kept) (disk : Disk) (new : Kept) (disk_after : Disk) : Type 0 where
   pub files : Spares NoName disk disk_after
   pub reserves : ReservesNone old → ReservesNone new
-
--- The instance is made, no medium is being made, and nothing is open in the world that its files hold.
-pub record IsFinished (files : Files) : Type 0 where
-  pub made : IsMade files
-  pub none : (path : List ℕ) → IsMaking files path → ⊥
-  pub idle : (number : ℕ) (w : World) → Covers number files w → AreIdle w

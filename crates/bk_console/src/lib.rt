@@ -4,7 +4,6 @@
 mod answers;
 mod command_line;
 mod console;
-mod laws;
 mod life_laws;
 mod reading;
 mod report;

@@ -1,12 +1,13 @@
 ghost use Rattle.std.specs.Prelude.{◌≡◌};
-ghost use Rattle.bk_console.specs.Run.{code_of, words_status, read_status, answer_status, load_status, close_status};
+ghost use Rattle.bk_console.specs.Run.{code_of, ended_status, words_status, read_status, answer_status, load_status, close_status, settle_status};
 ghost use Rattle.bk_console.specs.declared.status.Status.TheVariants.{NoMemory};
 
-use crate::answers::AnswerError;
+use crate::answers::{AnswerError, Ended};
 use crate::command_line::WordsError;
 use crate::reading::ReadError;
-use bk_instance::ExecuteError;
-use bk_loading::LoadError;
+use bk_executing::ExecuteError;
+use bk_settling::SettleError;
+use bk_stores::StoresError;
 use std::alloc::AllocError;
 
 /// How a run ended. Its code is the program's exit status.
@@ -53,6 +54,17 @@ impl Status {
     }
 }
 
+impl From<Ended> for Status {
+    ghost from_gives = { λ ended status. status ≡ ended_status ended };
+
+    fn from(ended: Ended) -> Self {
+        match ended {
+            Ended::AtTheEnd => Status::Done,
+            Ended::AtARefusal => Status::StoppedAtRefusal,
+        }
+    }
+}
+
 impl From<WordsError> for Status {
     ghost from_gives = { λ error status. status ≡ words_status error };
 
@@ -89,15 +101,15 @@ impl From<AnswerError> for Status {
     }
 }
 
-impl From<LoadError> for Status {
+impl From<StoresError> for Status {
     ghost from_gives = { λ error status. status ≡ load_status error };
 
-    fn from(error: LoadError) -> Self {
+    fn from(error: StoresError) -> Self {
         match error {
-            LoadError::NotAnInstance => Status::NotAnInstance,
-            LoadError::Fault => Status::DeviceFault,
-            LoadError::NoMemory => Status::NoMemory,
-            LoadError::Broken | LoadError::Unsettled => Status::Broken,
+            StoresError::NotAnInstance => Status::NotAnInstance,
+            StoresError::Fault => Status::DeviceFault,
+            StoresError::NoMemory => Status::NoMemory,
+            StoresError::Broken => Status::Broken,
         }
     }
 }
@@ -110,6 +122,17 @@ impl From<ExecuteError> for Status {
             ExecuteError::Fault => Status::DeviceFault,
             ExecuteError::NoMemory => Status::NoMemory,
             ExecuteError::Broken => Status::Broken,
+        }
+    }
+}
+
+impl From<SettleError> for Status {
+    ghost from_gives = { λ error status. status ≡ settle_status error };
+
+    fn from(error: SettleError) -> Self {
+        match error {
+            SettleError::Fault => Status::DeviceFault,
+            SettleError::NoMemory => Status::NoMemory,
         }
     }
 }

@@ -10,3 +10,4 @@ mod Copied
 mod Closed
 mod Fills
 mod Brought
+mod Viewed

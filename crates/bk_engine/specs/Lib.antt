@@ -19,3 +19,5 @@ pub mod TouchLaws
 pub mod Bringing
 pub mod GivenLaws
 pub mod BringingLaws
+pub mod Viewing
+pub mod ViewLaws

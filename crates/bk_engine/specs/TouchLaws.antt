@@ -1,8 +1,10 @@
 -- What is touched.
 use Rattle.std.proofs.Common.{◌≡◌, inl, inr, ℕ, List, sym, subst}
+use Rattle.bk_device.specs.Calls.{ChangesNothing}
 use Rattle.bk_device.specs.Compose.{effect_none, effect_widen}
 use Rattle.bk_device.specs.Disk.{Disk, Files}
 use Rattle.bk_device.specs.Effects.{Effect, IsName}
+use Rattle.bk_device.specs.Laws.{nothing_yet}
 use Rattle.bk_hosting.specs.Copying.{TouchesOursOr}
 use Rattle.bk_stores.specs.Stores.{TouchesOurs}
 use Rattle.bk_volume.specs.Names.{medium_file}
@@ -36,6 +38,10 @@ module _ {named : List ℕ → Type 0} where
   -- nothing is done
   pub rest-touch : {D : Type 0} (disk : D → Disk) (x y : D) → y ≡ x → TouchesOnly named (disk x) (disk y)
   rest-touch disk x y same = subst (λ d. TouchesOnly named (disk x) (disk d)) (sym same) (effect_none (disk x) (λ image left. tt))
+
+-- so nothing is changed
+pub rest-still : {D : Type 0} (disk : D → Disk) (x y : D) → y ≡ x → ChangesNothing (disk x) (disk y)
+rest-still disk x y same = subst (λ d. ChangesNothing (disk x) (disk d)) (sym same) (nothing_yet (disk x))
 
 -- of more media
 pub wider-touch : {part whole : List ℕ → Type 0} {a b : Disk} → ((path : List ℕ) → part path → whole path) → TouchesOnly part a b → TouchesOnly whole a b

@@ -60,7 +60,7 @@ impl Engine {
             → OnOk result (StandsFor (D.disk dev.new) self.new (done_all w (coming_up w name.now stored.now.header branch))) }
         ensures crash { D.tells → (w : World) → StandsFor (D.disk dev.old) self.old w → IsSetOn (D.disk dev.old).files medium.now.name stored.now → MayComeUp w name.now stored.now.header branch last
             → Effect IsOurs (CutsActs w (coming_up w name.now stored.now.header branch)) (D.disk dev.old) (D.disk dev.new) }
-        ensures touches { D.tells → OnOk result (TouchesOnly NoMedium (D.disk dev.old) (D.disk dev.new)) }
+        ensures touches { D.tells → TouchesOnly NoMedium (D.disk dev.old) (D.disk dev.new) }
         ensures broken { D.tells → IsErrOf result StoresError.Broken → (w : World) → StandsFor (D.disk dev.old) self.old w → IsSetOn (D.disk dev.old).files medium.now.name stored.now
             → MayComeUp w name.now stored.now.header branch last → ⊥ }
         ensures not_an_instance { IsErrOf result StoresError.NotAnInstance → ⊥ }

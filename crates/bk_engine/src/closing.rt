@@ -25,6 +25,7 @@ impl Engine {
         requires standing { D.tells → AreStanding (D.disk dev.old) self.old.hosting.stores }
         ensures ready { OnOk result (IsReady self.new) }
         ensures exact { OnOk result ((own_in self.new).counter ≡ self.new.drawn) }
+        ensures standing { D.tells → OnOk result (AreStanding (D.disk dev.new) self.new.hosting.stores) }
         ensures stands { D.tells → (w : World) → StandsFor (D.disk dev.old) self.old w → OnOk result (StandsFor (D.disk dev.new) self.new w) }
         ensures crash { D.tells → (number : ℕ) (w : World) → StandsFor (D.disk dev.old) self.old w → AreIdle w → Effect IsOurs (λ image. Covers w image ⊎ Stands number image (ended w)) (D.disk dev.old) (D.disk dev.new) }
         ensures touches { D.tells → TouchesOnly NoMedium (D.disk dev.old) (D.disk dev.new) }
@@ -54,6 +55,7 @@ impl Engine {
     pub fn close<D: Device>(&mut self, dev: &mut D) -> Result<(), StoresError>
         requires ready { IsReady self.old }
         requires standing { D.tells → AreStanding (D.disk dev.old) self.old.hosting.stores }
+        ensures standing { D.tells → OnOk result (AreStanding (D.disk dev.new) self.new.hosting.stores) }
         ensures leaves { D.tells → (number : ℕ) (w : World) → StandsFor (D.disk dev.old) self.old w → AreIdle w → OnOk result (Leaves number (D.disk dev.new) (ended w)) }
         ensures crash { D.tells → (number : ℕ) (w : World) → StandsFor (D.disk dev.old) self.old w → AreIdle w → Effect IsOurs (λ image. Covers w image ⊎ Stands number image (ended w)) (D.disk dev.old) (D.disk dev.new) }
         ensures touches { D.tells → TouchesOnly NoMedium (D.disk dev.old) (D.disk dev.new) }

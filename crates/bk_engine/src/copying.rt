@@ -1,25 +1,28 @@
 // Databases are copied into sets that are being written.
-ghost use Rattle.std.specs.Prelude.{◌≡◌, ◌<◌, ◌+◌, ◌^◌, [], false, List, ℕ, Some, length, slice_get, IfSome, OnOk, IsErrOf};
+ghost use Rattle.std.specs.Prelude.{◌≡◌, ◌<◌, ◌+◌, ◌^◌, [], false, List, ℕ, Some, length, map, slice_get, IfOk, IfSome, OnOk, IsErrOf};
 ghost use Rattle.std.specs.List.{position};
 ghost use Rattle.bk_body.specs.Body.{Extent};
+ghost use Rattle.bk_copying.specs.Extents.{extents_of};
 ghost use Rattle.bk_device.specs.Counts.{HasCause};
 ghost use Rattle.bk_device.specs.Effects.{Effect};
 ghost use Rattle.bk_hosted.specs.Hosted.{Hosted, names};
 ghost use Rattle.bk_hosting.specs.Asking.{AreDescribed};
 ghost use Rattle.bk_hosting.specs.Copying.{AreAsBefore, HaveExtents, HoldsCopies, HoldsLog};
 ghost use Rattle.bk_machine.specs.World.{Database, World, log_of};
-ghost use Rattle.bk_store.specs.Told.{Told};
+ghost use Rattle.bk_store.specs.Told.{Told, data_file};
 ghost use Rattle.bk_stores.specs.Standing.{AreStanding};
 ghost use Rattle.bk_volume.specs.Staging.{HoldsParts, IsStaged};
+ghost use Rattle.bk_world.specs.declared.database.Status.TheVariants.{Online};
 ghost use Rattle.bk_engine.specs.Copying.{IsToldOf};
 ghost use Rattle.bk_engine.specs.Stands.{Covers, IsOurs, IsReady, IsStagingFile, NamesSet, StandsFor, own_in};
 ghost use Rattle.bk_engine.specs.Touched.{NoMedium, TouchesOnly};
 
 use crate::engine::Engine;
-use bk_copying::CopyError;
+use bk_copying::{CopyError, data_extents};
 use bk_device::Device;
 use bk_ids::{ExtentId, Lsn};
 use bk_volume::Staged;
+use std::alloc::AllocError;
 
 impl Engine {
     /// The place of the first database of this name, in any case of ASCII letters; it counts from 0.
@@ -29,6 +32,21 @@ impl Engine {
         ensures inside { IfSome result (λ at. at < length self.now.hosting.states) }
     {
         self.hosting.find(name)
+    }
+
+    /// The data extents of the database at this place, which counts from 0, by file and number; none while it is being restored. Nothing is read or written.
+    pub fn extents<D: Device>(&self, dev: &mut D, at: usize) -> Result<Vec<ExtentId>, AllocError>
+        requires ready { IsReady self.now }
+        requires inside { at < length self.now.hosting.states }
+        ensures same { dev.new ≡ dev.old }
+        ensures there { IfOk result (λ extents. HaveExtents self.now.hosting.stores.slots at extents.items) }
+        ensures few { IfOk result (λ extents. length extents.items < 2 ^ 28) }
+        ensures listed { D.tells → (w : World) (db : Database) → StandsFor (D.disk dev.old) self.now w → slice_get w.databases at ≡ Some db → db.status ≡ Online → IfOk result (λ extents. extents.items ≡ extents_of (map data_file db.files)) }
+    {
+        match self.hosting.store(at) {
+            Some(store) => data_extents(self.alloc, store.files()),
+            None => Ok(Vec::new(self.alloc)),
+        }
     }
 
     /// Copies these data extents of the database at this place, which counts from 0, as of its end, into a set that has no log yet, one behind the other. The world stays.

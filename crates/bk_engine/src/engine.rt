@@ -26,3 +26,10 @@ impl Model for Engine {
 
     ghost view = { λ e. record { hosting = e.hosting; drawn = e.drawn; session = e.session; sessions = e.sessions.items } };
 }
+
+impl Engine {
+    /// Where its memory comes from.
+    pub fn alloc(&self) -> Global {
+        self.alloc
+    }
+}

@@ -2,6 +2,7 @@
 ghost use Rattle.std.specs.Prelude.{◌≡◌, ◌⊎◌, ℕ, true, None, IfErr, OnOk, IsErrOf};
 ghost use Rattle.bk_archive.specs.Calls.{HasFinished, LeavesFinishing};
 ghost use Rattle.bk_archive.specs.Media.{IfDurable, IsMediumFile, MediaAreDurable};
+ghost use Rattle.bk_device.specs.Calls.{ChangesNothing};
 ghost use Rattle.bk_device.specs.Counts.{HasCause};
 ghost use Rattle.bk_device.specs.Effects.{Effect, IsName};
 ghost use Rattle.bk_hosting.specs.Hosting.{IsReady as AreReady, own_of};
@@ -108,14 +109,15 @@ fn clear<D: Device>(alloc: Global, dev: &mut D, hosting: &Hosting) -> Result<(),
 
 // Whether nothing was being made.
 fn is_whole(own: &Own) -> bool
-    ensures { result ≡ true → (own.now.making ≡ None) × (own.now.staging ≡ None) }
+    ensures whole { result ≡ true → (own.now.making ≡ None) × (own.now.staging ≡ None) }
+    ensures all { own.now.making ≡ None → own.now.staging ≡ None → result ≡ true }
 {
     own.making.is_none() && own.staging.is_none()
 }
 
 /// Clears up what a run that was cut off left behind, and then the record names nothing as being made.
 ///
-/// A crash leaves files that stand for the same world. Only `Fault` and `NoMemory` are answered.
+/// A crash leaves files that stand for the same world. Where the record names nothing the files stay as they are. Only `Fault` and `NoMemory` are answered.
 pub(crate) fn finish<D: Device>(
     alloc: Global,
     dev: &mut D,
@@ -129,6 +131,7 @@ pub(crate) fn finish<D: Device>(
     ensures stands { D.tells → (w : World) → Opened (D.disk dev.old) hosting.old w → OnOk result (Opened (D.disk dev.new) hosting.new w) }
     ensures crash { D.tells → (number : ℕ) (w : World) → Opened (D.disk dev.old) hosting.old w → Effect IsOurs (λ image. Stands number image w) (D.disk dev.old) (D.disk dev.new) }
     ensures touches { D.tells → TouchesOnly (IsMadeAt (own_of hosting.old).making) (D.disk dev.old) (D.disk dev.new) }
+    ensures still { D.tells → (own_of hosting.old).making ≡ None → (own_of hosting.old).staging ≡ None → OnOk result (ChangesNothing (D.disk dev.old) (D.disk dev.new)) }
     ensures trouble { IfErr result IsTrouble }
     ensures cause { HasCause D.disk_faults D.tell_faults dev.old dev.new (IsErrOf result StoresError.Fault) }
 {

@@ -16,9 +16,11 @@ mod making;
 mod noting;
 mod parking;
 mod reserving;
+mod resting;
 mod saying;
 mod sealing;
 mod seating;
 mod staging;
+mod viewing;
 
 pub use engine::Engine;

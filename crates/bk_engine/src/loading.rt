@@ -6,6 +6,7 @@ ghost use Rattle.bk_device.specs.Disk.{IsSettled};
 ghost use Rattle.bk_device.specs.Effects.{Effect};
 ghost use Rattle.bk_machine.specs.World.{World, opened};
 ghost use Rattle.bk_master.specs.Master.{IsMade, IsNoInstance};
+ghost use Rattle.bk_stores.specs.Quiet.{AreQuiet};
 ghost use Rattle.bk_stores.specs.Standing.{AreStanding};
 ghost use Rattle.bk_engine.specs.Loading.{Stands};
 ghost use Rattle.bk_engine.specs.Stands.{IsOurs, IsReady, StandsFor, own_in};
@@ -24,6 +25,7 @@ use std::thread::Threads;
 impl Engine {
     /// Loads the instance whose files these are, or makes one with this number where none is made: a run begins. Of each database all is undone that was pending; a medium that was being made is finished, or
     /// taken away where no blob of it was sealed; and what was being made or removed of databases, or written of a set, is removed. A crash leaves files that stand for the same world; then this call loads them.
+    /// Where nothing is to be finished, removed or undone the files stay as they are.
     ///
     /// `NotAnInstance` is answered only where an instance is made and its control file holds no control, and `Broken` only where the files stand for no world. `NoMemory` may come after files were touched.
     pub fn load<R: Threads + Sync, D: Device>(
@@ -38,11 +40,12 @@ impl Engine {
         ensures standing { D.tells → IfOk result (λ e. AreStanding (D.disk dev.new) e.hosting.stores) }
         ensures stands { D.tells → IsSettled (D.disk dev.old) → (w : World) → Stands number (D.disk dev.old).files w → IfOk result (λ e. StandsFor (D.disk dev.new) e (opened w)) }
         ensures crash { D.tells → IsSettled (D.disk dev.old) → (w : World) → Stands number (D.disk dev.old).files w → Effect IsOurs (λ image. Stands number image w) (D.disk dev.old) (D.disk dev.new) }
-        ensures touches { D.tells → OnOk result (TouchesOnly IsPath (D.disk dev.old) (D.disk dev.new)) }
+        ensures touches { D.tells → TouchesOnly IsPath (D.disk dev.old) (D.disk dev.new) }
         ensures spares { D.tells → IsSettled (D.disk dev.old) → (w : World) (is : Stands number (D.disk dev.old).files w) → TouchesOnly (IsMadeAt is.own.making) (D.disk dev.old) (D.disk dev.new) }
         ensures made { D.tells → OnOk result (IsMade (D.disk dev.new).files) }
         ensures no_instance { D.tells → IsNoInstance (D.disk dev.old).files → MatchResult result (λ _. ⊥) (λ e. e ≢ StoresError.Broken) }
         ensures untouched { D.tells → IsErrOf result StoresError.NotAnInstance → ChangesNothing (D.disk dev.old) (D.disk dev.new) }
+        ensures still { D.tells → IsSettled (D.disk dev.old) → AreQuiet (D.disk dev.old).files → OnOk result (ChangesNothing (D.disk dev.old) (D.disk dev.new)) }
         ensures not_an_instance { D.tells → IsErrOf result StoresError.NotAnInstance → IsNoInstance (D.disk dev.old).files }
         ensures broken { D.tells → IsErrOf result StoresError.Broken → IsSettled (D.disk dev.old) → (w : World) → Stands number (D.disk dev.old).files w → ⊥ }
         ensures cause { HasCause D.disk_faults D.tell_faults dev.old dev.new (IsErrOf result StoresError.Fault) }

@@ -45,7 +45,7 @@ fn seal_at<D: Device>(
     ensures sealed { D.tells → (body : Body) → IsSetOf (D.disk dev.old) staged.now header.now tables.now body → OnOk result (HasSealed path.now body (D.disk dev.old).files (D.disk dev.new).files) }
     ensures calm { D.tells → (body : Body) → IsSetOf (D.disk dev.old) staged.now header.now tables.now body → MediaAreDurable (D.disk dev.old) → OnOk result (MediaAreDurable (D.disk dev.new)) }
     ensures crash { D.tells → (body : Body) → IsSetOf (D.disk dev.old) staged.now header.now tables.now body → Effect IsMediumFile (IfDurable (D.disk dev.old) (LeavesSealing path.now body (D.disk dev.old).files)) (D.disk dev.old) (D.disk dev.new) }
-    ensures spares { D.tells → (body : Body) → IsSetOf (D.disk dev.old) staged.now header.now tables.now body → Effect (IsName (medium_file path.now)) (λ image. Unit {0}) (D.disk dev.old) (D.disk dev.new) }
+    ensures spares { D.tells → Effect (IsName (medium_file path.now)) (λ image. Unit {0}) (D.disk dev.old) (D.disk dev.new) }
     ensures trouble { IfErr result IsTrouble }
     ensures cause { HasCause D.disk_faults D.tell_faults dev.old dev.new (IsErrOf result StoresError.Fault) }
 {
@@ -75,10 +75,10 @@ impl Engine {
         requires few { length tables.now ≤ 64 }
         requires standing { D.tells → AreStanding (D.disk dev.old) self.now.hosting.stores }
         requires staged { D.tells → IsStaged (D.disk dev.old) staged.now }
-        ensures standing { D.tells → (body : Body) → IsSetOf (D.disk dev.old) staged.now header.now tables.now body → AreStanding (D.disk dev.new) self.now.hosting.stores }
+        ensures standing { D.tells → AreStanding (D.disk dev.new) self.now.hosting.stores }
         ensures stands { D.tells → (w : World) (body : Body) → StandsFor (D.disk dev.old) self.now w → MaySeal (D.disk dev.old) w staged.now header.now tables.now body → OnOk result (StandsFor (D.disk dev.new) self.now (done w (set_sealed path.now header.now))) }
         ensures crash { D.tells → (w : World) (body : Body) → StandsFor (D.disk dev.old) self.now w → MaySeal (D.disk dev.old) w staged.now header.now tables.now body → Effect IsOurs (CutsAct w (set_sealed path.now header.now)) (D.disk dev.old) (D.disk dev.new) }
-        ensures touches { D.tells → (body : Body) → IsSetOf (D.disk dev.old) staged.now header.now tables.now body → TouchesOnly (IsAt path.now) (D.disk dev.old) (D.disk dev.new) }
+        ensures touches { D.tells → TouchesOnly (IsAt path.now) (D.disk dev.old) (D.disk dev.new) }
         ensures trouble { IfErr result IsTrouble }
         ensures cause { HasCause D.disk_faults D.tell_faults dev.old dev.new (IsErrOf result StoresError.Fault) }
     {

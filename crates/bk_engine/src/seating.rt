@@ -16,6 +16,7 @@ impl Engine {
     pub fn seat<D: Device>(&mut self, dev: &mut D, session: u8)
         ensures same { dev.new ≡ dev.old }
         ensures hosting { self.new.hosting ≡ self.old.hosting }
+        ensures drawn { self.new.drawn ≡ self.old.drawn }
         ensures ready { IsReady self.old → IsReady self.new }
         ensures stands { D.tells → DoesAct self.old (D.disk dev.old) (seated session) self.new (D.disk dev.new) }
     {
@@ -26,6 +27,7 @@ impl Engine {
     pub fn turn<D: Device>(&mut self, dev: &mut D, name: Option<Text>) -> Result<(), AllocError>
         ensures same { dev.new ≡ dev.old }
         ensures hosting { self.new.hosting ≡ self.old.hosting }
+        ensures drawn { self.new.drawn ≡ self.old.drawn }
         ensures ready { IsReady self.old → IsReady self.new }
         ensures stands { D.tells → OnOk result (DoesAct self.old (D.disk dev.old) (turned name) self.new (D.disk dev.new)) }
     {

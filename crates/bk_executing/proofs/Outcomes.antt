@@ -13,16 +13,14 @@ use Rattle.bk_plans.specs.declared.parts.Part.TheVariants.{Stored, MediumMade, S
 use Rattle.bk_plans.specs.declared.parts.Plan.{Plan}
 use Rattle.bk_plans.specs.declared.parts.Plan.TheVariants.{Refused, Answered, Turned, Seated, Parts}
 use Rattle.bk_plans.specs.Planning.{AreActsOf, AreParts, IsPart}
-use Rattle.bk_executing.specs.Executing.{HasNoParts}
-use Rattle.bk_instance.specs.Touched.{PartWrites}
-use Rattle.bk_executing.specs.Writes.{PartsWrite, PlanWrites}
+use Rattle.bk_executing.specs.Parts.{HasNoParts, PartWrites, PartsWrite, PlanWrites}
 
 -- Parts.
 
 part-writes : (w : World) (part : Part) (act : Act) → IsPart w part act → (path : List ℕ) → PartWrites part path → ActWrites act path
 part-writes w (Stored stored) act is path writes = absurd writes
 part-writes w (MediumMade at) act is path writes = subst (λ a. ActWrites a path) (sym is.is) writes
-part-writes w (SetSealed at body) act is path writes = subst (λ a. ActWrites a path) (sym is.is) writes
+part-writes w (SetSealed at header) act is path writes = subst (λ a. ActWrites a path) (sym is.is) writes
 
 parts-write : (w : World) (parts : List Part) (acts : List Act) → AreParts w parts acts → (path : List ℕ) → PartsWrite parts path → ActsWrite acts path
 parts-write w [] acts are path writes = absurd writes
@@ -45,16 +43,14 @@ not-meant : (stored : StoredAct) (act : Act) → IsTurn act → Means stored act
 not-meant (kind.Created creation) act is means = subst IsTurn means is
 not-meant (kind.Dropped other) act is means = subst IsTurn means is
 not-meant (kind.Logged other transactions records) act is means = subst IsTurn means.act_is is
+not-meant (kind.Checkpointed other time kept) act is means = subst IsTurn means.act_is is
 not-meant (kind.Based other header) act is means = subst IsTurn means is
-not-meant (kind.Replaced other body) act is means = subst IsTurn means is
-not-meant (kind.Restored other base redo) act is means = subst IsTurn means is
-not-meant (kind.Recovered other at branch records) act is means = subst IsTurn means.act_is is
 
 -- and so does each part
 not-part : (w : World) (part : Part) (act : Act) → IsTurn act → IsPart w part act → ⊥
 not-part w (Stored stored) act turn is = not-meant stored act turn is.means
 not-part w (MediumMade at) act turn is = subst IsTurn is.is turn
-not-part w (SetSealed at body) act turn is = subst IsTurn is.is turn
+not-part w (SetSealed at header) act turn is = subst IsTurn is.is turn
 
 none-stored : (w : World) (parts : List Part) (acts : List Act) → AreParts w parts acts → AllByRecursion IsTurn acts → parts ≡ []
 none-stored w [] acts are still = refl

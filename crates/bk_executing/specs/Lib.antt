@@ -1,3 +1,6 @@
+pub mod Closing
+pub mod Errors
 pub mod Executing
-pub mod First
-pub mod Writes
+pub mod Parts
+pub mod Planned
+pub mod Restoring

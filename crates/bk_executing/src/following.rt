@@ -1,141 +1,220 @@
-// How an instance follows a plan.
-ghost use Rattle.std.specs.Prelude.{◌≡◌, [], IfOk, OnOk, IsErrOf};
+// How an engine follows a plan.
+ghost use Rattle.std.specs.Prelude.{◌≡◌, [], None, IfOk, OnOk, IsErrOf};
 ghost use Rattle.std.specs.List.{AllByRecursion};
-ghost use Rattle.bk_acts.specs.Spelling.{KeepsAct};
 ghost use Rattle.bk_device.specs.Counts.{HasCause};
-ghost use Rattle.bk_device.specs.Effects.{Effect};
-ghost use Rattle.bk_executing.specs.Executing.{AreNoParts, CutsParts, CutsPlan, DoesParts, DoesPlan, HasNoParts, IsNoPlan, Rests};
-ghost use Rattle.bk_executing.specs.Writes.{PartsWrite, PlanWrites};
-ghost use Rattle.bk_instance.specs.Media.{MediaAreDurable, IfDurable};
-ghost use Rattle.bk_instance.specs.Parts.{CutsPart, DoesPart, IsNoPart};
-ghost use Rattle.bk_instance.specs.Stands.{IsReady, IsStored, IsOurs};
-ghost use Rattle.bk_instance.specs.Touched.{PartWrites, TouchesOnly};
-ghost use Rattle.bk_instance.specs.declared.error.ExecuteError.TheVariants.{Broken, Fault};
+ghost use Rattle.bk_engine.specs.Stands.{IsReady, NamesSet, own_in};
+ghost use Rattle.bk_engine.specs.Touched.{NoMedium, TouchesOnly};
+ghost use Rattle.bk_executing.specs.Executing.{Rests};
+ghost use Rattle.bk_executing.specs.Parts.{CutsPart, CutsParts, CutsPlan, DoesPart, DoesParts, DoesPlan, HasNoParts, PartWrites, PartsWrite, PlanWrites};
+ghost use Rattle.bk_executing.specs.declared.error.ExecuteError.TheVariants.{Broken, Fault};
 ghost use Rattle.bk_plans.specs.Planning.{KeepsPart, KeepsPlan, reply_of};
 ghost use Rattle.bk_plans.specs.declared.parts.Part.TheVariants as part;
+ghost use Rattle.bk_plans.specs.declared.parts.Plan.TheVariants as plan;
+ghost use Rattle.bk_stores.specs.Standing.{AreStanding};
 
+use crate::doing::do_act;
+use crate::error::ExecuteError;
 use bk_acts::StoredAct;
 use bk_device::Device;
-use bk_instance::{ExecuteError, Instance};
+use bk_engine::Engine;
+use bk_ids::Text;
 use bk_plans::{Part, Plan};
-use bk_waiting::what_waits_is_joined;
-use bk_world::Reply;
+use bk_sealing::seal_database;
+use bk_world::{Header, Reply};
 
-// Does a stored act, which waits where it may.
-fn do_act<D: Device>(
-    instance: &mut Instance,
+// Does an act that outlasts the run.
+fn do_stored<D: Device>(
+    engine: &mut Engine,
     dev: &mut D,
     act: &StoredAct,
 ) -> Result<(), ExecuteError>
-    requires ready { IsReady instance.old }
-    requires keeps { KeepsAct act.now }
-    requires stored { D.tells → IsStored (D.disk dev.old) instance.old }
-    ensures ready { OnOk result (IsReady instance.new) }
-    ensures stored { D.tells → OnOk result (IsStored (D.disk dev.new) instance.new) }
-    ensures media { D.tells → MediaAreDurable (D.disk dev.old) → OnOk result (MediaAreDurable (D.disk dev.new)) }
-    ensures number { OnOk result (instance.new.kept.number ≡ instance.old.kept.number) }
-    ensures does { D.tells → OnOk result (DoesPart instance.old (D.disk dev.old) (part.Stored act.now) instance.new (D.disk dev.new)) }
-    ensures crash { D.tells → Effect IsOurs (IfDurable (D.disk dev.old) (CutsPart instance.old (D.disk dev.old) (part.Stored act.now))) (D.disk dev.old) (D.disk dev.new) }
-    ensures spares { D.tells → TouchesOnly (PartWrites (part.Stored act.now)) (D.disk dev.old) (D.disk dev.new) }
-    ensures broken { D.tells → IsErrOf result Broken → IsNoPart instance.old (D.disk dev.old) (part.Stored act.now) }
+    requires ready { IsReady engine.old }
+    requires keeps { KeepsPart (part.Stored act.now) }
+    requires none { (own_in engine.old).staging ≡ None }
+    requires standing { D.tells → AreStanding (D.disk dev.old) engine.old.hosting.stores }
+    ensures ready { OnOk result (IsReady engine.new) }
+    ensures own { OnOk result (NamesSet None engine.old engine.new) }
+    ensures standing { D.tells → OnOk result (AreStanding (D.disk dev.new) engine.new.hosting.stores) }
+    ensures does { D.tells → OnOk result (DoesPart engine.old (D.disk dev.old) (part.Stored act.now) engine.new (D.disk dev.new)) }
+    ensures crash { D.tells → CutsPart engine.old (D.disk dev.old) (part.Stored act.now) (D.disk dev.new) }
+    ensures touches { D.tells → TouchesOnly (PartWrites (part.Stored act.now)) (D.disk dev.old) (D.disk dev.new) }
+    ensures sound { IsErrOf result Broken → ⊥ }
     ensures cause { HasCause D.disk_faults D.tell_faults dev.old dev.new (IsErrOf result Fault) }
 {
-    if instance.waiting.may_add(act) {
-        return instance.wait(act);
-    }
-    instance.store(dev, act)
+    do_act(engine, dev, act)?;
+    Ok(())
 }
 
-// Does one part. What waits is stored before a medium is written to. A crash leaves the world before it, but for what waits
-// there, or the world behind it.
-fn do_part<D: Device>(instance: &mut Instance, dev: &mut D, part: &Part) -> Result<(), ExecuteError>
-    requires ready { IsReady instance.old }
+// Makes a medium.
+fn make_medium<D: Device>(engine: &mut Engine, dev: &mut D, path: &Text) -> Result<(), ExecuteError>
+    requires ready { IsReady engine.old }
+    requires keeps { KeepsPart (part.MediumMade path.now) }
+    requires none { (own_in engine.old).staging ≡ None }
+    requires standing { D.tells → AreStanding (D.disk dev.old) engine.old.hosting.stores }
+    ensures ready { OnOk result (IsReady engine.new) }
+    ensures own { OnOk result (NamesSet None engine.old engine.new) }
+    ensures standing { D.tells → OnOk result (AreStanding (D.disk dev.new) engine.new.hosting.stores) }
+    ensures does { D.tells → OnOk result (DoesPart engine.old (D.disk dev.old) (part.MediumMade path.now) engine.new (D.disk dev.new)) }
+    ensures crash { D.tells → CutsPart engine.old (D.disk dev.old) (part.MediumMade path.now) (D.disk dev.new) }
+    ensures touches { D.tells → TouchesOnly (PartWrites (part.MediumMade path.now)) (D.disk dev.old) (D.disk dev.new) }
+    ensures sound { IsErrOf result Broken → ⊥ }
+    ensures cause { HasCause D.disk_faults D.tell_faults dev.old dev.new (IsErrOf result Fault) }
+{
+    engine.make_medium(dev, path)?;
+    Ok(())
+}
+
+// Seals the set with this header on the medium at a path.
+fn seal_set<D: Device>(
+    engine: &mut Engine,
+    dev: &mut D,
+    path: &Text,
+    header: &Header,
+) -> Result<(), ExecuteError>
+    requires ready { IsReady engine.old }
+    requires keeps { KeepsPart (part.SetSealed path.now header.now) }
+    requires none { (own_in engine.old).staging ≡ None }
+    requires standing { D.tells → AreStanding (D.disk dev.old) engine.old.hosting.stores }
+    ensures ready { OnOk result (IsReady engine.new) }
+    ensures own { OnOk result (NamesSet None engine.old engine.new) }
+    ensures standing { D.tells → OnOk result (AreStanding (D.disk dev.new) engine.new.hosting.stores) }
+    ensures does { D.tells → OnOk result (DoesPart engine.old (D.disk dev.old) (part.SetSealed path.now header.now) engine.new (D.disk dev.new)) }
+    ensures crash { D.tells → CutsPart engine.old (D.disk dev.old) (part.SetSealed path.now header.now) (D.disk dev.new) }
+    ensures touches { D.tells → TouchesOnly (PartWrites (part.SetSealed path.now header.now)) (D.disk dev.old) (D.disk dev.new) }
+    ensures sound { IsErrOf result Broken → ⊥ }
+    ensures cause { HasCause D.disk_faults D.tell_faults dev.old dev.new (IsErrOf result Fault) }
+{
+    seal_database(engine, dev, path, header)?;
+    Ok(())
+}
+
+// Does one part. A crash leaves what it may leave inside of its act.
+fn do_part<D: Device>(engine: &mut Engine, dev: &mut D, part: &Part) -> Result<(), ExecuteError>
+    requires ready { IsReady engine.old }
     requires keeps { KeepsPart part.now }
-    requires stored { D.tells → IsStored (D.disk dev.old) instance.old }
-    ensures ready { OnOk result (IsReady instance.new) }
-    ensures stored { D.tells → OnOk result (IsStored (D.disk dev.new) instance.new) }
-    ensures media { D.tells → MediaAreDurable (D.disk dev.old) → OnOk result (MediaAreDurable (D.disk dev.new)) }
-    ensures number { OnOk result (instance.new.kept.number ≡ instance.old.kept.number) }
-    ensures does { D.tells → OnOk result (DoesPart instance.old (D.disk dev.old) part.now instance.new (D.disk dev.new)) }
-    ensures crash { D.tells → Effect IsOurs (IfDurable (D.disk dev.old) (CutsPart instance.old (D.disk dev.old) part.now)) (D.disk dev.old) (D.disk dev.new) }
-    ensures spares { D.tells → TouchesOnly (PartWrites part.now) (D.disk dev.old) (D.disk dev.new) }
-    ensures broken { D.tells → IsErrOf result Broken → IsNoPart instance.old (D.disk dev.old) part.now }
+    requires none { (own_in engine.old).staging ≡ None }
+    requires standing { D.tells → AreStanding (D.disk dev.old) engine.old.hosting.stores }
+    ensures ready { OnOk result (IsReady engine.new) }
+    ensures own { OnOk result (NamesSet None engine.old engine.new) }
+    ensures standing { D.tells → OnOk result (AreStanding (D.disk dev.new) engine.new.hosting.stores) }
+    ensures does { D.tells → OnOk result (DoesPart engine.old (D.disk dev.old) part.now engine.new (D.disk dev.new)) }
+    ensures crash { D.tells → CutsPart engine.old (D.disk dev.old) part.now (D.disk dev.new) }
+    ensures touches { D.tells → TouchesOnly (PartWrites part.now) (D.disk dev.old) (D.disk dev.new) }
+    ensures sound { IsErrOf result Broken → ⊥ }
     ensures cause { HasCause D.disk_faults D.tell_faults dev.old dev.new (IsErrOf result Fault) }
 {
     match part {
-        Part::Stored(act) => do_act(instance, dev, act),
-        Part::MediumMade { path } => {
-            instance.flush(dev)?;
-            instance.make_medium(dev, path)
-        }
-        Part::SetSealed { path, body } => {
-            instance.flush(dev)?;
-            instance.seal_set(dev, path, body)
-        }
+        Part::Stored(act) => do_stored(engine, dev, act),
+        Part::MediumMade { path } => make_medium(engine, dev, path),
+        Part::SetSealed { path, header } => seal_set(engine, dev, path, header),
     }
 }
 
-// Does parts, one after the other. A crash leaves the world behind some of them, from the first one on.
+// Does parts, one after the other. A crash leaves what it may leave inside of their acts.
 fn carry_out<D: Device>(
-    instance: &mut Instance,
+    engine: &mut Engine,
     dev: &mut D,
     parts: &[Part],
 ) -> Result<(), ExecuteError>
-    requires ready { IsReady instance.old }
+    requires ready { IsReady engine.old }
     requires keep { AllByRecursion KeepsPart parts.now }
-    requires stored { D.tells → IsStored (D.disk dev.old) instance.old }
-    ensures ready { OnOk result (IsReady instance.new) }
-    ensures stored { D.tells → OnOk result (IsStored (D.disk dev.new) instance.new) }
-    ensures media { D.tells → MediaAreDurable (D.disk dev.old) → OnOk result (MediaAreDurable (D.disk dev.new)) }
-    ensures number { OnOk result (instance.new.kept.number ≡ instance.old.kept.number) }
-    ensures does { D.tells → OnOk result (DoesParts instance.old (D.disk dev.old) parts.now instance.new (D.disk dev.new)) }
-    ensures crash { D.tells → Effect IsOurs (IfDurable (D.disk dev.old) (CutsParts instance.old (D.disk dev.old) parts.now)) (D.disk dev.old) (D.disk dev.new) }
-    ensures still { D.tells → parts.now ≡ [] → OnOk result (Rests instance.old (D.disk dev.old) instance.new (D.disk dev.new)) }
-    ensures spares { D.tells → TouchesOnly (PartsWrite parts.now) (D.disk dev.old) (D.disk dev.new) }
-    ensures broken { D.tells → IsErrOf result Broken → AreNoParts instance.old (D.disk dev.old) parts.now }
+    requires none { (own_in engine.old).staging ≡ None }
+    requires standing { D.tells → AreStanding (D.disk dev.old) engine.old.hosting.stores }
+    ensures ready { OnOk result (IsReady engine.new) }
+    ensures own { OnOk result (NamesSet None engine.old engine.new) }
+    ensures standing { D.tells → OnOk result (AreStanding (D.disk dev.new) engine.new.hosting.stores) }
+    ensures does { D.tells → OnOk result (DoesParts engine.old (D.disk dev.old) parts.now engine.new (D.disk dev.new)) }
+    ensures crash { D.tells → CutsParts engine.old (D.disk dev.old) parts.now (D.disk dev.new) }
+    ensures still { D.tells → parts.now ≡ [] → OnOk result (Rests engine.old (D.disk dev.old) engine.new (D.disk dev.new)) }
+    ensures touches { D.tells → TouchesOnly (PartsWrite parts.now) (D.disk dev.old) (D.disk dev.new) }
+    ensures sound { IsErrOf result Broken → ⊥ }
     ensures cause { HasCause D.disk_faults D.tell_faults dev.old dev.new (IsErrOf result Fault) }
 {
+    engine.at_rest(dev);
     for part in parts {
-        do_part(instance, dev, part)?;
+        do_part(engine, dev, part)?;
     }
     Ok(())
 }
 
-/// Does what a plan says, and gives its reply. A crash leaves the world behind some of its acts, from the first one on.
+// The current database of the session is another one from now on, or there is none.
+fn turn<D: Device>(engine: &mut Engine, dev: &mut D, name: Option<Text>) -> Result<(), ExecuteError>
+    requires ready { IsReady engine.old }
+    requires none { (own_in engine.old).staging ≡ None }
+    requires standing { D.tells → AreStanding (D.disk dev.old) engine.old.hosting.stores }
+    ensures ready { OnOk result (IsReady engine.new) }
+    ensures own { OnOk result (NamesSet None engine.old engine.new) }
+    ensures standing { D.tells → OnOk result (AreStanding (D.disk dev.new) engine.new.hosting.stores) }
+    ensures does { D.tells → OnOk result (DoesPlan engine.old (D.disk dev.old) (plan.Turned name) engine.new (D.disk dev.new)) }
+    ensures crash { D.tells → CutsPlan engine.old (D.disk dev.old) (plan.Turned name) (D.disk dev.new) }
+    ensures still { D.tells → OnOk result (Rests engine.old (D.disk dev.old) engine.new (D.disk dev.new)) }
+    ensures touches { D.tells → TouchesOnly NoMedium (D.disk dev.old) (D.disk dev.new) }
+    ensures sound { IsErrOf result Broken → ⊥ }
+    ensures cause { HasCause D.disk_faults D.tell_faults dev.old dev.new (IsErrOf result Fault) }
+{
+    engine.at_rest(dev);
+    engine.turn(dev, name)?;
+    Ok(())
+}
+
+// This session is the current one from now on.
+fn seat<D: Device>(engine: &mut Engine, dev: &mut D, session: u8)
+    requires ready { IsReady engine.old }
+    requires none { (own_in engine.old).staging ≡ None }
+    requires standing { D.tells → AreStanding (D.disk dev.old) engine.old.hosting.stores }
+    ensures ready { IsReady engine.new }
+    ensures own { NamesSet None engine.old engine.new }
+    ensures standing { D.tells → AreStanding (D.disk dev.new) engine.new.hosting.stores }
+    ensures does { D.tells → DoesPlan engine.old (D.disk dev.old) (plan.Seated session) engine.new (D.disk dev.new) }
+    ensures crash { D.tells → CutsPlan engine.old (D.disk dev.old) (plan.Seated session) (D.disk dev.new) }
+    ensures still { D.tells → Rests engine.old (D.disk dev.old) engine.new (D.disk dev.new) }
+    ensures touches { D.tells → TouchesOnly NoMedium (D.disk dev.old) (D.disk dev.new) }
+    ensures cause { HasCause D.disk_faults D.tell_faults dev.old dev.new ⊥ }
+{
+    engine.at_rest(dev);
+    engine.seat(dev, session);
+}
+
+/// Does what a plan says, and gives its reply. A crash leaves what it may leave inside of its acts.
 pub(crate) fn follow<D: Device>(
-    instance: &mut Instance,
+    engine: &mut Engine,
     dev: &mut D,
     plan: Plan,
 ) -> Result<Reply, ExecuteError>
-    requires ready { IsReady instance.old }
+    requires ready { IsReady engine.old }
     requires keeps { KeepsPlan plan }
-    requires stored { D.tells → IsStored (D.disk dev.old) instance.old }
-    ensures ready { OnOk result (IsReady instance.new) }
-    ensures stored { D.tells → OnOk result (IsStored (D.disk dev.new) instance.new) }
-    ensures media { D.tells → MediaAreDurable (D.disk dev.old) → OnOk result (MediaAreDurable (D.disk dev.new)) }
-    ensures number { OnOk result (instance.new.kept.number ≡ instance.old.kept.number) }
+    requires none { (own_in engine.old).staging ≡ None }
+    requires standing { D.tells → AreStanding (D.disk dev.old) engine.old.hosting.stores }
+    ensures ready { OnOk result (IsReady engine.new) }
+    ensures own { OnOk result (NamesSet None engine.old engine.new) }
+    ensures standing { D.tells → OnOk result (AreStanding (D.disk dev.new) engine.new.hosting.stores) }
     ensures replies { IfOk result (λ reply. reply ≡ reply_of plan) }
-    ensures does { D.tells → OnOk result (DoesPlan instance.old (D.disk dev.old) plan instance.new (D.disk dev.new)) }
-    ensures crash { D.tells → Effect IsOurs (IfDurable (D.disk dev.old) (CutsPlan instance.old (D.disk dev.old) plan)) (D.disk dev.old) (D.disk dev.new) }
-    ensures still { D.tells → HasNoParts plan → OnOk result (Rests instance.old (D.disk dev.old) instance.new (D.disk dev.new)) }
-    ensures spares { D.tells → TouchesOnly (PlanWrites plan) (D.disk dev.old) (D.disk dev.new) }
-    ensures broken { D.tells → IsErrOf result Broken → IsNoPlan instance.old (D.disk dev.old) plan }
+    ensures does { D.tells → OnOk result (DoesPlan engine.old (D.disk dev.old) plan engine.new (D.disk dev.new)) }
+    ensures crash { D.tells → CutsPlan engine.old (D.disk dev.old) plan (D.disk dev.new) }
+    ensures still { D.tells → HasNoParts plan → OnOk result (Rests engine.old (D.disk dev.old) engine.new (D.disk dev.new)) }
+    ensures touches { D.tells → TouchesOnly (PlanWrites plan) (D.disk dev.old) (D.disk dev.new) }
+    ensures sound { IsErrOf result Broken → ⊥ }
     ensures cause { HasCause D.disk_faults D.tell_faults dev.old dev.new (IsErrOf result Fault) }
 {
-    what_waits_is_joined();
     match plan {
-        Plan::Refused { rule } => Ok(Reply::Refused { rule }),
-        Plan::Answered { reply } => Ok(reply),
+        Plan::Refused { rule } => {
+            engine.at_rest(dev);
+            Ok(Reply::Refused { rule })
+        }
+        Plan::Answered { reply } => {
+            engine.at_rest(dev);
+            Ok(reply)
+        }
         Plan::Turned { name } => {
-            instance.kept.turn(name)?;
+            turn(engine, dev, name)?;
             Ok(Reply::Done)
         }
         Plan::Seated { session } => {
-            instance.kept.seat(session);
+            seat(engine, dev, session);
             Ok(Reply::Nothing)
         }
         Plan::Parts { parts, reply } => {
-            let done = carry_out(instance, dev, &parts);
+            let done = carry_out(engine, dev, &parts);
             drop(parts);
             done?;
             Ok(reply)

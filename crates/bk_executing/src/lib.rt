@@ -1,11 +1,17 @@
-//! How an instance executes a statement: each makes one step of the written machine.
+//! How an instance over its stores executes a statement, and ends its run: each statement makes one step of the written machine.
 #![tactic(auto)]
 
 mod backing_up;
+mod closing;
+mod copies;
+mod doing;
+mod error;
 mod executing;
-mod first_set;
 mod following;
+mod parking;
 mod planning;
 mod restoring;
 
+pub use closing::close;
+pub use error::ExecuteError;
 pub use executing::execute;

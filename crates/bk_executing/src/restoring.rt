@@ -1,28 +1,53 @@
 // RESTORE DATABASE.
-ghost use Rattle.std.specs.Prelude.{◌≡◌, IfOk, OnOk, OnErr, IsErrOf};
+ghost use Rattle.std.specs.Prelude.{◌≡◌, ℕ, List, None, Ok, Err, true, IfOk, IfSome, MatchOption, OnOk, OnErr, IsErrOf};
+ghost use Rattle.bk_archive.specs.First.{IsFirstSet};
+ghost use Rattle.bk_archive.specs.Media.{IsMediumFile};
+ghost use Rattle.bk_body.specs.Body.{Body};
+ghost use Rattle.bk_device.specs.Calls.{ChangesNothing, contents};
 ghost use Rattle.bk_device.specs.Counts.{HasCause};
+ghost use Rattle.bk_device.specs.Effects.{Effect};
+ghost use Rattle.bk_engine.specs.Bringing.{IsSetOn};
+ghost use Rattle.bk_engine.specs.Stands.{IsOurs, IsReady, NamesSet, StandsFor, own_in};
+ghost use Rattle.bk_engine.specs.Touched.{IsPath, NoMedium, TouchesOnly};
+ghost use Rattle.bk_engine.specs.Viewing.{AreEnds};
 ghost use Rattle.bk_executing.specs.Executing.{Executed, Failed};
-ghost use Rattle.bk_instance.specs.Media.{MediaAreDurable};
-ghost use Rattle.bk_instance.specs.Stands.{IsReady, IsStored, StandsFor};
-ghost use Rattle.bk_instance.specs.declared.error.ExecuteError.TheVariants.{Broken, Fault};
+ghost use Rattle.bk_executing.specs.Planned.{IsPlanned};
+ghost use Rattle.bk_executing.specs.Restoring.{first_of};
+ghost use Rattle.bk_executing.specs.declared.error.ExecuteError.TheVariants.{Broken, Fault};
 ghost use Rattle.bk_items.specs.declared.item.ScriptItem.TheVariants as script;
+ghost use Rattle.bk_machine.specs.Acts.{Act, done_all};
 ghost use Rattle.bk_machine.specs.World.{World};
-ghost use Rattle.bk_machine.specs.statements.Restore.{disk_path};
+ghost use Rattle.bk_machine.specs.statements.Restore as restore;
+ghost use Rattle.bk_media_plans.specs.RestorePlans.{AreOfRestore, KeepsSet};
+ghost use Rattle.bk_media_plans.specs.Restoring as request;
+ghost use Rattle.bk_plans.specs.Planning.{KeepsPlan};
+ghost use Rattle.bk_restarts.specs.Crashes.{CutIn};
+ghost use Rattle.bk_stores.specs.Standing.{AreStanding};
+ghost use Rattle.bk_volume.specs.Stored.{IsOf};
+ghost use Rattle.bk_world.specs.Medium.{medium_at};
 
-use crate::first_set::first_set;
+use crate::error::ExecuteError;
 use crate::following::follow;
+use crate::parking::known_set;
 use crate::planning::plan_kept_restore;
+use bk_archive::{FirstSet, first_set};
 use bk_device::Device;
-use bk_ids::Text;
-use bk_instance::{ExecuteError, Instance};
+use bk_engine::Engine;
+use bk_ids::{Guid, Lsn, Name, Text};
 use bk_items::{RestoreOptions, RestoredUnits};
-use bk_machine::acts_of_statements;
-use bk_media_plans::unbuilt_restore;
-use bk_world::Reply;
+use bk_machine::{statements_do_what_they_may, what_statements_write_to};
+use bk_media_plans::{FirstView, RestorePlan, unbuilt_restore};
+use bk_plans::Plan;
+use bk_record::{Records, log_law};
+use bk_shown::Shown;
+use bk_side::name_law;
+use bk_world::{Reply, Rule};
+use std::alloc::AllocError;
+use std::thread::Threads;
 
 // The path of a medium, empty where none is named.
 fn path_of(disk: &Option<Text>) -> &str
-    ensures { result.now ≡ disk_path disk.now }
+    ensures { result.now ≡ restore.disk_path disk.now }
 {
     match disk {
         Some(path) => path.as_str(),
@@ -30,9 +55,195 @@ fn path_of(disk: &Option<Text>) -> &str
     }
 }
 
+// What a restore that isn't built comes to over what an engine has in memory, `None` where it is built; these are the ends of the databases' logs.
+fn unbuilt_among(
+    engine: &Engine,
+    ends: &[Shown],
+    line: u32,
+    database: &Text,
+    units: &RestoredUnits,
+    disk: &Option<Text>,
+    options: &RestoreOptions,
+) -> Result<Option<Plan>, AllocError>
+    requires ready { IsReady engine.now }
+    requires ends { AreEnds engine.now ends.now }
+    ensures plans { IfOk result (λ found. MatchOption found
+        (request.is_built database.now units.now disk.now options.now ≡ true)
+        (λ plan. (now : ℕ) → IsPlanned engine.now (λ w. Unit {0}) (record { item = script.RestoreDatabase database.now units.now disk.now options.now; line = line }) now plan)) }
+    ensures keeps { IfOk result (λ found. IfSome found KeepsPlan) }
+{
+    let seen = engine.view(engine.alloc(), ends)?;
+    let plan = unbuilt_restore(line, database, units, disk, options);
+    drop(seen);
+    Ok(plan)
+}
+
+// What a restore on this line that isn't built comes to, `None` where it is built.
+fn unbuilt(
+    engine: &Engine,
+    line: u32,
+    database: &Text,
+    units: &RestoredUnits,
+    disk: &Option<Text>,
+    options: &RestoreOptions,
+) -> Result<Option<Plan>, AllocError>
+    requires ready { IsReady engine.now }
+    ensures plans { IfOk result (λ found. MatchOption found
+        (request.is_built database.now units.now disk.now options.now ≡ true)
+        (λ plan. (now : ℕ) → IsPlanned engine.now (λ w. Unit {0}) (record { item = script.RestoreDatabase database.now units.now disk.now options.now; line = line }) now plan)) }
+    ensures keeps { IfOk result (λ found. IfSome found KeepsPlan) }
+{
+    let ends = engine.ends(engine.alloc())?;
+    unbuilt_among(engine, &ends, line, database, units, disk, options)
+}
+
+// The log of a set that was opened. Changes nothing. `Broken` comes only where it isn't that of a set.
+fn read_log<D: Device>(
+    engine: &Engine,
+    dev: &mut D,
+    first: &FirstSet,
+) -> Result<Records, ExecuteError>
+    ensures log { D.tells → (body : Body) → IsOf (contents ((D.disk dev.old).files first.now.medium.name)) body first.now.set → IfOk result (λ log. log ≡ body.log) }
+    ensures broken { D.tells → IsErrOf result Broken → (body : Body) → IsOf (contents ((D.disk dev.old).files first.now.medium.name)) body first.now.set → ⊥ }
+    ensures effect { D.tells → ChangesNothing (D.disk dev.old) (D.disk dev.new) }
+    ensures cause { HasCause D.disk_faults D.tell_faults dev.old dev.new (IsErrOf result Fault) }
+{
+    log_law();
+    let bytes = first.medium.log_of(engine.alloc(), dev, &first.set)?;
+    match Records::new(bytes) {
+        Ok(log) => Ok(log),
+        Err(_) => Err(ExecuteError::Broken),
+    }
+}
+
+// The set that was opened takes the place of the database of this name and brings it up on this branch. A crash leaves what it may leave inside of the acts of the restore.
+fn bring_up<R: Threads + Sync, D: Device>(
+    engine: &mut Engine,
+    rt: &R,
+    dev: &mut D,
+    first: &FirstSet,
+    name: &Name,
+    branch: Guid,
+    last: Lsn,
+) -> Result<(), ExecuteError>
+    requires ready { IsReady engine.old }
+    requires none { (own_in engine.old).staging ≡ None }
+    requires medium { IsMediumFile first.now.medium.name }
+    requires keeps { KeepsSet first.now.set.header first.now.set.tables }
+    requires standing { D.tells → AreStanding (D.disk dev.old) engine.old.hosting.stores }
+    ensures ready { OnOk result (IsReady engine.new) }
+    ensures own { OnOk result (NamesSet None engine.old engine.new) }
+    ensures standing { D.tells → OnOk result (AreStanding (D.disk dev.new) engine.new.hosting.stores) }
+    ensures does { D.tells → (w : World) (log : List ℕ) (acts : List Act) → StandsFor (D.disk dev.old) engine.old w → IsSetOn (D.disk dev.old).files first.now.medium.name first.now.set
+        → AreOfRestore w (first_of first.now.set log) name.now branch last acts → OnOk result (StandsFor (D.disk dev.new) engine.new (done_all w acts)) }
+    ensures crash { D.tells → (w : World) (log : List ℕ) (acts : List Act) → StandsFor (D.disk dev.old) engine.old w → IsSetOn (D.disk dev.old).files first.now.medium.name first.now.set
+        → AreOfRestore w (first_of first.now.set log) name.now branch last acts → Effect IsOurs (CutIn w acts) (D.disk dev.old) (D.disk dev.new) }
+    ensures touches { D.tells → TouchesOnly NoMedium (D.disk dev.old) (D.disk dev.new) }
+    ensures broken { D.tells → IsErrOf result Broken → (w : World) (log : List ℕ) (acts : List Act) → StandsFor (D.disk dev.old) engine.old w → IsSetOn (D.disk dev.old).files first.now.medium.name first.now.set
+        → AreOfRestore w (first_of first.now.set log) name.now branch last acts → ⊥ }
+    ensures cause { HasCause D.disk_faults D.tell_faults dev.old dev.new (IsErrOf result Fault) }
+{
+    name_law();
+    engine.at_rest(dev);
+    let known = known_set(engine.alloc(), name, &first.set)?;
+    engine.park(dev, known, first.set.header())?;
+    engine.bring_up(
+        rt,
+        dev,
+        name.as_str(),
+        &first.medium,
+        &first.set,
+        branch,
+        last,
+    )?;
+    Ok(())
+}
+
+// Restores by the set that was opened first on the medium.
+fn restore_set<R: Threads + Sync, D: Device>(
+    engine: &mut Engine,
+    rt: &R,
+    dev: &mut D,
+    line: u32,
+    database: &Text,
+    units: &RestoredUnits,
+    disk: &Option<Text>,
+    options: &RestoreOptions,
+    first: &FirstSet,
+    now: u64,
+) -> Result<Reply, ExecuteError>
+    requires ready { IsReady engine.old }
+    requires none { (own_in engine.old).staging ≡ None }
+    requires built { request.is_built database.now units.now disk.now options.now ≡ true }
+    requires medium { IsMediumFile first.now.medium.name }
+    requires first { D.tells → (w : World) → StandsFor (D.disk dev.old) engine.old w → IsFirstSet w (restore.disk_path disk.now) ((D.disk dev.old).files first.now.medium.name) first.now.set }
+    requires standing { D.tells → AreStanding (D.disk dev.old) engine.old.hosting.stores }
+    ensures ready { OnOk result (IsReady engine.new) }
+    ensures own { OnOk result (NamesSet None engine.old engine.new) }
+    ensures standing { D.tells → OnOk result (AreStanding (D.disk dev.new) engine.new.hosting.stores) }
+    ensures executed { IfOk result (λ reply. Executed D.tells engine.old (D.disk dev.old) (record { item = script.RestoreDatabase database.now units.now disk.now options.now; line = line }) now reply engine.new (D.disk dev.new)) }
+    ensures failed { OnErr result (Failed D.tells engine.old (D.disk dev.old) (record { item = script.RestoreDatabase database.now units.now disk.now options.now; line = line }) now (D.disk dev.new)) }
+    ensures touches { D.tells → TouchesOnly NoMedium (D.disk dev.old) (D.disk dev.new) }
+    ensures broken { D.tells → IsErrOf result Broken → (w : World) → StandsFor (D.disk dev.old) engine.old w → ⊥ }
+    ensures cause { HasCause D.disk_faults D.tell_faults dev.old dev.new (IsErrOf result Fault) }
+{
+    statements_do_what_they_may();
+    let log = read_log(engine, dev, first)?;
+    let view = FirstView {
+        header: first.set.header(),
+        tables: first.set.tables(),
+        log: &log,
+    };
+    let plan = plan_kept_restore(engine, line, database, units, disk, options, Ok(view), now)?;
+    match plan {
+        RestorePlan::Refused { rule } => follow(engine, dev, Plan::Refused { rule }),
+        RestorePlan::BringsUp { name, branch, last } => {
+            bring_up(engine, rt, dev, first, &name, branch, last)?;
+            Ok(Reply::Recovered {
+                at: first.set.header().last,
+            })
+        }
+    }
+}
+
+// Refuses by the rule by which the first set of the medium is refused, or by one that comes before it.
+fn refuse<D: Device>(
+    engine: &mut Engine,
+    dev: &mut D,
+    line: u32,
+    database: &Text,
+    units: &RestoredUnits,
+    disk: &Option<Text>,
+    options: &RestoreOptions,
+    rule: Rule,
+    now: u64,
+) -> Result<Reply, ExecuteError>
+    requires ready { IsReady engine.old }
+    requires none { (own_in engine.old).staging ≡ None }
+    requires built { request.is_built database.now units.now disk.now options.now ≡ true }
+    requires first { D.tells → (w : World) → StandsFor (D.disk dev.old) engine.old w → restore.first_set (medium_at w.media (restore.disk_path disk.now)) ≡ Err rule }
+    requires standing { D.tells → AreStanding (D.disk dev.old) engine.old.hosting.stores }
+    ensures ready { OnOk result (IsReady engine.new) }
+    ensures own { OnOk result (NamesSet None engine.old engine.new) }
+    ensures standing { D.tells → OnOk result (AreStanding (D.disk dev.new) engine.new.hosting.stores) }
+    ensures executed { IfOk result (λ reply. Executed D.tells engine.old (D.disk dev.old) (record { item = script.RestoreDatabase database.now units.now disk.now options.now; line = line }) now reply engine.new (D.disk dev.new)) }
+    ensures failed { OnErr result (Failed D.tells engine.old (D.disk dev.old) (record { item = script.RestoreDatabase database.now units.now disk.now options.now; line = line }) now (D.disk dev.new)) }
+    ensures touches { D.tells → TouchesOnly NoMedium (D.disk dev.old) (D.disk dev.new) }
+    ensures broken { D.tells → IsErrOf result Broken → (w : World) → StandsFor (D.disk dev.old) engine.old w → ⊥ }
+    ensures cause { HasCause D.disk_faults D.tell_faults dev.old dev.new (IsErrOf result Fault) }
+{
+    statements_do_what_they_may();
+    let plan = plan_kept_restore(engine, line, database, units, disk, options, Err(rule), now)?;
+    match plan {
+        RestorePlan::Refused { rule } => follow(engine, dev, Plan::Refused { rule }),
+        RestorePlan::BringsUp { .. } => Err(ExecuteError::NoMemory),
+    }
+}
+
 /// `RESTORE DATABASE` on this line.
-pub(crate) fn restore<D: Device>(
-    instance: &mut Instance,
+pub(crate) fn restore<R: Threads + Sync, D: Device>(
+    engine: &mut Engine,
+    rt: &R,
     dev: &mut D,
     line: u32,
     database: &Text,
@@ -41,32 +252,27 @@ pub(crate) fn restore<D: Device>(
     options: &RestoreOptions,
     now: u64,
 ) -> Result<Reply, ExecuteError>
-    requires ready { IsReady instance.old }
-    requires stored { D.tells → IsStored (D.disk dev.old) instance.old }
-    ensures ready { OnOk result (IsReady instance.new) }
-    ensures stored { D.tells → OnOk result (IsStored (D.disk dev.new) instance.new) }
-    ensures media { D.tells → MediaAreDurable (D.disk dev.old) → OnOk result (MediaAreDurable (D.disk dev.new)) }
-    ensures number { OnOk result (instance.new.kept.number ≡ instance.old.kept.number) }
-    ensures executed { IfOk result (λ reply. Executed D.tells instance.old (D.disk dev.old) (record { item = script.RestoreDatabase database.now units.now disk.now options.now; line = line }) now reply instance.new (D.disk dev.new)) }
-    ensures failed { OnErr result (Failed D.tells instance.old (D.disk dev.old) (record { item = script.RestoreDatabase database.now units.now disk.now options.now; line = line }) now (D.disk dev.new)) }
-    ensures broken { D.tells → IsErrOf result Broken → (w : World) → StandsFor instance.old (D.disk dev.old) w → ⊥ }
+    requires ready { IsReady engine.old }
+    requires none { (own_in engine.old).staging ≡ None }
+    requires standing { D.tells → AreStanding (D.disk dev.old) engine.old.hosting.stores }
+    ensures ready { OnOk result (IsReady engine.new) }
+    ensures own { OnOk result (NamesSet None engine.old engine.new) }
+    ensures standing { D.tells → OnOk result (AreStanding (D.disk dev.new) engine.new.hosting.stores) }
+    ensures executed { IfOk result (λ reply. Executed D.tells engine.old (D.disk dev.old) (record { item = script.RestoreDatabase database.now units.now disk.now options.now; line = line }) now reply engine.new (D.disk dev.new)) }
+    ensures failed { OnErr result (Failed D.tells engine.old (D.disk dev.old) (record { item = script.RestoreDatabase database.now units.now disk.now options.now; line = line }) now (D.disk dev.new)) }
+    ensures touches { D.tells → TouchesOnly IsPath (D.disk dev.old) (D.disk dev.new) }
+    ensures broken { D.tells → IsErrOf result Broken → (w : World) → StandsFor (D.disk dev.old) engine.old w → ⊥ }
     ensures cause { HasCause D.disk_faults D.tell_faults dev.old dev.new (IsErrOf result Fault) }
 {
-    acts_of_statements();
-    if let Some(plan) = unbuilt_restore(line, database, units, disk, options) {
-        return follow(instance, dev, plan);
+    statements_do_what_they_may();
+    what_statements_write_to();
+    if let Some(plan) = unbuilt(engine, line, database, units, disk, options)? {
+        return follow(engine, dev, plan);
     }
-    let first = first_set(instance.alloc, dev, path_of(disk))?;
-    let plan = plan_kept_restore(
-        &instance.kept,
-        instance.alloc,
-        line,
-        database,
-        units,
-        disk,
-        options,
-        first,
-        now,
-    )?;
-    follow(instance, dev, plan)
+    match first_set(engine.alloc(), dev, path_of(disk))? {
+        Ok(first) => restore_set(
+            engine, rt, dev, line, database, units, disk, options, &first, now,
+        ),
+        Err(rule) => refuse(engine, dev, line, database, units, disk, options, rule, now),
+    }
 }

@@ -7,7 +7,7 @@ use Rattle.std.proofs.lemmas.Bool.{lt-ltb}
 use Rattle.std.proofs.lemmas.Bool.Decides.{nat_tests}
 use Rattle.std.proofs.lemmas.List.Quantifiers.{position-Some}
 use Rattle.bk_machine.specs.Acts.{turned, seated, done}
-use Rattle.bk_machine.specs.World.{World, Session, current_name, session_numbered, with_session}
+use Rattle.bk_machine.specs.World.{World, current_name, session_numbered, with_session}
 use Rattle.bk_kept.specs.declared.kept.Kept.{Kept}
 use Rattle.bk_kept.specs.declared.kept.Session.{Session as KeptSession}
 use Rattle.bk_kept.specs.Keeps.{Keeps, Sees, session_of}

@@ -1,10 +1,8 @@
 -- Which worlds the databases that are kept stand for, and those that are seen of them.
 use Rattle.std.specs.Prelude.{◌≡◌, false, true, List, map, None}
 use Rattle.std.specs.List.{AllByRecursion}
-use Rattle.bk_acts.specs.Transactions.{IsTransaction}
-use Rattle.bk_machine.specs.World.{World, Database, Session, least_begin}
+use Rattle.bk_machine.specs.World.{World, Database, Session}
 use Rattle.bk_machine.specs.statements.Restore.{is_online}
-use Rattle.bk_shown.specs.Ends.{SpellsEnd}
 use Rattle.bk_shown.specs.Shown.{Shows}
 use Rattle.bk_world.specs.Lines.{RecordLines, log_below}
 use Rattle.bk_kept.specs.declared.kept.Database.{Database as KeptDatabase}
@@ -42,24 +40,14 @@ session_of s = record { number = s.number; current = s.current; starts = false }
 abbrev pub ShowsLog : RecordLines → KeptDatabase → Type 0
 ShowsLog history d = Shows d.files (log_below history d.path d.shown.«end») d.shown
 
--- the end of its log is kept from the first record of what is open in it on
-abbrev pub HoldsLive : RecordLines → KeptDatabase → Type 0
-HoldsLive history d = SpellsEnd (log_below history d.path d.shown.«end») (least_begin d.transactions d.shown.«end») d.live
-
--- a database in memory shows its log, the end of which is kept, and its open transactions have a spelling
-pub record IsKept (history : RecordLines) (d : KeptDatabase) : Type 0 where
-  pub shows : ShowsLog history d
-  pub live : HoldsLive history d
-  pub opens : AllByRecursion IsTransaction d.transactions
-
 -- of a database it is seen what its log shows, where it is online
 abbrev pub IsSeenOf : RecordLines → KeptDatabase → Type 0
-IsSeenOf history d = is_online d.status ≡ true → IsKept history d
+IsSeenOf history d = is_online d.status ≡ true → ShowsLog history d
 
 -- databases in memory are those of this world, with what their logs show
 pub record KeepsDatabases (w : World) (databases : List KeptDatabase) : Type 0 where
   pub same : w.databases ≡ map database_of databases
-  pub kept : AllByRecursion (IsKept w.history) databases
+  pub kept : AllByRecursion (ShowsLog w.history) databases
 
 -- what is kept in memory stands for this world, but for its media
 pub record Keeps (w : World) (k : Kept) : Type 0 where
@@ -68,7 +56,7 @@ pub record Keeps (w : World) (k : Kept) : Type 0 where
   pub session : w.session ≡ k.session
   pub sessions : w.sessions ≡ map session_of k.sessions.items
   pub databases : w.databases ≡ map database_of k.databases.items
-  pub kept : AllByRecursion (IsKept w.history) k.databases.items
+  pub kept : AllByRecursion (ShowsLog w.history) k.databases.items
 
 -- what is seen of what is kept stands for this world, but for its media, and for the logs of databases that aren't online
 pub record Sees (w : World) (k : Kept) : Type 0 where

@@ -5,7 +5,7 @@ use Rattle.bk_machine.specs.World.{World}
 use Rattle.bk_world.specs.Lines.{RecordLines}
 use Rattle.bk_kept.specs.declared.kept.Database.{Database as KeptDatabase}
 use Rattle.bk_kept.specs.declared.kept.Kept.{Kept}
-use Rattle.bk_kept.specs.Keeps.{IsKept, IsSeenOf, Keeps, KeepsDatabases, Sees, session_of}
+use Rattle.bk_kept.specs.Keeps.{IsSeenOf, Keeps, KeepsDatabases, Sees, ShowsLog, session_of}
 
 pub databases-kept : (w : World) (k : Kept) → Keeps w k → KeepsDatabases w k.databases.items
 databases-kept w k keeps = record { same = keeps.databases; kept = keeps.kept }
@@ -15,7 +15,7 @@ whole-kept w k number counter session sessions keeps =
     record { number = number; counter = counter; session = session; sessions = sessions; databases = keeps.same; kept = keeps.kept }
 
 -- databases that are kept are seen
-all-seen : (history : RecordLines) (ds : List KeptDatabase) → AllByRecursion (IsKept history) ds → AllByRecursion (IsSeenOf history) ds
+all-seen : (history : RecordLines) (ds : List KeptDatabase) → AllByRecursion (ShowsLog history) ds → AllByRecursion (IsSeenOf history) ds
 all-seen history [] kept = tt
 all-seen history (d ∷ ds) kept = (λ up. kept.0, all-seen history ds kept.1)
 

@@ -3,6 +3,7 @@ pub mod KeepsLaws
 pub mod Numbers
 pub mod NumbersLaws
 pub mod Stored
+pub mod StoredLaws
 pub mod SetLaws
 pub mod BuiltLaws
 pub mod SessionLaws

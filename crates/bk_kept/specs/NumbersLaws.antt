@@ -8,7 +8,7 @@ use Rattle.bk_machine.specs.Checks.{last_number}
 use Rattle.bk_machine.specs.statements.Restore.{is_online}
 use Rattle.bk_world.specs.Lines.{RecordLines}
 use Rattle.bk_kept.specs.declared.kept.Database.{Database as KeptDatabase}
-use Rattle.bk_kept.specs.Keeps.{IsKept, IsSeenOf}
+use Rattle.bk_kept.specs.Keeps.{IsSeenOf, ShowsLog}
 use Rattle.bk_kept.specs.Numbers.{CanEnd, CanSettle, LeaveNumbers, leaves_numbers}
 
 module _ (d : KeptDatabase) (leaves : leaves_numbers d ≡ true) where
@@ -34,7 +34,7 @@ module _ (d : KeptDatabase) (leaves : leaves_numbers d ≡ true) where
   can-end some = omega (arith, are-left (open-online some), some)
 
   -- and what is seen of it is kept
-  pub open-kept : (history : RecordLines) → 0 < length d.transactions → IsSeenOf history d → IsKept history d
+  pub open-kept : (history : RecordLines) → 0 < length d.transactions → IsSeenOf history d → ShowsLog history d
   open-kept history some seen = seen (open-online some)
 
 -- each of some databases that leave numbers leaves them
@@ -46,10 +46,10 @@ leaves-at (x ∷ ds) zero d all there =
 leaves-at (x ∷ ds) (suc i) d all there = leaves-at ds i d (and_parts (leaves_numbers x) (list_all leaves_numbers ds) all).1 there
 
 -- and each of them in which a transaction is open is kept, where they are seen
-pub kept-at : (history : RecordLines) (ds : List KeptDatabase) (i : ℕ) (d : KeptDatabase) → LeaveNumbers ds → AllByRecursion (IsSeenOf history) ds → slice_get ds i ≡ Some d → 0 < length d.transactions → IsKept history d
+pub kept-at : (history : RecordLines) (ds : List KeptDatabase) (i : ℕ) (d : KeptDatabase) → LeaveNumbers ds → AllByRecursion (IsSeenOf history) ds → slice_get ds i ≡ Some d → 0 < length d.transactions → ShowsLog history d
 kept-at history [] i d all seen there some = absurd (cc)
 kept-at history (x ∷ ds) zero d all seen there some =
     let same : x ≡ d = (cc) in
     let own : leaves_numbers x ≡ true = (and_parts (leaves_numbers x) (list_all leaves_numbers ds) all).0 in
-    subst (λ (k : KeptDatabase). 0 < length k.transactions → IsKept history k) same (λ one. open-kept x own history one seen.0) some
+    subst (λ (k : KeptDatabase). 0 < length k.transactions → ShowsLog history k) same (λ one. open-kept x own history one seen.0) some
 kept-at history (x ∷ ds) (suc i) d all seen there some = kept-at history ds i d (and_parts (leaves_numbers x) (list_all leaves_numbers ds) all).1 seen.1 there some

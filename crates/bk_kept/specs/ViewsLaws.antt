@@ -7,7 +7,7 @@ use Rattle.bk_shown.specs.declared.shown.Shown.{Shown}
 use Rattle.bk_world.specs.declared.database.FileSpec.{FileSpec}
 use Rattle.bk_world.specs.Records.{Logged}
 use Rattle.bk_kept.specs.declared.kept.Kept.{Kept}
-use Rattle.bk_kept.specs.Keeps.{IsKept, IsSeenOf, Keeps, Sees, database_of, session_of}
+use Rattle.bk_kept.specs.Keeps.{IsSeenOf, Keeps, Sees, ShowsLog, database_of, session_of}
 use Rattle.bk_kept.specs.Numbers.{LeaveNumbers}
 use Rattle.bk_kept.specs.Views.{IsSeen}
 
@@ -19,7 +19,7 @@ keeps-same w k v number counter session sessions databases keeps = record {
   session = keeps.session ∙ sym session;
   sessions = keeps.sessions ∙ ap (λ ss. map session_of ss.items) (sym sessions);
   databases = keeps.databases ∙ ap (map database_of) (sym databases);
-  kept = subst (λ ds. AllByRecursion (IsKept w.history) ds) (sym databases) keeps.kept;
+  kept = subst (λ ds. AllByRecursion (ShowsLog w.history) ds) (sym databases) keeps.kept;
 }
 
 sees-same : (w : World) (k v : Kept) → v.number ≡ k.number → v.counter ≡ k.counter → v.session ≡ k.session → v.sessions ≡ k.sessions → v.databases.items ≡ k.databases.items → Sees w k → Sees w v

@@ -1,7 +1,6 @@
 //! What an instance keeps in memory.
 
 use bk_ids::{Guid, Lsn, Name, Path, Sequence, Text};
-use bk_record::Records;
 use bk_shown::Shown;
 use bk_world::{Base, FileSpec, Open, Status, Unit};
 
@@ -33,8 +32,6 @@ pub struct Database {
     pub units: Sequence<Unit>,
     /// What is open in it, in the order in which it began.
     pub transactions: Sequence<Open>,
-    /// Its log from the first record of what is open in it on; none where nothing is.
-    pub live: Records,
     /// What its log shows, up to its end.
     pub shown: Shown,
 }

@@ -30,7 +30,6 @@ impl Database {
             status: &self.status,
             units: &self.units,
             transactions: &self.transactions,
-            live: &self.live,
             shown: &self.shown,
         }
     }

@@ -5,7 +5,6 @@ ghost use Rattle.bk_kept.specs.declared.kept.Kept.{Kept};
 
 use crate::kept::Session;
 use bk_ids::{Guid, Lsn, Name, Path, Sequence, Text};
-use bk_record::Records;
 use bk_shown::Shown;
 use bk_world::{Base, FileSpec, Open, Status, Unit};
 use std::marker::Model;
@@ -38,8 +37,6 @@ pub struct DatabaseView<'a> {
     pub units: &'a Sequence<Unit>,
     /// What is open in it, in the order in which it began.
     pub transactions: &'a Sequence<Open>,
-    /// Its log from the first record of what is open in it on; none where nothing is.
-    pub live: &'a Records,
     /// What its log shows, up to its end.
     pub shown: &'a Shown,
 }
@@ -64,7 +61,6 @@ impl<'a> Model for DatabaseView<'a> {
       status = d.status.now;
       units = d.units.now;
       transactions = d.transactions.now;
-      live = d.live.now;
       shown = d.shown.now;
     } };
 }

@@ -1,13 +1,13 @@
 -- BACKUP DATABASE as it is planned.
 use Rattle.std.proofs.Common.{◌≡◌, ◌<◌, ℕ, ◌+◌, ◌^◌, Bool, true, false, List, [], ◌∷◌, length, Option, Some, None, Ok, refl, sym, ◌∙◌, ap, subst, arith, length-append}
 use Rattle.std.specs.Prelude.{◌||◌, ◌&&◌, ◌≤◌, not, is_some}
-use Rattle.std.specs.List.{AllByRecursion}
 use Rattle.std.specs.Str.{bytes_eq}
 use Rattle.std.proofs.lemmas.Bool.Decides.{nat_tests}
 use Rattle.std.proofs.lemmas.Slice.Eq.{bytes_eq-Decides}
-use Rattle.bk_acts.specs.declared.act.StoredAct.TheVariants.{Logged as LoggedAct, Based}
+use Rattle.bk_acts.specs.declared.act.StoredAct.TheVariants.{Checkpointed, Logged as LoggedAct, Based}
 use Rattle.bk_acts.specs.Meaning.{Spell}
 use Rattle.bk_ids.specs.declared.guid.Guid.{Guid}
+use Rattle.bk_ids.specs.declared.record.Rec.{Rec}
 use Rattle.bk_items.specs.declared.item.ScriptItem.TheVariants as script
 use Rattle.bk_items.specs.declared.item.UnitName.{UnitName}
 use Rattle.bk_items.specs.declared.options.BackupOptions.{BackupOptions}
@@ -24,10 +24,9 @@ use Rattle.bk_machine.specs.Sound.{IsSound, IsWhole, IsWholeDatabase}
 use Rattle.bk_machine.specs.World.{World, Database, database_named, least_begin, log_of}
 use Rattle.bk_machine.specs.statements.Backup.{DoesBackup, backed_up, check_backup, full_header, is_whole_backup}
 use Rattle.bk_shown.specs.Shown.{AreNext}
-use Rattle.bk_world.specs.Lines.{log_below}
+use Rattle.bk_world.specs.Lines.{RecordLines, log_below}
 use Rattle.bk_world.specs.Medium.{medium, medium_at}
 use Rattle.bk_world.specs.declared.database.Status.TheVariants.{Online}
-use Rattle.bk_world.specs.Pending.{Pending, pending}
 use Rattle.bk_world.specs.Records.{Logged, Said, checkpointed, more, numbered, stamped}
 use Rattle.bk_world.specs.Says.{alone}
 use Rattle.bk_world.specs.Telling.{model}
@@ -44,12 +43,13 @@ use Rattle.bk_plans.specs.declared.refusal.Refusal.{Refusal}
 use Rattle.bk_lemmas.specs.Tests.{first_false}
 use Rattle.bk_world.specs.CrashLaws.{counts-length}
 use Rattle.bk_machine.specs.SaysLaws.{done-says}
-use Rattle.bk_media_plans.specs.Backups.{AreBegun, IsBackup, IsBackupPlan}
+use Rattle.bk_media_plans.specs.Backups.{IsBackup, IsBackupPlan}
 use Rattle.bk_plans.specs.Checking.{IsRefused}
-use Rattle.bk_kept.specs.Keeps.{HoldsLive, Sees, ShowsLog, database_of}
+use Rattle.bk_kept.specs.Keeps.{Sees, ShowsLog, database_of}
 use Rattle.bk_plans.specs.Planned.{IsRefusedBy}
 use Rattle.bk_plans.specs.Planning.{AreParts, MakesMedium, Plans, SealsSet}
 use Rattle.bk_kept.specs.Stored.{IsDone}
+use Rattle.bk_plans.specs.SaidLaws.{done-marked}
 use Rattle.bk_plans.specs.PlanLaws.{DoWhatTheyMay, comes-found, comes-refused, plans-refusal}
 
 -- What was checked.
@@ -100,8 +100,6 @@ pub record Laws : Type 0 where
       → database_named (says w db said transactions).databases name ≡ Some (gone_on (model (log_of w.history db)) said transactions db)
   pub log : (w : World) (name : List ℕ) (db : Database) (said : List Said) (transactions : List Open) → IsWhole w → database_named w.databases name ≡ Some db → MaySay w db said
       → log_of (says w db said transactions).history (gone_on (model (log_of w.history db)) said transactions db) ≡ more (log_of w.history db) db.end said
-  pub begun : (w : World) (db : Database) (set : Guid) (time : ℕ) → IsSound w → database_named w.databases db.name ≡ Some db → db.status ≡ Online
-      → AllByRecursion (λ (p : Pending). (full_header w db set time).first ≤ p.begin) (pending (log_of w.history db))
 
 -- A database says something.
 
@@ -131,14 +129,15 @@ behind laws v name db said ts sound named may =
       media = subst (λ (u : World). u.media ≡ v.media) (sym is) (media-said v db said ts);
     }
 
-mark-done : (v : World) (name : List ℕ) (db : Database) (said : List Said) (ts : List Open) (records : List ℕ) → database_named v.databases name ≡ Some db → MayDo v (logged name said ts) → Spell records db.end said
+say-done : (v : World) (name : List ℕ) (db : Database) (said : List Said) (ts : List Open) (records : List Rec) → database_named v.databases name ≡ Some db → MayDo v (logged name said ts) → Spell records db.end said
     → AreNext db.files (log_of v.history db) (numbered db.end said) → IsDone v (LoggedAct name ts records) (logged name said ts)
-mark-done v name db said ts records named may spell next = record {
+say-done v name db said ts records named may spell next = record {
   means = record { n = db.end; said = said; act_is = refl; spell = spell };
   may = may;
   draws = tt;
-  carried = tt;
+  unused = tt;
   from_end = subst (λ (o : Option Database). HoldsOf o (λ db. (others : List Said) × Spell records db.end others)) (sym named) (said, spell);
+  marked = tt;
   taken = subst (λ (o : Option Database). HoldsOf o (λ db. AreNext db.files (log_of v.history db) (numbered db.end said))) (sym named) next;
 }
 
@@ -174,8 +173,8 @@ module _ (d : KeptDatabase) (path : List ℕ) (set : Guid) (time : ℕ) where
       ∙ ap (λ (s : Guid). backed_up (database_of d) path (full_header w (database_of d) s time)) set-is
       ∙ ap (λ (t : ℕ). backed_up (database_of d) path (full_header w (database_of d) (drawn w w.counter) t)) time-is
 
-  module _ (laws : Laws) (w : World) (sound : IsSound w) (shows : ShowsLog w.history d) (live : HoldsLive w.history d) (its : IsChecked w path (database_of d)) (parts : List Part) (b : IsBackup d path set time parts)
-      (may : MayDoAll w (outcome_by b.body.header).acts) where
+  module _ (laws : Laws) (w : World) (sound : IsSound w) (shows : ShowsLog w.history d) (its : IsChecked w path (database_of d)) (parts : List Part) (b : IsBackup d path set time parts)
+      (may : MayDoAll w (outcome_by b.header).acts) where
     abbrev db : Database
     db = database_of d
 
@@ -240,47 +239,35 @@ module _ (d : KeptDatabase) (path : List ℕ) (set : Guid) (time : ℕ) where
     low : d.shown.«end» + 1 < 2 ^ 62
     low = let left : used_up d.shown.«end» ≡ false = its.left in grind (arith, nat_tests, left)
 
-    start-done : (IsDone made (LoggedAct d.name d.transactions b.start) (logged d.name start_said d.transactions))
-    start-done =
-        mark-done made d.name db start_said d.transactions b.start made-named may-start b.spell_start
-        (subst (λ l. AreNext d.files l (numbered d.shown.«end» start_said)) (sym made-log) (record { number = end-is; low = omega (arith, low); may = tt; placed = tt }, tt))
+    made-shows : ShowsLog made.history d
+    made-shows = subst (λ (h : RecordLines). ShowsLog h d) (sym (made-history w path)) shows
+
+    start-done : IsDone made (Checkpointed d.name time b.kept) (logged d.name start_said d.transactions)
+    start-done = done-marked made d time (Checkpointed d.name time b.kept) (record { kept = b.kept; is = refl; kept_is = b.kept_is }) made-named made-shows may-start (omega (arith, low))
 
     finish-done : IsDone started (LoggedAct d.name d.transactions b.finish) (logged d.name finish_said d.transactions)
     finish-done =
         let number : d.shown.«end» + 1 ≡ length (more rs db.end start_said) + 1 = omega (arith, end-is, length-append rs (numbered db.end start_said)) in
-        mark-done started d.name started_db finish_said d.transactions b.finish start.named may-finish b.spell_finish
+        say-done started d.name started_db finish_said d.transactions b.finish start.named may-finish b.spell
         (subst (λ l. AreNext d.files l (numbered (d.shown.«end» + 1) finish_said)) (sym started-log) (record { number = number; low = low; may = tt; placed = tt }, tt))
 
-    -- all that is pending began where the set's log begins, or behind that
-    begun : AreBegun w d
-    unfolding full_header
-    begun = laws.begun w db set time sound its.named its.online
-
-    -- the set holds what its path shows
-    finished-log : log_below finished.history d.path (d.shown.«end» + 2) ≡ more (more rs db.end start_said) (db.end + 1) finish_said
-    unfolding log_of
-    finished-log =
-        let end : d.shown.«end» + 2 ≡ finished_db.end = omega arith in
-        ap (log_below finished.history d.path) end ∙ finish.log ∙ ap (λ l. more l (db.end + 1) finish_said) started-log
-
-    sealed : SealsSet finished path b.body (set_sealed path b.body.header)
-    unfolding outcome_by log_of
+    sealed : SealsSet finished path b.header (set_sealed path b.header)
+    unfolding outcome_by
     sealed = record {
       is = refl;
       may = may.1.1.1.0;
       slots = [];
       there = ap (λ m. medium_at m path) (finish.media ∙ start.media) ∙ made-there w path;
-      carries = b.is_set.carries w finished.history shows live begun finished-log;
     }
 
-    base-done : (v : World) → IsDone v (Based d.name b.header) (based d.name b.body.header)
-    base-done v = record { means = ap (based d.name) (b.is_set.header w shows ∙ sym (b.is_header w shows)); may = tt; draws = tt; carried = tt; from_end = tt; taken = tt }
+    base-done : (v : World) → IsDone v (Based d.name b.base) (based d.name b.header)
+    base-done v = record { means = ap (based d.name) (b.is_header w shows ∙ sym (b.is_base w shows)); may = tt; draws = tt; unused = tt; from_end = tt; marked = tt; taken = tt }
 
-    pub parts-done : AreParts w parts (outcome_by b.body.header).acts
+    pub parts-done : AreParts w parts (outcome_by b.header).acts
     unfolding outcome_by
     parts-done =
         let makes : MakesMedium w path (medium_made path) = record { is = refl; absent = its.absent; draws = its.draws } in
-        subst (λ (ps : List Part). AreParts w ps (outcome_by b.body.header).acts) (sym b.are)
+        subst (λ (ps : List Part). AreParts w ps (outcome_by b.header).acts) (sym b.are)
         (makes, (start-done, (finish-done, (sealed, (base-done _, tt)))))
 
 module _ (k : Kept) (line now : ℕ) (name : List ℕ) (units : List UnitName) (path : List ℕ) (options : BackupOptions) (is_there : Bool) where
@@ -306,21 +293,21 @@ module _ (k : Kept) (line now : ℕ) (name : List ℕ) (units : List UnitName) (
 
   pub backup-made : Laws → (d : KeptDatabase) (time : ℕ) (plan : Plan) → IsBackupPlan d path (record { high = k.number; low = k.counter }) time plan
       → ((w : World) → Sees w k → is_some (medium_at w.media path) ≡ is_there → check_backup w line name units path options ≡ Ok (database_of d))
-      → ((w : World) → Sees w k → ShowsLog w.history d) → ((w : World) → Sees w k → HoldsLive w.history d) → ((w : World) → ShowsLog w.history d → time ≡ said_time w (database_of d) now)
+      → ((w : World) → Sees w k → ShowsLog w.history d) → ((w : World) → ShowsLog w.history d → time ≡ said_time w (database_of d) now)
       → Plans k (λ w. is_some (medium_at w.media path) ≡ is_there) (record { item = script.BackupDatabase name units path options; line = line }) now plan
   unfolding outcome_by
-  backup-made laws d time (Parts parts answer) is passes shows live time-is = record {
-    outcome = outcome_by d path (record { high = k.number; low = k.counter }) time is.0.body.header;
+  backup-made laws d time (Parts parts answer) is passes shows time-is = record {
+    outcome = outcome_by d path (record { high = k.number; low = k.counter }) time is.0.header;
     replies = sym is.1;
     may = may;
     acts = λ w sound sees known.
-        parts-done d path (record { high = k.number; low = k.counter }) time laws w sound (shows w sees) (live w sees) (checked w line name units path options (database_of d) (passes w sees known)) parts.items is.0
-        (laws.may w (record { item = script.BackupDatabase name units path options; line = line }) now (outcome_by d path (record { high = k.number; low = k.counter }) time is.0.body.header) sound (may w sound sees known));
+        parts-done d path (record { high = k.number; low = k.counter }) time laws w sound (shows w sees) (checked w line name units path options (database_of d) (passes w sees known)) parts.items is.0
+        (laws.may w (record { item = script.BackupDatabase name units path options; line = line }) now (outcome_by d path (record { high = k.number; low = k.counter }) time is.0.header) sound (may w sound sees known));
   }
     where
-      may : (w : World) → IsSound w → Sees w k → Known w → May w (record { item = script.BackupDatabase name units path options; line = line }) now (outcome_by d path (record { high = k.number; low = k.counter }) time is.0.body.header)
-      may w sound sees known = may-back d time is.0.body.header w sees (shows w sees) (is.0.is_set.header w (shows w sees)) (time-is w (shows w sees)) (passes w sees known)
-  backup-made laws d time (Refused rule) is passes shows live time-is = absurd is
-  backup-made laws d time (Answered reply) is passes shows live time-is = absurd is
-  backup-made laws d time (Turned name) is passes shows live time-is = absurd is
-  backup-made laws d time (Seated session) is passes shows live time-is = absurd is
+      may : (w : World) → IsSound w → Sees w k → Known w → May w (record { item = script.BackupDatabase name units path options; line = line }) now (outcome_by d path (record { high = k.number; low = k.counter }) time is.0.header)
+      may w sound sees known = may-back d time is.0.header w sees (shows w sees) (is.0.is_header w (shows w sees)) (time-is w (shows w sees)) (passes w sees known)
+  backup-made laws d time (Refused rule) is passes shows time-is = absurd is
+  backup-made laws d time (Answered reply) is passes shows time-is = absurd is
+  backup-made laws d time (Turned name) is passes shows time-is = absurd is
+  backup-made laws d time (Seated session) is passes shows time-is = absurd is

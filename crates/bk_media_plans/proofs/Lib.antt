@@ -1,8 +1,7 @@
 pub mod SetFiles
-pub mod PlannedRestore
-pub mod Recoveries
-mod SetLogs
-mod SetFits
-mod SetParts
-pub mod Backed
+pub mod SetFits
+pub mod FirstSets
 pub mod BackupParts
+pub mod Recoveries
+pub mod Backed
+pub mod PlannedRestore

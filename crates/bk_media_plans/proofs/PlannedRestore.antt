@@ -1,53 +1,49 @@
 -- RESTORE DATABASE as it is planned.
-use Rattle.std.proofs.Common.{◌≡◌, ℕ, Bool, true, false, ◌||◌, List, [], length, Option, Some, Result, Ok, Err, refl, sym, ◌∙◌, ap, subst}
-use Rattle.std.specs.List.{AllByRecursion}
-use Rattle.std.specs.Prelude.{nat_le}
+use Rattle.std.proofs.Common.{◌≡◌, ℕ, ◌+◌, Bool, true, false, ◌||◌, List, [], length, Option, None, Some, Result, Ok, Err, refl, sym, ◌∙◌, ap, subst}
+use Rattle.std.specs.Prelude.{filter, nat_le, not}
+use Rattle.std.specs.Str.{bytes_eq}
+use Rattle.bk_ids.specs.Name.{lowered}
 use Rattle.bk_ids.specs.declared.guid.Guid.{Guid}
 use Rattle.bk_items.specs.declared.item.RestoredUnits.{RestoredUnits}
 use Rattle.bk_items.specs.declared.item.ScriptEntry.{ScriptEntry}
 use Rattle.bk_items.specs.declared.item.ScriptItem.TheVariants as script
 use Rattle.bk_items.specs.declared.options.RestoreOptions.{RestoreOptions}
-use Rattle.bk_machine.specs.Acts.{Recovery, done, drawn, recovered, replaced, restored, taken_over, units_in}
+use Rattle.bk_machine.specs.Acts.{Recovery, drawn}
 use Rattle.bk_machine.specs.CheckLaws.{not-refused, second-false}
 use Rattle.bk_machine.specs.Checks.{Checked, ◌>>=◌, different_paths, free_paths, others, outside, paths_of, refuse_if, used_up}
-use Rattle.bk_machine.specs.FindingLaws.{found-new}
 use Rattle.bk_machine.specs.FirstLaws.{first-in}
 use Rattle.bk_machine.specs.Machine.{May}
-use Rattle.bk_machine.specs.MayDo.{MayDoAll}
-use Rattle.bk_machine.specs.NamedLaws.{named-changed}
-use Rattle.bk_machine.specs.ReadyLaws.{holds-of}
+use Rattle.bk_machine.specs.NamedLaws.{name-of-named}
 use Rattle.bk_machine.specs.Sound.{IsSound, IsSoundSet, SetIn, files_of_set}
-use Rattle.bk_machine.specs.World.{World, Database, database_named, log_of, with_new_database}
-use Rattle.bk_machine.specs.statements.Restore.{DoesRestore, Recovers, base_of, check_family, check_number, check_restore, check_set, check_tail, check_unused, disk_path, first_set, restored_whole, set_paths, whole_restore}
-use Rattle.bk_set.specs.Conditions.{IsBody}
-use Rattle.bk_set.specs.Laws.{body_keeps}
-use Rattle.bk_set.specs.declared.body.SetBody.{SetBody}
-use Rattle.bk_shown.specs.Shown.{AreNext, ArePlaced, LogKeeps}
+use Rattle.bk_machine.specs.World.{World, Database, database_named}
+use Rattle.bk_machine.specs.statements.Restore.{DoesRestore, Recovers, check_family, check_number, check_restore, check_set, check_tail, check_unused, disk_path, first_set, name_known, restored_whole, set_paths, whole_restore}
+use Rattle.bk_shown.specs.Shown.{ArePlaced, LogKeeps}
 use Rattle.bk_world.specs.declared.database.FileSpec.{FileSpec}
-use Rattle.bk_world.specs.declared.database.State.TheVariants as state
 use Rattle.bk_world.specs.declared.header.Header.{Header}
 use Rattle.bk_world.specs.declared.rule.Rule.{Rule}
 use Rattle.bk_world.specs.declared.rule.Limit.TheVariants.{Lsn}
 use Rattle.bk_world.specs.declared.rule.Rule.TheVariants.{LimitReached, NotBuilt, PathFull}
 use Rattle.bk_world.specs.Lines.{log_below}
 use Rattle.bk_world.specs.Medium.{medium_at}
-use Rattle.bk_world.specs.Pending.{pending}
-use Rattle.bk_world.specs.Records.{Counts, Logged, numbered}
+use Rattle.bk_world.specs.Pending.{Pending, pending}
+use Rattle.bk_world.specs.Records.{Counts, Logged}
 use Rattle.bk_world.specs.SoundLogs.{IsSound as IsSoundLog, NoLoadPends}
 use Rattle.bk_kept.specs.declared.kept.Kept.{Kept}
-use Rattle.bk_plans.specs.declared.parts.Part.{Part}
 use Rattle.bk_plans.specs.declared.parts.Plan.{Plan}
-use Rattle.bk_plans.specs.declared.parts.Plan.TheVariants.{Answered, Parts, Refused, Seated, Turned}
+use Rattle.bk_plans.specs.declared.parts.Plan.TheVariants.{Refused}
 use Rattle.bk_plans.specs.declared.refusal.Refusal.{Refusal}
 use Rattle.bk_plans.specs.declared.refusal.Refusal.TheVariants.{Broken, NoMemory}
 use Rattle.bk_plans.specs.Checking.{IsRefused}
 use Rattle.bk_kept.specs.Keeps.{Sees}
 use Rattle.bk_plans.specs.Planned.{IsRefusedBy}
-use Rattle.bk_plans.specs.Planning.{AreParts, KeepsPart, Plans}
-use Rattle.bk_plans.specs.UndoingLaws.{recovery-next}
+use Rattle.bk_plans.specs.Planning.{Plans}
 use Rattle.bk_media_plans.proofs.Recoveries.{recovery_of}
-use Rattle.bk_media_plans.specs.Restoring.{FindsFirst, LeavesRecovery, RestoreAsked, RestoresWhole, is_built}
-use Rattle.bk_kept.specs.Stored.{IsTaken}
+use Rattle.bk_media_plans.specs.declared.restore_plan.RestorePlan.{RestorePlan}
+use Rattle.bk_media_plans.specs.declared.restore_plan.RestorePlan.TheVariants as restore
+use Rattle.bk_media_plans.specs.Firsts.{First, FindsFirst, KeepsFirst}
+use Rattle.bk_media_plans.specs.RestorePlans.{AreOfRestore, KeepsRestore, PlansRestore}
+use Rattle.bk_media_plans.specs.Restoring.{IsOfRestore, IsRefusedRestore, LeavesRecovery, RestoresWhole, is_built}
+use Rattle.bk_media_plans.proofs.FirstSets.{keeps-first, keeps-set, set-pending, set-placed, set-tables}
 use Rattle.bk_plans.specs.PlanLaws.{DoWhatTheyMay, comes-found, comes-refused, plans-refused, plans-refusal}
 
 -- The set.
@@ -65,15 +61,23 @@ pub record Laws : Type 0 where
 
 -- Checks.
 
--- where checks were passed the ones behind the first were
+-- where checks were passed the first one was, and the ones behind it were
+first-passed : (first rest : Checked (Unit {0})) (u : Unit {0}) → (first >>= λ v. rest) ≡ Ok u → first ≡ Ok tt
+first-passed (Err rule) rest u e = absurd cc
+first-passed (Ok found) rest u e = refl
+
 later : (first rest : Checked (Unit {0})) (u : Unit {0}) → (first >>= λ v. rest) ≡ Ok u → rest ≡ Ok u
 later (Err rule) rest u e = absurd cc
 later (Ok found) rest u e = e
 
--- a set that passed its checks leaves numbers
-set-left : (w : World) (name : List ℕ) (replace : Bool) (header : Header) (u : Unit {0}) → check_set w name replace header ≡ Ok u → (used_up header.last || used_up w.counter) ≡ false
+-- A set that passed its checks: no other database has the path of one of its files, and numbers are left.
+record Passes (w : World) (name : List ℕ) (header : Header) : Type 0 where
+  unused : free_paths (paths_of (others w.databases name)) (set_paths header) ≡ Ok tt
+  left : (used_up header.last || used_up w.counter) ≡ false
+
+set-passes : (w : World) (name : List ℕ) (replace : Bool) (header : Header) (u : Unit {0}) → check_set w name replace header ≡ Ok u → Passes w name header
 unfolding check_set
-set-left w name replace header u e =
+set-passes w name replace header u e =
     let own = later (check_unused (database_named w.databases name)) _ u e in
     let tail = later (check_family (database_named w.databases name) replace header) _ u own in
     let number = later (check_tail w (database_named w.databases name) replace) _ u tail in
@@ -81,7 +85,18 @@ set-left w name replace header u e =
     let different = later (free_paths (paths_of (others w.databases name)) (set_paths header)) _ u free in
     let path = later (different_paths [] (set_paths header)) _ u different in
     let numbers = later (refuse_if (nat_le 64 (length header.path)) PathFull) _ u path in
-    not-refused (used_up header.last || used_up w.counter) (LimitReached Lsn) u numbers
+    record {
+      unused = first-passed (free_paths (paths_of (others w.databases name)) (set_paths header)) _ u free;
+      left = not-refused (used_up header.last || used_up w.counter) (LimitReached Lsn) u numbers;
+    }
+
+-- the databases of other names are the same under the name that is known
+others-known : (dbs : List Database) (asked : List ℕ) → others dbs (name_known (database_named dbs asked) asked) ≡ others dbs asked
+others-known dbs asked = by (database_named dbs asked) refl
+  where
+    by : (o : Option Database) → database_named dbs asked ≡ o → others dbs (name_known o asked) ≡ others dbs asked
+    by None is = refl
+    by (Some db) is = ap (λ (name : List ℕ). filter (λ (d : Database). not (bytes_eq (lowered d.name) name)) dbs) (name-of-named dbs asked db is)
 
 module _ (line : ℕ) (name : List ℕ) (units : RestoredUnits) (disk : Option (List ℕ)) (options : RestoreOptions) where
   not-built : (w : World) → is_built name units disk options ≡ false → check_restore w line name units disk options ≡ Err (NotBuilt line)
@@ -102,43 +117,6 @@ module _ (line : ℕ) (name : List ℕ) (units : RestoredUnits) (disk : Option (
   unfolding check_restore
   built-checked w header is out first = rw (is, out, first) refl
 
--- The database of the name behind the two acts before it is recovered.
-
--- what is taken over, with its files restored
-taken : List ℕ → Header → Database
-taken name header = record (taken_over name header) { units = units_in (state.Restoring (base_of header) header.last) (taken_over name header).units }
-
--- the world behind these two acts
-abbrev restored_world : World → List ℕ → Header → World
-restored_world w name header = done (done w (replaced name header)) (restored name (base_of header) header.last)
-
-taken-found : (w : World) (name : List ℕ) (header : Header) → database_named (restored_world w name header).databases name ≡ Some (taken name header)
-unfolding done taken
-taken-found w name header =
-    named-changed (with_new_database w.databases (taken_over name header)) name (taken_over name header)
-    (λ (db : Database). record db { units = units_in (state.Restoring (base_of header) header.last) db.units }) refl (found-new w.databases (taken_over name header))
-
-taken-log : (w : World) (name : List ℕ) (header : Header) → log_of (restored_world w name header).history (taken name header) ≡ log_below w.history header.path header.last
-unfolding done taken log_of
-taken-log w name header = refl
-
-taken-end : (name : List ℕ) (header : Header) → (taken name header).«end» ≡ header.last
-unfolding taken
-taken-end name header = refl
-
-counter-kept : (w : World) (name : List ℕ) (header : Header) → (restored_world w name header).counter ≡ w.counter
-unfolding done
-counter-kept w name header = refl
-
-is-taken : (w : World) (name : List ℕ) (header : Header) (r : Recovery) → r.at ≡ header.last → AreNext (taken name header).files (log_below w.history header.path header.last) (numbered r.at r.said)
-    → IsTaken (restored_world w name header) (recovered name r)
-is-taken w name header r at next =
-    holds-of (database_named (restored_world w name header).databases name) (taken name header)
-    (λ (db : Database). (r.at ≡ db.«end») × AreNext db.files (log_of (restored_world w name header).history db) (numbered r.at r.said)) (taken-found w name header) (
-      at ∙ sym (taken-end name header),
-      subst (λ rs. AreNext (taken name header).files rs (numbered r.at r.said)) (sym (taken-log w name header)) next,
-    )
-
 -- The plan.
 
 module _ (k : Kept) (line now : ℕ) (name : List ℕ) (units : RestoredUnits) (disk : Option (List ℕ)) (options : RestoreOptions) where
@@ -151,136 +129,140 @@ module _ (k : Kept) (line now : ℕ) (name : List ℕ) (units : RestoredUnits) (
   unbuilt-plan is = plans-refused k (λ w. Unit {0}) asked now (NotBuilt line)
       (λ w sound sees known. comes-refused (check_restore w line name units disk options) (DoesRestore w name) (NotBuilt line) (not-built line name units disk options w is))
 
-  pub inside-plan : (first : Result SetBody Rule) (refusal : Refusal) (plan : Plan) → is_built name units disk options ≡ true → IsRefusedBy refusal plan → ((w : World) → Sees w k → IsRefused refusal (outside w)) → Plans k (FindsFirst disk first) asked now plan
+  -- a restore that is refused
+  restore-refused : (found : Result First Rule) (rule : Rule) → Plans k (FindsFirst disk found) asked now (Refused rule) → PlansRestore k (FindsFirst disk found) found asked now (restore.Refused rule)
+  restore-refused found rule plans = record { outcome = plans.outcome; replies = plans.replies; may = plans.may; acts = plans.acts }
+
+  refusal-plan : (found : Result First Rule) (refusal : Refusal) (plan : RestorePlan) → IsRefusedRestore refusal plan → ((p : Plan) → IsRefusedBy refusal p → Plans k (FindsFirst disk found) asked now p)
+      → PlansRestore k (FindsFirst disk found) found asked now plan
+  refusal-plan found (Broken rule) plan is plans = subst (PlansRestore k (FindsFirst disk found) found asked now) (sym is) (restore-refused found rule (plans (Refused rule) refl))
+  refusal-plan found NoMemory plan is plans = absurd is
+
+  pub inside-plan : (found : Result First Rule) (refusal : Refusal) (plan : RestorePlan) → is_built name units disk options ≡ true → IsRefusedRestore refusal plan → ((w : World) → Sees w k → IsRefused refusal (outside w))
+      → PlansRestore k (FindsFirst disk found) found asked now plan
   unfolding May
-  inside-plan first refusal plan is by refuses =
-      plans-refusal k (FindsFirst disk first) asked now (λ w. check_restore w line name units disk options) refusal plan by
-      (λ w sound sees known. built-inside line name units disk options w refusal is (refuses w sees)) (λ w rule e. comes-refused (check_restore w line name units disk options) (DoesRestore w name) rule e)
+  inside-plan found refusal plan is by refuses = refusal-plan found refusal plan by
+      (λ p by. plans-refusal k (FindsFirst disk found) asked now (λ w. check_restore w line name units disk options) refusal p by
+      (λ w sound sees known. built-inside line name units disk options w refusal is (refuses w sees)) (λ w rule e. comes-refused (check_restore w line name units disk options) (DoesRestore w name) rule e))
 
   none-then : (rule : Rule) → is_built name units disk options ≡ true → ((w : World) → Sees w k → outside w ≡ Ok tt) → Plans k (FindsFirst disk (Err rule)) asked now (Refused rule)
   unfolding May
   none-then rule is out = plans-refused k (FindsFirst disk (Err rule)) asked now rule
       (λ w sound sees known. comes-refused (check_restore w line name units disk options) (DoesRestore w name) rule (built-none line name units disk options w rule is (out w sees) known.is))
 
-  pub none-plan : (first : Result SetBody Rule) (rule : Rule) → first ≡ Err rule → is_built name units disk options ≡ true → ((w : World) → Sees w k → outside w ≡ Ok tt) → Plans k (FindsFirst disk first) asked now (Refused rule)
-  none-plan first rule e is out = subst (λ (f : Result SetBody Rule). Plans k (FindsFirst disk f) asked now (Refused rule)) (sym e) (none-then rule is out)
+  pub none-plan : (found : Result First Rule) (rule : Rule) → found ≡ Err rule → is_built name units disk options ≡ true → ((w : World) → Sees w k → outside w ≡ Ok tt)
+      → PlansRestore k (FindsFirst disk found) found asked now (restore.Refused rule)
+  none-plan found rule e is out =
+      subst (λ (f : Result First Rule). PlansRestore k (FindsFirst disk f) f asked now (restore.Refused rule)) (sym e) (restore-refused (Err rule) rule (none-then rule is out))
 
   refused-then : (refusal : Refusal) (w : World) (header : Header) → IsRefused refusal (check_set w name options.replace header) → IsRefused refusal (check_set w name options.replace header >>= λ u. Ok header)
   refused-then (Broken rule) w header is = ap (λ (c : Checked (Unit {0})). c >>= λ u. Ok header) is
   refused-then NoMemory w header is = tt
 
-  refused-for : (body : SetBody) (refusal : Refusal) (plan : Plan) → is_built name units disk options ≡ true → ((w : World) → Sees w k → outside w ≡ Ok tt) → IsRefusedBy refusal plan
-      → ((w : World) → Sees w k → IsRefused refusal (check_set w name options.replace body.header)) → Plans k (FindsFirst disk (Ok body)) asked now plan
+  pub refused-plan : (first : First) (refusal : Refusal) (plan : RestorePlan) → is_built name units disk options ≡ true → ((w : World) → Sees w k → outside w ≡ Ok tt) → IsRefusedRestore refusal plan
+      → ((w : World) → Sees w k → IsRefused refusal (check_set w name options.replace first.header)) → PlansRestore k (FindsFirst disk (Ok first)) (Ok first) asked now plan
   unfolding May
-  refused-for body refusal plan is out by refuses =
-      plans-refusal k (FindsFirst disk (Ok body)) asked now (λ w. check_restore w line name units disk options) refusal plan by
-      (λ w sound sees known. subst (IsRefused refusal) (sym (built-checked line name units disk options w body.header is (out w sees) known.is)) (refused-then refusal w body.header (refuses w sees)))
-      (λ w rule e. comes-refused (check_restore w line name units disk options) (DoesRestore w name) rule e)
+  refused-plan first refusal plan is out by refuses = refusal-plan (Ok first) refusal plan by
+      (λ p by. plans-refusal k (FindsFirst disk (Ok first)) asked now (λ w. check_restore w line name units disk options) refusal p by
+      (λ w sound sees known. subst (IsRefused refusal) (sym (built-checked line name units disk options w first.header is (out w sees) known.is)) (refused-then refusal w first.header (refuses w sees)))
+      (λ w rule e. comes-refused (check_restore w line name units disk options) (DoesRestore w name) rule e))
 
-  pub refused-plan : (first : Result SetBody Rule) (body : SetBody) (refusal : Refusal) (plan : Plan) → first ≡ Ok body → is_built name units disk options ≡ true → ((w : World) → Sees w k → outside w ≡ Ok tt) → IsRefusedBy refusal plan
-      → ((w : World) → Sees w k → IsRefused refusal (check_set w name options.replace body.header)) → Plans k (FindsFirst disk first) asked now plan
-  refused-plan first body refusal plan e is out by refuses = subst (λ (f : Result SetBody Rule). Plans k (FindsFirst disk f) asked now plan) (sym e) (refused-for body refusal plan is out by refuses)
-
-  module _ (body : SetBody) (u : Unit {0}) (parts : List Part) (built : is_built name units disk options ≡ true) (out : (w : World) → Sees w k → outside w ≡ Ok tt) (laws : Laws)
-      (passes : (w : World) → Sees w k → check_set w name options.replace body.header ≡ Ok u) (of : RestoreAsked k name body parts) where
+  module _ (first : First) (u : Unit {0}) (to : List ℕ) (branch : Guid) (last : ℕ) (built : is_built name units disk options ≡ true) (out : (w : World) → Sees w k → outside w ≡ Ok tt) (laws : Laws)
+      (passes : (w : World) → Sees w k → check_set w name options.replace first.header ≡ Ok u) (of : IsOfRestore k name first to branch last) where
     -- what the recovery says
     abbrev its : Recovery
-    its = recovery_of body.header.last (record { high = k.number; low = k.counter }) of.of_it.says.writes
+    its = recovery_of first.header.last branch of.ends.writes
 
     -- the log of the set's path
     abbrev log : World → List Logged
-    log w = log_below w.history body.header.path body.header.last
+    log w = log_below w.history first.header.path first.header.last
 
-    its-set : (w : World) → IsSound w → FindsFirst disk (Ok body) w → IsSoundSet w body.header
-    its-set w sound known = laws.sets w (disk_path disk) body.header sound (first-in w (disk_path disk) body.header known.is)
+    its-set : (w : World) → IsSound w → FindsFirst disk (Ok first) w → IsSoundSet w first.header
+    its-set w sound known = laws.sets w (disk_path disk) first.header sound (first-in w (disk_path disk) first.header known.is)
 
-    its-writes : (w : World) → IsSound w → FindsFirst disk (Ok body) w → of.of_it.says.writes ≡ pending (log w)
+    its-writes : (w : World) → IsSound w → FindsFirst disk (Ok first) w → of.ends.writes ≡ pending (log w)
     its-writes w sound known =
-        let set = its-set w sound known in of.of_it.says.are (files_of_set body.header) (log w) body.header.first body.header.last set.log.counts set.log.sound known.carries.placed known.carries.holds
+        let set = its-set w sound known in
+        of.ends.are (files_of_set first.header) (log w) first.header.first first.header.last set.log.counts set.log.sound (set-placed w first known.carries) (set-pending w first known.carries set)
 
-    its-recovers : (w : World) → IsSound w → FindsFirst disk (Ok body) w → Recovers (log w) its
+    its-recovers : (w : World) → IsSound w → FindsFirst disk (Ok first) w → Recovers (log w) its
     its-recovers w sound known =
         let set = its-set w sound known in
-        let kept = laws.keeps (files_of_set body.header) (log w) body.header.last set.log.counts set.log.sound known.carries.placed in
-        subst (λ ws. Recovers (log w) (recovery_of body.header.last its.branch ws)) (sym (its-writes w sound known)) (laws.recovers (log w) body.header.last its.branch set.log.counts set.log.sound kept.loads)
+        let kept = laws.keeps (files_of_set first.header) (log w) first.header.last set.log.counts set.log.sound (set-placed w first known.carries) in
+        subst (λ ws. Recovers (log w) (recovery_of first.header.last branch ws)) (sym (its-writes w sound known)) (laws.recovers (log w) first.header.last branch set.log.counts set.log.sound kept.loads)
 
-    its-branch : (w : World) → Sees w k → its.branch ≡ drawn w w.counter
-    its-branch w sees = λ x. record { high = sym sees.number x; low = sym sees.counter x }
+    its-branch : (w : World) → Sees w k → branch ≡ drawn w w.counter
+    its-branch w sees =
+        let next : record { high = k.number; low = k.counter } ≡ drawn w w.counter = λ x. record { high = sym sees.number x; low = sym sees.counter x } in
+        of.branch_is ∙ next
 
-    may-restore : (w : World) → IsSound w → Sees w k → FindsFirst disk (Ok body) w → May w asked now (restored_whole of.name body.header its)
+    may-restore : (w : World) → IsSound w → Sees w k → FindsFirst disk (Ok first) w → May w asked now (restored_whole to first.header its)
     unfolding May
     may-restore w sound sees known =
-        let checked : check_restore w line name units disk options ≡ Ok body.header =
-        built-checked line name units disk options w body.header built (out w sees) known.is ∙ ap (λ (c : Checked (Unit {0})). c >>= λ v. Ok body.header) (passes w sees) in
-        comes-found (check_restore w line name units disk options) (DoesRestore w name) body.header (restored_whole of.name body.header its) checked (
+        let checked : check_restore w line name units disk options ≡ Ok first.header =
+        built-checked line name units disk options w first.header built (out w sees) known.is ∙ ap (λ (c : Checked (Unit {0})). c >>= λ v. Ok first.header) (passes w sees) in
+        comes-found (check_restore w line name units disk options) (DoesRestore w name) first.header (restored_whole to first.header its) checked (
           its,
           refl,
           its-branch w sees,
           its-recovers w sound known,
-          ap (λ n. restored_whole n body.header its) (of.known w sees),
+          ap (λ n. restored_whole n first.header its) (of.known w sees),
         )
 
-    done-parts : (w : World) → IsSound w → Sees w k → FindsFirst disk (Ok body) w → AreParts w parts (whole_restore of.name body.header its)
-    done-parts w sound sees known =
-        let may : MayDoAll w (whole_restore of.name body.header its) = laws.may w asked now (restored_whole of.name body.header its) sound (may-restore w sound sees known) in
-        let left : (used_up body.header.last || used_up w.counter) ≡ false = set-left w name options.replace body.header u (passes w sees) in
-        subst (λ (ps : List Part). AreParts w ps (whole_restore of.name body.header its)) (sym of.of_it.are) (
-          record { means = refl; may = may.0; draws = tt; carried = known.carries; from_end = tt; taken = tt },
-          (
-            record { means = refl; may = may.1.0; draws = tt; carried = tt; from_end = tt; taken = tt },
-            (
-              record {
-                means = record { said = its.said; act_is = refl; spell = of.of_it.says.spell };
-                may = may.1.1.0;
-                draws = subst (λ (n : ℕ). used_up n ≡ false) (sym (counter-kept w of.name body.header)) (second-false (used_up body.header.last) (used_up w.counter) left);
-                carried = tt;
-                from_end = tt;
-                taken = is-taken w of.name body.header its refl
-                    (recovery-next (taken of.name body.header).files (log w) body.header.last its.branch of.of_it.says.writes (its-set w sound known).log.counts (its-recovers w sound known).may of.of_it.says.low);
-              },
-              tt,
-            ),
-          ),
-        )
+    -- no other database has the path of one of its files
+    its-unused : (w : World) → Sees w k → free_paths (paths_of (others w.databases to)) (set_paths first.header) ≡ Ok tt
+    its-unused w sees =
+        let same : others w.databases to ≡ others w.databases name = ap (others w.databases) (of.known w sees) ∙ others-known w.databases name in
+        ap (λ (dbs : List Database). free_paths (paths_of dbs) (set_paths first.header)) same ∙ (set-passes w name options.replace first.header u (passes w sees)).unused
 
-  whole-for : (body : SetBody) (u : Unit {0}) (plan : Plan) → is_built name units disk options ≡ true → ((w : World) → Sees w k → outside w ≡ Ok tt) → Laws
-      → ((w : World) → Sees w k → check_set w name options.replace body.header ≡ Ok u) → RestoresWhole k name body plan → Plans k (FindsFirst disk (Ok body)) asked now plan
-  whole-for body u (Parts parts answer) built out laws passes is = record {
-    outcome = restored_whole is.0.name body.header (recovery_of body.header.last (record { high = k.number; low = k.counter }) is.0.of_it.says.writes);
-    replies = sym is.1;
-    may = λ w sound sees known. may-restore body u parts.items built out laws passes is.0 w sound sees known;
-    acts = λ w sound sees known. done-parts body u parts.items built out laws passes is.0 w sound sees known;
+    acts-are : (w : World) → IsSound w → Sees w k → FindsFirst disk (Ok first) w → AreOfRestore w first to branch last (whole_restore to first.header its)
+    acts-are w sound sees known =
+        let writes : of.ends.writes ≡ pending (log w) = its-writes w sound known in
+        record {
+          are = ap (λ ws. whole_restore to first.header (recovery_of first.header.last branch ws)) writes;
+          may = laws.may w asked now (restored_whole to first.header its) sound (may-restore w sound sees known);
+          last_is = of.ends.last_is ∙ ap (λ (ws : List Pending). first.header.last + length ws) writes;
+          tables_are = set-tables w first known.carries;
+          unused = its-unused w sees;
+          draws = second-false (used_up first.header.last) (used_up w.counter) (set-passes w name options.replace first.header u (passes w sees)).left;
+        }
+
+  pub whole-plan : (first : First) (u : Unit {0}) (plan : RestorePlan) → is_built name units disk options ≡ true → ((w : World) → Sees w k → outside w ≡ Ok tt) → Laws
+      → ((w : World) → Sees w k → check_set w name options.replace first.header ≡ Ok u) → RestoresWhole k name first plan → PlansRestore k (FindsFirst disk (Ok first)) (Ok first) asked now plan
+  whole-plan first u (restore.BringsUp to branch last) built out laws passes is = record {
+    outcome = restored_whole to first.header (recovery_of first.header.last branch is.ends.writes);
+    replies = refl;
+    may = λ w sound sees known. may-restore first u to branch last built out laws passes is w sound sees known;
+    acts = λ w sound sees known. acts-are first u to branch last built out laws passes is w sound sees known;
   }
-  whole-for body u (Refused rule) built out laws passes is = absurd is
-  whole-for body u (Answered said) built out laws passes is = absurd is
-  whole-for body u (Turned to) built out laws passes is = absurd is
-  whole-for body u (Seated session) built out laws passes is = absurd is
+  whole-plan first u (restore.Refused rule) built out laws passes is = absurd is
 
-  pub whole-plan : (first : Result SetBody Rule) (body : SetBody) (u : Unit {0}) (plan : Plan) → first ≡ Ok body → is_built name units disk options ≡ true → ((w : World) → Sees w k → outside w ≡ Ok tt) → Laws
-      → ((w : World) → Sees w k → check_set w name options.replace body.header ≡ Ok u) → RestoresWhole k name body plan → Plans k (FindsFirst disk first) asked now plan
-  whole-plan first body u plan e built out laws passes is = subst (λ (f : Result SetBody Rule). Plans k (FindsFirst disk f) asked now plan) (sym e) (whole-for body u plan built out laws passes is)
+-- A set that is found first in a sound world leaves numbers for its recovery.
 
--- Its numbers.
-
-leaves-then : SetsSound → (disk : Option (List ℕ)) (body : SetBody) (w : World) → IsSound w → FindsFirst disk (Ok body) w → LeavesRecovery body.log body.header.last
-leaves-then sets disk body w sound known =
-    let set : IsSoundSet w body.header = sets w (disk_path disk) body.header sound (first-in w (disk_path disk) body.header known.is) in
+pub leaves-recovery : SetsSound → (disk : Option (List ℕ)) (first : First) (w : World) → IsSound w → FindsFirst disk (Ok first) w → LeavesRecovery first.log first.header.last
+leaves-recovery sets disk first w sound known =
+    let set : IsSoundSet w first.header = sets w (disk_path disk) first.header sound (first-in w (disk_path disk) first.header known.is) in
     record {
-      files = files_of_set body.header;
-      log = log_below w.history body.header.path body.header.last;
-      first = body.header.first;
+      files = files_of_set first.header;
+      log = log_below w.history first.header.path first.header.last;
+      first = first.header.first;
       counts = set.log.counts;
       sound = set.log.sound;
-      placed = known.carries.placed;
-      holds = known.carries.holds;
+      placed = set-placed w first known.carries;
+      holds = set-pending w first known.carries set;
       numbers = set.numbers;
     }
 
--- a set that is found first in a sound world leaves numbers for its recovery
-pub leaves-recovery : SetsSound → (disk : Option (List ℕ)) (first : Result SetBody Rule) (body : SetBody) (w : World) → first ≡ Ok body → IsSound w → FindsFirst disk first w → LeavesRecovery body.log body.header.last
-leaves-recovery sets disk first body w e sound known = leaves-then sets disk body w sound (subst (λ (f : Result SetBody Rule). FindsFirst disk f w) e known)
+-- and it keeps what every set keeps
+pub kept-first : SetsSound → (disk : Option (List ℕ)) (first : First) (w : World) → IsSound w → FindsFirst disk (Ok first) w → KeepsFirst first
+kept-first sets disk first w sound known = keeps-first w first known.carries (sets w (disk_path disk) first.header sound (first-in w (disk_path disk) first.header known.is))
 
--- What its parts keep.
+-- What its plan keeps.
 
-pub parts-keep : (k : Kept) (name : List ℕ) (body : SetBody) (parts : List Part) → IsBody body → RestoreAsked k name body parts → AllByRecursion KeepsPart parts
-parts-keep k name body parts is of = subst (AllByRecursion KeepsPart) (sym of.of_it.are) (body_keeps body is, (tt, (tt, tt)))
+pub keeps-restore : (first : First) (plan : RestorePlan) → KeepsFirst first → KeepsRestore (Ok first) plan
+keeps-restore first (restore.Refused rule) keeps = tt
+keeps-restore first (restore.BringsUp name branch last) keeps = keeps-set first keeps
+
+pub refused-keeps : (found : Result First Rule) (refusal : Refusal) (plan : RestorePlan) → IsRefusedRestore refusal plan → KeepsRestore found plan
+refused-keeps found (Broken rule) plan is = subst (KeepsRestore found) (sym is) tt
+refused-keeps found NoMemory plan is = absurd is

@@ -1,44 +1,24 @@
 -- What a recovery says.
-use Rattle.std.proofs.Common.{◌≡◌, ◌≤◌, ℕ, ◌+◌, ◌^◌, true, false, List, ◌∷◌, [], ◌++◌, map, length, reverse, refl, sym, ◌∙◌, ap, arith}
+use Rattle.std.proofs.Common.{◌≡◌, ℕ, ◌+◌, true, false, List, [], ◌++◌, map, length, sym, ◌∙◌, ap, arith}
 use Rattle.std.specs.Prelude.{nat_le}
 use Rattle.std.proofs.lemmas.Bool.{le-leb}
 use Rattle.std.proofs.lemmas.List.{length-map}
-use Rattle.bk_acts.specs.Meaning.{Spell, under}
 use Rattle.bk_ids.specs.declared.guid.Guid.{Guid}
-use Rattle.bk_ids.specs.declared.record.Body.TheVariants as body
 use Rattle.bk_machine.specs.Acts.{Recovery}
 use Rattle.bk_machine.specs.Checks.{last_number}
-use Rattle.bk_plans.specs.Undoing.{Undoes}
-use Rattle.bk_plans.specs.UndoingLaws.{recovery-length}
-use Rattle.bk_plans.specs.declared.undoing.Numbered.{Numbered}
 use Rattle.bk_shown.specs.Ends.{HoldsPending}
 use Rattle.bk_shown.specs.Shown.{ArePlaced, pending_of}
 use Rattle.bk_shown.specs.declared.shown.Written.{Written}
 use Rattle.bk_world.specs.Pending.{Pending, pending}
-use Rattle.bk_world.specs.Records.{Counts, Logged, Said, recovered}
+use Rattle.bk_world.specs.Records.{Counts, Logged, recovered}
 use Rattle.bk_world.specs.Says.{alone, settle_said}
-use Rattle.bk_world.specs.SettledLaws.{length-undoing}
 use Rattle.bk_world.specs.SoundLogs.{IsSound}
 use Rattle.bk_world.specs.declared.database.FileSpec.{FileSpec}
-use Rattle.bk_media_plans.specs.Restoring.{ArePending, LeavesRecovery, SaysRecovery}
+use Rattle.bk_media_plans.specs.Restoring.{ArePending, LeavesRecovery}
 
 -- the recovery at a number that undoes some writes, the last one first, and names its branch
 abbrev pub recovery_of : ℕ → Guid → List Pending → Recovery
 recovery_of at branch ws = record { at = at; branch = branch; said = settle_said ws ++ alone (recovered branch) }
-
--- records that undo what is pending, and one behind them that names the branch
-pub says-recovery : (held : List ℕ) (at : ℕ) (branch : Guid) (ws : List Written) (n : Numbered) (records : List ℕ) → ArePending held (map pending_of ws) → at + (length ws + 1) ≤ 2 ^ 62
-    → Undoes at (reverse (map pending_of ws)) n
-    → ((m : ℕ) (said : List Said) (s : Said) → Spell n.records m said → n.next ≡ m + length said
-    → under n.next s ≡ record { lsn = n.next; begin = 0; body = body.Recovery branch } → Spell records m (said ++ s ∷ []))
-    → SaysRecovery held at branch records
-says-recovery held at branch ws n records are low undoes say = record {
-  writes = map pending_of ws;
-  are = are;
-  spell = say at (settle_said (map pending_of ws)) (record { begin = 0; deed = recovered branch }) undoes.spell (undoes.next ∙ ap (λ k. at + k) (sym (length-undoing (reverse (map pending_of ws))))) refl;
-  low = let count : length (settle_said (map pending_of ws) ++ alone (recovered branch)) ≡ length ws + 1 = recovery-length (map pending_of ws) branch ∙ ap (λ k. k + 1) (length-map ws pending_of) in
-      omega (arith, low, count);
-}
 
 -- Where numbers are left for it, it isn't refused.
 

@@ -5,7 +5,7 @@ ghost use Rattle.bk_machine.specs.Checks as checks;
 ghost use Rattle.bk_machine.specs.World.{World};
 ghost use Rattle.bk_machine.specs.statements.Backup as backup;
 ghost use Rattle.bk_world.specs.Medium.{medium_at};
-ghost use Rattle.bk_kept.specs.Keeps.{HoldsLive, Sees, ShowsLog, database_of};
+ghost use Rattle.bk_kept.specs.Keeps.{Sees, ShowsLog, database_of};
 ghost use Rattle.bk_plans.specs.Checking.{IsCheck};
 
 use bk_ids::{Sequence, Text};
@@ -59,7 +59,6 @@ pub(crate) fn check_backup<'a>(
     ensures check { (w : World) → Sees w kept.now → is_some (medium_at w.media disk.now) ≡ is_there
         → IsCheck (λ d. database_of d.now) result (backup.check_backup w line name.now units.now disk.now options.now) }
     ensures shows { (w : World) → Sees w kept.now → IfOk result (λ d. ShowsLog w.history d.now) }
-    ensures live { (w : World) → Sees w kept.now → IfOk result (λ d. HoldsLive w.history d.now) }
     ensures path { IfOk result (λ d. checks.is_path disk.now ≡ true) }
     ensures left { IfOk result (λ d. checks.used_up d.now.shown.«end» ≡ false) }
 {

@@ -1,8 +1,6 @@
 //! The plan of a full backup.
 
 ghost use Rattle.std.specs.Prelude.{◌≡◌, ◌<◌, ◌+◌, ◌∷◌, ◌++◌, [], ◌^◌, true, false, is_some, IfOk, IsErrOf, OnOk};
-ghost use Rattle.bk_acts.specs.Meaning.{under};
-ghost use Rattle.bk_header.specs.Conditions.{KeepsConditions};
 ghost use Rattle.bk_items.specs.declared.item.ScriptItem.TheVariants as script;
 ghost use Rattle.bk_machine.specs.Checks as checks;
 ghost use Rattle.bk_kept.specs.Keeps.{Sees};
@@ -10,43 +8,67 @@ ghost use Rattle.bk_machine.specs.Sound.{IsSound};
 ghost use Rattle.bk_machine.specs.World.{World};
 ghost use Rattle.bk_media_plans.specs.Sets.{MayMakeSet};
 ghost use Rattle.bk_shown.specs.declared.error.TakeError.TheVariants.{Unfit};
-ghost use Rattle.bk_media_plans.specs.Backups.{BasesOne, IsBackup, IsBackupPlan, IsFullHeader, IsMark, IsSet, Marks, SealsOne};
+ghost use Rattle.bk_media_plans.specs.Backups.{BasesOne, IsBackup, IsBackupPlan, IsStamp, MarksOne, SealsOne, StampsOne};
 ghost use Rattle.bk_plans.specs.declared.parts.Part.TheVariants.{MediumMade};
+ghost use Rattle.bk_plans.specs.Planned.{IsRefusedBy};
 ghost use Rattle.bk_plans.specs.Planning.{KeepsPlan, Plans};
-ghost use Rattle.bk_record.specs.Spelling.{KeepsLimits};
-ghost use Rattle.bk_set.specs.Conditions.{KeepsBody};
 ghost use Rattle.bk_world.specs.Medium.{medium_at};
-ghost use Rattle.bk_world.specs.Records.{Said};
 
 use crate::backing_up::check_backup;
-use crate::planning_restore::refusing;
-use crate::set::{header_of, set_of};
+use crate::headers::{header_of, kept_header};
 use bk_acts::StoredAct;
-use bk_header::keeps;
-use bk_ids::{Body, Guid, Lsn, Sequence, Text};
+use bk_ids::{Body, Guid, Sequence, Text};
 use bk_items::{BackupOptions, UnitName};
 use bk_kept::{DatabaseView, InstanceView, copy_transactions};
-use bk_machine::{
-    acts_keep_worlds_sound, sets_hold_what_is_pending, statements_do_what_they_may,
-    what_is_said_comes_last,
-};
-use bk_plans::{Part, Plan, logged, said_time, say_one};
-use bk_set::SetBody;
+use bk_machine::{acts_keep_worlds_sound, statements_do_what_they_may, what_is_said_comes_last};
+use bk_plans::{Part, Plan, Refusal, logged, marked, refused, said_time, say_one};
 use bk_shown::TakeError;
-use bk_world::{Header, Reply};
+use bk_world::Reply;
 use std::alloc::{AllocError, Global};
 
-// The act by which a database says one record of no transaction.
-fn mark_act(
+// One part more.
+fn push(parts: &mut Vec<Part>, part: Part) -> Result<(), AllocError>
+    ensures { OnOk result (parts.new.items ≡ parts.old.items ++ part ∷ []) }
+{
+    parts.push(part)?;
+    Ok(())
+}
+
+// One part more: the medium is made.
+fn push_medium(alloc: Global, parts: &mut Vec<Part>, disk: &Text) -> Result<(), AllocError>
+    ensures { OnOk result (parts.new.items ≡ parts.old.items ++ MediumMade disk.now ∷ []) }
+{
+    let path = disk.copy(alloc)?;
+    push(parts, Part::MediumMade { path })?;
+    Ok(())
+}
+
+// One part more: the database marks a checkpoint at its end.
+fn push_mark(
+    alloc: Global,
+    parts: &mut Vec<Part>,
+    database: &DatabaseView<'_>,
+    time: u64,
+) -> Result<(), AllocError>
+    ensures { OnOk result (MarksOne database.now time parts.old.items parts.new.items) }
+{
+    let act = marked(alloc, database, time)?;
+    push(parts, Part::Stored(act))?;
+    Ok(())
+}
+
+// The act by which a database says the stamp of a set, behind a checkpoint at its end.
+fn stamp_act(
     alloc: Global,
     database: &DatabaseView<'_>,
-    lsn: Lsn,
-    body: Body,
+    set: Guid,
+    time: u64,
 ) -> Result<StoredAct, AllocError>
-    requires { KeepsLimits body }
-    ensures { IfOk result (λ act. (s : Said) → under lsn s ≡ record { lsn = lsn; begin = 0; body = body } → IsMark database.now lsn s act) }
+    requires { database.now.shown.«end» + 1 < 2 ^ 64 }
+    ensures { IfOk result (IsStamp database.now set time) }
 {
-    let records = say_one(alloc, lsn, 0, body)?;
+    let lsn = database.shown.end() + 1;
+    let records = say_one(alloc, lsn, 0, Body::Stamp { time, set })?;
     match copy_transactions(alloc, database.transactions.as_slice()) {
         Ok(transactions) => logged(alloc, database, transactions, records),
         Err(error) => {
@@ -56,74 +78,19 @@ fn mark_act(
     }
 }
 
-// One part more: a database says one record of no transaction.
-fn push_mark(
+// One part more: the database says the stamp of the set.
+fn push_stamp(
     alloc: Global,
     parts: &mut Vec<Part>,
     database: &DatabaseView<'_>,
-    lsn: Lsn,
-    body: Body,
+    set: Guid,
+    time: u64,
 ) -> Result<(), AllocError>
-    requires { KeepsLimits body }
-    ensures { OnOk result ((s : Said) → under lsn s ≡ record { lsn = lsn; begin = 0; body = body } → Marks database.now lsn s parts.old.items parts.new.items) }
+    requires { database.now.shown.«end» + 1 < 2 ^ 64 }
+    ensures { OnOk result (StampsOne database.now set time parts.old.items parts.new.items) }
 {
-    let act = mark_act(alloc, database, lsn, body)?;
-    parts.push(Part::Stored(act))?;
-    Ok(())
-}
-
-// One part more: the medium is made.
-fn push_medium(alloc: Global, parts: &mut Vec<Part>, disk: &Text) -> Result<(), AllocError>
-    ensures { OnOk result (parts.new.items ≡ parts.old.items ++ MediumMade disk.now ∷ []) }
-{
-    let path = disk.copy(alloc)?;
-    parts.push(Part::MediumMade { path })?;
-    Ok(())
-}
-
-// The set that a backup makes. `Unfit` comes only where the database fits no set.
-fn body_of(
-    alloc: Global,
-    database: &DatabaseView<'_>,
-    set: Guid,
-    time: u64,
-) -> Result<SetBody, TakeError>
-    ensures set { IfOk result (IsSet database.now set time) }
-    ensures keeps { IfOk result KeepsBody }
-    ensures unfit { IsErrOf result Unfit → (w : World) → MayMakeSet w database.now time → ⊥ }
-{
-    match set_of(alloc, database, set, time)? {
-        Some(body) => Ok(body),
-        None => Err(TakeError::Unfit),
-    }
-}
-
-// The header of that set, of its own. `Unfit` comes only where the database fits no set.
-fn kept_header(
-    alloc: Global,
-    database: &DatabaseView<'_>,
-    set: Guid,
-    time: u64,
-) -> Result<Header, TakeError>
-    requires { database.now.shown.«end» + 2 < 2 ^ 64 }
-    ensures header { IfOk result (IsFullHeader database.now set time) }
-    ensures keeps { IfOk result KeepsConditions }
-    ensures unfit { IsErrOf result Unfit → (w : World) → MayMakeSet w database.now time → ⊥ }
-{
-    let header = header_of(alloc, database, set, time)?;
-    if keeps(&header) {
-        Ok(header)
-    } else {
-        drop(header);
-        Err(TakeError::Unfit)
-    }
-}
-
-// One part more.
-fn push(parts: &mut Vec<Part>, part: Part) -> Result<(), AllocError>
-    ensures { OnOk result (parts.new.items ≡ parts.old.items ++ part ∷ []) }
-{
-    parts.push(part)?;
+    let act = stamp_act(alloc, database, set, time)?;
+    push(parts, Part::Stored(act))?;
     Ok(())
 }
 
@@ -136,29 +103,29 @@ fn push_set(
     set: Guid,
     time: u64,
 ) -> Result<(), TakeError>
+    requires { database.now.shown.«end» + 2 < 2 ^ 64 }
     ensures seals { OnOk result (SealsOne database.now disk.now set time parts.old.items parts.new.items) }
     ensures unfit { IsErrOf result Unfit → (w : World) → MayMakeSet w database.now time → ⊥ }
 {
     let path = disk.copy(alloc)?;
-    let body = body_of(alloc, database, set, time)?;
-    push(parts, Part::SetSealed { path, body })?;
+    let header = kept_header(alloc, database, set, time)?;
+    push(parts, Part::SetSealed { path, header })?;
     Ok(())
 }
 
-// One part more: the database is based on the set. `Unfit` comes only where the database fits no set.
+// One part more: the database is based on the set.
 fn push_base(
     alloc: Global,
     parts: &mut Vec<Part>,
     database: &DatabaseView<'_>,
     set: Guid,
     time: u64,
-) -> Result<(), TakeError>
+) -> Result<(), AllocError>
     requires { database.now.shown.«end» + 2 < 2 ^ 64 }
-    ensures bases { OnOk result (BasesOne database.now set time parts.old.items parts.new.items) }
-    ensures unfit { IsErrOf result Unfit → (w : World) → MayMakeSet w database.now time → ⊥ }
+    ensures { OnOk result (BasesOne database.now set time parts.old.items parts.new.items) }
 {
     let name = database.name.copy(alloc)?;
-    let header = kept_header(alloc, database, set, time)?;
+    let header = header_of(alloc, database, set, time)?;
     push(parts, Part::Stored(StoredAct::Based { name, header }))?;
     Ok(())
 }
@@ -175,17 +142,10 @@ fn backup_parts(
     ensures parts { IfOk result (λ parts. IsBackup database.now disk.now set time parts.items) }
     ensures unfit { IsErrOf result Unfit → (w : World) → MayMakeSet w database.now time → ⊥ }
 {
-    let end = database.shown.end();
     let mut parts = Vec::new(alloc);
     push_medium(alloc, &mut parts, disk)?;
-    push_mark(alloc, &mut parts, database, end, Body::Checkpoint { time })?;
-    push_mark(
-        alloc,
-        &mut parts,
-        database,
-        end + 1,
-        Body::Stamp { time, set },
-    )?;
+    push_mark(alloc, &mut parts, database, time)?;
+    push_stamp(alloc, &mut parts, database, set, time)?;
     push_set(alloc, &mut parts, database, disk, set, time)?;
     push_base(alloc, &mut parts, database, set, time)?;
     Ok(parts)
@@ -220,6 +180,15 @@ fn backup(
     Ok(Plan::Parts { parts, reply })
 }
 
+// The plan of a backup that is refused.
+fn refusing(refusal: Refusal) -> Result<Plan, TakeError>
+    ensures rule { IfOk result (IsRefusedBy refusal) }
+    ensures fit { IsErrOf result Unfit → ⊥ }
+    ensures keeps { IfOk result KeepsPlan }
+{
+    Ok(refused(refusal)?)
+}
+
 /// What `BACKUP DATABASE` on this line comes to at `now`, in milliseconds since 1970-01-01 00:00:00 UTC, where a file is there at
 /// the path of its medium or not. `Unfit` comes only where the database fits no set: it is that of no sound world.
 pub fn plan_backup(
@@ -241,7 +210,6 @@ pub fn plan_backup(
     statements_do_what_they_may();
     acts_keep_worlds_sound();
     what_is_said_comes_last();
-    sets_hold_what_is_pending();
     match check_backup(kept, line, database, units, disk, is_there, options) {
         Ok(database) => backup(kept, alloc, database, disk, said_time(database, now)),
         Err(refusal) => refusing(refusal),

@@ -1,4 +1,6 @@
 pub mod Cuts
 pub mod NewFiles
+pub mod Fits
 pub mod Limits
+pub mod FreeFiles
 pub mod PlannedCreateDatabase

@@ -92,3 +92,8 @@ module _ (name : List ℕ) (primary : List NewFile) (groups : List NewGroup) (lo
           let low : extents_in (map capped (new_files name primary groups)) ≤ 4096 = let f : nat_lt 4096 (extents_in (map capped (new_files name primary groups))) ≡ false = ap (λ (fs : List FileSpec). nat_lt 4096 (extents_in fs)) (sym made-is) ∙ e in
           grind (arith, nat_tests, f) in
           made-is ∙ cap-low (new_files name primary groups) low
+
+      pub small-files : nat_lt 4096 (extents_in made) ≡ false → extents_in (new_files name primary groups) ≤ 4096
+      small-files e =
+          let low : nat_lt 4096 (extents_in (new_files name primary groups)) ≡ false = sym extents-test ∙ e in
+          grind (arith, nat_tests, low)

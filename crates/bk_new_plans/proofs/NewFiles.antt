@@ -1,23 +1,19 @@
 -- Data files of a new database, as they are made one after the other.
-use Rattle.std.proofs.Common.{◌≡◌, ◌<◌, ◌≤◌, ℕ, zero, suc, ◌+◌, max, min, Bool, true, false, cond, List, [], ◌∷◌, ◌++◌, ◌-◌, length, map, take, drop, get_or, Option, Some, None, refl, sym, ◌∙◌, ap, arith, append_assoc, drop-cons, length-append, length-drop}
+use Rattle.std.proofs.Common.{◌≡◌, ◌<◌, ◌≤◌, ℕ, zero, suc, ◌+◌, max, min, Bool, true, false, cond, List, [], ◌∷◌, ◌++◌, ◌-◌, length, map, take, drop, get_or, Option, Some, refl, sym, ◌∙◌, ap, arith, append_assoc, drop-cons, length-append, length-drop}
 use Rattle.std.proofs.Math.Seq.{take-length}
-use Rattle.std.specs.Prelude.{◌&&◌, nat_le, nat_lt}
-use Rattle.std.specs.List.{AllByRecursion, list_all, list_any, sum_by}
-use Rattle.std.proofs.lemmas.Bool.{and_parts, leb-true, ltb-true}
+use Rattle.std.specs.Prelude.{◌&&◌, nat_lt}
+use Rattle.std.specs.List.{list_all, list_any, sum_by}
+use Rattle.std.proofs.lemmas.Bool.{and_parts, ltb-true}
 use Rattle.std.proofs.lemmas.Bool.Decides.{nat_tests}
 use Rattle.std.proofs.lemmas.List.{length-map, map-append}
-use Rattle.std.proofs.lemmas.List.Elements.{All-from_recursion}
 use Rattle.std.proofs.lemmas.List.Sums.{sum_by-cons, sum_by-drop_more}
-use Rattle.bk_storage.specs.Storage.{HasPath, KeepsStorage}
 use Rattle.bk_items.specs.declared.item.NewFile.{NewFile}
 use Rattle.bk_items.specs.declared.item.NewGroup.{NewGroup}
-use Rattle.bk_machine.specs.Checks.{is_name, is_path}
+use Rattle.bk_machine.specs.Checks.{is_name}
 use Rattle.bk_machine.specs.Files.{extents_in}
-use Rattle.bk_machine.specs.statements.CreateDatabase.{are_named, default_log, file_spec, files_in, files_of, is_named_file, is_named_group, is_named_log, new_files, new_groups, new_log_path, new_storage, primary_files, repeated}
+use Rattle.bk_machine.specs.statements.CreateDatabase.{are_named, file_spec, files_in, files_of, is_named_file, is_named_group, is_named_log, new_files, new_groups, primary_files, repeated}
 use Rattle.bk_world.specs.declared.database.FileSpec.{FileSpec}
-use Rattle.bk_lemmas.specs.Lists.{all_joined}
 use Rattle.bk_machine.specs.NewFileLaws.{files-length}
-use Rattle.bk_machine.specs.NewFileLaws.{default_log-named}
 use Rattle.bk_new_plans.specs.NewFiles.{capped}
 
 -- the element at a place, and what follows it
@@ -175,57 +171,3 @@ pub all-at : {X : Type 0} (p : X → Bool) (xs : List X) (i : ℕ) (x : X) → l
 all-at p [] i x all lt here = absurd (omega (arith, lt))
 all-at p (y ∷ ys) zero x all lt here = ap p here ∙ (and_parts (p y) (list_all p ys) all).0
 all-at p (y ∷ ys) (suc i) x all lt here = all-at p ys i x (and_parts (p y) (list_all p ys) all).1 (omega (arith, lt)) here
-
-path-of : (path : List ℕ) → is_path path ≡ true → (1 ≤ length path) × (length path ≤ 100)
-path-of path e =
-    let p = and_parts (nat_lt 0 (length path)) (nat_le (length path) 100) e in
-    let some : 0 < length path = ltb-true 0 (length path) p.0 in
-    (omega (arith, some), leb-true (length path) 100 p.1)
-
-name-of : (name : List ℕ) → is_name name ≡ true → (1 ≤ length name) × (length name ≤ 100)
-name-of name e =
-    let p = and_parts (nat_lt 0 (length name)) (nat_le (length name) 64) e in
-    let some : 0 < length name = ltb-true 0 (length name) p.0 in
-    let short : length name ≤ 64 = leb-true (length name) 64 p.1 in
-    (omega (arith, some), omega (arith, short))
-
-paths-in : (n group : ℕ) (files : List NewFile) → list_all is_named_file files ≡ true → AllByRecursion HasPath (files_in n group files)
-paths-in n group [] named = tt
-paths-in n group (f ∷ files) named =
-    let p = and_parts (is_named_file f) (list_all is_named_file files) named in
-    (path-of f.path (and_parts (is_name f.name) (is_path f.path) p.0).1, paths-in (n + 1) group files p.1)
-
-paths-of : (n group : ℕ) (groups : List NewGroup) → list_all is_named_group groups ≡ true → AllByRecursion HasPath (files_of n group groups)
-paths-of n group [] named = tt
-paths-of n group (g ∷ groups) named =
-    let p = and_parts (is_named_group g) (list_all is_named_group groups) named in
-    all_joined HasPath (files_in n group g.files) (files_of (n + length g.files) (group + 1) groups) (paths-in n group g.files (and_parts (is_name g.name) (list_all is_named_file g.files) p.0).1)
-    (paths-of (n + length g.files) (group + 1) groups p.1)
-
-paths-primary : (name : List ℕ) (primary : List NewFile) → is_name name ≡ true → list_all is_named_file primary ≡ true → AllByRecursion HasPath (files_in 1 0 (primary_files name primary))
-paths-primary name [] database named = (name-of name database, tt)
-paths-primary name (f ∷ files) database named = paths-in 1 0 (f ∷ files) named
-
-paths-new : (name : List ℕ) (primary : List NewFile) (groups : List NewGroup) (log : Option NewFile) → Named name primary groups log → AllByRecursion HasPath (new_files name primary groups)
-unfolding new_files
-paths-new name primary groups log named =
-    let own : List NewFile = primary_files name primary in
-    all_joined HasPath (files_in 1 0 own) (files_of (length own + 1) 1 groups) (paths-primary name primary named.database named.files) (paths-of (length own + 1) 1 groups named.filegroups)
-
-path-log : (name : List ℕ) (log : Option NewFile) → is_named_log log ≡ true → (1 ≤ length (new_log_path name log)) × (length (new_log_path name log) ≤ 100)
-path-log name None named = name-of (default_log name) (default_log-named name)
-path-log name (Some log) named = path-of log.path (and_parts (is_name log.name) (is_path log.path) named).1
-
--- what is asked for can be spelled
-pub storage-keeps : (name : List ℕ) (primary : List NewFile) (groups : List NewGroup) (log : Option NewFile) → are_named name primary groups log ≡ true
-    → length (new_files name primary groups) ≤ 16 → length groups < 8 → KeepsStorage (new_storage name primary groups log)
-storage-keeps name primary groups log e few few_groups =
-    let named : Named name primary groups log = named-parts name primary groups log e in
-    let path = path-log name log named.log_is in
-    record {
-      groups = omega (arith, groups-length groups, few_groups);
-      files = omega (arith, few);
-      paths = All-from_recursion HasPath (new_files name primary groups) (paths-new name primary groups log named);
-      log_path_some = path.0;
-      log_path_short = path.1;
-    }

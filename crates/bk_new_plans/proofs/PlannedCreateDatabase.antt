@@ -20,6 +20,7 @@ use Rattle.bk_plans.specs.Checking.{IsRefused}
 use Rattle.bk_kept.specs.Keeps.{Sees}
 use Rattle.bk_plans.specs.Planned.{IsOne, IsRefusedBy}
 use Rattle.bk_plans.specs.Planning.{Plans}
+use Rattle.bk_new_plans.proofs.FreeFiles.{paths-unused}
 use Rattle.bk_plans.specs.PlanLaws.{DoWhatTheyMay, comes-found, comes-refused, plans-one, plans-refusal}
 
 -- behind a check that was passed
@@ -49,4 +50,4 @@ module _ (k : Kept) (line now : ℕ) (name : List ℕ) (primary : List NewFile) 
       (λ w sound sees known.
       comes-found (check_create_database w line name primary groups log) (DoesCreateDatabase w name now) found (made_on found k.number k.counter) (passes w sees)
       (ap (λ (n : ℕ). made_on found n k.counter) (sym sees.number) ∙ ap (λ (n : ℕ). made_on found w.instance n) (sym sees.counter)))
-      (λ w sound sees known. record { draws = subst (λ (n : ℕ). used_up n ≡ false) (sym sees.counter) left; carried = tt; from_end = tt; taken = tt })
+      (λ w sound sees known. record { draws = subst (λ (n : ℕ). used_up n ≡ false) (sym sees.counter) left; unused = paths-unused w line name primary groups log found (passes w sees); from_end = tt; marked = tt; taken = tt })

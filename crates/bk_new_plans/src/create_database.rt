@@ -1,7 +1,7 @@
 //! `CREATE DATABASE`: its check and its plan.
 
 ghost use Rattle.std.specs.Prelude.{◌≡◌, ◌+◌, ◌||◌, min, true, false, is_some, length, nat_le, IfOk};
-ghost use Rattle.bk_storage.specs.Storage.{KeepsStorage};
+ghost use Rattle.bk_machine.specs.Fits.{FitsStorage};
 ghost use Rattle.bk_acts.specs.declared.act.StoredAct.TheVariants.{Created};
 ghost use Rattle.bk_items.specs.declared.item.ScriptItem.TheVariants as script;
 ghost use Rattle.bk_machine.specs.Acts.{latest};
@@ -84,7 +84,7 @@ fn new_files_of(
     requires { create.are_named name.now primary.now groups.now log.now ≡ true }
     ensures check { (w : World) → Sees w kept.now → IsCheck (λ s. s) result (storing.check_storage w name.now primary.now groups.now log.now) }
     ensures left { IfOk result (λ s. checks.used_up kept.now.counter ≡ false) }
-    ensures keeps { IfOk result KeepsStorage }
+    ensures fits { IfOk result FitsStorage }
 {
     refuse_if(is_taken(kept, name), Rule::DatabaseExists)?;
     refuse_if(
@@ -111,7 +111,7 @@ fn check_create_database(
     ensures check { (w : World) → Sees w kept.now → IsCheck (λ s. s) result (create.check_create_database w line name.now primary.now groups.now log.now) }
     ensures named { IfOk result (λ s. checks.is_name name.now ≡ true) }
     ensures left { IfOk result (λ s. checks.used_up kept.now.counter ≡ false) }
-    ensures keeps { IfOk result KeepsStorage }
+    ensures fits { IfOk result FitsStorage }
 {
     let (primary, groups) = (primary.as_slice(), groups.as_slice());
     refuse_if(
@@ -132,7 +132,7 @@ fn creation(
 ) -> Result<Plan, AllocError>
     requires named { checks.is_name name.now ≡ true }
     requires left { checks.used_up kept.now.counter ≡ false }
-    requires keeps { KeepsStorage storage }
+    requires fits { FitsStorage storage }
     ensures one { IfOk result (IsOne (Created (record {
       name = name.now;
       family = record { high = kept.now.number; low = kept.now.counter };

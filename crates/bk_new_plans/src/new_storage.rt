@@ -4,7 +4,7 @@ ghost use Rattle.std.specs.Prelude.{◌≡◌, true, codes, map, IfOk};
 ghost use Rattle.std.specs.List.{list_all, list_any};
 ghost use Rattle.std.specs.Option.{option_map};
 ghost use Rattle.std.specs.Str.{bytes_eq};
-ghost use Rattle.bk_storage.specs.Storage.{KeepsStorage};
+ghost use Rattle.bk_machine.specs.Fits.{FitsStorage};
 ghost use Rattle.bk_ids.specs.Name.{same_name};
 ghost use Rattle.bk_kept.specs.Keeps.{database_of};
 ghost use Rattle.bk_machine.specs.statements.CreateDatabase as create;
@@ -130,7 +130,7 @@ pub(crate) fn storage_within(
     requires { create.are_named name.now primary.now groups.now log.now ≡ true }
     ensures check { IsCheck (λ s. tt) result (create.check_limits (create.new_storage name.now primary.now groups.now log.now)) }
     ensures is { IfOk result (λ s. s ≡ create.new_storage name.now primary.now groups.now log.now) }
-    ensures keeps { IfOk result KeepsStorage }
+    ensures fits { IfOk result FitsStorage }
 {
     refuse_if(
         has_too_many_files(primary, groups),

@@ -33,4 +33,4 @@ module _ (k : Kept) (line now : ℕ) (name : List ℕ) where
       plans-one k (λ w. Unit {0}) (record { item = script.DropDatabase name; line = line }) now (Dropped own) (dropped own) Done plan one refl law
       (λ w sound sees known.
       comes-found (check_drop_database w name) DoesDropDatabase (database_of d) (in_one (dropped own) Done) (passes w sees) (ap (λ (n : List ℕ). in_one (dropped n) Done) is))
-      (λ w sound sees known. record { draws = tt; carried = tt; from_end = tt; taken = tt })
+      (λ w sound sees known. record { draws = tt; unused = tt; from_end = tt; marked = tt; taken = tt })

@@ -7,6 +7,7 @@ use Rattle.bk_acts.specs.declared.act.StoredAct.TheVariants.{Logged as LoggedAct
 use Rattle.bk_asked.specs.Asked.{held_of}
 use Rattle.bk_asked.specs.declared.opens.Held.{Held as HeldRef}
 use Rattle.bk_ids.specs.declared.record.Mark.{Mark}
+use Rattle.bk_ids.specs.declared.record.Rec.{Rec}
 use Rattle.bk_items.specs.declared.item.ScriptEntry.{ScriptEntry}
 use Rattle.bk_items.specs.declared.item.ScriptItem.TheVariants as script
 use Rattle.bk_kept.specs.Keeps.{Sees, ShowsLog, database_of}
@@ -43,7 +44,7 @@ use Rattle.bk_world.specs.declared.transaction.Open.{Open}
 
 -- The acts.
 
-module _ (d : KeptDatabase) (stored : StoredAct) (records : List ℕ) (written : List Written) (are : (w : World) → ShowsLog w.history d → map pending_of written ≡ pending (log_of w.history (database_of d))) where
+module _ (d : KeptDatabase) (stored : StoredAct) (records : List Rec) (written : List Written) (are : (w : World) → ShowsLog w.history d → map pending_of written ≡ pending (log_of w.history (database_of d))) where
   pub says-rollback : (t : Open) → stored ≡ LoggedAct d.name (without_begin d.transactions t.begin) records → Spell records d.shown.«end» (rollback_said t.begin (map pending_of written)) → d.shown.«end» + (length written + 1) ≤ 2 ^ 62
       → SaysOf d (rollback_said t.begin) (without_begin d.transactions t.begin) stored
   says-rollback t is spell low =

@@ -1,7 +1,7 @@
 //! `BEGIN TRANSACTION`: its check and its plan.
 
 ghost use Rattle.std.specs.Prelude.{◌≡◌, ◌≤◌, ◌∷◌, ◌++◌, [], ℕ, true, false, length, IfOk};
-ghost use Rattle.bk_acts.specs.Spelling.{KeepsAct};
+ghost use Rattle.bk_acts.specs.Conditions.{KeepsAct};
 ghost use Rattle.bk_items.specs.declared.item.ScriptItem.TheVariants as script;
 ghost use Rattle.bk_kept.specs.Keeps.{Sees, ShowsLog, database_of};
 ghost use Rattle.bk_machine.specs.Checks as checks;

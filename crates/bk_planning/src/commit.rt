@@ -3,7 +3,7 @@
 ghost use Rattle.std.specs.Prelude.{◌≡◌, ◌==◌, ℕ, IfOk};
 ghost use Rattle.std.specs.List.{list_any};
 ghost use Rattle.bk_acts.specs.Meaning.{Spell};
-ghost use Rattle.bk_acts.specs.Spelling.{KeepsAct};
+ghost use Rattle.bk_acts.specs.Conditions.{KeepRecords, KeepsAct};
 ghost use Rattle.bk_items.specs.declared.item.ScriptItem.TheVariants as script;
 ghost use Rattle.bk_kept.specs.Keeps.{ShowsLog, database_of};
 ghost use Rattle.bk_kept.specs.Numbers.{CanEnd, LeaveNumbers};
@@ -16,11 +16,10 @@ ghost use Rattle.bk_world.specs.Says.{commit_said};
 
 use crate::ending::{held_or_refuse, open_without};
 use bk_acts::StoredAct;
-use bk_ids::{Body, Lsn, Mark};
+use bk_ids::{Body, Lsn, Mark, Rec, Sequence};
 use bk_kept::{DatabaseView, InstanceView};
 use bk_machine::statements_do_what_they_may;
 use bk_plans::{Plan, logged, refused, said_time, say_one, stored};
-use bk_record::Records;
 use bk_shown::Written;
 use bk_world::{Open, Reply};
 use std::alloc::{AllocError, Global};
@@ -62,8 +61,9 @@ fn commit_record(
     begin: Lsn,
     time: u64,
     mark: Option<Mark>,
-) -> Result<Records, AllocError>
-    ensures { IfOk result (λ records. Spell records database.now.shown.«end» (commit_said begin time mark)) }
+) -> Result<Sequence<Rec>, AllocError>
+    ensures said { IfOk result (λ records. Spell records database.now.shown.«end» (commit_said begin time mark)) }
+    ensures keep { IfOk result KeepRecords }
 {
     say_one(
         alloc,

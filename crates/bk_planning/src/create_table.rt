@@ -3,7 +3,7 @@
 ghost use Rattle.std.specs.Prelude.{◌≡◌, ◌+◌, nat_le, take, length, true, false, IfOk};
 ghost use Rattle.std.specs.List.{position};
 ghost use Rattle.bk_ids.specs.Name.{same_name};
-ghost use Rattle.bk_acts.specs.Spelling.{KeepsAct};
+ghost use Rattle.bk_acts.specs.Conditions.{KeepsAct};
 ghost use Rattle.bk_items.specs.declared.item.ScriptItem.TheVariants as script;
 ghost use Rattle.bk_kept.specs.Keeps.{Sees, ShowsLog, database_of};
 ghost use Rattle.bk_machine.specs.Checks as checks;

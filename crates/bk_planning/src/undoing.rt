@@ -2,7 +2,7 @@
 
 ghost use Rattle.std.specs.Prelude.{◌≡◌, ◌+◌, ◌≤◌, ◌^◌, [], Some, length, map, IfOk};
 ghost use Rattle.bk_acts.specs.Meaning.{Spell};
-ghost use Rattle.bk_acts.specs.Spelling.{KeepsAct};
+ghost use Rattle.bk_acts.specs.Conditions.{KeepRecords, KeepsAct};
 ghost use Rattle.bk_kept.specs.Keeps.{ShowsLog, database_of};
 ghost use Rattle.bk_kept.specs.Numbers.{CanEnd, CanSettle};
 ghost use Rattle.bk_kept.specs.Stored.{IsDone};
@@ -17,10 +17,9 @@ ghost use Rattle.bk_world.specs.Says.{rollback_said, settle_said};
 
 use crate::ending::open_without;
 use bk_acts::StoredAct;
-use bk_ids::{Body, Lsn, Sequence};
+use bk_ids::{Body, Lsn, Rec, Sequence};
 use bk_kept::DatabaseView;
 use bk_plans::{logged, say, undo};
-use bk_record::Records;
 use bk_shown::Written;
 use bk_world::Open;
 use std::alloc::{AllocError, Global};
@@ -31,19 +30,14 @@ fn rollback_records(
     written: &[Written],
     begin: Lsn,
     first: Lsn,
-) -> Result<Records, AllocError>
+) -> Result<Sequence<Rec>, AllocError>
     requires { first + (length written.now + 1) ≤ 2 ^ 62 }
-    ensures { IfOk result (λ records. Spell records first (rollback_said begin (map pending_of written.now))) }
+    ensures said { IfOk result (λ records. Spell records first (rollback_said begin (map pending_of written.now))) }
+    ensures keep { IfOk result KeepRecords }
 {
     let mut said = undo(alloc, written, Some(begin), first)?;
-    say(
-        alloc,
-        &mut said.records,
-        said.next,
-        begin,
-        Body::RollbackEnd,
-    )?;
-    Ok(said.records)
+    say(&mut said.records, said.next, begin, Body::RollbackEnd)?;
+    Ok(Sequence::new(said.records))
 }
 
 /// The act by which an open transaction of a database is rolled back: its pending writes are undone, the last one first, and it ends.
@@ -81,10 +75,6 @@ pub fn settle_act(alloc: Global, database: &DatabaseView<'_>) -> Result<StoredAc
 {
     let written = database.shown.written();
     let said = undo(alloc, written, None, database.shown.end())?;
-    logged(
-        alloc,
-        database,
-        Sequence::new(Vec::new(alloc)),
-        said.records,
-    )
+    let records = Sequence::new(said.records);
+    logged(alloc, database, Sequence::new(Vec::new(alloc)), records)
 }

@@ -26,7 +26,7 @@ use Rattle.bk_plans.specs.Planned.{IsOne, IsRefusedBy}
 use Rattle.bk_plans.specs.Planning.{AreParts, Plans}
 use Rattle.bk_kept.specs.Views.{IsSeen}
 use Rattle.bk_kept.specs.ViewsLaws.{seen-sees}
-use Rattle.bk_kept.specs.Stored.{IsCarried, IsDone, IsNumbered, IsTaken, MayDraw}
+use Rattle.bk_kept.specs.Stored.{HasFreePaths, IsDone, IsMarked, IsNumbered, IsTaken, MayDraw}
 
 -- What checks come to.
 
@@ -56,8 +56,9 @@ plans-kept k seen Known s now plan is plans = record {
 -- what is stored of an act, beside what the statement may do
 pub record Stores (stored : StoredAct) (act : Act) (w : World) : Type 0 where
   pub draws : MayDraw w stored
-  pub carried : IsCarried w stored
+  pub unused : HasFreePaths w stored
   pub from_end : IsNumbered w stored
+  pub marked : IsMarked w stored act
   pub taken : IsTaken w act
 
 module _ (k : Kept) (Known : World → Type 0) (s : ScriptEntry) (now : ℕ) where
@@ -93,7 +94,7 @@ module _ (k : Kept) (Known : World → Type 0) (s : ScriptEntry) (now : ℕ) whe
       done : InEach k Known (λ w. IsDone w stored act)
       done w sound sees known =
           let its = stores w sound sees known in
-          record { means = means; may = (law w s now (in_one act answer) sound (may w sound sees known)).0; draws = its.draws; carried = its.carried; from_end = its.from_end; taken = its.taken }
+          record { means = means; may = (law w s now (in_one act answer) sound (may w sound sees known)).0; draws = its.draws; unused = its.unused; from_end = its.from_end; marked = its.marked; taken = its.taken }
   plans-one stored act answer (Refused rule) is means law may stores = absurd is
   plans-one stored act answer (Answered reply) is means law may stores = absurd is
   plans-one stored act answer (Turned name) is means law may stores = absurd is

@@ -1,11 +1,13 @@
 -- What plans of one part are.
 use Rattle.std.specs.Prelude.{◌≡◌, ℕ, List, [], ◌∷◌}
 use Rattle.bk_acts.specs.declared.act.StoredAct.{StoredAct}
-use Rattle.bk_acts.specs.declared.act.StoredAct.TheVariants.{Logged}
+use Rattle.bk_acts.specs.declared.act.StoredAct.TheVariants.{Checkpointed, Logged}
 use Rattle.bk_acts.specs.Meaning.{Spell}
-use Rattle.bk_machine.specs.Acts.{said_time}
-use Rattle.bk_machine.specs.World.{World}
+use Rattle.bk_ids.specs.declared.record.Rec.{Rec}
+use Rattle.bk_machine.specs.Acts.{kept_after, said_time}
+use Rattle.bk_machine.specs.World.{World, log_of}
 use Rattle.bk_world.specs.Records.{Said}
+use Rattle.bk_world.specs.Telling.{model}
 use Rattle.bk_world.specs.declared.reply.Reply.{Reply}
 use Rattle.bk_world.specs.declared.transaction.Open.{Open}
 use Rattle.bk_kept.specs.declared.kept.Database.{Database as KeptDatabase}
@@ -32,7 +34,7 @@ StoresOne P reply plan = (stored : StoredAct) × IsOne stored reply plan × P st
 
 -- By an act a database says this at its end, and then these transactions are open.
 pub record SaysNow (d : KeptDatabase) (said : List Said) (transactions : List Open) (stored : StoredAct) : Type 0 where
-  pub records : List ℕ
+  pub records : List Rec
   pub is : stored ≡ Logged d.name transactions records
   pub spell : Spell records d.shown.«end» said
 
@@ -41,3 +43,13 @@ pub record SaysThen (d : KeptDatabase) (now : ℕ) (said : ℕ → List Said) (t
   pub time : ℕ
   pub says : SaysNow d (said time) transactions stored
   pub time_is : (w : World) → ShowsLog w.history d → time ≡ said_time w (database_of d) now
+
+-- the live log of a database holds what comes from this number on, behind a checkpoint at its end
+abbrev pub IsKeptBehind : KeptDatabase → ℕ → Type 0
+IsKeptBehind d kept = (w : World) → ShowsLog w.history d → kept ≡ kept_after (database_of d) (model (log_of w.history (database_of d))) d.shown.«end»
+
+-- By an act a database marks a checkpoint at its end.
+pub record MarksNow (d : KeptDatabase) (time : ℕ) (stored : StoredAct) : Type 0 where
+  pub kept : ℕ
+  pub is : stored ≡ Checkpointed d.name time kept
+  pub kept_is : IsKeptBehind d kept

@@ -1,7 +1,8 @@
 -- Plans of statements, as outcomes of the machine.
 use Rattle.std.specs.Prelude.{◌≡◌, ℕ, true, false, List, [], ◌∷◌, None, Some}
 use Rattle.std.specs.List.{AllByRecursion}
-use Rattle.bk_acts.specs.Spelling.{KeepsAct}
+use Rattle.bk_acts.specs.Conditions.{KeepsAct}
+use Rattle.bk_header.specs.Conditions.{KeepsConditions}
 use Rattle.bk_items.specs.declared.item.ScriptEntry.{ScriptEntry}
 use Rattle.bk_items.specs.declared.item.ScriptItem.{ScriptItem}
 use Rattle.bk_items.specs.declared.item.ScriptItem.TheVariants.{BackupDatabase, RestoreDatabase}
@@ -12,9 +13,8 @@ use Rattle.bk_machine.specs.MayDo.{MayDo}
 use Rattle.bk_machine.specs.Outcome.{Outcome}
 use Rattle.bk_machine.specs.Sound.{IsSound}
 use Rattle.bk_machine.specs.World.{World}
-use Rattle.bk_set.specs.declared.body.SetBody.{SetBody}
-use Rattle.bk_set.specs.Conditions.{KeepsBody}
 use Rattle.bk_world.specs.Medium.{Slot, medium, medium_at}
+use Rattle.bk_world.specs.declared.header.Header.{Header}
 use Rattle.bk_world.specs.declared.reply.Reply.{Reply}
 use Rattle.bk_world.specs.declared.reply.Reply.TheVariants as reply
 use Rattle.bk_kept.specs.declared.kept.Kept.{Kept}
@@ -23,7 +23,7 @@ use Rattle.bk_plans.specs.declared.parts.Part.TheVariants.{Stored, MediumMade, S
 use Rattle.bk_plans.specs.declared.parts.Plan.{Plan}
 use Rattle.bk_plans.specs.declared.parts.Plan.TheVariants.{Refused, Answered, Turned, Seated, Parts}
 use Rattle.bk_kept.specs.Keeps.{Sees}
-use Rattle.bk_kept.specs.Stored.{IsDone, Carries}
+use Rattle.bk_kept.specs.Stored.{IsDone}
 
 -- Parts.
 
@@ -33,19 +33,18 @@ pub record MakesMedium (w : World) (path : List ℕ) (act : Act) : Type 0 where
   pub absent : medium_at w.media path ≡ None
   pub draws : used_up w.counter ≡ false
 
--- a set that holds what its path shows is sealed on a medium that is there
-pub record SealsSet (w : World) (path : List ℕ) (body : SetBody) (act : Act) : Type 0 where
-  pub is : act ≡ set_sealed path body.header
+-- a set is sealed on a medium that is there
+pub record SealsSet (w : World) (path : List ℕ) (header : Header) (act : Act) : Type 0 where
+  pub is : act ≡ set_sealed path header
   pub may : MayDo w act
   pub slots : List Slot
   pub there : medium_at w.media path ≡ Some (medium slots)
-  pub carries : Carries w.history body
 
 -- a part is this act, which may be done to a world
 abbrev pub IsPart : World → Part → Act → Type 0
 IsPart w (Stored stored) act = IsDone w stored act
 IsPart w (MediumMade path) act = MakesMedium w path act
-IsPart w (SetSealed path body) act = SealsSet w path body act
+IsPart w (SetSealed path header) act = SealsSet w path header act
 
 -- parts are these acts, each of which may be done behind those before it
 abbrev pub AreParts : World → List Part → List Act → Type 0
@@ -57,7 +56,7 @@ AreParts w _ _ = ⊥
 abbrev pub KeepsPart : Part → Type 0
 KeepsPart (Stored stored) = KeepsAct stored
 KeepsPart (MediumMade path) = is_path path ≡ true
-KeepsPart (SetSealed path body) = (is_path path ≡ true) × KeepsBody body
+KeepsPart (SetSealed path header) = (is_path path ≡ true) × KeepsConditions header
 
 -- Plans.
 

@@ -4,6 +4,7 @@ use Rattle.std.proofs.lemmas.Bool.Decides.{nat_tests}
 use Rattle.bk_acts.specs.declared.act.StoredAct.{StoredAct}
 use Rattle.bk_acts.specs.declared.act.StoredAct.TheVariants.{Logged as LoggedAct}
 use Rattle.bk_acts.specs.Meaning.{Means, Spell}
+use Rattle.bk_ids.specs.declared.record.Rec.{Rec}
 use Rattle.bk_items.specs.declared.item.ScriptEntry.{ScriptEntry}
 use Rattle.bk_machine.specs.Acts.{logged, said_time}
 use Rattle.bk_machine.specs.Checks.{used_up}
@@ -12,7 +13,8 @@ use Rattle.bk_machine.specs.MayDo.{HoldsOf, MayDo, MayLog}
 use Rattle.bk_machine.specs.Outcome.{in_one}
 use Rattle.bk_machine.specs.World.{World, Database, database_named, log_of}
 use Rattle.bk_shown.specs.Shown.{AreNext, ArePlaced}
-use Rattle.bk_world.specs.Records.{Logged, Said, numbered}
+use Rattle.bk_world.specs.Records.{Logged, Said, checkpointed, numbered}
+use Rattle.bk_world.specs.Says.{alone}
 use Rattle.bk_world.specs.SoundLogs.{MayFollow}
 use Rattle.bk_world.specs.declared.database.FileSpec.{FileSpec}
 use Rattle.bk_world.specs.declared.reply.Reply.{Reply}
@@ -20,14 +22,13 @@ use Rattle.bk_world.specs.declared.transaction.Open.{Open}
 use Rattle.bk_kept.specs.declared.kept.Database.{Database as KeptDatabase}
 use Rattle.bk_kept.specs.declared.kept.Kept.{Kept}
 use Rattle.bk_kept.specs.Keeps.{ShowsLog, database_of}
-use Rattle.bk_kept.specs.Stored.{IsDone}
+use Rattle.bk_kept.specs.Stored.{IsDone, MarksEnd}
 use Rattle.bk_world.specs.CrashLaws.{counts-length}
 use Rattle.bk_plans.specs.declared.parts.Plan.{Plan}
 use Rattle.bk_plans.specs.PlanLaws.{DoWhatTheyMay, InEach, Stores, plans-one}
-use Rattle.bk_plans.specs.Planned.{IsOne, SaysNow, SaysThen}
+use Rattle.bk_plans.specs.Planned.{IsOne, MarksNow, SaysNow, SaysThen}
 use Rattle.bk_plans.specs.Planning.{Plans}
 
--- records that count from a number on end behind their number
 -- records that may follow, each in its place, may come next
 pub next-all : (files : List FileSpec) (rs : List Logged) (n : ℕ) (said : List Said) → n ≡ length rs + 1 → n + length said ≤ 2 ^ 62 → MayFollow rs (numbered n said) → ArePlaced files rs (numbered n said) → AreNext files rs (numbered n said)
 next-all files rs n [] from low may placed = tt
@@ -42,7 +43,7 @@ pub low-left : (end few : ℕ) → used_up end ≡ false → few ≤ 3 → end +
 low-left end few left lt = grind (arith, nat_tests, left, lt)
 
 -- an act with these records is one by which a database says this
-pub says-now : (d : KeptDatabase) (said : List Said) (ts : List Open) (stored : StoredAct) (records : List ℕ) → stored ≡ LoggedAct d.name ts records → Spell records d.shown.«end» said → SaysNow d said ts stored
+pub says-now : (d : KeptDatabase) (said : List Said) (ts : List Open) (stored : StoredAct) (records : List Rec) → stored ≡ LoggedAct d.name ts records → Spell records d.shown.«end» said → SaysNow d said ts stored
 says-now d said ts stored records is spell = record { records = records; is = is; spell = spell }
 
 -- and it is what is said now
@@ -71,15 +72,37 @@ module _ (w : World) (d : KeptDatabase) (said : List Said) (ts : List Open) (sto
   pub stores-said : Stores stored (logged d.name said ts) w
   stores-said = subst (λ (s : StoredAct). Stores s (logged d.name said ts) w) (sym says.is) (record {
     draws = tt;
-    carried = tt;
+    unused = tt;
     from_end = subst (λ (o : Option Database). HoldsOf o (λ db. (others : List Said) × Spell says.records db.end others)) (sym named) (said, says.spell);
+    marked = tt;
     taken = subst (λ (o : Option Database). HoldsOf o (λ db. AreNext db.files (log_of w.history db) (numbered db.end said))) (sym named) next-said;
   })
 
   pub done-said : IsDone w stored (logged d.name said ts)
   done-said =
       let its : Stores stored (logged d.name said ts) w = stores-said in
-      record { means = means-said d said ts stored says; may = may; draws = its.draws; carried = its.carried; from_end = its.from_end; taken = its.taken }
+      record { means = means-said d said ts stored says; may = may; draws = its.draws; unused = its.unused; from_end = its.from_end; marked = its.marked; taken = its.taken }
+
+-- what is known of an act by which a database marks a checkpoint
+module _ (w : World) (d : KeptDatabase) (time : ℕ) (stored : StoredAct) (marks : MarksNow d time stored) (named : database_named w.databases d.name ≡ Some (database_of d)) (shows : ShowsLog w.history d)
+    (may : MayDo w (logged d.name (alone (checkpointed time)) d.transactions)) (low : d.shown.«end» + 1 ≤ 2 ^ 62) where
+  next-marked : AreNext d.files (log_of w.history (database_of d)) (numbered d.shown.«end» (alone (checkpointed time)))
+  unfolding log_of
+  next-marked =
+      let rs : List Logged = log_of w.history (database_of d) in
+      let counted : d.shown.«end» ≡ 1 + length rs = counts-length 1 rs d.shown.«end» shows.log.counts in
+      (record { number = omega (arith, counted); low = omega (arith, low); may = tt; placed = tt }, tt)
+
+  pub done-marked : IsDone w stored (logged d.name (alone (checkpointed time)) d.transactions)
+  done-marked = subst (λ (s : StoredAct). IsDone w s (logged d.name (alone (checkpointed time)) d.transactions)) (sym marks.is) (record {
+    means = record { transactions = d.transactions; act_is = refl };
+    may = may;
+    draws = tt;
+    unused = tt;
+    from_end = tt;
+    marked = subst (λ (o : Option Database). HoldsOf o (MarksEnd w d.name time marks.kept (logged d.name (alone (checkpointed time)) d.transactions))) (sym named) (record { act_is = refl; kept_is = marks.kept_is w shows });
+    taken = subst (λ (o : Option Database). HoldsOf o (λ db. AreNext db.files (log_of w.history db) (numbered db.end (alone (checkpointed time))))) (sym named) next-marked;
+  })
 
 -- a statement by which a database says this
 pub plans-said : (k : Kept) (Known : World → Type 0) (s : ScriptEntry) (now : ℕ) (d : KeptDatabase) (said : List Said) (ts : List Open) (stored : StoredAct) (answer : Reply) (plan : Plan)

@@ -12,5 +12,5 @@ those_of (Some begin) ws = of_transaction begin ws
 
 -- records that undo these writes, from a number on
 pub record Undoes (first : ℕ) (ws : List Pending) (n : Numbered) : Type 0 where
-  pub spell : Spell n.records first (undoing ws)
+  pub spell : Spell n.records.items first (undoing ws)
   pub next : n.next ≡ first + length ws

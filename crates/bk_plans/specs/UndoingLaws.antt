@@ -1,17 +1,13 @@
--- What undoes pending writes is in its place wherever it comes, and what a recovery says may come next in its log.
-use Rattle.std.proofs.Common.{◌≡◌, ◌≤◌, ℕ, suc, ◌+◌, ◌^◌, Bool, true, false, cond, List, [], ◌∷◌, ◌++◌, length, reverse, Option, None, Some, ◌∙◌, ap, subst, arith}
+-- What undoes pending writes is in its place wherever it comes.
+use Rattle.std.proofs.Common.{◌≡◌, ◌≤◌, ℕ, suc, ◌+◌, Bool, true, false, cond, List, [], ◌∷◌, ◌++◌, length, reverse, Option, None, Some, ◌∙◌, subst, arith}
 use Rattle.std.specs.Prelude.{◌==◌, filter}
 use Rattle.std.proofs.lemmas.List.{append-nil, length-append, length-reverse}
-use Rattle.bk_ids.specs.declared.guid.Guid.{Guid}
-use Rattle.bk_world.specs.CrashLaws.{counts-length}
-use Rattle.bk_plans.specs.SaidLaws.{next-all}
 use Rattle.bk_plans.specs.Undoing.{those_of}
-use Rattle.bk_shown.specs.Shown.{AreNext, ArePlaced}
+use Rattle.bk_shown.specs.Shown.{ArePlaced}
 use Rattle.bk_world.specs.Pending.{Pending, of_transaction}
-use Rattle.bk_world.specs.Records.{Counts, Logged, Said, numbered, recovered}
-use Rattle.bk_world.specs.Says.{alone, rollback_said, settle_said, undoing}
+use Rattle.bk_world.specs.Records.{Logged, Said, numbered}
+use Rattle.bk_world.specs.Says.{rollback_said, settle_said, undoing}
 use Rattle.bk_world.specs.SettledLaws.{length-undoing}
-use Rattle.bk_world.specs.SoundLogs.{MayFollow}
 use Rattle.bk_world.specs.declared.database.FileSpec.{FileSpec}
 
 -- Lengths.
@@ -41,9 +37,6 @@ rollback-length begin ws =
     let few : length own ≤ length ws = those-fewer (Some begin) ws in
     omega (arith, joined, undone, few)
 
-pub recovery-length : (ws : List Pending) (branch : Guid) → length (settle_said ws ++ alone (recovered branch)) ≡ length ws + 1
-recovery-length ws branch = length-append (settle_said ws) (alone (recovered branch)) ∙ ap (λ n. n + 1) (settle-length ws)
-
 -- Places.
 
 undoing-placed : (files : List FileSpec) (rs : List Logged) (n : ℕ) (ws : List Pending) (said : List Said) → ((log : List Logged) (m : ℕ) → ArePlaced files log (numbered m said)) → ArePlaced files rs (numbered n (undoing ws ++ said))
@@ -55,15 +48,3 @@ rollback-placed files rs n begin ws = undoing-placed files rs n (reverse (of_tra
 
 pub settle-placed : (files : List FileSpec) (rs : List Logged) (n : ℕ) (ws : List Pending) → ArePlaced files rs (numbered n (settle_said ws))
 settle-placed files rs n ws = subst (λ said. ArePlaced files rs (numbered n said)) (append-nil (undoing (reverse ws))) (undoing-placed files rs n (reverse ws) [] (λ log m. tt))
-
-pub recovery-placed : (files : List FileSpec) (rs : List Logged) (n : ℕ) (ws : List Pending) (branch : Guid) → ArePlaced files rs (numbered n (settle_said ws ++ alone (recovered branch)))
-recovery-placed files rs n ws branch = undoing-placed files rs n (reverse ws) (alone (recovered branch)) (λ log m. (tt, tt))
-
--- What comes next.
-
--- what a recovery says that undoes some writes may come next, where it may follow and there are numbers for it
-pub recovery-next : (files : List FileSpec) (rs : List Logged) (at : ℕ) (branch : Guid) (ws : List Pending) → Counts 1 rs at → MayFollow rs (numbered at (settle_said ws ++ alone (recovered branch)))
-    → at + length (settle_said ws ++ alone (recovered branch)) ≤ 2 ^ 62 → AreNext files rs (numbered at (settle_said ws ++ alone (recovered branch)))
-recovery-next files rs at branch ws counts may low =
-    let counted : at ≡ 1 + length rs = counts-length 1 rs at counts in
-    next-all files rs at (settle_said ws ++ alone (recovered branch)) (omega (arith, counted)) low may (recovery-placed files rs at ws branch)

@@ -3,6 +3,7 @@
 #![tactic(auto)]
 
 mod finding;
+mod marking;
 mod parts;
 mod paths;
 mod planning_parts;
@@ -11,6 +12,7 @@ mod rules;
 mod undoing;
 
 pub use finding::{current_or_refuse, named_or_refuse};
+pub use marking::marked;
 pub use parts::{Part, Plan};
 pub use paths::{in_use, is_in_use, is_in_use_by_others, taken};
 pub use planning_parts::{LATEST, logged, name_in, refused, said_time, say, say_one, stored};

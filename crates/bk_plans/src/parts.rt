@@ -2,18 +2,17 @@
 
 use bk_acts::StoredAct;
 use bk_ids::Text;
-use bk_set::SetBody;
-use bk_world::{Reply, Rule};
+use bk_world::{Header, Reply, Rule};
 
-/// A part of a statement: an act of the machine, and with it what of it is stored.
+/// A part of a statement: an act of the machine.
 #[derive(Drop)]
 pub enum Part {
-    /// An act that the instance's file stores.
+    /// An act that outlasts the run.
     Stored(StoredAct),
     /// A medium is made at a path of 1 to 100 bytes where none is, without sets.
     MediumMade { path: Text },
-    /// A set is sealed behind those on the medium at a path.
-    SetSealed { path: Text, body: SetBody },
+    /// A set with this header is sealed behind those on the medium at a path.
+    SetSealed { path: Text, header: Header },
 }
 
 /// What a statement comes to.

@@ -3,7 +3,7 @@
 ghost use Rattle.std.specs.Prelude.{◌≡◌, ℕ, ◌+◌, true, [], ◌∷◌, ◌++◌, List, length, IfOk, OnOk};
 ghost use Rattle.bk_acts.specs.declared.act.StoredAct.TheVariants.{Logged};
 ghost use Rattle.bk_acts.specs.Meaning.{Spell, under};
-ghost use Rattle.bk_acts.specs.Spelling.{KeepsAct};
+ghost use Rattle.bk_acts.specs.Conditions.{KeepRecords, KeepsAct, MayTell};
 ghost use Rattle.bk_machine.specs.Acts as acts;
 ghost use Rattle.bk_machine.specs.Checks as checks;
 ghost use Rattle.bk_machine.specs.World.{World};
@@ -11,7 +11,6 @@ ghost use Rattle.bk_kept.specs.Keeps.{ShowsLog, database_of};
 ghost use Rattle.bk_plans.specs.declared.parts.Part.TheVariants.{Stored};
 ghost use Rattle.bk_plans.specs.Planned.{IsOne, IsRefusedBy};
 ghost use Rattle.bk_plans.specs.Planning.{KeepsPlan};
-ghost use Rattle.bk_record.specs.Spelling.{KeepsLimits};
 ghost use Rattle.bk_world.specs.Records.{Said};
 
 use crate::parts::{Part, Plan};
@@ -19,7 +18,6 @@ use crate::refusal::Refusal;
 use bk_acts::{StoredAct, said_law};
 use bk_ids::{Body, Lsn, Name, Rec, Sequence, Text};
 use bk_kept::DatabaseView;
-use bk_record::Records;
 use bk_world::{Open, Reply};
 use std::alloc::{AllocError, Global};
 
@@ -65,8 +63,9 @@ pub fn logged(
     alloc: Global,
     database: &DatabaseView<'_>,
     transactions: Sequence<Open>,
-    records: Records,
+    records: Sequence<Rec>,
 ) -> Result<StoredAct, AllocError>
+    requires { KeepRecords records }
     ensures is { IfOk result (λ act. act ≡ Logged database.now.name transactions records) }
     ensures keeps { IfOk result KeepsAct }
 {
@@ -102,31 +101,26 @@ pub fn said_time(database: &DatabaseView<'_>, now: u64) -> u64
 }
 
 /// One record more is said under a number, in the transaction of this first record, or in none.
-pub fn say(
-    alloc: Global,
-    records: &mut Records,
-    lsn: Lsn,
-    begin: Lsn,
-    body: Body,
-) -> Result<(), AllocError>
-    requires { KeepsLimits body }
-    ensures { OnOk result ((n : ℕ) (said : List Said) (s : Said) → Spell records.old n said → lsn ≡ n + length said
-        → under lsn s ≡ record { lsn = lsn; begin = begin; body = body } → Spell records.new n (said ++ s ∷ [])) }
+pub fn say(records: &mut Vec<Rec>, lsn: Lsn, begin: Lsn, body: Body) -> Result<(), AllocError>
+    requires { MayTell body }
+    ensures said { OnOk result ((n : ℕ) (said : List Said) (s : Said) → Spell records.old.items n said → lsn ≡ n + length said
+        → under lsn s ≡ record { lsn = lsn; begin = begin; body = body } → Spell records.new.items n (said ++ s ∷ [])) }
+    ensures keep { OnOk result (KeepRecords records.old.items → KeepRecords records.new.items) }
 {
     said_law();
     let record = Rec { lsn, begin, body };
-    let pushed = records.push(alloc, &record);
-    drop(record);
-    pushed
+    records.push(record)?;
+    Ok(())
 }
 
 /// One record, in the transaction of this first record, or in none.
-pub fn say_one(alloc: Global, lsn: Lsn, begin: Lsn, body: Body) -> Result<Records, AllocError>
-    requires { KeepsLimits body }
-    ensures { IfOk result (λ records. (s : Said) → under lsn s ≡ record { lsn = lsn; begin = begin; body = body } → Spell records lsn (s ∷ [])) }
+pub fn say_one(alloc: Global, lsn: Lsn, begin: Lsn, body: Body) -> Result<Sequence<Rec>, AllocError>
+    requires { MayTell body }
+    ensures said { IfOk result (λ records. (s : Said) → under lsn s ≡ record { lsn = lsn; begin = begin; body = body } → Spell records lsn (s ∷ [])) }
+    ensures keep { IfOk result KeepRecords }
 {
     said_law();
-    let mut records = Records::none(alloc);
-    say(alloc, &mut records, lsn, begin, body)?;
-    Ok(records)
+    let mut records = Vec::new(alloc);
+    say(&mut records, lsn, begin, body)?;
+    Ok(Sequence::new(records))
 }

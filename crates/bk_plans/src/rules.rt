@@ -6,7 +6,7 @@ ghost use Rattle.bk_machine.specs.Checks as checks;
 ghost use Rattle.bk_machine.specs.World.{World};
 ghost use Rattle.bk_world.specs.Lines.{RecordLines};
 ghost use Rattle.bk_world.specs.declared.database.Status.TheVariants.{Down, Online};
-ghost use Rattle.bk_kept.specs.Keeps.{HoldsLive, IsSeenOf, Sees, ShowsLog, database_of};
+ghost use Rattle.bk_kept.specs.Keeps.{IsSeenOf, Sees, ShowsLog, database_of};
 ghost use Rattle.bk_plans.specs.Checking.{IsCheck};
 
 use crate::refusal::Refusal;
@@ -124,7 +124,6 @@ pub fn online<'a>(database: &'a DatabaseView<'a>) -> Result<&'a DatabaseView<'a>
     ensures same { IfOk result (λ d. d.now ≡ database.now) }
     ensures online { IfOk result (λ d. d.now.status ≡ Online) }
     ensures shows { (history : RecordLines) → IsSeenOf history database.now → IfOk result (λ d. ShowsLog history d.now) }
-    ensures live { (history : RecordLines) → IsSeenOf history database.now → IfOk result (λ d. HoldsLive history d.now) }
 {
     match word(database.status, database.units.as_slice()) {
         Some(status) => Err(Refusal::Broken(Rule::NotOnline { status })),

@@ -1,12 +1,12 @@
 -- Files that hold what a crash leaves inside of a statement stand for a world that a crash may leave.
-use Rattle.std.proofs.Common.{◌≡◌, ℕ, true, false, List, [], ◌∷◌, inr, map, sym, ap, subst, ◌∙◌}
+use Rattle.std.proofs.Common.{◌≡◌, ℕ, true, false, List, [], ◌∷◌, ◌++◌, inr, map, sym, ap, subst, ◌∙◌}
 use Rattle.std.specs.Prelude.{◌≢◌}
 use Rattle.std.specs.List.{AllByRecursion, AllZip}
 use Rattle.bk_archive.specs.MediaLaws.{media-same}
 use Rattle.bk_device.specs.Disk.{Files}
 use Rattle.bk_engine.specs.Loading.{PendsInOrder, Stands}
 use Rattle.bk_engine.specs.Stands.{Covers}
-use Rattle.bk_hosted.specs.Fronts.{settling}
+use Rattle.bk_hosted.specs.Fronts.{AreFronts, IsFrontOf, Waits, settling}
 use Rattle.bk_hosted.specs.Hosted.{Hosted, Hosts, database_of, is_up}
 use Rattle.bk_hosting.specs.Hosting.{LosesWaiting}
 use Rattle.bk_lemmas.specs.Lists.{all_mapped}
@@ -17,28 +17,36 @@ use Rattle.bk_machine.specs.Sound.{IsSound}
 use Rattle.bk_machine.specs.statements.Restore.{is_online}
 use Rattle.bk_machine.specs.World.{World}
 use Rattle.bk_restarts.proofs.Cuts.{OpensAt}
-use Rattle.bk_restarts.proofs.Fronts.{AreFronts, IsFrontOf, front-waits}
 use Rattle.bk_restarts.proofs.Logs.{PendsUp, hosted-pend}
 use Rattle.bk_restarts.proofs.Runs.{IsCuttable, cuts-there, opens-there}
 use Rattle.bk_restarts.specs.Crashes.{LeavesFrom}
 use Rattle.bk_world.specs.declared.database.Status.TheVariants.{Online}
+use Rattle.bk_world.specs.declared.transaction.Open.{Open}
+use Rattle.bk_world.specs.Cut.{is_among}
+use Rattle.bk_world.specs.Records.{Logged}
+use Rattle.bk_world.specs.SoundLogs.{NoLoadPends}
 
 -- ---- fronts
 
+-- what waits may be lost
+abbrev pub FrontLaw : Type 0
+FrontLaw = (begins : List ℕ) (h : Hosted) (records lost : List Logged) → h.records ≡ records ++ lost → AllByRecursion (Waits h.transactions) lost → AllByRecursion (λ (t : Open). is_among begins t.begin ≡ true) h.transactions
+    → (is_up h ≡ true → NoLoadPends records) → (is_up h ≡ false → h.transactions ≡ []) → IsFrontOf begins h (record h { records = records })
+
 -- what a crash leaves of a database is a front of it, behind which what was open is lost
-front-of : (before : World) (h front : Hosted) → OpensAt before (database_of h) → PendsUp front → LosesWaiting h front → IsFrontOf (open_begins before (database_of h)) h front
-front-of before h front opens pends loses =
+front-of : FrontLaw → (before : World) (h front : Hosted) → OpensAt before (database_of h) → PendsUp front → LosesWaiting h front → IsFrontOf (open_begins before (database_of h)) h front
+front-of law before h front opens pends loses =
     subst (IsFrontOf (open_begins before (database_of h)) h) (sym loses.same)
-    (front-waits (open_begins before (database_of h)) h front.records loses.lost loses.splits loses.waits opens.among (λ up. (pends (ap is_up loses.same ∙ up)).loads) (λ down. opens.idle (offline down)))
+    (law (open_begins before (database_of h)) h front.records loses.lost loses.splits loses.waits opens.among (λ up. (pends (ap is_up loses.same ∙ up)).loads) (λ down. opens.idle (offline down)))
   where
     offline : is_up h ≡ false → h.points.status ≢ Online
     offline down on = let up : is_up h ≡ true = ap is_online on in cc
 
-all-fronts : (before : World) (hosted fronts : List Hosted) → AllByRecursion (OpensAt before) (map database_of hosted) → AllByRecursion PendsUp fronts → AllZip LosesWaiting hosted fronts → AreFronts before hosted fronts
-all-fronts before [] [] opens pends loses = tt
-all-fronts before [] (front ∷ fronts) opens pends loses = absurd loses
-all-fronts before (h ∷ hosted) [] opens pends loses = absurd loses
-all-fronts before (h ∷ hosted) (front ∷ fronts) opens pends loses = (front-of before h front opens.0 pends.0 loses.0, all-fronts before hosted fronts opens.1 pends.1 loses.1)
+all-fronts : FrontLaw → (before : World) (hosted fronts : List Hosted) → AllByRecursion (OpensAt before) (map database_of hosted) → AllByRecursion PendsUp fronts → AllZip LosesWaiting hosted fronts → AreFronts before hosted fronts
+all-fronts law before [] [] opens pends loses = tt
+all-fronts law before [] (front ∷ fronts) opens pends loses = absurd loses
+all-fronts law before (h ∷ hosted) [] opens pends loses = absurd loses
+all-fronts law before (h ∷ hosted) (front ∷ fronts) opens pends loses = (front-of law before h front opens.0 pends.0 loses.0, all-fronts law before hosted fronts opens.1 pends.1 loses.1)
 
 -- ---- worlds
 
@@ -57,11 +65,11 @@ left-stands number cut left image covers sound still counter hosts media = recor
   finished = λ closed. absurd (cc);
 }
 
-pub leaves-from : (number : ℕ) (old : World) (outcomes : List Outcome) → IsCuttable old outcomes → LeavesFrom number old outcomes
-leaves-from number old outcomes run least n image enough within is =
+pub leaves-from : FrontLaw → (number : ℕ) (old : World) (outcomes : List Outcome) → IsCuttable old outcomes → LeavesFrom number old outcomes
+leaves-from law number old outcomes run least n image enough within is =
     let covers = is.covers in
     let fronts : List Hosted = covers.left.0 in
     let opens = subst (AllByRecursion (OpensAt _)) covers.hosts.same (opens-there old outcomes run least n enough within is.done is.records) in
     let left = run.fronts least _ _ _ covers.hosted fronts covers.own.counter (cuts-there old outcomes run least n enough within is.done is.records) covers.hosts
-    (all-fronts _ covers.hosted fronts opens (hosted-pend covers.own image fronts covers.left.2) covers.left.1) covers.no_less covers.no_more in
+    (all-fronts law _ covers.hosted fronts opens (hosted-pend covers.own image fronts covers.left.2) covers.left.1) covers.no_less covers.no_more in
     (left.0, left.1, left-stands number _ left.0 image covers (run.sound_left least left.0 left.1) left.1.world.closed left.2 left.3 left.4)

@@ -1,6 +1,4 @@
 mod Cuts
-mod Fronts
-mod Lefts
 mod Runs
 mod Logs
 mod Leaving

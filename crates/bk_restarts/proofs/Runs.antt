@@ -2,7 +2,7 @@
 use Rattle.std.proofs.Common.{◌≡◌, ◌≤◌, ℕ, zero, suc, ◌+◌, List, [], ◌∷◌, ◌++◌, drop, length, map, take, refl, ap, ◌∙◌, arith}
 use Rattle.std.proofs.lemmas.List.{take_all}
 use Rattle.std.specs.List.{AllByRecursion}
-use Rattle.bk_hosted.specs.Fronts.{TellsLast, settling}
+use Rattle.bk_hosted.specs.Fronts.{AreFronts, TellsLast, settling}
 use Rattle.bk_hosted.specs.Hosted.{Hosted, Hosts}
 use Rattle.bk_items.specs.declared.item.ScriptEntry.{ScriptEntry}
 use Rattle.bk_lemmas.specs.Lists.{all_joined}
@@ -16,7 +16,6 @@ use Rattle.bk_machine.specs.Same.{SameMedia}
 use Rattle.bk_machine.specs.Sound.{IsSound}
 use Rattle.bk_machine.specs.World.{World}
 use Rattle.bk_restarts.proofs.Cuts.{CutAt, OpenAmong, OpensAt, cut-at, cut-opens}
-use Rattle.bk_restarts.proofs.Fronts.{AreFronts}
 use Rattle.bk_restarts.specs.Cuts.{cut_in}
 
 -- ---- acts

@@ -12,11 +12,10 @@ ghost use Rattle.bk_machine.specs.Sound.{AreIdle, IsSound};
 ghost use Rattle.bk_machine.specs.World.{World, opened};
 ghost use Rattle.bk_restarts.specs.Crashes.{CrashLaws, LeavesEnded, LeavesFrom};
 
-use bk_hosted::acts_tell_last;
+use bk_hosted::{acts_tell_last, crashes_leave_settled_fronts, what_waits_may_be_lost};
 use bk_machine::{
-    closings_are_cut_between_acts, closings_are_cut_in_whole_worlds, crashes_keep_worlds_sound,
-    crashes_leave_what_stays, fronts_may_stay, runs_are_closed, runs_are_cut_between_acts,
-    runs_are_cut_in_whole_worlds, runs_begin_and_end_in_sound_worlds, runs_keep_worlds_sound,
+    closings_are_cut_between_acts, closings_are_cut_in_whole_worlds, runs_are_closed,
+    runs_are_cut_between_acts, runs_begin_and_end_in_sound_worlds, runs_keep_worlds_sound,
 };
 
 /// Let a run from a sound world, or its closing, be cut inside of a statement, and let files hold what is left there, but for what
@@ -30,12 +29,10 @@ pub fn crashes_leave_files_that_stand()
     acts_tell_last();
     closings_are_cut_between_acts();
     closings_are_cut_in_whole_worlds();
-    crashes_keep_worlds_sound();
-    crashes_leave_what_stays();
-    fronts_may_stay();
+    crashes_leave_settled_fronts();
     runs_are_cut_between_acts();
-    runs_are_cut_in_whole_worlds();
     runs_keep_worlds_sound();
+    what_waits_may_be_lost();
 }
 
 /// Nothing is open in a world for which files stand, and so do files that agree with them under our names. They stand for a world

@@ -3,25 +3,23 @@
 ghost use Rattle.std.specs.Prelude.{◌≡◌, ◌≤◌, false, List, Option, ℕ, Some, None, length, IfOk};
 ghost use Rattle.std.specs.Option.{option_map};
 ghost use Rattle.bk_acts.specs.Meaning.{Spell};
-ghost use Rattle.bk_acts.specs.Spelling.{KeepsAct};
+ghost use Rattle.bk_acts.specs.Conditions.{KeepRecords, KeepsAct, MayTell};
 ghost use Rattle.bk_bytes.specs.Cell.{IsCell};
 ghost use Rattle.bk_ids.specs.declared.record.Body.TheVariants.{Write};
 ghost use Rattle.bk_machine.specs.Checks as checks;
 ghost use Rattle.bk_machine.specs.statements.Target.{row_said};
 ghost use Rattle.bk_plans.specs.Planned.{SaysNow, SaysThen, StoresOne};
 ghost use Rattle.bk_plans.specs.Planning.{KeepsPlan};
-ghost use Rattle.bk_record.specs.Spelling.{KeepsLimits};
 ghost use Rattle.bk_row_plans.specs.Targets.{AreCells};
 ghost use Rattle.bk_world.specs.Entry.{RowChange};
 ghost use Rattle.bk_world.specs.Says.{single_said};
 ghost use Rattle.bk_world.specs.declared.reply.Reply.TheVariants.{Counted};
 
 use bk_acts::{StoredAct, said_law};
-use bk_ids::{Body, CellImage, Lsn, Place, Text, Value};
+use bk_ids::{Body, CellImage, Lsn, Place, Rec, Sequence, Text, Value};
 use bk_images::{free_image, row_image};
 use bk_kept::{DatabaseView, copy_transactions};
 use bk_plans::{Plan, logged, said_time, say, say_one, stored};
-use bk_record::Records;
 use bk_world::{Open, Reply};
 use std::alloc::{AllocError, Global};
 
@@ -74,7 +72,7 @@ pub(crate) fn gone_cells(table: u32, key: u64, before: &Value) -> Images
 fn write_of(place: &Place, cells: Images) -> Body
     requires { IsCell cells.old.bytes × IsCell cells.new.bytes }
     ensures is { result ≡ Write place.now cells.old cells.new }
-    ensures keeps { KeepsLimits result }
+    ensures tells { MayTell result }
 {
     Body::Write {
         place: *place,
@@ -90,23 +88,23 @@ fn single_records(
     cells: Images,
     lsn: Lsn,
     time: u64,
-) -> Result<Records, AllocError>
+) -> Result<Sequence<Rec>, AllocError>
     requires cells { IsCell cells.old.bytes × IsCell cells.new.bytes }
     requires left { checks.used_up lsn ≡ false }
-    ensures { IfOk result (λ records. (c : RowChange) (before : Option (List ℕ)) → AreCells cells.old cells.new c before → Spell records lsn (single_said lsn place.now before c time)) }
+    ensures said { IfOk result (λ records. (c : RowChange) (before : Option (List ℕ)) → AreCells cells.old cells.new c before → Spell records lsn (single_said lsn place.now before c time)) }
+    ensures keep { IfOk result KeepRecords }
 {
     said_law();
-    let mut records = Records::none(alloc);
-    say(alloc, &mut records, lsn, lsn, Body::Begin)?;
-    say(alloc, &mut records, lsn + 1, lsn, write_of(place, cells))?;
+    let mut records = Vec::new(alloc);
+    say(&mut records, lsn, lsn, Body::Begin)?;
+    say(&mut records, lsn + 1, lsn, write_of(place, cells))?;
     say(
-        alloc,
         &mut records,
         lsn + 2,
         lsn,
         Body::Commit { time, mark: None },
     )?;
-    Ok(records)
+    Ok(Sequence::new(records))
 }
 
 // What is said of one row that is written in its cell: in an open transaction, or by one of its own.
@@ -117,11 +115,12 @@ fn row_records(
     cells: Images,
     lsn: Lsn,
     time: u64,
-) -> Result<Records, AllocError>
+) -> Result<Sequence<Rec>, AllocError>
     requires cells { IsCell cells.old.bytes × IsCell cells.new.bytes }
     requires left { checks.used_up lsn ≡ false }
-    ensures { IfOk result (λ records. (c : RowChange) (before : Option (List ℕ)) → AreCells cells.old cells.new c before
+    ensures said { IfOk result (λ records. (c : RowChange) (before : Option (List ℕ)) → AreCells cells.old cells.new c before
         → Spell records lsn (row_said (option_map (λ t. t.now) own.entry) lsn place.now before c time)) }
+    ensures keep { IfOk result KeepRecords }
 {
     match own {
         Some(transaction) => say_one(alloc, lsn, transaction.begin, write_of(place, cells)),

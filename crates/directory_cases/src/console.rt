@@ -48,7 +48,7 @@ where
         println!(rt; "{script}: status {status}")?;
     }
     let mut other = FileDevice::new(rt, rt.alloc(), DIR)?;
-    let is_there = other.len("sqlbak.rows").is_ok();
+    let is_there = other.len("sqlbak.control").is_ok();
     let status = status_of(rt, "find.sql")?;
     println!(rt; "beside another device, {is_there}: status {status}")
 }

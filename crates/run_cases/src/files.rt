@@ -3,7 +3,7 @@
 use crate::bytes::{bytes, number, show_bytes};
 use crate::trouble::Trouble;
 use bk_device::{Device, MemDevice};
-use bk_home::{Home, HomeError};
+use bk_master::{Master, MasterError};
 use std::alloc::{AllocError, Global};
 use std::mem;
 
@@ -15,10 +15,10 @@ pub struct Files {
 }
 
 // The number of the instance, and the low number of the next GUID that isn't reserved.
-fn record(alloc: Global, device: &mut MemDevice) -> Result<(u64, u64), HomeError> {
-    let home = Home::load(alloc, device, 9)?;
-    let record = home.record();
-    Ok((record.number, record.counter))
+fn record(alloc: Global, device: &mut MemDevice) -> Result<(u64, u64), MasterError> {
+    let master = Master::load(alloc, device, 9)?;
+    let own = &master.record().own;
+    Ok((own.number, own.counter))
 }
 
 impl Files {
@@ -81,6 +81,15 @@ impl Files {
         Ok(())
     }
 
+    // Answers how many bytes a file has, or that there is none.
+    fn show_len(&mut self, name: &str, out: &mut String) -> Result<(), Trouble> {
+        match self.device.len(name)? {
+            Some(len) => writeln!(out, "{len}")?,
+            None => out.push_str("no file\n")?,
+        }
+        Ok(())
+    }
+
     // Answers the bytes of a file that doesn't hold these.
     fn compare(&mut self, name: &str, wanted: &[u8], out: &mut String) -> Result<(), Trouble> {
         match self.content(name)? {
@@ -134,6 +143,7 @@ impl Files {
                 Ok(())
             }
             "file" => self.show(name, out),
+            "len" => self.show_len(name, out),
             "holds" => self.compare(name, &bytes, out),
             _ => Err(Trouble::NoForm),
         }

@@ -58,10 +58,11 @@ impl Runs {
         Ok(())
     }
 
-    // Cuts a run short at each write or call.
+    // Cuts a run short at one write or call after another.
     fn at_each(
         &mut self,
         cut: Cut,
+        every: u64,
         words: &str,
         script: &str,
         out: &mut String,
@@ -77,6 +78,7 @@ impl Runs {
                 fault: None,
             },
             cut,
+            every,
         };
         trials.at_each(&mut self.trial, out)
     }
@@ -92,8 +94,8 @@ impl Runs {
     ) -> Result<(), AllocError> {
         match verb {
             "run" => self.run(words, more.as_bytes(), out),
-            "at-each-write" => self.at_each(Cut::AtWrite, words, more, out),
-            "at-each-call" => self.at_each(Cut::AtCall, words, more, out),
+            "at-each-write" => self.at_each(Cut::AtWrite, 1, words, more, out),
+            "at-each-call" => self.at_each(Cut::AtCall, 1, words, more, out),
             "look" => self.trial.set_look(more),
             "words" => show_words(self.alloc, words, out),
             "with-clap" => show_with_clap(self.alloc, words, out),
@@ -102,7 +104,20 @@ impl Runs {
         }
     }
 
-    // `run-blanks N WORDS`: runs a script of so many blanks. `source-fails-at N`: the next run's source fails at this call. The other commands are those
+    // Cuts a run short at each write or call of so many.
+    fn at_every(
+        &mut self,
+        cut: Cut,
+        words: &str,
+        script: &str,
+        out: &mut String,
+    ) -> Result<(), Trouble> {
+        let (every, words) = words.split_once(' ').ok_or(Trouble::NoForm)?;
+        self.at_each(cut, number(every)?, words, script, out)?;
+        Ok(())
+    }
+
+    // `at-every-write N WORDS` and `at-every-call N WORDS`: cuts a run short at each N-th from the first on. `run-blanks N WORDS`: runs a script of so many blanks. `source-fails-at N`: the next run's source fails at this call. The other commands are those
     // of scripts, files and crashes.
     fn command(
         &mut self,
@@ -115,8 +130,10 @@ impl Runs {
             "run-blanks" => self.run_blanks(words, out),
             "source-fails-at" => self.fail_source(words),
             "may-show" => self.trial.may_show(words, more),
+            "at-every-write" => self.at_every(Cut::AtWrite, words, more, out),
+            "at-every-call" => self.at_every(Cut::AtCall, words, more, out),
             "restart" | "stop-at" | "fail-at" => self.files.on_crash(verb, words),
-            "put" | "write" | "lose" | "file" | "holds" => self
+            "put" | "write" | "lose" | "file" | "len" | "holds" => self
                 .files
                 .on_file(verb, words, more, out),
             _ => {

@@ -10,6 +10,9 @@ use std::mem;
 // Before how many writes or calls a run is to have gone well.
 const MOST: u64 = 2000;
 
+// Behind each how-manieth of them a look is put twice.
+const TWICE: u64 = 8;
+
 /// How a run is cut short.
 #[derive(Clone, Copy)]
 pub enum Cut {
@@ -27,6 +30,8 @@ pub struct Trials<'a> {
     pub start: &'a MemDevice,
     pub asked: &'a Asked<'a>,
     pub cut: Cut,
+    /// From the first write or call on, each how-manieth it is cut short at.
+    pub every: u64,
 }
 
 // At how many writes or calls a run ended with status 4, where telling failed, and with status 5, where a call on files did.
@@ -111,37 +116,60 @@ impl Trials<'_> {
         text
     }
 
-    // Looks twice at a device that has told nothing. Says whether it is the same twice, and may be shown, and else answers it.
+    // Looks at a device that has told nothing, and twice where that is asked for. Says whether it is the same twice, and may be shown, and else answers it.
     fn looks_same(
         &self,
         trial: &mut Trial,
         lines: u64,
+        is_twice: bool,
         device: &mut MemDevice,
         out: &mut String,
     ) -> Result<bool, AllocError> {
         let first = self.look(trial.look(), device)?;
+        if !trial.takes(lines, first.as_str()) {
+            out.push_str(&first)?;
+            return Ok(false);
+        }
+        if !is_twice {
+            return Ok(true);
+        }
         let second = self.look_aside(trial.look(), device)?;
-        if first.as_str() == second.as_str() && trial.takes(lines, first.as_str()) {
+        if second.as_str() == first.as_str() {
             return Ok(true);
         }
         out.push_str(&second)?;
         Ok(false)
     }
 
-    // Looks twice behind a crash of the device, which has no file afterwards.
-    fn looks_well(
+    // Looks behind a crash of the device that keeps what wasn't synced.
+    fn looks_well_kept(
         &self,
         trial: &mut Trial,
         lines: u64,
-        keep: bool,
+        is_twice: bool,
+        device: &MemDevice,
+        out: &mut String,
+    ) -> Result<bool, AllocError> {
+        let mut kept = device.copy()?;
+        let is_well = self.looks_same(trial, lines, is_twice, &mut kept, out);
+        drop(kept);
+        is_well
+    }
+
+    // Looks behind a crash of the device that loses it. The device has no file afterwards.
+    fn looks_well_lost(
+        &self,
+        trial: &mut Trial,
+        lines: u64,
+        is_twice: bool,
         device: &mut MemDevice,
         out: &mut String,
     ) -> Result<bool, AllocError> {
-        let crashed = mem::replace(device, MemDevice::new(self.alloc)).restart(keep);
+        let crashed = mem::replace(device, MemDevice::new(self.alloc)).restart(false);
         let copied = crashed.copy();
         drop(crashed);
         let mut left = copied?;
-        let is_well = self.looks_same(trial, lines, &mut left, out);
+        let is_well = self.looks_same(trial, lines, is_twice, &mut left, out);
         drop(left);
         is_well
     }
@@ -152,11 +180,10 @@ impl Trials<'_> {
         trial: &mut Trial,
         whole: &[u8],
         at: u64,
-        keep: bool,
         out: &mut String,
     ) -> Result<Option<u8>, AllocError> {
         let mut device = self.start.copy()?;
-        let status = self.try_over(&mut device, trial, whole, at, keep, out);
+        let status = self.try_over(&mut device, trial, whole, at, out);
         drop(device);
         status
     }
@@ -168,44 +195,34 @@ impl Trials<'_> {
         trial: &mut Trial,
         whole: &[u8],
         at: u64,
-        keep: bool,
         out: &mut String,
     ) -> Result<Option<u8>, AllocError> {
         let status = self.cut_short(device, at)?;
         let told = device.told();
         let lines = lines_told(told);
         let is_front = whole.starts_with(told) && (status != 0 || whole == told);
-        if is_front && self.looks_well(trial, lines, keep, device, out)? {
+        let is_twice = at % TWICE == 1;
+        if is_front
+            && self.looks_well_kept(trial, lines, is_twice, device, out)?
+            && self.looks_well_lost(trial, lines, is_twice, device, out)?
+        {
             return Ok(Some(status));
         }
         writeln!(out, "cut short at {at}, {lines} lines, status {status}")?;
         Ok(None)
     }
 
-    // The same where what wasn't synced is lost, and where it is kept.
-    fn try_both(
-        &self,
-        trial: &mut Trial,
-        whole: &[u8],
-        at: u64,
-        out: &mut String,
-    ) -> Result<Option<u8>, AllocError> {
-        match self.try_one(trial, whole, at, false, out)? {
-            Some(_) => self.try_one(trial, whole, at, true, out),
-            None => Ok(None),
-        }
-    }
-
-    /// Cuts the run short at each write or call, until it goes well. Behind each crash a look shows twice what it may show then. Answers
-    /// at how many calls telling failed, and whether others failed more often; or the first mistake.
+    /// Cuts the run short at one write or call after another, until it goes well. Behind each crash a look shows what it may show then. Answers
+    /// at how many calls telling failed, and whether others failed more often, where it was cut short at each; or the first mistake.
     pub fn at_each(&self, trial: &mut Trial, out: &mut String) -> Result<(), AllocError> {
         let whole = self.whole()?;
         let mut faults = Faults {
             tellings: 0,
             files: 0,
         };
-        for at in 1..MOST {
-            let Some(status) = self.try_both(trial, &whole, at, out)? else {
+        let mut at = 1u64;
+        for _ in 1..MOST {
+            let Some(status) = self.try_one(trial, &whole, at, out)? else {
                 return Ok(());
             };
             if status == 0 {
@@ -214,6 +231,10 @@ impl Trials<'_> {
             if !faults.count(status) {
                 writeln!(out, "status {status} at {at}")?;
             }
+            at = at.saturating_add(self.every);
+        }
+        if self.every != 1 {
+            return Ok(());
         }
         faults.show(out)?;
         trial.show_unseen(out)

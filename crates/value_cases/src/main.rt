@@ -1,18 +1,14 @@
-//! Cases over the values that are spelled as bytes or texts: fields, names, times, log records, headers, sets, acts and media.
+//! Cases over the values that are spelled as bytes or texts: fields, names, times, log records and headers.
 //!
 //! Each command speaks of the bytes that `bytes` and `more` gave, or of the words behind it. The files of `data/` are the cases.
 #![tactic(auto)]
 
-mod acts;
 mod fault;
 mod fields;
 mod headers;
 mod ids;
-mod media;
 mod paths;
 mod records;
-mod sets;
-mod shelf;
 mod spelled;
 mod splits;
 mod times;
@@ -25,7 +21,7 @@ use std::process::ExitCode;
 use values::Values;
 
 fn main(rt: HostRuntime) -> io::Result<ExitCode> {
-    let mut values = Values::new(rt.alloc());
+    let mut values = Values::new(rt.alloc())?;
     if run_cases(&rt, &mut values)? {
         Ok(ExitCode::SUCCESS)
     } else {

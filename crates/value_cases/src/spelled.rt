@@ -1,7 +1,7 @@
 // What all of some bytes spell, and what bytes near them do.
 use crate::fault::Fault;
 use crate::words::{bytes_in, number, word};
-use crate::{acts, headers, records, sets};
+use crate::{headers, records};
 use bk_bytes::Cell;
 use bk_record::check_log;
 use std::alloc::{AllocError, Global};
@@ -12,8 +12,6 @@ pub enum Kind {
     Cell,
     Log,
     Header,
-    Set,
-    Act,
 }
 
 /// The kind that a word names.
@@ -22,8 +20,6 @@ pub fn kind_in(word: &str) -> Option<Kind> {
         "cell" => Some(Kind::Cell),
         "log" => Some(Kind::Log),
         "header" => Some(Kind::Header),
-        "set" => Some(Kind::Set),
-        "act" => Some(Kind::Act),
         _ => None,
     }
 }
@@ -45,8 +41,6 @@ fn spelled_again(alloc: Global, kind: Kind, bytes: &[u8]) -> Result<Option<Vec<u
         Kind::Cell => cell_again(alloc, bytes),
         Kind::Log => records::spelled_again(alloc, bytes),
         Kind::Header => headers::spelled_again(alloc, bytes),
-        Kind::Set => sets::spelled_again(alloc, bytes),
-        Kind::Act => acts::spelled_again(alloc, bytes),
     }
 }
 
@@ -80,8 +74,6 @@ pub fn show(alloc: Global, kind: Kind, bytes: &[u8], out: &mut String) -> Result
         Kind::Cell => show_cell(bytes, out)?,
         Kind::Log => records::show(bytes, out)?,
         Kind::Header => headers::show(alloc, bytes, out)?,
-        Kind::Set => sets::show(alloc, bytes, out)?,
-        Kind::Act => acts::show(alloc, bytes, out)?,
     }
     show_spelling(alloc, kind, bytes, out)
 }
@@ -171,8 +163,7 @@ pub fn edit(alloc: Global, words: &[&str], bytes: &mut [u8]) -> Result<(), Fault
     overwrite(bytes, at, &new).ok_or(Fault::Misspelled)
 }
 
-/// What the bytes spell once those of a word are written over those at a place, and a set has its digest again. Further
-/// words are a remark.
+/// What the bytes spell once those of a word are written over those at a place. Further words are a remark.
 pub fn show_with(
     alloc: Global,
     kind: Kind,
@@ -182,9 +173,6 @@ pub fn show_with(
 ) -> Result<(), Fault> {
     let mut copy = bytes.to_vec(alloc)?;
     edit(alloc, words, &mut copy)?;
-    if kind == Kind::Set {
-        sets::seal(&mut copy);
-    }
     show_spelling(alloc, kind, &copy, out)?;
     Ok(())
 }

@@ -1,28 +1,25 @@
 // What the commands of a case are put to.
 use crate::fault::Fault;
-use crate::shelf::Shelf;
 use crate::spelled::{Kind, kind_in};
 use crate::words::{append_words, show_bytes, word};
-use crate::{fields, ids, paths, sets, spelled, splits, times};
+use crate::{fields, ids, paths, spelled, splits, times};
 use cases::Subject;
 use std::alloc::{AllocError, Global};
 
-/// The bytes that a case has given, and its media.
+/// The bytes that a case has given.
 #[derive(Drop)]
 pub struct Values {
     alloc: Global,
     bytes: Vec<u8>,
-    shelf: Shelf,
 }
 
 impl Values {
-    /// No bytes, and no media.
-    pub fn new(alloc: Global) -> Self {
-        Values {
+    /// No bytes.
+    pub fn new(alloc: Global) -> Result<Self, AllocError> {
+        Ok(Values {
             alloc,
             bytes: Vec::new(alloc),
-            shelf: Shelf::new(alloc),
-        }
+        })
     }
 
     // Commands on the bytes themselves.
@@ -34,10 +31,6 @@ impl Values {
             }
             "more" => append_words(self.alloc, words, 1, &mut self.bytes),
             "edit" => spelled::edit(self.alloc, words, &mut self.bytes),
-            "seal" => {
-                sets::seal(&mut self.bytes);
-                Ok(())
-            }
             "show" => Ok(show_bytes(self.alloc, &self.bytes, out)?),
             _ => match on_fields(self.alloc, command, words, &mut self.bytes, out) {
                 Some(done) => done,
@@ -78,11 +71,11 @@ impl Values {
         }
     }
 
-    // Commands on media, or on words alone.
-    fn other(&mut self, command: &str, words: &[&str], out: &mut String) -> Result<(), Fault> {
+    // Commands on words alone.
+    fn other(&self, command: &str, words: &[&str], out: &mut String) -> Result<(), Fault> {
         match on_words(self.alloc, command, words, out) {
             Some(done) => done,
-            None => self.shelf.put(command, words, &self.bytes, out),
+            None => Err(Fault::Misspelled),
         }
     }
 
@@ -154,7 +147,7 @@ fn quoted_time(command: &str) -> Option<&str> {
 
 impl Subject for Values {
     fn begin(&mut self) -> Result<(), AllocError> {
-        *self = Values::new(self.alloc);
+        *self = Values::new(self.alloc)?;
         Ok(())
     }
 

@@ -1,5 +1,5 @@
-use Rattle.bk_acts.proofs.Said.{nothing-said, said-more, one-number, said-whole}
+use Rattle.bk_acts.specs.MeaningLaws.{nothing-said, said-more, one-number, spell-from}
 use Rattle.bk_acts.proofs.laws.said_law.Goals as goal
 
 pub returns : goal.returns
-returns c = record { nothing = nothing-said; one_more = said-more; one_number = one-number; whole = said-whole }
+returns c = record { nothing = nothing-said; one_more = said-more; one_number = one-number; from = spell-from }

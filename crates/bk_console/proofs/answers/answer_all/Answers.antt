@@ -1,4 +1,4 @@
-use Rattle.std.proofs.Common.{◌≡◌, Err, List, Option, ap, subst}
+use Rattle.std.proofs.Common.{◌≡◌, Err, List, Option, refl, ap, subst, ◌∙◌}
 use Rattle.std.proofs.lemmas.Result.{err_from_is_err_and}
 use Rattle.bk_device.specs.Compose.{keeps_by_nothing, keeps_then}
 use Rattle.bk_device.specs.Laws.{nothing_yet}
@@ -18,7 +18,9 @@ loop-reader-init g c = record {
   answered = λ ss are. so_far-none _ _ _ _ ss _ _ _ _ (c.new-reader.ensures.items c.args.script.now) are;
   stands = λ t w stands. (w, stands);
   ready = c.requires.ready;
-  stored = c.requires.stored;
+  number = refl;
+  none = c.requires.none;
+  standing = c.requires.standing;
   others = λ t. keeps_by_nothing (nothing_yet _);
   causes = causes-none _;
 }
@@ -35,7 +37,9 @@ loop-reader-preserved g c =
       answered = λ ss are. so_far-more c.crashes_leave_worlds.ensures _ _ _ _ _ ss _ _ _ _ _ _ (before.answered ss are) c.next.new.self c.in-Some.statement gives _ _ _ _ now.answered (not-stopped _ _ c.else-refused.either);
       stands = λ t w stands. let to = before.stands t w stands in (done_all to.0 now.answered.outcome.acts, now.answered.does t to.0 to.1);
       ready = now.ready;
-      stored = now.stored;
+      number = now.own.0 ∙ before.number;
+      none = now.own.1;
+      standing = now.standing;
       others = λ t. keeps_then (before.others t) (now.others t);
       causes = causes-then before.causes now.causes.disk_faults now.causes.tell_faults;
     }

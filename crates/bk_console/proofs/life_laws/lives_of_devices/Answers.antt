@@ -4,7 +4,7 @@ use Rattle.bk_console.proofs.life_laws.lives_of_devices.Goals as goal
 pub returns : goal.returns
 returns g c =
     let laws : EventLaws = record {
-      same = c.crashes_leave_files_that_stand.ensures.same;
+      same = λ number f g w same. c.runs_begin_where_files_stand.ensures.same number w f g same;
       any = c.events_keep_what_stands.ensures.any;
       of_world = c.events_keep_what_stands.ensures.of_world;
       closed = c.events_keep_worlds_sound.ensures.closed;

@@ -1,11 +1,11 @@
-use Rattle.std.proofs.Common.{◌∙◌, map, refl, sym, ap, subst}
+use Rattle.std.proofs.Common.{◌≡◌, ◌∙◌, true, false, map, refl, sym, ap, subst}
 use Rattle.bk_device.specs.Compose.{effect_then}
 use Rattle.bk_hosted.specs.Fronts.{settling}
 use Rattle.bk_master.specs.declared.record.Own.{Own}
 use Rattle.bk_engine.specs.LoadLaws.{Cleared, cleared-crash, cleared-opens, opened-crash}
 use Rattle.bk_engine.specs.Loading.{Opened}
 use Rattle.bk_engine.proofs.Named.{moved, of-ok, on-all}
-use Rattle.bk_engine.specs.TouchLaws.{rest-touch, stores-touch}
+use Rattle.bk_engine.specs.TouchLaws.{rest-still, rest-touch, stores-touch}
 use Rattle.bk_engine.proofs.finishing.finish.Goals as goal
 
 pub returns-then-is_whole-clause-crash : goal.returns-then-is_whole-clause-crash
@@ -39,3 +39,12 @@ returns-in_err-clear-clause-touches g c = λ tells. moved g.D.Device.disk c.args
 
 pub returns-clause-touches : goal.returns-clause-touches
 returns-clause-touches g c = λ tells. effect_then (moved g.D.Device.disk c.args.dev.now c.at_rest.new.dev c.at_rest.ensures.same (c.clear.ensures.touches tells)) (stores-touch (c.put_own.ensures.touches tells))
+
+pub returns-then-is_whole-clause-still : goal.returns-then-is_whole-clause-still
+returns-then-is_whole-clause-still g c = λ tells no_medium no_set. rest-still g.D.Device.disk c.args.dev.now c.at_rest.new.dev c.at_rest.ensures.same
+
+pub returns-clause-still : goal.returns-clause-still
+returns-clause-still g c = λ tells no_medium no_set.
+    let whole : c.is_whole.result ≡ true = c.is_whole.ensures.all (ap (λ (o : Own). o.making) c.own.ensures ∙ no_medium) (ap (λ (o : Own). o.staging) c.own.ensures ∙ no_set) in
+    let both : false ≡ true = sym c.if-is_whole.false ∙ whole in
+    absurd (cc (both))

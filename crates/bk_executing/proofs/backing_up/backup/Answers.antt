@@ -1,44 +1,48 @@
+use Rattle.std.proofs.Common.{◌≡◌, ◌∙◌, inl, sym, ap, subst}
+use Rattle.std.specs.Prelude.{is_some}
 use Rattle.std.proofs.lemmas.Result.{err_from_is_err_and}
-use Rattle.bk_executing.proofs.Known.{knows-taken, unfit-broken}
-use Rattle.bk_executing.proofs.Planned.{failed-early, on-error, calm-through, plan-executed, plan-failed, plan-broken}
-use Rattle.bk_instance.specs.RestLaws.{stored-nothing}
+use Rattle.bk_engine.specs.ViewLaws.{remembers}
+use Rattle.bk_world.specs.Medium.{medium_at}
+use Rattle.bk_executing.proofs.Backing.{knows-backup, taken-there, unfit-broken}
+use Rattle.bk_executing.proofs.Planned.{plan-executed, plan-failed, plan-touches, standing-nothing, touches-nothing}
+use Rattle.bk_executing.proofs.Results.{on-error}
 use Rattle.bk_executing.proofs.backing_up.backup.Goals as goal
 
 pub returns-in_err-is_there-clause-failed : goal.returns-in_err-is_there-clause-failed
-returns-in_err-is_there-clause-failed g c =
-    on-error c.from_residual.result (failed-early c.args.instance.now (g.D.Device.disk c.args.dev.now) (g.D.Device.disk c.is_taken.new.dev) _ c.args.now c.requires.ready c.requires.stored c.is_taken.ensures.effect)
+returns-in_err-is_there-clause-failed g c = on-error c.from_residual.result (inl c.is_taken.ensures.effect)
+
+pub returns-in_err-is_there-clause-touches : goal.returns-in_err-is_there-clause-touches
+returns-in_err-is_there-clause-touches g c tells = touches-nothing (c.is_taken.ensures.effect tells)
 
 pub returns-in_err-plan-clause-failed : goal.returns-in_err-plan-clause-failed
-returns-in_err-plan-clause-failed g c =
-    on-error c.from_residual-in_err-plan.result (failed-early c.args.instance.now (g.D.Device.disk c.args.dev.now) (g.D.Device.disk c.is_taken.new.dev) _ c.args.now c.requires.ready c.requires.stored c.is_taken.ensures.effect)
+returns-in_err-plan-clause-failed g c = on-error c.from_residual-in_err-plan.result (inl c.is_taken.ensures.effect)
+
+pub returns-in_err-plan-clause-touches : goal.returns-in_err-plan-clause-touches
+returns-in_err-plan-clause-touches g c tells = touches-nothing (c.is_taken.ensures.effect tells)
 
 pub returns-in_err-plan-clause-broken : goal.returns-in_err-plan-clause-broken
 returns-in_err-plan-clause-broken g c tells =
     let p = err_from_is_err_and c.from_residual-in_err-plan.result c.from_residual-in_err-plan.ensures.1 in
-    rw (p.1, p.2) (λ is w stands.
-    let knows = knows-taken c.args.instance.now (g.D.Device.disk c.args.dev.now) (g.D.Device.disk c.is_taken.new.dev) c.args.disk.now c.as_str.result.now c.in_ok-is_there.is_there c.requires.ready c.requires.stored c.is_taken.ensures.effect c.as_str.utf8 c.as_str.ensures c.in_ok-is_there.ensures.taken in
-    c.in_err-plan.ensures.unfit (unfit-broken c.in_err-plan.field-0.0 is) w stands.sound stands.keeps (knows.known tells w stands))
+    rw (p.1, p.2) (λ is w stands. c.in_err-plan.ensures.unfit (unfit-broken c.in_err-plan.field-0.0 is) w stands.sound (remembers (g.D.Device.disk c.args.dev.now) c.args.engine.now w stands) (taken-there w c.args.disk.now c.as_str.result.now c.in_ok-is_there.is_there c.as_str.ensures (c.in_ok-is_there.ensures.there tells w stands.media)))
 
-pub follow-requires-clause-stored : goal.follow-requires-clause-stored
-follow-requires-clause-stored g c = λ tells. stored-nothing c.args.instance.now (g.D.Device.disk c.args.dev.now) (g.D.Device.disk c.is_taken.new.dev) (c.is_taken.ensures.effect tells) (c.requires.stored tells)
-
-pub returns-clause-media : goal.returns-clause-media
-returns-clause-media g c = λ tells. calm-through c.follow.result (g.D.Device.disk c.args.dev.now) (g.D.Device.disk c.is_taken.new.dev) (g.D.Device.disk c.follow.new.dev) (c.is_taken.ensures.effect tells) (c.follow.ensures.media tells)
+pub follow-requires-clause-standing : goal.follow-requires-clause-standing
+follow-requires-clause-standing g c = λ tells. standing-nothing (g.D.Device.disk c.args.dev.now) (g.D.Device.disk c.is_taken.new.dev) c.args.engine.now.hosting.stores (c.is_taken.ensures.effect tells) (c.requires.standing tells)
 
 pub returns-clause-executed : goal.returns-clause-executed
 returns-clause-executed g c =
-    plan-executed c.acts_of_statements.ensures.fronts c.args.instance.now c.follow.new.instance (g.D.Device.disk c.args.dev.now) (g.D.Device.disk c.is_taken.new.dev) (g.D.Device.disk c.follow.new.dev) _ c.args.now c.in_ok-plan.plan c.follow.result c.in_ok-plan.ensures.plans (λ t. g.met.D.Device.lawful t c.args.dev.now)
-    (knows-taken c.args.instance.now (g.D.Device.disk c.args.dev.now) (g.D.Device.disk c.is_taken.new.dev) c.args.disk.now c.as_str.result.now c.in_ok-is_there.is_there c.requires.ready c.requires.stored c.is_taken.ensures.effect c.as_str.utf8 c.as_str.ensures c.in_ok-is_there.ensures.taken)
-    (record { replies = c.follow.ensures.replies; does = c.follow.ensures.does; crash = c.follow.ensures.crash; still = c.follow.ensures.still; spares = c.follow.ensures.spares; broken = c.follow.ensures.broken })
+    plan-executed c.args.engine.now c.follow.new.engine (g.D.Device.disk c.args.dev.now) (g.D.Device.disk c.is_taken.new.dev) (g.D.Device.disk c.follow.new.dev) _ c.args.now c.in_ok-plan.plan c.in_ok-plan.ensures.plans
+    (knows-backup c.args.engine.now (g.D.Device.disk c.args.dev.now) (g.D.Device.disk c.is_taken.new.dev) c.args.line c.args.database.now c.args.units.now c.args.disk.now c.args.options.now c.args.now c.in_ok-is_there.is_there c.in_ok-plan.plan _ (λ t. g.met.D.Device.lawful t c.args.dev.now) c.is_taken.ensures.effect
+    (record { sound = c.acts_keep_worlds_sound.ensures.act; found = c.what_is_said_comes_last.ensures.found; log = c.what_is_said_comes_last.ensures.log; header = c.full_headers_are_of_databases.ensures })
+    c.statements_do_what_they_may.ensures.may (λ t w stands. taken-there w c.args.disk.now c.as_str.result.now c.in_ok-is_there.is_there c.as_str.ensures (c.in_ok-is_there.ensures.there t w stands.media)))
+    c.follow.result (record { replies = c.follow.ensures.replies; does = c.follow.ensures.does; crash = c.follow.ensures.crash; still = c.follow.ensures.still; touches = c.follow.ensures.touches })
 
 pub returns-clause-failed : goal.returns-clause-failed
 returns-clause-failed g c =
-    plan-failed c.args.instance.now c.follow.new.instance (g.D.Device.disk c.args.dev.now) (g.D.Device.disk c.is_taken.new.dev) (g.D.Device.disk c.follow.new.dev) _ c.args.now c.in_ok-plan.plan c.follow.result c.in_ok-plan.ensures.plans
-    (knows-taken c.args.instance.now (g.D.Device.disk c.args.dev.now) (g.D.Device.disk c.is_taken.new.dev) c.args.disk.now c.as_str.result.now c.in_ok-is_there.is_there c.requires.ready c.requires.stored c.is_taken.ensures.effect c.as_str.utf8 c.as_str.ensures c.in_ok-is_there.ensures.taken)
-    (record { replies = c.follow.ensures.replies; does = c.follow.ensures.does; crash = c.follow.ensures.crash; still = c.follow.ensures.still; spares = c.follow.ensures.spares; broken = c.follow.ensures.broken })
+    plan-failed c.args.engine.now c.follow.new.engine (g.D.Device.disk c.args.dev.now) (g.D.Device.disk c.is_taken.new.dev) (g.D.Device.disk c.follow.new.dev) _ c.args.now c.in_ok-plan.plan c.in_ok-plan.ensures.plans
+    (knows-backup c.args.engine.now (g.D.Device.disk c.args.dev.now) (g.D.Device.disk c.is_taken.new.dev) c.args.line c.args.database.now c.args.units.now c.args.disk.now c.args.options.now c.args.now c.in_ok-is_there.is_there c.in_ok-plan.plan _ (λ t. g.met.D.Device.lawful t c.args.dev.now) c.is_taken.ensures.effect
+    (record { sound = c.acts_keep_worlds_sound.ensures.act; found = c.what_is_said_comes_last.ensures.found; log = c.what_is_said_comes_last.ensures.log; header = c.full_headers_are_of_databases.ensures })
+    c.statements_do_what_they_may.ensures.may (λ t w stands. taken-there w c.args.disk.now c.as_str.result.now c.in_ok-is_there.is_there c.as_str.ensures (c.in_ok-is_there.ensures.there t w stands.media)))
+    c.follow.result (record { replies = c.follow.ensures.replies; does = c.follow.ensures.does; crash = c.follow.ensures.crash; still = c.follow.ensures.still; touches = c.follow.ensures.touches })
 
-pub returns-clause-broken : goal.returns-clause-broken
-returns-clause-broken g c =
-    plan-broken c.args.instance.now c.follow.new.instance (g.D.Device.disk c.args.dev.now) (g.D.Device.disk c.is_taken.new.dev) (g.D.Device.disk c.follow.new.dev) _ c.args.now c.in_ok-plan.plan c.follow.result c.in_ok-plan.ensures.plans
-    (knows-taken c.args.instance.now (g.D.Device.disk c.args.dev.now) (g.D.Device.disk c.is_taken.new.dev) c.args.disk.now c.as_str.result.now c.in_ok-is_there.is_there c.requires.ready c.requires.stored c.is_taken.ensures.effect c.as_str.utf8 c.as_str.ensures c.in_ok-is_there.ensures.taken)
-    (record { replies = c.follow.ensures.replies; does = c.follow.ensures.does; crash = c.follow.ensures.crash; still = c.follow.ensures.still; spares = c.follow.ensures.spares; broken = c.follow.ensures.broken })
+pub returns-clause-touches : goal.returns-clause-touches
+returns-clause-touches g c tells = plan-touches (g.D.Device.disk c.args.dev.now) (g.D.Device.disk c.is_taken.new.dev) (g.D.Device.disk c.follow.new.dev) (c.is_taken.ensures.effect tells) (c.follow.ensures.touches tells)

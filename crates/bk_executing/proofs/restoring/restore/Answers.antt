@@ -1,62 +1,86 @@
-use Rattle.std.proofs.lemmas.Result.{err_from_is_err_and}
-use Rattle.bk_executing.proofs.Known.{knows-first, unfit-broken}
-use Rattle.bk_executing.proofs.Planned.{failed-early, on-error, calm-through, knows-nothing, plan-executed, plan-failed, plan-broken}
-use Rattle.bk_instance.specs.RestLaws.{stored-nothing}
+use Rattle.std.proofs.Common.{Option, inl, sym, ◌∙◌, ap, subst}
+use Rattle.std.specs.Prelude.{◌≡◌, ℕ, true, MatchOption}
+use Rattle.bk_archive.specs.TextLaws.{text-bytes}
+use Rattle.bk_device.specs.Compose.{effect_then}
+use Rattle.bk_engine.specs.TouchLaws.{wider-touch}
+use Rattle.bk_items.specs.declared.item.ScriptEntry.{ScriptEntry}
+use Rattle.bk_items.specs.declared.item.ScriptItem.TheVariants as script
+use Rattle.bk_machine.specs.World.{World}
+use Rattle.bk_media_plans.specs.Restoring as request
+use Rattle.bk_plans.specs.declared.parts.Plan.{Plan}
+use Rattle.bk_executing.specs.Planned.{IsPlanned}
+use Rattle.bk_executing.proofs.Planned.{plan-executed, plan-failed, plan-touches, stands-nothing, standing-nothing, touches-nothing}
+use Rattle.bk_executing.proofs.RestoringDone.{all-executed, all-failed, first-there, none-there, unbuilt-knows}
+use Rattle.bk_volume.specs.Names.{medium_file}
+use Rattle.bk_executing.proofs.RestoringFound.{found-so, named-so, refused-so, some-planned}
+use Rattle.bk_executing.proofs.Results.{on-error}
 use Rattle.bk_executing.proofs.restoring.restore.Goals as goal
 
 pub returns-in-Some-clause-executed : goal.returns-in-Some-clause-executed
 returns-in-Some-clause-executed g c =
-    plan-executed c.acts_of_statements.ensures.fronts c.args.instance.now c.follow.new.instance (g.D.Device.disk c.args.dev.now) (g.D.Device.disk c.args.dev.now) (g.D.Device.disk c.follow.new.dev) _ c.args.now c.in-Some.plan c.follow.result (c.in-Some.ensures.plans c.args.now c.args.instance.now.kept) (λ t. g.met.D.Device.lawful t c.args.dev.now)
-    (knows-nothing c.args.instance.now (g.D.Device.disk c.args.dev.now) c.requires.ready c.requires.stored)
-    (record { replies = c.follow.ensures.replies; does = c.follow.ensures.does; crash = c.follow.ensures.crash; still = c.follow.ensures.still; spares = c.follow.ensures.spares; broken = c.follow.ensures.broken })
+    let s : ScriptEntry = record { item = script.RestoreDatabase c.args.database.now c.args.units.now c.args.disk.now c.args.options.now; line = c.args.line } in
+    plan-executed c.args.engine.now c.follow.new.engine (g.D.Device.disk c.args.dev.now) (g.D.Device.disk c.args.dev.now) (g.D.Device.disk c.follow.new.dev) s c.args.now c.in-Some.plan (some-planned c.args.engine.now _ s _ c.in-Some.plan c.in-Some.is c.in_ok-plan.ensures.plans c.args.now)
+    (unbuilt-knows c.args.engine.now (g.D.Device.disk c.args.dev.now) c.args.line c.args.database.now c.args.units.now c.args.disk.now c.args.options.now c.args.now c.in-Some.plan _ (λ t. g.met.D.Device.lawful t c.args.dev.now) c.statements_do_what_they_may.ensures.may c.what_statements_write_to.ensures.media)
+    c.follow.result (record { replies = c.follow.ensures.replies; does = c.follow.ensures.does; crash = c.follow.ensures.crash; still = c.follow.ensures.still; touches = c.follow.ensures.touches })
 
 pub returns-in-Some-clause-failed : goal.returns-in-Some-clause-failed
 returns-in-Some-clause-failed g c =
-    plan-failed c.args.instance.now c.follow.new.instance (g.D.Device.disk c.args.dev.now) (g.D.Device.disk c.args.dev.now) (g.D.Device.disk c.follow.new.dev) _ c.args.now c.in-Some.plan c.follow.result (c.in-Some.ensures.plans c.args.now c.args.instance.now.kept)
-    (knows-nothing c.args.instance.now (g.D.Device.disk c.args.dev.now) c.requires.ready c.requires.stored)
-    (record { replies = c.follow.ensures.replies; does = c.follow.ensures.does; crash = c.follow.ensures.crash; still = c.follow.ensures.still; spares = c.follow.ensures.spares; broken = c.follow.ensures.broken })
+    let s : ScriptEntry = record { item = script.RestoreDatabase c.args.database.now c.args.units.now c.args.disk.now c.args.options.now; line = c.args.line } in
+    plan-failed c.args.engine.now c.follow.new.engine (g.D.Device.disk c.args.dev.now) (g.D.Device.disk c.args.dev.now) (g.D.Device.disk c.follow.new.dev) s c.args.now c.in-Some.plan (some-planned c.args.engine.now _ s _ c.in-Some.plan c.in-Some.is c.in_ok-plan.ensures.plans c.args.now)
+    (unbuilt-knows c.args.engine.now (g.D.Device.disk c.args.dev.now) c.args.line c.args.database.now c.args.units.now c.args.disk.now c.args.options.now c.args.now c.in-Some.plan _ (λ t. g.met.D.Device.lawful t c.args.dev.now) c.statements_do_what_they_may.ensures.may c.what_statements_write_to.ensures.media)
+    c.follow.result (record { replies = c.follow.ensures.replies; does = c.follow.ensures.does; crash = c.follow.ensures.crash; still = c.follow.ensures.still; touches = c.follow.ensures.touches })
 
-pub returns-in-Some-clause-broken : goal.returns-in-Some-clause-broken
-returns-in-Some-clause-broken g c =
-    plan-broken c.args.instance.now c.follow.new.instance (g.D.Device.disk c.args.dev.now) (g.D.Device.disk c.args.dev.now) (g.D.Device.disk c.follow.new.dev) _ c.args.now c.in-Some.plan c.follow.result (c.in-Some.ensures.plans c.args.now c.args.instance.now.kept)
-    (knows-nothing c.args.instance.now (g.D.Device.disk c.args.dev.now) c.requires.ready c.requires.stored)
-    (record { replies = c.follow.ensures.replies; does = c.follow.ensures.does; crash = c.follow.ensures.crash; still = c.follow.ensures.still; spares = c.follow.ensures.spares; broken = c.follow.ensures.broken })
+pub returns-in-Some-clause-touches : goal.returns-in-Some-clause-touches
+returns-in-Some-clause-touches g c tells = wider-touch (λ path at. tt) (c.follow.ensures.touches tells)
 
-pub returns-in_err-first-clause-failed : goal.returns-in_err-first-clause-failed
-returns-in_err-first-clause-failed g c =
-    on-error c.from_residual.result (failed-early c.args.instance.now (g.D.Device.disk c.args.dev.now) (g.D.Device.disk c.first_set.new.dev) _ c.args.now c.requires.ready c.requires.stored c.first_set.ensures.effect)
+pub restore_set-requires-clause-medium : goal.restore_set-requires-clause-medium
+restore_set-requires-clause-medium g c =
+    λ lifetimes outlives. (c.path_of.result.now, text-bytes c.path_of.result.now c.path_of.utf8, named-so (medium_file c.path_of.result.now) _ c.in-Ok.first c.in-Ok.is c.in_ok-first.ensures.name)
 
-pub returns-in_err-plan-clause-failed : goal.returns-in_err-plan-clause-failed
-returns-in_err-plan-clause-failed g c =
-    on-error c.from_residual-in_err-plan.result (failed-early c.args.instance.now (g.D.Device.disk c.args.dev.now) (g.D.Device.disk c.first_set.new.dev) _ c.args.now c.requires.ready c.requires.stored c.first_set.ensures.effect)
+pub restore_set-requires-clause-first : goal.restore_set-requires-clause-first
+restore_set-requires-clause-first g c =
+    λ lifetimes outlives tells w stands. first-there (g.D.Device.disk c.args.dev.now) (g.D.Device.disk c.first_set.new.dev) w c.path_of.result.now _ c.in-Ok.first.medium.name c.in-Ok.first.set (c.first_set.ensures.effect tells) c.path_of.ensures (named-so (medium_file c.path_of.result.now) _ c.in-Ok.first c.in-Ok.is c.in_ok-first.ensures.name) (λ media. found-so w c.path_of.result.now _ _ c.in-Ok.first c.in-Ok.is (c.in_ok-first.ensures.first tells w media)) stands.media
 
-pub returns-in_err-plan-clause-broken : goal.returns-in_err-plan-clause-broken
-returns-in_err-plan-clause-broken g c tells =
-    let p = err_from_is_err_and c.from_residual-in_err-plan.result c.from_residual-in_err-plan.ensures.1 in
-    rw (p.1, p.2) (λ is w stands.
-    let knows = knows-first c.args.instance.now (g.D.Device.disk c.args.dev.now) (g.D.Device.disk c.first_set.new.dev) c.args.disk.now c.path_of.result.now c.in_ok-first.first c.requires.ready c.requires.stored c.first_set.ensures.effect c.path_of.utf8 c.path_of.ensures c.in_ok-first.ensures.first in
-    c.in_err-plan.ensures.unfit (unfit-broken c.in_err-plan.field-0.0 is) w stands.sound (knows.known tells w stands))
+pub restore_set-requires-clause-standing : goal.restore_set-requires-clause-standing
+restore_set-requires-clause-standing g c =
+    λ lifetimes outlives tells. standing-nothing (g.D.Device.disk c.args.dev.now) (g.D.Device.disk c.first_set.new.dev) c.args.engine.now.hosting.stores (c.first_set.ensures.effect tells) (c.requires.standing tells)
 
-pub follow-requires-2-clause-stored : goal.follow-requires-2-clause-stored
-follow-requires-2-clause-stored g c = λ tells. stored-nothing c.args.instance.now (g.D.Device.disk c.args.dev.now) (g.D.Device.disk c.first_set.new.dev) (c.first_set.ensures.effect tells) (c.requires.stored tells)
+pub refuse-requires-clause-first : goal.refuse-requires-clause-first
+refuse-requires-clause-first g c =
+    λ tells w stands. none-there (g.D.Device.disk c.args.dev.now) (g.D.Device.disk c.first_set.new.dev) w c.path_of.result.now _ c.in-Err.rule (c.first_set.ensures.effect tells) c.path_of.ensures (λ media. refused-so w c.path_of.result.now _ _ c.in-Err.rule c.in-Err.is (c.in_ok-first.ensures.first tells w media)) stands.media
 
-pub returns-clause-media : goal.returns-clause-media
-returns-clause-media g c = λ tells. calm-through c.follow-2.result (g.D.Device.disk c.args.dev.now) (g.D.Device.disk c.first_set.new.dev) (g.D.Device.disk c.follow-2.new.dev) (c.first_set.ensures.effect tells) (c.follow-2.ensures.media tells)
+pub refuse-requires-clause-standing : goal.refuse-requires-clause-standing
+refuse-requires-clause-standing g c =
+    λ tells. standing-nothing (g.D.Device.disk c.args.dev.now) (g.D.Device.disk c.first_set.new.dev) c.args.engine.now.hosting.stores (c.first_set.ensures.effect tells) (c.requires.standing tells)
 
-pub returns-clause-executed : goal.returns-clause-executed
-returns-clause-executed g c =
-    plan-executed c.acts_of_statements.ensures.fronts c.args.instance.now c.follow-2.new.instance (g.D.Device.disk c.args.dev.now) (g.D.Device.disk c.first_set.new.dev) (g.D.Device.disk c.follow-2.new.dev) _ c.args.now c.in_ok-plan.plan c.follow-2.result c.in_ok-plan.ensures.plans (λ t. g.met.D.Device.lawful t c.args.dev.now)
-    (knows-first c.args.instance.now (g.D.Device.disk c.args.dev.now) (g.D.Device.disk c.first_set.new.dev) c.args.disk.now c.path_of.result.now c.in_ok-first.first c.requires.ready c.requires.stored c.first_set.ensures.effect c.path_of.utf8 c.path_of.ensures c.in_ok-first.ensures.first)
-    (record { replies = c.follow-2.ensures.replies; does = c.follow-2.ensures.does; crash = c.follow-2.ensures.crash; still = c.follow-2.ensures.still; spares = c.follow-2.ensures.spares; broken = c.follow-2.ensures.broken })
+pub returns-in-Ok-clause-executed : goal.returns-in-Ok-clause-executed
+returns-in-Ok-clause-executed g c =
+    let s : ScriptEntry = record { item = script.RestoreDatabase c.args.database.now c.args.units.now c.args.disk.now c.args.options.now; line = c.args.line } in
+    all-executed c.args.engine.now (g.D.Device.disk c.args.dev.now) (g.D.Device.disk c.first_set.new.dev) (g.D.Device.disk c.restore_set.new.dev) s c.args.now (λ t. g.met.D.Device.lawful t c.args.dev.now) c.first_set.ensures.effect c.restore_set.new.engine c.restore_set.result c.restore_set.ensures.executed
 
-pub returns-clause-failed : goal.returns-clause-failed
-returns-clause-failed g c =
-    plan-failed c.args.instance.now c.follow-2.new.instance (g.D.Device.disk c.args.dev.now) (g.D.Device.disk c.first_set.new.dev) (g.D.Device.disk c.follow-2.new.dev) _ c.args.now c.in_ok-plan.plan c.follow-2.result c.in_ok-plan.ensures.plans
-    (knows-first c.args.instance.now (g.D.Device.disk c.args.dev.now) (g.D.Device.disk c.first_set.new.dev) c.args.disk.now c.path_of.result.now c.in_ok-first.first c.requires.ready c.requires.stored c.first_set.ensures.effect c.path_of.utf8 c.path_of.ensures c.in_ok-first.ensures.first)
-    (record { replies = c.follow-2.ensures.replies; does = c.follow-2.ensures.does; crash = c.follow-2.ensures.crash; still = c.follow-2.ensures.still; spares = c.follow-2.ensures.spares; broken = c.follow-2.ensures.broken })
+pub returns-in-Ok-clause-failed : goal.returns-in-Ok-clause-failed
+returns-in-Ok-clause-failed g c =
+    let s : ScriptEntry = record { item = script.RestoreDatabase c.args.database.now c.args.units.now c.args.disk.now c.args.options.now; line = c.args.line } in
+    all-failed c.args.engine.now (g.D.Device.disk c.args.dev.now) (g.D.Device.disk c.first_set.new.dev) (g.D.Device.disk c.restore_set.new.dev) s c.args.now (λ t. g.met.D.Device.lawful t c.args.dev.now) c.first_set.ensures.effect c.restore_set.result c.restore_set.ensures.failed
 
-pub returns-clause-broken : goal.returns-clause-broken
-returns-clause-broken g c =
-    plan-broken c.args.instance.now c.follow-2.new.instance (g.D.Device.disk c.args.dev.now) (g.D.Device.disk c.first_set.new.dev) (g.D.Device.disk c.follow-2.new.dev) _ c.args.now c.in_ok-plan.plan c.follow-2.result c.in_ok-plan.ensures.plans
-    (knows-first c.args.instance.now (g.D.Device.disk c.args.dev.now) (g.D.Device.disk c.first_set.new.dev) c.args.disk.now c.path_of.result.now c.in_ok-first.first c.requires.ready c.requires.stored c.first_set.ensures.effect c.path_of.utf8 c.path_of.ensures c.in_ok-first.ensures.first)
-    (record { replies = c.follow-2.ensures.replies; does = c.follow-2.ensures.does; crash = c.follow-2.ensures.crash; still = c.follow-2.ensures.still; spares = c.follow-2.ensures.spares; broken = c.follow-2.ensures.broken })
+pub returns-in-Ok-clause-touches : goal.returns-in-Ok-clause-touches
+returns-in-Ok-clause-touches g c tells = effect_then (touches-nothing (c.first_set.ensures.effect tells)) (wider-touch (λ path none. tt) (c.restore_set.ensures.touches tells))
+
+pub returns-in-Ok-clause-broken : goal.returns-in-Ok-clause-broken
+returns-in-Ok-clause-broken g c tells is w stands = c.restore_set.ensures.broken tells is w (stands-nothing (g.D.Device.disk c.args.dev.now) (g.D.Device.disk c.first_set.new.dev) c.args.engine.now w (c.first_set.ensures.effect tells) stands)
+
+pub returns-in-Err-clause-executed : goal.returns-in-Err-clause-executed
+returns-in-Err-clause-executed g c =
+    let s : ScriptEntry = record { item = script.RestoreDatabase c.args.database.now c.args.units.now c.args.disk.now c.args.options.now; line = c.args.line } in
+    all-executed c.args.engine.now (g.D.Device.disk c.args.dev.now) (g.D.Device.disk c.first_set.new.dev) (g.D.Device.disk c.refuse.new.dev) s c.args.now (λ t. g.met.D.Device.lawful t c.args.dev.now) c.first_set.ensures.effect c.refuse.new.engine c.refuse.result c.refuse.ensures.executed
+
+pub returns-in-Err-clause-failed : goal.returns-in-Err-clause-failed
+returns-in-Err-clause-failed g c =
+    let s : ScriptEntry = record { item = script.RestoreDatabase c.args.database.now c.args.units.now c.args.disk.now c.args.options.now; line = c.args.line } in
+    all-failed c.args.engine.now (g.D.Device.disk c.args.dev.now) (g.D.Device.disk c.first_set.new.dev) (g.D.Device.disk c.refuse.new.dev) s c.args.now (λ t. g.met.D.Device.lawful t c.args.dev.now) c.first_set.ensures.effect c.refuse.result c.refuse.ensures.failed
+
+pub returns-in-Err-clause-touches : goal.returns-in-Err-clause-touches
+returns-in-Err-clause-touches g c tells = effect_then (touches-nothing (c.first_set.ensures.effect tells)) (wider-touch (λ path none. tt) (c.refuse.ensures.touches tells))
+
+pub returns-in-Err-clause-broken : goal.returns-in-Err-clause-broken
+returns-in-Err-clause-broken g c tells is w stands = c.refuse.ensures.broken tells is w (stands-nothing (g.D.Device.disk c.args.dev.now) (g.D.Device.disk c.first_set.new.dev) c.args.engine.now w (c.first_set.ensures.effect tells) stands)

@@ -9,11 +9,10 @@ returns-in-Ok-clause-plans c =
       act = c.acts_keep_worlds_sound.ensures.act;
       found = c.what_is_said_comes_last.ensures.found;
       log = c.what_is_said_comes_last.ensures.log;
-      begun = c.sets_hold_what_is_pending.ensures.pending;
     } in
     if-plan _ _ c.backup.result
     (λ plan is. backup-made c.args.kept.now c.args.line c.args.now c.args.database.now c.args.units.now c.args.disk.now c.args.options.now c.args.is_there laws c.in-Ok.database.now c.said_time.result plan is
-    c.in-Ok.ensures.check c.in-Ok.ensures.shows c.in-Ok.ensures.live (λ w shows. c.said_time.ensures w shows))
+    c.in-Ok.ensures.check c.in-Ok.ensures.shows (λ w shows. c.said_time.ensures w shows))
     c.backup.ensures.parts
 
 pub returns-in-Err-clause-plans : goal.returns-in-Err-clause-plans

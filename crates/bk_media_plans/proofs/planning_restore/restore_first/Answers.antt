@@ -1,36 +1,41 @@
-use Rattle.std.proofs.Common.{◌≡◌, Ok, Err}
-use Rattle.bk_plans.specs.PlanLaws.{if-plan}
-use Rattle.bk_media_plans.proofs.PlannedRestore.{Laws, leaves-recovery, none-plan, refused-plan, whole-plan}
+use Rattle.std.proofs.Common.{◌≡◌, Ok, subst}
+use Rattle.bk_kept.specs.Keeps.{Sees}
+use Rattle.bk_machine.specs.World.{World}
+use Rattle.bk_machine.specs.statements.Restore.{check_set}
+use Rattle.bk_plans.specs.Checking.{IsRefused}
+use Rattle.bk_plans.specs.PlanLaws.{if-ok}
+use Rattle.bk_media_plans.specs.Firsts.{First}
+use Rattle.bk_media_plans.proofs.PlannedRestore.{Laws, keeps-restore, kept-first, leaves-recovery, refused-keeps, refused-plan, whole-plan}
 use Rattle.bk_media_plans.proofs.planning_restore.restore_first.Goals as goal
 
-pub returns-in-Err-clause-plans : goal.returns-in-Err-clause-plans
-returns-in-Err-clause-plans c =
-    let is : c.args.first ≡ Err c.in-Err.rule = cc (c.in-Err.is) in
-    none-plan c.args.kept.now c.args.line c.args.now c.args.database.now c.args.units.now c.args.disk.now c.args.options.now c.args.first c.in-Err.rule is c.requires.built c.requires.out
-
-pub returns-in-Ok-check_set-clause-plans : goal.returns-in-Ok-check_set-clause-plans
-returns-in-Ok-check_set-clause-plans c =
-    let is : c.args.first ≡ Ok c.in-Ok.body = cc (c.in-Ok.is) in
+pub returns-in-Ok-clause-plans : goal.returns-in-Ok-clause-plans
+returns-in-Ok-clause-plans c =
     let laws : Laws = record {
       sets = c.sets_that_stay.ensures.sound;
       may = c.statements_do_what_they_may.ensures.may;
       recovers = c.recoveries_undo_what_is_pending.ensures.recovers;
       keeps = c.placed_logs.ensures.keeps;
     } in
-    if-plan _ _ c.restoring.result
-    (λ plan whole. whole-plan c.args.kept.now c.args.line c.args.now c.args.database.now c.args.units.now c.args.disk.now c.args.options.now c.args.first c.in-Ok.body c.in-Ok-check_set.field-0 plan is
-    c.requires.built c.requires.out laws c.in-Ok-check_set.ensures whole)
-    c.restoring.ensures.whole
+    let passes : (w : World) → Sees w c.args.kept.now → check_set w c.args.database.now c.args.options.now.replace c.args.first.now.header ≡ Ok c.in-Ok.field-0 =
+    subst (λ (f : First). (w : World) → Sees w c.args.kept.now → check_set w c.args.database.now c.args.options.now.replace f.header ≡ Ok c.in-Ok.field-0) c.first.view_is c.in-Ok.ensures in
+    if-ok _ _ c.bringing_up.result
+    (λ plan whole. whole-plan c.args.kept.now c.args.line c.args.now c.args.database.now c.args.units.now c.args.disk.now c.args.options.now c.args.first.now c.in-Ok.field-0 plan c.requires.built c.requires.out laws passes whole)
+    c.bringing_up.ensures.whole
 
-pub returns-in-Err-check_set-clause-plans : goal.returns-in-Err-check_set-clause-plans
-returns-in-Err-check_set-clause-plans c =
-    let is : c.args.first ≡ Ok c.in-Ok.body = cc (c.in-Ok.is) in
-    if-plan _ _ c.refusing.result
-    (λ plan by. refused-plan c.args.kept.now c.args.line c.args.now c.args.database.now c.args.units.now c.args.disk.now c.args.options.now c.args.first c.in-Ok.body c.in-Err-check_set.refusal plan is
-    c.requires.built c.requires.out by c.in-Err-check_set.ensures)
-    c.refusing.ensures.rule
+pub returns-in-Ok-clause-keeps : goal.returns-in-Ok-clause-keeps
+returns-in-Ok-clause-keeps c = if-ok _ _ c.bringing_up.result (λ plan keeps. keeps-restore c.args.first.now plan keeps) c.bringing_up.ensures.keeps
 
-pub returns-in-Ok-check_set-clause-unfit : goal.returns-in-Ok-check_set-clause-unfit
-returns-in-Ok-check_set-clause-unfit c = λ unfit w sound known.
-    let is : c.args.first ≡ Ok c.in-Ok.body = cc (c.in-Ok.is) in
-    c.restoring.ensures.unfit unfit (leaves-recovery c.sets_that_stay.ensures.sound c.args.disk.now c.args.first c.in-Ok.body w is sound known)
+pub returns-in-Ok-clause-unfit : goal.returns-in-Ok-clause-unfit
+returns-in-Ok-clause-unfit c = λ unfit w sound known.
+    c.bringing_up.ensures.unfit unfit (kept-first c.sets_that_stay.ensures.sound c.args.disk.now c.args.first.now w sound known) (leaves-recovery c.sets_that_stay.ensures.sound c.args.disk.now c.args.first.now w sound known)
+
+pub returns-in-Err-clause-plans : goal.returns-in-Err-clause-plans
+returns-in-Err-clause-plans c =
+    let refuses : (w : World) → Sees w c.args.kept.now → IsRefused c.in-Err.refusal (check_set w c.args.database.now c.args.options.now.replace c.args.first.now.header) =
+    subst (λ (f : First). (w : World) → Sees w c.args.kept.now → IsRefused c.in-Err.refusal (check_set w c.args.database.now c.args.options.now.replace f.header)) c.first.view_is c.in-Err.ensures in
+    if-ok _ _ c.refusing_restore.result
+    (λ plan by. refused-plan c.args.kept.now c.args.line c.args.now c.args.database.now c.args.units.now c.args.disk.now c.args.options.now c.args.first.now c.in-Err.refusal plan c.requires.built c.requires.out by refuses)
+    c.refusing_restore.ensures.rule
+
+pub returns-in-Err-clause-keeps : goal.returns-in-Err-clause-keeps
+returns-in-Err-clause-keeps c = if-ok _ _ c.refusing_restore.result (λ plan by. refused-keeps (Ok c.args.first.now) c.in-Err.refusal plan by) c.refusing_restore.ensures.rule

@@ -19,7 +19,7 @@ pub returns-in-Ok-clause-says : goal.returns-in-Ok-clause-says
 returns-in-Ok-clause-says c =
     let d = c.args.database.now in
     let records = c.in-Ok.records in
-    let spell = c.in-Ok.ensures (record { begin = c.end-end.result; deed = begun }) refl in
+    let spell = c.in-Ok.ensures.said (record { begin = c.end-end.result; deed = begun }) refl in
     let opens = c.in_ok-transactions.ensures ∙ ap (λ (k : Kept). with_one d.transactions k.session c.args.mark c.end-end.result) c.kept.view_is ∙ ap (with_one d.transactions c.args.kept.now.session c.args.mark) (c.end-end.ensures.same ∙ ap (λ (d : KeptDatabase). d.shown.«end») c.database.view_is) in
     if-ok _ _ c.logged.result
     (λ act is.

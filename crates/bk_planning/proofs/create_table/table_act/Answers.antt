@@ -14,7 +14,7 @@ returns-in-Ok-clause-says c =
     let d = c.args.database.now in
     let said = alone (table_made c.args.time (record { number = c.args.number; name = c.args.table.now; group = c.args.group })) in
     let same = c.in_ok-name_in.ensures in
-    let spell = c.in_ok-records.ensures (record { begin = 0; deed = table_made c.args.time (record { number = c.args.number; name = c.args.table.now; group = c.args.group }) })
+    let spell = c.in_ok-records.ensures.said (record { begin = 0; deed = table_made c.args.time (record { number = c.args.number; name = c.args.table.now; group = c.args.group }) })
     (ap (λ (name : List ℕ). under c.end.result (record { begin = 0; deed = table_made c.args.time (record { number = c.args.number; name = name; group = c.args.group }) })) (sym same)) in
     if-ok _ _ c.logged.result
     (λ act is.

@@ -26,7 +26,7 @@ returns-in-Ok-clause-says c =
     if-ok _ _ c.logged.result
     (λ act is.
     says-rollback d act records written (λ w shows. c.written-written.ensures.shown d.files (log_of w.history (database_of d)) (shows-as (ap (λ (x : KeptDatabase). x.shown) c.database.view_is) shows)) t (is ∙ ap (λ (ts : List Open). Logged d.name ts records) c.in-Ok.ensures)
-    (subst (λ (n : ℕ). Spell records n (rollback_said t.begin (map pending_of written))) (c.end.ensures.same ∙ ap (λ (x : KeptDatabase). x.shown.«end») c.database.view_is) c.in_ok-records.ensures) low)
+    (subst (λ (n : ℕ). Spell records n (rollback_said t.begin (map pending_of written))) (c.end.ensures.same ∙ ap (λ (x : KeptDatabase). x.shown.«end») c.database.view_is) c.in_ok-records.ensures.said) low)
     c.logged.ensures.is
 
 pub returns-in-Ok-clause-is_done : goal.returns-in-Ok-clause-is_done
@@ -41,6 +41,6 @@ returns-in-Ok-clause-is_done c =
     (λ act is w named shows may.
     rollback-done w d act named shows t
     (says-rollback d act records written (λ v sh. c.written-written.ensures.shown d.files (log_of v.history (database_of d)) (shows-as (ap (λ (x : KeptDatabase). x.shown) c.database.view_is) sh)) t (is ∙ ap (λ (ts : List Open). Logged d.name ts records) c.in-Ok.ensures)
-    (subst (λ (n : ℕ). Spell records n (rollback_said t.begin (map pending_of written))) (c.end.ensures.same ∙ ap (λ (x : KeptDatabase). x.shown.«end») c.database.view_is) c.in_ok-records.ensures) low)
+    (subst (λ (n : ℕ). Spell records n (rollback_said t.begin (map pending_of written))) (c.end.ensures.same ∙ ap (λ (x : KeptDatabase). x.shown.«end») c.database.view_is) c.in_ok-records.ensures.said) low)
     may)
     c.logged.ensures.is

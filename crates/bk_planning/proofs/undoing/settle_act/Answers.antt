@@ -21,11 +21,11 @@ returns-clause-says c =
     let d = c.args.database.now in
     let written = c.written-written.result.now in
     let low : d.shown.«end» + length written ≤ 2 ^ 62 = omega (arith, c.requires, ap length c.written-written.ensures.same, ap (λ (x : KeptDatabase). length x.shown.written.items) c.database.view_is) in
-    let records = c.in_ok-said.said.records in
+    let records = c.new-records.result in
     if-ok _ _ c.logged.result
     (λ act is.
     says-settle d act records written (λ w shows. c.written-written.ensures.shown d.files (log_of w.history (database_of d)) (shows-as (ap (λ (x : KeptDatabase). x.shown) c.database.view_is) shows)) (is ∙ ap (λ (ts : List Open). Logged d.name ts records) (c.new-2.ensures ∙ c.new.ensures.items))
-    (subst (λ (n : ℕ). Spell records n (settle_said (map pending_of written))) (c.end.ensures.same ∙ ap (λ (x : KeptDatabase). x.shown.«end») c.database.view_is) c.in_ok-said.ensures.undoes.spell) low)
+    (subst (λ (n : ℕ). Spell records n (settle_said (map pending_of written))) (c.end.ensures.same ∙ ap (λ (x : KeptDatabase). x.shown.«end») c.database.view_is) (c.new-records.ensures ∙ c.in_ok-said.ensures.undoes.spell)) low)
     c.logged.ensures.is
 
 pub returns-clause-is_done : goal.returns-clause-is_done
@@ -34,11 +34,11 @@ returns-clause-is_done c =
     let d = c.args.database.now in
     let written = c.written-written.result.now in
     let low : d.shown.«end» + length written ≤ 2 ^ 62 = omega (arith, c.requires, ap length c.written-written.ensures.same, ap (λ (x : KeptDatabase). length x.shown.written.items) c.database.view_is) in
-    let records = c.in_ok-said.said.records in
+    let records = c.new-records.result in
     if-ok _ _ c.logged.result
     (λ act is w named shows may.
     settle-done w d act named shows
     (says-settle d act records written (λ v sh. c.written-written.ensures.shown d.files (log_of v.history (database_of d)) (shows-as (ap (λ (x : KeptDatabase). x.shown) c.database.view_is) sh)) (is ∙ ap (λ (ts : List Open). Logged d.name ts records) (c.new-2.ensures ∙ c.new.ensures.items))
-    (subst (λ (n : ℕ). Spell records n (settle_said (map pending_of written))) (c.end.ensures.same ∙ ap (λ (x : KeptDatabase). x.shown.«end») c.database.view_is) c.in_ok-said.ensures.undoes.spell) low)
+    (subst (λ (n : ℕ). Spell records n (settle_said (map pending_of written))) (c.end.ensures.same ∙ ap (λ (x : KeptDatabase). x.shown.«end») c.database.view_is) (c.new-records.ensures ∙ c.in_ok-said.ensures.undoes.spell)) low)
     may)
     c.logged.ensures.is

@@ -12,6 +12,7 @@ loop-i-preserved c =
       undoes = subst (λ (ps : List Pending). Undoes c.args.first ps c.undo_one.new.said) (one-more c.args.only ws c.loop-i.i write write c.loop-i-test.true c.index-written-last.is)
           (c.in_ok-undo_one.ensures.undoes c.args.first _ c.loop-i.invariant.undoes);
       next = omega (arith, c.in_ok-undo_one.ensures.next, c.loop-i.invariant.next);
+      keep = c.in_ok-undo_one.ensures.keep c.loop-i.invariant.keep;
     }
 
 pub returns-clause-undoes : goal.returns-clause-undoes

@@ -17,5 +17,5 @@ returns-in-Ok-clause-says c =
     (λ act is change before cells.
     says-now d (row_said own d.shown.«end» c.args.place.now before change c.args.time) d.transactions act c.in-Ok.records
     (is ∙ ap (λ (ts : List Open). Logged d.name ts c.in-Ok.records) (c.in_ok-transactions.ensures ∙ c.as_slice.ensures ∙ ap (λ (x : KeptDatabase). x.transactions) c.database.view_is))
-    (subst (λ (n : ℕ). Spell c.in-Ok.records n (row_said own n c.args.place.now before change c.args.time)) (c.end.ensures.same ∙ ap (λ (d : KeptDatabase). d.shown.«end») c.database.view_is) (c.in-Ok.ensures change before cells)))
+    (subst (λ (n : ℕ). Spell c.in-Ok.records n (row_said own n c.args.place.now before change c.args.time)) (c.end.ensures.same ∙ ap (λ (d : KeptDatabase). d.shown.«end») c.database.view_is) (c.in-Ok.ensures.said change before cells)))
     c.logged.ensures.is

@@ -12,8 +12,8 @@ use Rattle.bk_world.specs.Records.{written}
 use Rattle.bk_world.specs.declared.transaction.Open.{Open}
 use Rattle.bk_row_plans.proofs.row.row_records.Goals as goal
 
-pub returns-in-Some : goal.returns-in-Some
-returns-in-Some c =
+pub returns-in-Some-clause-said : goal.returns-in-Some-clause-said
+returns-in-Some-clause-said c =
     let at = c.args.place.now in
     let n = c.args.lsn in
     let t : Open = c.in-Some.transaction.now in
@@ -23,4 +23,4 @@ returns-in-Some c =
     subst (λ (o : Option Open). Spell records n (row_said o n at before change c.args.time)) (sym (ap (option_map (λ t. t.now)) c.in-Some.is))
     (spell (record { begin = t.begin; deed = written at before change })
     (ap (λ (i : CellImage). by (Write at i (image change.table change.key change.value))) (sym cells.old_is) ∙ ap (λ (i : CellImage). by (Write at c.args.cells.old i)) (sym cells.new_is) ∙ ap by (sym c.write_of.ensures.is))))
-    c.say_one.ensures
+    c.say_one.ensures.said

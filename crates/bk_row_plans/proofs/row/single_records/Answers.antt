@@ -1,4 +1,4 @@
-use Rattle.std.proofs.Common.{◌+◌, ℕ, List, [], ◌∷◌, None, refl, sym, ap, subst, arith, ◌∙◌}
+use Rattle.std.proofs.Common.{◌+◌, ℕ, List, [], ◌∷◌, None, refl, sym, ap, arith, ◌∙◌}
 use Rattle.bk_acts.specs.Meaning.{Spell}
 use Rattle.bk_ids.specs.declared.record.Body.{Body}
 use Rattle.bk_ids.specs.declared.record.Body.TheVariants.{Write}
@@ -16,16 +16,17 @@ the_record n body = record { lsn = n + 1; begin = n; body = body }
 abbrev the_write : Place → ℕ → CellImage → CellImage → Rec
 the_write at n before after = record { lsn = n + 1; begin = n; body = Write at before after }
 
-pub returns : goal.returns
-returns c = λ change before cells.
+pub returns-clause-said : goal.returns-clause-said
+returns-clause-said c = λ change before cells.
     let n : ℕ = c.args.lsn in
     let begin : Said = record { begin = n; deed = begun } in
     let write : Said = record { begin = n; deed = written c.args.place.now before change } in
     let commit : Said = record { begin = n; deed = committed c.args.time None } in
     let first : List Said = [] in
-    let none : Spell c.none-records.result n first = subst (λ (b : List ℕ). Spell b n first) (sym c.none-records.ensures) (c.said_law.ensures.nothing n) in
-    let one = c.in_ok-say.ensures n first begin none (omega arith) refl in
-    let two = c.in_ok-say-2.ensures n (begin ∷ []) write one (omega arith)
+    let none : Spell c.new-records.result.items n first = c.new-records.ensures.items in
+    let one = c.in_ok-say.ensures.said n first begin none (omega arith) refl in
+    let two = c.in_ok-say-2.ensures.said n (begin ∷ []) write one (omega arith)
     (ap (λ (i : CellImage). the_write c.args.place.now n i (image change.table change.key change.value)) (sym cells.old_is) ∙ ap (λ (i : CellImage). the_write c.args.place.now n c.args.cells.old i) (sym cells.new_is)
     ∙ ap (λ (b : Body). the_record n b) (sym c.write_of.ensures.is)) in
-    c.in_ok-say-3.ensures n (begin ∷ write ∷ []) commit two (omega arith) refl
+    let three = c.in_ok-say-3.ensures.said n (begin ∷ write ∷ []) commit two (omega arith) refl in
+    c.new.ensures ∙ three

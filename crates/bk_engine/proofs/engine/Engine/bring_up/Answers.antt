@@ -116,4 +116,7 @@ returns-clause-own g c =
     (ap (λ (o : Own). o.number) same ∙ reserved.0, ap (λ (o : Own). o.staging) same ∙ reserved.1)
 
 pub returns-clause-touches : goal.returns-clause-touches
-returns-clause-touches g c = λ tells. effect_then (c.reserve.ensures.touches tells) (stores-touch (c.in_ok-bring_up.ensures.touches tells))
+returns-clause-touches g c = λ tells. effect_then (c.reserve.ensures.touches tells) (stores-touch (c.bring_up.ensures.touches tells))
+
+pub returns-in_err-bring_up-clause-touches : goal.returns-in_err-bring_up-clause-touches
+returns-in_err-bring_up-clause-touches g c = λ tells. effect_then (c.reserve.ensures.touches tells) (stores-touch (c.bring_up.ensures.touches tells))

@@ -1,10 +1,11 @@
-use Rattle.std.proofs.Common.{◌∙◌, ℕ, List, inl, sym, subst, arith, refl}
+use Rattle.std.proofs.Common.{◌∙◌, ℕ, List, sym, subst, arith, refl}
 use Rattle.bk_hosting.specs.Hosting.{own_of}
 use Rattle.bk_engine.specs.Amid.{Amid}
 use Rattle.bk_engine.specs.Stands.{IsReady, Kept, StandsFor}
-use Rattle.bk_engine.proofs.Named.{moved, of-ok, on-all, plain}
+use Rattle.bk_engine.proofs.Named.{moved, of-ok, on-all}
 use Rattle.bk_archive.specs.Calls.{HasSealed, LeavesSealing}
 use Rattle.bk_archive.specs.Media.{IfDurable, IsMediumFile, MediaAreDurable}
+use Rattle.bk_device.specs.Compose.{keeps_by_effect}
 use Rattle.bk_device.specs.Effects.{Effect, MayLeaveOwn}
 use Rattle.bk_hosting.specs.Hosting.{LeavesHosted}
 use Rattle.bk_machine.specs.Acts.{done, set_sealed}
@@ -15,7 +16,8 @@ use Rattle.bk_world.specs.declared.header.Header.{Header}
 use Rattle.bk_engine.specs.ActLaws.{done-behind}
 use Rattle.bk_engine.specs.Acts.{CutsAct}
 use Rattle.bk_engine.specs.AmidLaws.{amid-stands, stands-amid}
-use Rattle.bk_engine.specs.BesideLaws.{stores-keep, stores-stand}
+use Rattle.bk_engine.specs.BesideLaws.{stores-stand}
+use Rattle.bk_engine.specs.NameLaws.{store-medium}
 use Rattle.bk_engine.specs.Stands.{IsOurs}
 use Rattle.bk_engine.proofs.Sealed.{sealed-amid, sealed-crash}
 use Rattle.bk_engine.specs.TouchLaws.{medium-touch}
@@ -25,9 +27,8 @@ pub seal_at-requires-clause-apart : goal.seal_at-requires-clause-apart
 seal_at-requires-clause-apart g c = λ same. staging_apart c.args.path.now c.requires.named.0 (sym c.requires.named.1 ∙ same)
 
 pub returns-clause-standing : goal.returns-clause-standing
-returns-clause-standing g c = λ tells body its.
-    let set : IsSetOf (g.D.Device.disk c.at_rest.new.dev) c.args.staged.now c.args.header.now c.args.tables.now body = subst (λ d. IsSetOf (g.D.Device.disk d) c.args.staged.now c.args.header.now c.args.tables.now body) (sym c.at_rest.ensures.same) its in
-    stores-stand c.args.self.now.hosting.stores (stores-keep (λ name at. inl at) (moved g.D.Device.disk c.args.dev.now c.at_rest.new.dev c.at_rest.ensures.same (plain (c.seal_at.ensures.crash tells body set)))) (c.requires.standing tells)
+returns-clause-standing g c = λ tells.
+    stores-stand c.args.self.now.hosting.stores (keeps_by_effect (λ name store own. store-medium c.args.path.now (subst IsOfStores own store)) (moved g.D.Device.disk c.args.dev.now c.at_rest.new.dev c.at_rest.ensures.same (c.seal_at.ensures.spares tells))) (c.requires.standing tells)
 
 pub returns-clause-stands : goal.returns-clause-stands
 unfolding stands-amid
@@ -67,6 +68,5 @@ returns-clause-crash g c = λ tells w body is may.
     (sealed-crash a b e.hosting w path body (stands-amid a e w ready' is') ready'.no_medium may.carries hosts left effect)
 
 pub returns-clause-touches : goal.returns-clause-touches
-returns-clause-touches g c = λ tells body is.
-    let set : IsSetOf (g.D.Device.disk c.at_rest.new.dev) c.args.staged.now c.args.header.now c.args.tables.now body = subst (λ d. IsSetOf (g.D.Device.disk d) c.args.staged.now c.args.header.now c.args.tables.now body) (sym c.at_rest.ensures.same) is in
-    moved g.D.Device.disk c.args.dev.now c.at_rest.new.dev c.at_rest.ensures.same (medium-touch c.args.path.now refl (c.seal_at.ensures.spares tells body set))
+returns-clause-touches g c = λ tells.
+    moved g.D.Device.disk c.args.dev.now c.at_rest.new.dev c.at_rest.ensures.same (medium-touch c.args.path.now refl (c.seal_at.ensures.spares tells))

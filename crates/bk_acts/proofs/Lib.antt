@@ -1,4 +1,0 @@
-pub mod TransactionCodes
-pub mod Codes
-pub mod Meant
-pub mod Said

@@ -1,8 +1,0 @@
-use Rattle.std.proofs.Common.{◌≡◌, ◌-◌}
-use Rattle.bk_bytes.specs.Codec.{times_at}
-use Rattle.bk_bytes.specs.LoopLaws.{with_front}
-use Rattle.bk_acts.specs.Transactions.{transaction_form}
-use Rattle.bk_acts.proofs.transactions_reading.read_so_many.Given as goal
-
-abbrev pub invariant-loop : goal.invariant-loop
-invariant-loop l = with_front l.transactions.items (times_at transaction_form.reading (l.count - l.counter) l.rest) ≡ times_at transaction_form.reading l.count l.bytes

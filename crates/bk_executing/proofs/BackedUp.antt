@@ -1,0 +1,224 @@
+-- The set that a backup seals is one of its database as it is then.
+use Rattle.std.proofs.Common.{◌≡◌, ◌||◌, ℕ, ◌+◌, List, [], ◌∷◌, length, Option, Some, Ok, Err, refl, sym, ◌∙◌, ap, subst, arith}
+use Rattle.std.specs.Prelude.{◌&&◌, is_some, not}
+use Rattle.bk_carried.specs.Copied.{IsHeaderOf, backed_up}
+use Rattle.bk_ids.specs.declared.guid.Guid.{Guid}
+use Rattle.bk_items.specs.declared.item.UnitName.{UnitName}
+use Rattle.bk_items.specs.declared.options.BackupOptions.{BackupOptions}
+use Rattle.bk_items.specs.declared.item.ScriptItem.TheVariants as script
+use Rattle.bk_machine.specs.Acts.{Act, based, done, drawn, gone_on, logged, medium_made, said_time, says, set_sealed, where_found}
+use Rattle.bk_machine.specs.CheckLaws.{Up, passed, was-found, was-online}
+use Rattle.bk_machine.specs.Checks.{Checked, ◌>>=◌, is_path, limit, online, or_refuse, outside, refuse_if, used_up}
+use Rattle.bk_machine.specs.Machine.{May}
+use Rattle.bk_machine.specs.MayDo.{HoldsOf, MayDo, MayDoAll, MayLog, MaySay}
+use Rattle.bk_machine.specs.NamedLaws.{named-own, of-named}
+use Rattle.bk_machine.specs.Outcome.{ComesTo, Outcome}
+use Rattle.bk_machine.specs.Sound.{IsSound, IsWhole, IsWholeDatabase}
+use Rattle.bk_machine.specs.World.{Database, World, database_named, log_of}
+use Rattle.bk_machine.specs.statements.Backup.{DoesBackup, check_backup, full_backup, full_header, is_whole_backup}
+use Rattle.bk_plans.specs.declared.parts.Part.{Part}
+use Rattle.bk_plans.specs.declared.parts.Part.TheVariants.{MediumMade, SetSealed, Stored}
+use Rattle.bk_plans.specs.declared.parts.Plan.{Plan}
+use Rattle.bk_plans.specs.declared.parts.Plan.TheVariants.{Answered, Parts, Refused, Seated, Turned}
+use Rattle.bk_plans.specs.Planning.{AreActsOf, AreParts, IsPart}
+use Rattle.bk_sealing.specs.Sealing.{IsSetNow}
+use Rattle.bk_store.specs.Told.{Told, files_of}
+use Rattle.bk_world.specs.Cut.{end_behind}
+use Rattle.bk_world.specs.declared.database.Status.TheVariants.{Online}
+use Rattle.bk_world.specs.declared.header.Header.{Header}
+use Rattle.bk_world.specs.declared.rule.Rule.TheVariants.{NoSuchDatabase, NotBuilt}
+use Rattle.bk_world.specs.declared.transaction.Open.{Open}
+use Rattle.bk_world.specs.Medium.{medium_at}
+use Rattle.bk_world.specs.Records.{Counts, Logged, Said, checkpointed, more, stamped}
+use Rattle.bk_world.specs.Says.{alone}
+use Rattle.bk_world.specs.Telling.{model}
+use Rattle.bk_executing.specs.Parts.{SealsNow}
+use Rattle.bk_executing.proofs.Planned.{PlanSets, SetsNow}
+
+-- ---- what the laws of the crates below say
+
+pub record Laws : Type 0 where
+  pub sound : (w : World) (act : Act) → IsSound w → MayDo w act → IsSound (done w act)
+  pub found : (w : World) (name : List ℕ) (db : Database) (said : List Said) (transactions : List Open) → IsWhole w → database_named w.databases name ≡ Some db → MaySay w db said
+      → database_named (says w db said transactions).databases name ≡ Some (gone_on (model (log_of w.history db)) said transactions db)
+  pub log : (w : World) (name : List ℕ) (db : Database) (said : List Said) (transactions : List Open) → IsWhole w → database_named w.databases name ≡ Some db → MaySay w db said
+      → log_of (says w db said transactions).history (gone_on (model (log_of w.history db)) said transactions db) ≡ more (log_of w.history db) db.end said
+  pub header : (w : World) (db : Database) (set : Guid) (time : ℕ) (told : Told) → IsSound w → database_named w.databases db.name ≡ Some db → db.status ≡ Online → files_of told ≡ db.files
+      → told.records ≡ backed_up (log_of w.history db) (full_header w db set time) → IsHeaderOf told (full_header w db set time)
+
+-- ---- a database says something
+
+record SaidIn (w : World) (name : List ℕ) (db : Database) (said : List Said) (transactions : List Open) : Type 0 where
+  sound : IsSound (done w (logged name said transactions))
+  found : database_named (done w (logged name said transactions)).databases name ≡ Some (gone_on (model (log_of w.history db)) said transactions db)
+  log : log_of (done w (logged name said transactions)).history (gone_on (model (log_of w.history db)) said transactions db) ≡ more (log_of w.history db) db.end said
+
+said-in : Laws → (w : World) (name : List ℕ) (db : Database) (said : List Said) (transactions : List Open) → IsSound w → database_named w.databases name ≡ Some db → MayDo w (logged name said transactions) → SaidIn w name db said transactions
+unfolding done
+said-in laws w name db said transactions sound there may =
+    let log : MayLog w db said transactions = subst (λ o. HoldsOf o (λ (d : Database). MayLog w d said transactions)) there may in
+    let go : done w (logged name said transactions) ≡ says w db said transactions = ap (λ o. where_found w o (λ d. says w d said transactions)) there in
+    record {
+      sound = laws.sound w (logged name said transactions) sound may;
+      found = ap (λ (v : World). database_named v.databases name) go ∙ laws.found w name db said transactions sound.whole there log.says;
+      log = ap (λ (v : World). log_of v.history (gone_on (model (log_of w.history db)) said transactions db)) go ∙ laws.log w name db said transactions sound.whole there log.says;
+    }
+
+counts-end : (rs : List Logged) (m n : ℕ) → Counts m rs n → n ≡ m + length rs
+counts-end [] m n is = omega (arith, is)
+counts-end (r ∷ rs) m n is = let later = counts-end rs (m + 1) n is.1 in omega (arith, later)
+
+end-of : (w : World) (name : List ℕ) (db : Database) → IsSound w → database_named w.databases name ≡ Some db → end_behind (log_of w.history db) ≡ db.end
+end-of w name db sound there = let ends = counts-end (log_of w.history db) 1 db.end (of-named (IsWholeDatabase w) w.databases name db sound.whole.databases there).log.counts in omega (arith, ends)
+
+-- ---- the set of a backup
+
+-- the world in which it is sealed
+abbrev sealing : World → Database → List ℕ → Guid → ℕ → World
+sealing w db path set time = done (done (done w (medium_made path)) (logged db.name (alone (checkpointed time)) db.transactions)) (logged db.name (alone (stamped time set)) db.transactions)
+
+made-there : (w : World) (path : List ℕ) → ((done w (medium_made path)).databases ≡ w.databases) × ((done w (medium_made path)).history ≡ w.history)
+unfolding done
+made-there w path = (refl, refl)
+
+pub set-now : Laws → (w : World) (db : Database) (path : List ℕ) (set : Guid) (time : ℕ) → IsSound w → database_named w.databases db.name ≡ Some db → db.status ≡ Online → MayDoAll w (full_backup db path (full_header w db set time))
+    → IsSetNow (sealing w db path set time) (full_header w db set time)
+unfolding full_header
+set-now laws w db path set time sound there online may =
+    let w1 : World = done w (medium_made path) in
+    let s1 : IsSound w1 = laws.sound w (medium_made path) sound may.0 in
+    let there1 : database_named w1.databases db.name ≡ Some db = ap (λ (dbs : List Database). database_named dbs db.name) (made-there w path).0 ∙ there in
+    let said2 = said-in laws w1 db.name db (alone (checkpointed time)) db.transactions s1 there1 may.1.0 in
+    let w2 : World = done w1 (logged db.name (alone (checkpointed time)) db.transactions) in
+    let db2 : Database = gone_on (model (log_of w1.history db)) (alone (checkpointed time)) db.transactions db in
+    let said3 = said-in laws w2 db.name db2 (alone (stamped time set)) db.transactions said2.sound said2.found may.1.1.0 in
+    let w3 : World = sealing w db path set time in
+    let db3 : Database = gone_on (model (log_of w2.history db2)) (alone (stamped time set)) db.transactions db2 in
+    let end1 = end-of w db.name db sound there in
+    let end2 = end-of w2 db.name db2 said2.sound said2.found in
+    let logs : log_of w3.history db3 ≡ backed_up (log_of w.history db) (full_header w db set time) =
+    said3.log ∙ ap (λ (n : ℕ). more (log_of w2.history db2) n (alone (stamped time set))) (sym end2)
+    ∙ ap (λ (rs : List Logged). more rs (end_behind rs) (alone (stamped time set))) said2.log
+    ∙ ap (λ h. more (more (log_of h db) db.end (alone (checkpointed time))) (end_behind (more (log_of h db) db.end (alone (checkpointed time)))) (alone (stamped time set))) (made-there w path).1
+    ∙ ap (λ (n : ℕ). more (more (log_of w.history db) n (alone (checkpointed time))) (end_behind (more (log_of w.history db) n (alone (checkpointed time)))) (alone (stamped time set))) (sym end1) in
+    record {
+      db = db3;
+      found = said3.found;
+      online = online;
+      path = refl;
+      ends = omega arith;
+      files = refl;
+      of_it = λ told files records. laws.header w db set time told sound there online files (records ∙ logs);
+      sound = may.1.1.1.0;
+    }
+
+-- ---- the parts
+
+seals-by : (w : World) (part : Part) (act : Act) → IsPart w part act → ((path : List ℕ) (header : Header) → act ≡ set_sealed path header → IsSetNow w header) → SealsNow w part
+seals-by w (Stored stored) act is now = tt
+seals-by w (MediumMade path) act is now = tt
+seals-by w (SetSealed path header) act is now = now path header is.is
+
+abbrev header_sealed : Act → Header → Type 0
+header_sealed (set_sealed path header) other = other ≡ header
+header_sealed _ other = ⊥
+
+-- whether an act seals a set
+abbrev Seals : Act → Type 0
+Seals (set_sealed path header) = Unit {0}
+Seals _ = ⊥
+
+backup-sets : Laws → (w : World) (db : Database) (path : List ℕ) (set : Guid) (time : ℕ) (parts : List Part) → IsSound w → database_named w.databases db.name ≡ Some db → db.status ≡ Online
+    → MayDoAll w (full_backup db path (full_header w db set time)) → AreParts w parts (full_backup db path (full_header w db set time)) → SetsNow w parts (full_backup db path (full_header w db set time))
+unfolding full_header
+backup-sets laws w db path set time (a ∷ b ∷ c ∷ d ∷ e ∷ []) sound there online may are = (
+  seals-by _ a _ are.0 (λ p h is. absurd (subst Seals (sym is) tt)),
+  (
+    seals-by _ b _ are.1.0 (λ p h is. absurd (subst Seals (sym is) tt)),
+    (
+      seals-by _ c _ are.1.1.0 (λ p h is. absurd (subst Seals (sym is) tt)),
+      (
+        seals-by _ d _ are.1.1.1.0 (λ p h is. subst (λ (x : Header). IsSetNow (sealing w db path set time) x) (sym (subst (λ act. header_sealed act h) (sym is) refl)) (set-now laws w db path set time sound there online may)),
+        (
+          seals-by _ e _ are.1.1.1.1.0 (λ p h is. absurd (subst Seals (sym is) tt)),
+          tt,
+        ),
+      ),
+    ),
+  ),
+)
+backup-sets laws w db path set time [] sound there online may are = absurd are
+backup-sets laws w db path set time (a ∷ []) sound there online may are = absurd are.1
+backup-sets laws w db path set time (a ∷ b ∷ []) sound there online may are = absurd are.1.1
+backup-sets laws w db path set time (a ∷ b ∷ c ∷ []) sound there online may are = absurd are.1.1.1
+backup-sets laws w db path set time (a ∷ b ∷ c ∷ d ∷ []) sound there online may are = absurd are.1.1.1.1
+backup-sets laws w db path set time (a ∷ b ∷ c ∷ d ∷ e ∷ f ∷ rest) sound there online may are = absurd are.1.1.1.1.1
+
+-- ---- the statement
+
+none-sets : (w : World) (plan : Plan) → PlanSets w plan []
+none-sets w (Refused rule) = tt
+none-sets w (Answered answer) = tt
+none-sets w (Turned name) = tt
+none-sets w (Seated session) = tt
+none-sets w (Parts parts answer) = by parts.items
+  where
+    by : (ps : List Part) → SetsNow w ps []
+    by [] = tt
+    by (p ∷ ps) = tt
+
+ok-same : (a b : Database) (x : Checked Database) → x ≡ Ok a → x ≡ Ok b → a ≡ b
+ok-same a b x here there = cc
+
+abbrev some_db : Database → Option Database
+some_db d = Some d
+
+-- the checks behind each other
+abbrev last : World → Database → Checked Database
+last w db = limit (used_up db.end || used_up w.counter) >>= (λ (u : Unit {0}). Ok db)
+
+abbrev then_online : World → Database → Checked Database
+then_online w named = online named >>= last w
+
+abbrev then_named : World → List ℕ → Unit {0} → Checked Database
+then_named w name u = or_refuse (database_named w.databases name) NoSuchDatabase >>= then_online w
+
+abbrev then_outside : World → List ℕ → Unit {0} → Checked Database
+then_outside w name u = outside w >>= then_named w name
+
+checked-there : (w : World) (line : ℕ) (name : List ℕ) (units : List UnitName) (path : List ℕ) (options : BackupOptions) (db : Database) → check_backup w line name units path options ≡ Ok db
+    → (database_named w.databases db.name ≡ Some db) × (db.status ≡ Online)
+unfolding check_backup
+checked-there w line name units path options db is =
+    let one = passed (refuse_if (not (is_whole_backup units options && is_path path) || is_some (medium_at w.media path)) (NotBuilt line)) (then_outside w name) db is in
+    let two = passed (outside w) (then_named w name) db one.then in
+    let three = passed (or_refuse (database_named w.databases name) NoSuchDatabase) (then_online w) db two.then in
+    let four = passed (online three.found) (last w) db three.then in
+    let five = passed (limit (used_up four.found.end || used_up w.counter)) (λ (u : Unit {0}). Ok four.found) db four.then in
+    let same : four.found ≡ db = ok-same four.found db (Ok four.found) refl five.then in
+    let found : database_named w.databases name ≡ Some three.found = was-found (database_named w.databases name) NoSuchDatabase three.found three.is in
+    let up : Up three.found four.found = was-online three.found four.found four.is in
+    (named-own w.databases name db (found ∙ ap some_db (up.is ∙ same)), subst (λ (d : Database). d.status ≡ Online) same up.up)
+
+pub plan-sets : Laws → (w : World) (line : ℕ) (name : List ℕ) (units : List UnitName) (path : List ℕ) (options : BackupOptions) (now : ℕ) (outcome : Outcome) (plan : Plan) → IsSound w
+    → May w (record { item = script.BackupDatabase name units path options; line = line }) now outcome → MayDoAll w outcome.acts → AreActsOf w plan outcome.acts → PlanSets w plan outcome.acts
+unfolding May
+plan-sets laws w line name units path options now outcome plan sound may all are = by (check_backup w line name units path options) refl
+  where
+    of-plan : (db : Database) (p : Plan) → database_named w.databases db.name ≡ Some db → db.status ≡ Online → MayDoAll w (full_backup db path (full_header w db (drawn w w.counter) (said_time w db now)))
+        → AreActsOf w p (full_backup db path (full_header w db (drawn w w.counter) (said_time w db now))) → PlanSets w p (full_backup db path (full_header w db (drawn w w.counter) (said_time w db now)))
+    of-plan db (Refused rule) there online may are = tt
+    of-plan db (Answered answer) there online may are = tt
+    of-plan db (Turned other) there online may are = tt
+    of-plan db (Seated session) there online may are = tt
+    of-plan db (Parts parts answer) there online may are = backup-sets laws w db path (drawn w w.counter) (said_time w db now) parts.items sound there online may are
+
+    by : (checked : Checked Database) → check_backup w line name units path options ≡ checked → PlanSets w plan outcome.acts
+    by (Err rule) is =
+        let refused = subst (λ c. ComesTo c (DoesBackup w path now) outcome) is may in
+        subst (λ (o : Outcome). PlanSets w plan o.acts) (sym refused) (none-sets w plan)
+    by (Ok db) is =
+        let does = subst (λ c. ComesTo c (DoesBackup w path now) outcome) is may in
+        let there = checked-there w line name units path options db is in
+        subst (λ (o : Outcome). PlanSets w plan o.acts) (sym does)
+        (of-plan db plan there.0 there.1 (subst (λ (o : Outcome). MayDoAll w o.acts) does all) (subst (λ (o : Outcome). AreActsOf w plan o.acts) does are))

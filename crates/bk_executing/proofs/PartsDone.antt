@@ -1,0 +1,47 @@
+-- What calls of an engine do with a part.
+use Rattle.std.proofs.Common.{◌≡◌, ℕ, List, ◌∷◌, None, Option, sym, subst}
+use Rattle.bk_device.specs.Compose.{effect_weaken}
+use Rattle.bk_device.specs.Disk.{Disk}
+use Rattle.bk_device.specs.Effects.{Effect}
+use Rattle.bk_engine.specs.Acts.{CutsAct}
+use Rattle.bk_engine.specs.Stands.{IsOurs, Kept, StandsFor}
+use Rattle.bk_machine.specs.Acts.{Act, done, done_all, medium_made, seated, set_sealed, turned}
+use Rattle.bk_machine.specs.MayDo.{MayDo}
+use Rattle.bk_machine.specs.World.{World}
+use Rattle.bk_plans.specs.declared.parts.Part.TheVariants as part
+use Rattle.bk_plans.specs.declared.parts.Plan.TheVariants as plan
+use Rattle.bk_restarts.specs.Crashes.{CutIn}
+use Rattle.bk_restarts.specs.CutLaws.{cut-act}
+use Rattle.bk_sealing.specs.Sealing.{IsSetNow}
+use Rattle.bk_world.specs.declared.header.Header.{Header}
+use Rattle.bk_world.specs.Medium.{medium_at}
+use Rattle.bk_executing.specs.Parts.{CutsPart, DoesPart, DoesPlan}
+
+-- ---- an act that is whole or absent
+
+pub whole-cut : (w : World) (act meant : Act) (acts : List Act) {a b : Disk} → meant ≡ act → Effect IsOurs (CutsAct w act) a b → Effect IsOurs (CutIn w (meant ∷ acts)) a b
+whole-cut w act meant acts {a = a} {b = b} same effect = subst (λ (x : Act). Effect IsOurs (CutIn w (x ∷ acts)) a b) (sym same) (effect_weaken (λ image cut. cut-act w act acts image cut) effect)
+
+-- ---- a medium is made
+
+pub medium-does : (old new : Kept) (a b : Disk) (path : List ℕ) → ((w : World) → StandsFor a old w → medium_at w.media path ≡ None → StandsFor b new (done w (medium_made path))) → DoesPart old a (part.MediumMade path) new b
+medium-does old new a b path does w act stands is = subst (λ (x : Act). StandsFor b new (done w x)) (sym is.0.is) (does w stands is.0.absent)
+
+pub medium-cuts : (old : Kept) (a b : Disk) (path : List ℕ) → ((w : World) → StandsFor a old w → medium_at w.media path ≡ None → Effect IsOurs (CutsAct w (medium_made path)) a b) → CutsPart old a (part.MediumMade path) b
+medium-cuts old a b path cuts w act acts stands is = whole-cut w (medium_made path) act acts is.0.is (cuts w stands is.0.absent)
+
+-- ---- a set is sealed
+
+pub set-does : (old new : Kept) (a b : Disk) (path : List ℕ) (header : Header) → ((w : World) → StandsFor a old w → IsSetNow w header → StandsFor b new (done w (set_sealed path header))) → DoesPart old a (part.SetSealed path header) new b
+set-does old new a b path header does w act stands is = subst (λ (x : Act). StandsFor b new (done w x)) (sym is.0.is) (does w stands is.1)
+
+pub set-cuts : (old : Kept) (a b : Disk) (path : List ℕ) (header : Header) → ((w : World) → StandsFor a old w → IsSetNow w header → Effect IsOurs (CutsAct w (set_sealed path header)) a b) → CutsPart old a (part.SetSealed path header) b
+set-cuts old a b path header cuts w act acts stands is = whole-cut w (set_sealed path header) act acts is.0.is (cuts w stands is.1)
+
+-- ---- sessions
+
+pub turned-does : (old new : Kept) (a b : Disk) (name : Option (List ℕ)) → ((w : World) → Unit {0} → StandsFor a old w → StandsFor b new (done w (turned name))) → DoesPlan old a (plan.Turned name) new b
+turned-does old new a b name does w acts stands are = subst (λ (all : List Act). StandsFor b new (done_all w all)) (sym are) (does w tt stands)
+
+pub seated-does : (old new : Kept) (a b : Disk) (session : ℕ) → ((w : World) → MayDo w (seated session) → StandsFor a old w → StandsFor b new (done w (seated session))) → DoesPlan old a (plan.Seated session) new b
+seated-does old new a b session does w acts stands are = subst (λ (all : List Act). StandsFor b new (done_all w all)) (sym are.0) (does w are.1 stands)

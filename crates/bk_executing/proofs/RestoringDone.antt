@@ -1,0 +1,280 @@
+-- A whole restore that was planned by the first set of its medium.
+use Rattle.std.proofs.Common.{◌≡◌, inl, inr, ℕ, List, Option, Ok, Err, None, Some, refl, sym, ◌∙◌, ap, subst}
+use Rattle.std.specs.Prelude.{Result, IfOk, IsErrOf, MatchOption, OnErr}
+use Rattle.std.specs.List.{AllByRecursion}
+use Rattle.bk_archive.specs.First.{IsFirstSet}
+use Rattle.bk_archive.specs.Media.{KeepsMedia}
+use Rattle.bk_archive.specs.MediaLaws.{media-in}
+use Rattle.bk_body.specs.Body.{Body}
+use Rattle.bk_body.specs.Slots.{holds}
+use Rattle.bk_device.specs.Calls.{ChangesNothing, contents}
+use Rattle.bk_device.specs.Compose.{effect_then}
+use Rattle.bk_device.specs.Disk.{Disk, Files, IsLawful}
+use Rattle.bk_device.specs.Effects.{Effect}
+use Rattle.bk_device.specs.Laws.{effect_after_nothing, nothing_then, nothing_yet}
+use Rattle.bk_engine.specs.Bringing.{IsSetOn}
+use Rattle.bk_engine.specs.Stands.{IsOurs, Kept, StandsFor}
+use Rattle.bk_engine.specs.Touched.{NoMedium, TouchesOnly}
+use Rattle.bk_engine.specs.TouchLaws.{wider-touch}
+use Rattle.bk_engine.specs.ViewLaws.{remembers}
+use Rattle.bk_engine.specs.Viewing.{Remembers}
+use Rattle.bk_ids.specs.declared.guid.Guid.{Guid}
+use Rattle.bk_ids.specs.declared.record.Rec.{Rec}
+use Rattle.bk_items.specs.declared.item.RestoredUnits.{RestoredUnits}
+use Rattle.bk_items.specs.declared.item.ScriptEntry.{ScriptEntry}
+use Rattle.bk_items.specs.declared.item.ScriptItem.TheVariants as script
+use Rattle.bk_items.specs.declared.options.RestoreOptions.{RestoreOptions}
+use Rattle.bk_kept.specs.declared.kept.Kept.{Kept as KeptOf}
+use Rattle.bk_kept.specs.Keeps.{Sees}
+use Rattle.bk_machine.specs.Acts.{Act, done_all}
+use Rattle.bk_machine.specs.Checks.{Checked}
+use Rattle.bk_machine.specs.Machine.{May}
+use Rattle.bk_machine.specs.MayDo.{MayDoAll}
+use Rattle.bk_machine.specs.Outcome.{Outcome}
+use Rattle.bk_machine.specs.Sound.{IsSound}
+use Rattle.bk_machine.specs.World.{World}
+use Rattle.bk_machine.specs.Writes.{ActsWrite, IsStill, IsTurn, StatementWrites}
+use Rattle.bk_machine.specs.statements.Restore.{disk_path, first_set}
+use Rattle.bk_media_plans.specs.declared.restore_plan.RestorePlan.{RestorePlan}
+use Rattle.bk_media_plans.specs.declared.restore_plan.RestorePlan.TheVariants as restore
+use Rattle.bk_media_plans.specs.Firsts.{FindsFirst, First}
+use Rattle.bk_media_plans.specs.RestorePlans.{AreOfRestore}
+use Rattle.bk_plans.specs.declared.parts.Plan.{Plan}
+use Rattle.bk_plans.specs.declared.parts.Plan.TheVariants as plan
+use Rattle.bk_plans.specs.Planning.{Plans}
+use Rattle.bk_record.specs.Log.{IsLog}
+use Rattle.bk_restarts.specs.Crashes.{CutIn}
+use Rattle.bk_shown.specs.declared.error.TakeError.{TakeError}
+use Rattle.bk_shown.specs.declared.error.TakeError.TheVariants.{NoMemory, Unfit}
+use Rattle.bk_volume.specs.Media.{slot_at}
+use Rattle.bk_volume.specs.Names.{medium_file}
+use Rattle.bk_volume.specs.Stored.{IsOf, Stored}
+use Rattle.bk_world.specs.declared.database.TableSpec.{TableSpec}
+use Rattle.bk_world.specs.declared.header.Header.{Header}
+use Rattle.bk_world.specs.declared.reply.Reply.{Reply}
+use Rattle.bk_world.specs.declared.reply.Reply.TheVariants as reply
+use Rattle.bk_world.specs.declared.rule.Rule.{Rule}
+use Rattle.bk_world.specs.Medium.{medium_at}
+use Rattle.bk_executing.specs.declared.error.ExecuteError.{ExecuteError}
+use Rattle.bk_executing.specs.declared.error.ExecuteError.TheVariants.{Broken}
+use Rattle.bk_executing.specs.Errors.{taken_error}
+use Rattle.bk_executing.specs.Executing.{CutOff, Executed, Failed, Rests}
+use Rattle.bk_executing.specs.Planned.{IsPlanned, IsRestorePlanned}
+use Rattle.bk_executing.specs.Restoring.{first_of}
+use Rattle.bk_executing.proofs.Planned.{Knows, none-planned, planned, stands-nothing, touches-nothing}
+
+-- ---- one that is refused
+
+-- its plan is to refuse it
+pub refused-plan : (e : Kept) (Known : World → Type 0) (found : Result First Rule) (s : ScriptEntry) (now : ℕ) (rule : Rule) → IsRestorePlanned e Known found s now (restore.Refused rule) → IsPlanned e Known s now (plan.Refused rule)
+refused-plan e Known found s now rule plans = record { outcome = plans.outcome; replies = plans.replies; may = plans.may; acts = plans.acts }
+
+pub refused-knows : {tells : Type 0} (e : Kept) (a b : Disk) (Known : World → Type 0) (s : ScriptEntry) (now : ℕ) (rule : Rule) (outcome : Outcome) → (tells → IsLawful a) → (tells → ChangesNothing a b) → (tells → (w : World) → StandsFor a e w → Known w)
+    → ((w : World) → IsSound w → May w s now outcome → MayDoAll w outcome.acts) → Knows tells e a b Known (plan.Refused rule) s now outcome
+refused-knows e a b Known s now rule outcome lawful call known may = record { lawful = lawful; call = call; known = known; may = may; sets = λ w sound is are. tt }
+
+-- ---- the set that was found first
+
+pub finds-first : (disk : Option (List ℕ)) (file : Option (List ℕ)) (set : Stored) (log : List ℕ) (w : World) → IsFirstSet w (disk_path disk) file set → ((body : Body) → IsOf (contents file) body set → log ≡ body.log) → FindsFirst disk (Ok (first_of set log)) w
+finds-first disk file set log w is logs =
+    let found : Header → Checked Header = λ header. Ok header in
+    record {
+      is = is.is ∙ ap found (sym is.opened.header);
+      carries = record {
+        body = is.body;
+        is_body = is.opened.is_body;
+        header_is = sym is.opened.header;
+        tables_are = sym is.opened.tables;
+        log_is = sym (logs is.body is.opened);
+        carries = is.carries;
+      };
+    }
+
+pub set-there : (path : List ℕ) (files : Files) (medium : List ℕ) (set : Stored) (w : World) → IsFirstSet w path (files medium) set → IsSetOn files medium set
+set-there path files medium set w is = record { body = is.body; position = 1; there = is.there; is = is.opened }
+
+-- there is none to be found
+pub finds-none : (disk : Option (List ℕ)) (rule : Rule) (w : World) → first_set (medium_at w.media (disk_path disk)) ≡ Err rule → FindsFirst disk (Err rule) w
+finds-none disk rule w is = record { is = is; carries = tt }
+
+-- what is read of it for a plan
+abbrev pub parts : Header → List TableSpec → List ℕ → First
+parts header made log = record { header = header; tables = made; log = log }
+
+-- what is planned by its parts as they are read is planned by the set
+pub of-set : (e : Kept) (disk : Option (List ℕ)) (s : ScriptEntry) (now : ℕ) (plan : RestorePlan) (header : Header) (made : List TableSpec) (log : List ℕ) (set : Stored) → header ≡ set.header → made ≡ set.tables
+    → IsRestorePlanned e (FindsFirst disk (Ok (parts header made log))) (Ok (parts header made log)) s now plan
+    → IsRestorePlanned e (FindsFirst disk (Ok (first_of set log))) (Ok (first_of set log)) s now plan
+of-set e disk s now plan header made log set same_header same_made plans =
+    let same : parts header made log ≡ first_of set log = λ i. record { header = same_header i; tables = same_made i; log = log } in
+    subst (λ (first : First). IsRestorePlanned e (FindsFirst disk (Ok first)) (Ok first) s now plan) same plans
+
+-- and what it finds is found in its parts
+pub finds-parts : (disk : Option (List ℕ)) (w : World) (header : Header) (made : List TableSpec) (log : List ℕ) (set : Stored) → header ≡ set.header → made ≡ set.tables → FindsFirst disk (Ok (first_of set log)) w
+    → FindsFirst disk (Ok (parts header made log)) w
+finds-parts disk w header made log set same_header same_made finds =
+    let same : parts header made log ≡ first_of set log = λ i. record { header = same_header i; tables = same_made i; log = log } in
+    subst (λ (first : First). FindsFirst disk (Ok first) w) (sym same) finds
+
+-- an error is the same one of results of another type
+pub other-error : {A B E : Type 0} (e x : E) → IsErrOf {T = A} {E = E} (Err e) x → IsErrOf {T = B} {E = E} (Err e) x
+other-error {B = B} {E = E} e x is =
+    let same : e ≡ x = cc in
+    let made : E → Result B E = λ y. Err y in
+    ap made same
+
+-- and it is a refusal, which writes to no medium
+pub unbuilt-knows : {tells : Type 0} (e : Kept) (a : Disk) (line : ℕ) (name : List ℕ) (units : RestoredUnits) (disk : Option (List ℕ)) (options : RestoreOptions) (now : ℕ) (plan : Plan) (outcome : Outcome) → (tells → IsLawful a)
+    → ((w : World) (s : ScriptEntry) (at : ℕ) (outcome : Outcome) → IsSound w → May w s at outcome → MayDoAll w outcome.acts)
+    → ((w : World) (s : ScriptEntry) (at : ℕ) (outcome : Outcome) (path : List ℕ) → May w s at outcome → ActsWrite outcome.acts path → StatementWrites s.item path)
+    → Knows tells e a a (λ w. Unit {0}) plan (record { item = script.RestoreDatabase name units disk options; line = line }) now outcome
+unbuilt-knows e a line name units disk options now plan outcome lawful does media =
+    let s : ScriptEntry = record { item = script.RestoreDatabase name units disk options; line = line } in
+    record {
+      lawful = lawful;
+      call = λ told. nothing_yet a;
+      known = λ told w stands. tt;
+      may = λ w sound may. does w s now outcome sound may;
+      sets = λ w sound may acts. none-planned w plan outcome.acts acts (λ path writes. media w s now outcome path may writes);
+    }
+
+-- ---- what was found on the medium, once it was read
+
+pub first-there : (a b : Disk) (w : World) (path asked medium : List ℕ) (set : Stored) → ChangesNothing a b → path ≡ asked → medium ≡ medium_file path
+    → (KeepsMedia w None a.files → IsFirstSet w path (a.files (medium_file path)) set) → KeepsMedia w None b.files → IsFirstSet w asked (b.files medium) set
+first-there a b w path asked medium set call same named first media =
+    let then : IsFirstSet w path (a.files (medium_file path)) set = first (media-in w None b.files a.files (λ other are. sym (call.files (medium_file other))) media) in
+    let there : b.files medium ≡ a.files (medium_file path) = call.files medium ∙ ap a.files named in
+    subst (λ (p : List ℕ). IsFirstSet w p (b.files medium) set) same (subst (λ (file : Option (List ℕ)). IsFirstSet w path file set) (sym there) then)
+
+pub none-there : (a b : Disk) (w : World) (path asked : List ℕ) (rule : Rule) → ChangesNothing a b → path ≡ asked
+    → (KeepsMedia w None a.files → first_set (medium_at w.media path) ≡ Err rule) → KeepsMedia w None b.files → first_set (medium_at w.media asked) ≡ Err rule
+none-there a b w path asked rule call same none media =
+    subst (λ (p : List ℕ). first_set (medium_at w.media p) ≡ Err rule) same (none (media-in w None b.files a.files (λ other are. sym (call.files (medium_file other))) media))
+
+-- bytes that are whole records break off nowhere
+pub never-bad : ((bytes : List ℕ) (records others : List Rec) (bad other : Option ℕ) → IsLog bytes records bad → IsLog bytes others other → (records ≡ others) × (bad ≡ other)) → (items log : List ℕ) (records others : List Rec) (place : ℕ) → items ≡ log
+    → IsLog log records None → IsLog items others (Some place) → ⊥
+never-bad one items log records others place same whole bad =
+    let both = one log records others None (Some place) whole (subst (λ (bytes : List ℕ). IsLog bytes others (Some place)) same bad) in
+    apart both.1
+  where
+    apart : None ≡ Some place → ⊥
+    apart is = absurd (cc)
+
+-- what isn't built is planned over what is seen
+pub unbuilt-plans : (e : Kept) (k : KeptOf) (s : ScriptEntry) (built : Type 0) (found : Option Plan) → ((w : World) → Remembers e w → Sees w k) → MatchOption found built (λ (plan : Plan). (now : ℕ) (kept : KeptOf) → Plans kept (λ w. Unit {0}) s now plan)
+    → MatchOption found built (λ (plan : Plan). (now : ℕ) → IsPlanned e (λ w. Unit {0}) s now plan)
+unbuilt-plans e k s built None sees is = is
+unbuilt-plans e k s built (Some plan) sees plans = λ now. planned k e (λ w. Unit {0}) s now plan sees (plans now k)
+
+-- a run that ends as broken by what couldn't be planned ends so by a set that isn't fit
+pub unfit-set : {A B : Type 0} (e : TakeError) → IsErrOf {T = A} {E = ExecuteError} (Err (taken_error e)) Broken → IsErrOf {T = B} {E = TakeError} (Err e) Unfit
+unfit-set Unfit is = refl
+unfit-set NoMemory is = absurd (cc)
+
+-- ---- a device that was read alone before
+
+module _ {tells : Type 0} (e : Kept) (a b c : Disk) (s : ScriptEntry) (now : ℕ) (lawful : tells → IsLawful a) (call : tells → ChangesNothing a b) where
+  stands-then : tells → (w : World) → StandsFor a e w → StandsFor b e w
+  stands-then told w stands = stands-nothing a b e w (call told) stands
+
+  after-executed : (new : Kept) (answer : Reply) → Executed tells e b s now answer new c → Executed tells e a s now answer new c
+  after-executed new answer executed = record {
+    outcome = executed.outcome;
+    replies = executed.replies;
+    may = λ told w stands. executed.may told w (stands-then told w stands);
+    does = λ told w stands. executed.does told w (stands-then told w stands);
+    crash = λ told w stands. effect_after_nothing (lawful told) (call told) (executed.crash told w (stands-then told w stands));
+    still = λ told w stands still.
+        let then = executed.still told w (stands-then told w stands) still in
+        record { device = nothing_then (lawful told) (call told) then.device; own = then.own; drawn = then.drawn };
+    spares = λ told w stands. effect_then (touches-nothing (call told)) (executed.spares told w (stands-then told w stands));
+  }
+
+  after-failed : Failed tells e b s now c → Failed tells e a s now c
+  after-failed (inl nothing) = inl (λ told. nothing_then (lawful told) (call told) (nothing told))
+  after-failed (inr cut) = inr (record {
+    outcome = cut.outcome;
+    may = λ told w stands. cut.may told w (stands-then told w stands);
+    crash = λ told w stands. effect_after_nothing (lawful told) (call told) (cut.crash told w (stands-then told w stands));
+    spares = λ told w stands. effect_then (touches-nothing (call told)) (cut.spares told w (stands-then told w stands));
+  })
+
+  pub all-executed : (new : Kept) (result : Result Reply ExecuteError) → IfOk result (λ answer. Executed tells e b s now answer new c) → IfOk result (λ answer. Executed tells e a s now answer new c)
+  all-executed new (Ok answer) executed = after-executed new answer executed
+  all-executed new (Err error) executed = tt
+
+  pub all-failed : (result : Result Reply ExecuteError) → OnErr result (Failed tells e b s now c) → OnErr result (Failed tells e a s now c)
+  all-failed (Ok answer) failed = tt
+  all-failed (Err error) failed = after-failed failed
+
+-- ---- it brings a database up
+
+-- A restore by the set that was opened first on a medium, whose device was read alone till then.
+module _ (tells : Type 0) (e new : Kept) (a b c : Disk) (disk : Option (List ℕ)) (medium : List ℕ) (set : Stored) (log : List ℕ) (s : ScriptEntry) (now : ℕ) (name : List ℕ) (branch : Guid) (last : ℕ) where
+  abbrev pub found : Result First Rule
+  found = Ok (first_of set log)
+
+  abbrev pub Brings : (World → List Act → Type 0) → Type 0
+  Brings Does = (w : World) (its : List ℕ) (acts : List Act) → StandsFor b e w → IsSetOn b.files medium set → AreOfRestore w (first_of set its) name branch last acts → Does w acts
+
+  -- what is known where it was read
+  pub record Reads : Type 0 where
+    pub lawful : tells → IsLawful a
+    pub call : tells → ChangesNothing a b
+    pub first : tells → (w : World) → StandsFor a e w → IsFirstSet w (disk_path disk) (a.files medium) set
+    pub logs : tells → (body : Body) → IsOf (contents (a.files medium)) body set → log ≡ body.log
+
+  module _ (reads : Reads) (plans : IsRestorePlanned e (FindsFirst disk found) found s now (restore.BringsUp name branch last)) where
+    knows-first : tells → (w : World) → StandsFor a e w → FindsFirst disk found w
+    knows-first told w stands = finds-first disk (a.files medium) set log w (reads.first told w stands) (reads.logs told)
+
+    then-may : tells → (w : World) → StandsFor a e w → May w s now plans.outcome
+    then-may told w stands = plans.may w stands.sound (remembers a e w stands) (knows-first told w stands)
+
+    then-acts : tells → (w : World) → StandsFor a e w → AreOfRestore w (first_of set log) name branch last plans.outcome.acts
+    then-acts told w stands = plans.acts w stands.sound (remembers a e w stands) (knows-first told w stands)
+
+    then-there : tells → (w : World) → StandsFor a e w → IsSetOn b.files medium set
+    then-there told w stands =
+        let is = reads.first told w stands in
+        let same : b.files medium ≡ a.files medium = (reads.call told).files medium in
+        record {
+          body = is.body;
+          position = 1;
+          there = subst (λ f. slot_at f 1 ≡ Some (holds is.body)) (sym same) is.there;
+          is = subst (λ f. IsOf (contents f) is.body set) (sym same) is.opened;
+        }
+
+    -- what holds for each such list of acts holds for those of the outcome
+    then-brings : (Does : World → List Act → Type 0) → tells → Brings Does → (w : World) → StandsFor a e w → Does w plans.outcome.acts
+    then-brings Does told brings w stands = brings w log plans.outcome.acts (stands-nothing a b e w (reads.call told) stands) (then-there told w stands) (then-acts told w stands)
+
+    then-crash : (tells → Brings (λ w acts. Effect IsOurs (CutIn w acts) b c)) → tells → (w : World) → StandsFor a e w → Effect IsOurs (CutIn w plans.outcome.acts) a c
+    then-crash crash told w stands = effect_after_nothing (reads.lawful told) (reads.call told) (then-brings (λ v acts. Effect IsOurs (CutIn v acts) b c) told (crash told) w stands)
+
+    then-spares : (tells → TouchesOnly NoMedium b c) → tells → (w : World) → StandsFor a e w → TouchesOnly (ActsWrite plans.outcome.acts) a c
+    then-spares touches told w stands = effect_then (touches-nothing (reads.call told)) (wider-touch (λ path none. absurd none) (touches told))
+
+    -- it stores something
+    then-still : tells → (w : World) → StandsFor a e w → IsStill plans.outcome → Rests e a new c
+    then-still told w stands still = absurd (subst (λ (acts : List Act). AllByRecursion IsTurn acts) (then-acts told w stands).are still).0
+
+    pub brings-executed : (tells → Brings (λ w acts. StandsFor c new (done_all w acts))) → (tells → Brings (λ w acts. Effect IsOurs (CutIn w acts) b c)) → (tells → TouchesOnly NoMedium b c) → (answer : Reply) → answer ≡ reply.Recovered set.header.last
+        → Executed tells e a s now answer new c
+    brings-executed does crash touches answer is = record {
+      outcome = plans.outcome;
+      replies = plans.replies ∙ sym is;
+      may = then-may;
+      does = λ told w stands. then-brings (λ v acts. StandsFor c new (done_all v acts)) told (does told) w stands;
+      crash = then-crash crash;
+      still = then-still;
+      spares = then-spares touches;
+    }
+
+    pub brings-cut : (tells → Brings (λ w acts. Effect IsOurs (CutIn w acts) b c)) → (tells → TouchesOnly NoMedium b c) → CutOff tells e a s now c
+    brings-cut crash touches = record { outcome = plans.outcome; may = then-may; crash = then-crash crash; spares = then-spares touches }
+
+    pub brings-never : tells → Brings (λ w acts. ⊥) → (w : World) → StandsFor a e w → ⊥
+    brings-never told never w stands = then-brings (λ v acts. ⊥) told never w stands

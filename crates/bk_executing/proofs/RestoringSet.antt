@@ -1,0 +1,196 @@
+-- A plan of a whole restore gives what an engine asks for to park its set and to bring it up.
+use Rattle.std.proofs.Common.{◌≡◌, ◌<◌, ◌≤◌, inl, inr, ℕ, ◌+◌, List, [], ◌∷◌, length, Some, Err, refl, sym, ◌∙◌, ap, subst, arith}
+use Rattle.std.specs.List.{AllByRecursion}
+use Rattle.std.specs.Prelude.{IsErrOf}
+use Rattle.bk_archive.specs.Media.{IsMediumFile}
+use Rattle.bk_body.specs.Slots.{holds}
+use Rattle.bk_device.specs.Calls.{contents}
+use Rattle.bk_device.specs.Compose.{effect_then, effect_weaken}
+use Rattle.bk_device.specs.Disk.{Disk, Files}
+use Rattle.bk_device.specs.Effects.{Effect}
+use Rattle.bk_engine.specs.Acts.{CutsAct, IsSetKnown}
+use Rattle.bk_engine.specs.Bringing.{CutsActs, IsSetOn, MayComeUp, coming_up}
+use Rattle.bk_engine.specs.NameLaws.{store-medium}
+use Rattle.bk_engine.specs.Stands.{IsOurs, Kept, StandsFor}
+use Rattle.bk_engine.specs.Touched.{IsTouched, NoMedium, TouchesOnly}
+use Rattle.bk_hosted.specs.Hosted.{bringing_up, set_log, set_storage}
+use Rattle.bk_ids.specs.declared.guid.Guid.{Guid}
+use Rattle.bk_ids.specs.declared.path.Branch.{Branch}
+use Rattle.bk_ids.specs.Path.{IsPath}
+use Rattle.bk_known.specs.declared.known.Known.{Known}
+use Rattle.bk_known.specs.Known.{IsKnown}
+use Rattle.bk_machine.specs.Acts.{Act, done, done_all, replaced, taken_over}
+use Rattle.bk_machine.specs.FindingLaws.{found-new}
+use Rattle.bk_machine.specs.MayDo.{MayDo, MayDoAll}
+use Rattle.bk_machine.specs.Sound.{IsSoundSet}
+use Rattle.bk_machine.specs.World.{World}
+use Rattle.bk_media_plans.specs.RestorePlans.{AreOfRestore, ending_of}
+use Rattle.bk_restarts.specs.Crashes.{CutIn}
+use Rattle.bk_restarts.specs.CutLaws.{cut-act, cut-first, cut-later}
+use Rattle.bk_stores.specs.Stores.{IsOurs as IsOfStores}
+use Rattle.bk_stores.specs.declared.error.StoresError.{StoresError}
+use Rattle.bk_stores.specs.declared.error.StoresError.TheVariants as stores
+use Rattle.bk_volume.specs.Laws.{staging_apart}
+use Rattle.bk_volume.specs.Media.{slot_at}
+use Rattle.bk_volume.specs.Stored.{IsOf, Stored}
+use Rattle.bk_world.specs.CrashLaws.{counts-length}
+use Rattle.bk_world.specs.Cut.{end_behind}
+use Rattle.bk_world.specs.declared.header.Header.{Header}
+use Rattle.bk_world.specs.Telling.{tables}
+use Rattle.bk_executing.specs.Errors.{stores_error}
+use Rattle.bk_executing.specs.declared.error.ExecuteError.{ExecuteError}
+use Rattle.bk_executing.specs.declared.error.ExecuteError.TheVariants.{Broken}
+use Rattle.bk_executing.specs.Restoring.{first_of, known_in, spec_in}
+use Rattle.bk_executing.proofs.Files.{HaveBytes, NameLaw, none-of-set, specs-bytes}
+
+-- ---- the set stays on its medium
+
+untouched : (name : List ℕ) → IsMediumFile name → IsTouched NoMedium name → ⊥
+untouched name medium touched = elim touched [
+  | inl store ↦ store-medium medium.0 (subst IsOfStores medium.2 store)
+  | inr other ↦ elim other [
+    | inl set ↦ staging_apart medium.0 set.0 (sym set.1 ∙ medium.2)
+    | inr named ↦ named.1
+  ]
+]
+
+pub set-stays : (a b : Disk) (name : List ℕ) (set : Stored) → IsMediumFile name → TouchesOnly NoMedium a b → IsSetOn a.files name set → IsSetOn b.files name set
+set-stays a b name set medium touches is =
+    let same : b.files name ≡ a.files name = touches.others name (untouched name medium) in
+    record {
+      body = is.body;
+      position = is.position;
+      there = subst (λ f. slot_at f is.position ≡ Some (holds is.body)) (sym same) is.there;
+      is = subst (λ f. IsOf (contents f) is.body set) (sym same) is.is;
+    }
+
+-- ---- it is parked
+
+-- the log of a set has a record
+set-some : (w : World) (header : Header) → IsSoundSet w header → 1 ≤ length (set_log w header)
+set-some w header sound = by header.path sound.path sound.starts
+  where
+    ends : header.last ≡ 1 + length (set_log w header)
+    ends = counts-length 1 (set_log w header) header.last sound.log.counts
+
+    by : (path : List Branch) → IsPath path → AllByRecursion (λ (b : Branch). b.start < header.last) path → 1 ≤ length (set_log w header)
+    by [] is starts = absurd is
+    by (b ∷ path) is starts =
+        let first : b.start ≡ 1 = is.0 in
+        let below : b.start < header.last = starts.0 in
+        omega (arith, first, below, ends)
+
+-- what is known of it is what its log says
+set-known : (w : World) (name : List ℕ) (set : Stored) → IsSoundSet w set.header → tables (set_log w set.header) ≡ set.tables → IsKnown (known_in name set) → IsSetKnown w set.header (known_in name set)
+set-known w name set sound tables-are spelled = record {
+  is = λ i. record { spec = spec_in name set.header; as_of = record { from = ends i; tables = sym tables-are i; model = sound.model i; time = sound.finish i } };
+  spelled = spelled;
+  some = set-some w set.header sound;
+}
+  where
+    ends : set.header.last ≡ end_behind (set_log w set.header)
+    ends = counts-length 1 (set_log w set.header) set.header.last sound.log.counts
+
+-- ---- and comes up
+
+-- what comes behind the first act is what the engine brings up by
+same-coming : (w : World) (name : List ℕ) (header : Header) (branch : Guid) → bringing_up name header (ending_of w header branch) ≡ coming_up (done w (replaced name header)) name header branch
+unfolding done
+same-coming w name header branch = refl
+
+coming-cut : (w : World) (name : List ℕ) (header : Header) (branch : Guid) (image : Files) → CutsActs w (coming_up w name header branch) image → CutIn w (coming_up w name header branch) image
+coming-cut w name header branch image (inl before) = cut-first w (coming_up w name header branch) image before
+coming-cut w name header branch image (inr behind) = cut-later w _ _ image (cut-later _ _ [] image (cut-first (done_all w (coming_up w name header branch)) [] image behind))
+
+-- A set on a medium with this header, of which this is known, that takes the place of the database of a name and brings it up on a branch.
+module _ (law : NameLaw) (e : Kept) (a b : Disk) (name : List ℕ) (set : Stored) (known : Known) (same : known ≡ known_in name set) (spelled : IsKnown known) (header : Header) (same_header : header ≡ set.header) (branch : Guid) (last : ℕ) where
+  abbrev parked : World → World
+  parked w = done w (replaced name set.header)
+
+  abbrev Restores : World → List ℕ → List Act → Type 0
+  Restores w log acts = AreOfRestore w (first_of set log) name branch last acts
+
+  abbrev all_acts : World → List Act
+  all_acts w = replaced name set.header ∷ coming_up (parked w) name set.header branch
+
+  is-known : IsKnown (known_in name set)
+  is-known = subst IsKnown same spelled
+
+  acts-are : (w : World) (log : List ℕ) (acts : List Act) → Restores w log acts → acts ≡ all_acts w
+  acts-are w log acts are = are.are ∙ ap (λ (rest : List Act). replaced name set.header ∷ rest) (same-coming w name set.header branch)
+
+  all-may : (w : World) (log : List ℕ) (acts : List Act) → Restores w log acts → MayDoAll w (all_acts w)
+  all-may w log acts are = subst (MayDoAll w) (acts-are w log acts are) are.may
+
+  park-may : (w : World) (log : List ℕ) (acts : List Act) → Restores w log acts → MayDo w (replaced name set.header)
+  park-may w log acts are = (all-may w log acts are).0
+
+  park-known : (w : World) (log : List ℕ) (acts : List Act) → Restores w log acts → IsSetKnown w set.header (known_in name set)
+  park-known w log acts are = set-known w name set (park-may w log acts are) are.tables_are is-known
+
+  bring-may : (w : World) (log : List ℕ) (acts : List Act) → StandsFor a e w → Restores w log acts → MayComeUp (parked w) name set.header branch last
+  unfolding done
+  bring-may w log acts stands are = record {
+    parked = found-new w.databases (taken_over name set.header);
+    none = none-of-set law a e w name set.header stands (specs-bytes (set_storage set.header).files is-known.spec.storage.files.1) are.unused;
+    may = (all-may w log acts are).1;
+    last_is = are.last_is;
+  }
+
+  -- it is parked, or not
+  abbrev ParkCuts : Known → Header → Type 0
+  ParkCuts k h = (w : World) → StandsFor a e w → MayDo w (replaced k.spec.name h) → IsSetKnown w h k → Effect IsOurs (CutsAct w (replaced k.spec.name h)) a b
+
+  abbrev ParkDoes : Kept → Known → Header → Type 0
+  ParkDoes new k h = (w : World) → StandsFor a e w → MayDo w (replaced k.spec.name h) → IsSetKnown w h k → StandsFor b new (done w (replaced k.spec.name h))
+
+  pub park-cuts : ParkCuts known header → (w : World) (log : List ℕ) (acts : List Act) → StandsFor a e w → Restores w log acts → Effect IsOurs (CutIn w acts) a b
+  park-cuts cuts w log acts stands are =
+      let own : ParkCuts (known_in name set) set.header = subst (λ (k : Known). ParkCuts k set.header) same (subst (ParkCuts known) same_header cuts) in
+      subst (λ (all : List Act). Effect IsOurs (CutIn w all) a b) (sym (acts-are w log acts are))
+      (effect_weaken (λ image cut. cut-act w (replaced name set.header) (coming_up (parked w) name set.header branch) image cut)
+      (own w stands (park-may w log acts are) (park-known w log acts are)))
+
+  parks : (new : Kept) → ParkDoes new known header → (w : World) (log : List ℕ) (acts : List Act) → StandsFor a e w → Restores w log acts → StandsFor b new (parked w)
+  parks new does w log acts stands are =
+      let own : ParkDoes new (known_in name set) set.header = subst (λ (k : Known). ParkDoes new k set.header) same (subst (ParkDoes new known) same_header does) in
+      own w stands (park-may w log acts are) (park-known w log acts are)
+
+  -- then it is brought up, or not
+  module _ (new : Kept) (does : ParkDoes new known header) (medium : List ℕ) (is_medium : IsMediumFile medium) (touches : TouchesOnly NoMedium a b) (c : Disk) (spoken : List ℕ) (same_name : spoken ≡ name) where
+    abbrev Whenever : List ℕ → (World → Type 0) → Type 0
+    Whenever called Does = (w : World) → StandsFor b new w → IsSetOn b.files medium set → MayComeUp w called set.header branch last → Does w
+
+    abbrev Always : (World → List Act → Type 0) → Type 0
+    Always Does = (w : World) (log : List ℕ) (acts : List Act) → StandsFor a e w → IsSetOn a.files medium set → Restores w log acts → Does w acts
+
+    abbrev ComingCuts : List ℕ → Type 0
+    ComingCuts called = Whenever called (λ w. Effect IsOurs (CutsActs w (coming_up w called set.header branch)) b c)
+
+    abbrev ComingDoes : Kept → List ℕ → Type 0
+    ComingDoes up called = Whenever called (λ w. StandsFor c up (done_all w (coming_up w called set.header branch)))
+
+    pub bring-cuts : ParkCuts known header → ComingCuts spoken → Always (λ w acts. Effect IsOurs (CutIn w acts) a c)
+    bring-cuts first cuts w log acts stands there are =
+        effect_then (park-cuts first w log acts stands are)
+        (subst (λ (all : List Act). Effect IsOurs (CutIn w all) b c) (sym (acts-are w log acts are))
+        (effect_weaken (λ image cut. cut-later w (replaced name set.header) (coming_up (parked w) name set.header branch) image (coming-cut (parked w) name set.header branch image cut))
+        (subst ComingCuts same_name cuts (parked w) (parks new does w log acts stands are) (set-stays a b medium set is_medium touches there) (bring-may w log acts stands are))))
+
+    pub bring-does : (up : Kept) → ComingDoes up spoken → Always (λ w acts. StandsFor c up (done_all w acts))
+    bring-does up brings w log acts stands there are =
+        subst (λ (all : List Act). StandsFor c up (done_all w all)) (sym (acts-are w log acts are))
+        (subst (ComingDoes up) same_name brings (parked w) (parks new does w log acts stands are) (set-stays a b medium set is_medium touches there) (bring-may w log acts stands are))
+
+    pub bring-never : Whenever spoken (λ w. ⊥) → Always (λ w acts. ⊥)
+    bring-never never w log acts stands there are =
+        subst (λ (called : List ℕ). Whenever called (λ w. ⊥)) same_name never (parked w) (parks new does w log acts stands are) (set-stays a b medium set is_medium touches there) (bring-may w log acts stands are)
+
+-- ---- what ends as broken
+
+-- a call that never answers that the instance isn't one ends so by what is broken
+pub stores-broken : {A B : Type 0} (error : StoresError) → (IsErrOf {T = B} {E = StoresError} (Err error) stores.NotAnInstance → ⊥) → IsErrOf {T = A} {E = ExecuteError} (Err (stores_error error)) Broken → IsErrOf {T = B} {E = StoresError} (Err error) stores.Broken
+stores-broken stores.NotAnInstance none is = absurd (none refl)
+stores-broken stores.Broken none is = refl
+stores-broken stores.Fault none is = absurd (cc)
+stores-broken stores.NoMemory none is = absurd (cc)

@@ -1,0 +1,29 @@
+-- Plans over what an engine has in memory, as outcomes of the machine.
+use Rattle.std.specs.Prelude.{◌≡◌, ℕ, Result}
+use Rattle.bk_engine.specs.Stands.{Kept}
+use Rattle.bk_engine.specs.Viewing.{Remembers}
+use Rattle.bk_items.specs.declared.item.ScriptEntry.{ScriptEntry}
+use Rattle.bk_machine.specs.Machine.{May}
+use Rattle.bk_machine.specs.Outcome.{Outcome}
+use Rattle.bk_machine.specs.Sound.{IsSound}
+use Rattle.bk_machine.specs.World.{World}
+use Rattle.bk_media_plans.specs.declared.restore_plan.RestorePlan.{RestorePlan}
+use Rattle.bk_media_plans.specs.Firsts.{First}
+use Rattle.bk_media_plans.specs.RestorePlans.{AreRestoreActs, restore_reply}
+use Rattle.bk_plans.specs.declared.parts.Plan.{Plan}
+use Rattle.bk_plans.specs.Planning.{AreActsOf, reply_of}
+use Rattle.bk_world.specs.declared.rule.Rule.{Rule}
+
+-- A plan of a statement at a moment: one outcome, to which the statement may come in each sound world that the engine has in memory and of which this is known, and whose acts are then those of the plan.
+pub record IsPlanned (e : Kept) (Known : World → Type 0) (s : ScriptEntry) (now : ℕ) (plan : Plan) : Type 0 where
+  pub outcome : Outcome
+  pub replies : outcome.reply ≡ reply_of plan
+  pub may : (w : World) → IsSound w → Remembers e w → Known w → May w s now outcome
+  pub acts : (w : World) → IsSound w → Remembers e w → Known w → AreActsOf w plan outcome.acts
+
+-- So it is with a restore, by the set that was found first.
+pub record IsRestorePlanned (e : Kept) (Known : World → Type 0) (found : Result First Rule) (s : ScriptEntry) (now : ℕ) (plan : RestorePlan) : Type 0 where
+  pub outcome : Outcome
+  pub replies : outcome.reply ≡ restore_reply found plan
+  pub may : (w : World) → IsSound w → Remembers e w → Known w → May w s now outcome
+  pub acts : (w : World) → IsSound w → Remembers e w → Known w → AreRestoreActs w found plan outcome.acts

@@ -1,4 +1,0 @@
-pub mod MadeMedia
-pub mod Seals
-pub mod StoredActs
-pub mod WaitingActs

@@ -1,4 +1,0 @@
-pub mod Closing
-pub mod Errors
-pub mod Events
-pub mod Loading

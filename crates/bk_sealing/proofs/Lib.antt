@@ -1,0 +1,6 @@
+mod Carried
+mod Listed
+mod Named
+mod Results
+mod Seen
+mod Still

@@ -1,0 +1,10 @@
+//! A database is copied into a set, and the set is sealed on a medium: what a full backup of it comes to on the device.
+#![tactic(auto)]
+
+mod copying;
+mod error;
+mod keeping;
+mod sealing;
+
+pub use error::SealError;
+pub use sealing::seal_database;

@@ -1,0 +1,184 @@
+//! The set of a database is sealed.
+ghost use Rattle.std.specs.Prelude.{◌≡◌, None, false, OnOk, IsErrOf};
+ghost use Rattle.bk_device.specs.Counts.{HasCause};
+ghost use Rattle.bk_device.specs.Effects.{Effect};
+ghost use Rattle.bk_engine.specs.Acts.{CutsAct};
+ghost use Rattle.bk_engine.specs.Stands.{IsOurs, IsReady, IsStagingFile, NamesSet, StandsFor};
+ghost use Rattle.bk_engine.specs.Touched.{IsAt, TouchesOnly};
+ghost use Rattle.bk_engine.specs.Viewing.{AreEnds, Remembers};
+ghost use Rattle.bk_header.specs.Conditions.{KeepsConditions};
+ghost use Rattle.bk_kept.specs.Keeps.{Sees};
+ghost use Rattle.bk_machine.specs.Acts.{done, set_sealed};
+ghost use Rattle.bk_machine.specs.World.{World, log_of};
+ghost use Rattle.bk_stores.specs.Standing.{AreStanding};
+ghost use Rattle.bk_volume.specs.Staging.{IsStaged};
+ghost use Rattle.bk_world.specs.Telling as telling;
+ghost use Rattle.bk_sealing.specs.Copied.{HoldsCopy};
+ghost use Rattle.bk_sealing.specs.Sealing.{IsSetNow};
+ghost use Rattle.bk_sealing.specs.declared.error.SealError.TheVariants.{Fault};
+
+use crate::copying::copy_into;
+use crate::error::SealError;
+use crate::keeping::keeps_log;
+use bk_carried::extents_lie_in_order;
+use bk_device::Device;
+use bk_engine::Engine;
+use bk_ids::Text;
+use bk_kept::InstanceView;
+use bk_shown::Shown;
+use bk_volume::Staged;
+use bk_world::{Header, TableSpec};
+
+// A set has at most so many tables.
+const MOST_TABLES: usize = 64;
+
+// Seals what was copied of a database with these tables, where its log keeps what a set's does; else the call ends as if memory were wanting.
+fn seal_tables<D: Device>(
+    engine: &Engine,
+    dev: &mut D,
+    path: &Text,
+    staged: &Staged,
+    header: &Header,
+    tables: &[TableSpec],
+) -> Result<(), SealError>
+    requires ready { IsReady engine.now }
+    requires whole { staged.now.failed ≡ false }
+    requires named { IsStagingFile staged.now.name }
+    requires keeps { KeepsConditions header.now }
+    requires standing { D.tells → AreStanding (D.disk dev.old) engine.now.hosting.stores }
+    requires staged { D.tells → IsStaged (D.disk dev.old) staged.now }
+    ensures standing { D.tells → AreStanding (D.disk dev.new) engine.now.hosting.stores }
+    ensures stands { D.tells → (w : World) (is : IsSetNow w header.now) → StandsFor (D.disk dev.old) engine.now w → tables.now ≡ telling.tables (log_of w.history is.db) → HoldsCopy w is.db header.now.first header.now.last (D.disk dev.old) staged.now
+        → OnOk result (StandsFor (D.disk dev.new) engine.now (done w (set_sealed path.now header.now))) }
+    ensures crash { D.tells → (w : World) (is : IsSetNow w header.now) → StandsFor (D.disk dev.old) engine.now w → tables.now ≡ telling.tables (log_of w.history is.db) → HoldsCopy w is.db header.now.first header.now.last (D.disk dev.old) staged.now
+        → Effect IsOurs (CutsAct w (set_sealed path.now header.now)) (D.disk dev.old) (D.disk dev.new) }
+    ensures touches { D.tells → TouchesOnly (IsAt path.now) (D.disk dev.old) (D.disk dev.new) }
+    ensures cause { HasCause D.disk_faults D.tell_faults dev.old dev.new (IsErrOf result Fault) }
+{
+    extents_lie_in_order();
+    engine.at_rest(dev);
+    if tables.len() > MOST_TABLES {
+        return Err(SealError::NoMemory);
+    }
+    if !keeps_log(engine.alloc(), dev, staged, header, tables)? {
+        return Err(SealError::NoMemory);
+    }
+    engine.seal_set(dev, path, staged, header, tables)?;
+    Ok(())
+}
+
+// Seals what was copied of a header's database; this is seen of the instance.
+fn seal_over<D: Device>(
+    engine: &Engine,
+    seen: &InstanceView<'_>,
+    dev: &mut D,
+    path: &Text,
+    staged: &Staged,
+    header: &Header,
+) -> Result<(), SealError>
+    requires ready { IsReady engine.now }
+    requires sees { (w : World) → Remembers engine.now w → Sees w seen.now }
+    requires whole { staged.now.failed ≡ false }
+    requires named { IsStagingFile staged.now.name }
+    requires keeps { KeepsConditions header.now }
+    requires standing { D.tells → AreStanding (D.disk dev.old) engine.now.hosting.stores }
+    requires staged { D.tells → IsStaged (D.disk dev.old) staged.now }
+    ensures standing { D.tells → AreStanding (D.disk dev.new) engine.now.hosting.stores }
+    ensures stands { D.tells → (w : World) (is : IsSetNow w header.now) → StandsFor (D.disk dev.old) engine.now w → HoldsCopy w is.db header.now.first header.now.last (D.disk dev.old) staged.now
+        → OnOk result (StandsFor (D.disk dev.new) engine.now (done w (set_sealed path.now header.now))) }
+    ensures crash { D.tells → (w : World) (is : IsSetNow w header.now) → StandsFor (D.disk dev.old) engine.now w → HoldsCopy w is.db header.now.first header.now.last (D.disk dev.old) staged.now
+        → Effect IsOurs (CutsAct w (set_sealed path.now header.now)) (D.disk dev.old) (D.disk dev.new) }
+    ensures touches { D.tells → TouchesOnly (IsAt path.now) (D.disk dev.old) (D.disk dev.new) }
+    ensures cause { HasCause D.disk_faults D.tell_faults dev.old dev.new (IsErrOf result Fault) }
+{
+    engine.at_rest(dev);
+    let Some(database) = seen.named(header.database.as_str()) else {
+        return Err(SealError::NoMemory);
+    };
+    let tables = database.shown.tables();
+    seal_tables(engine, dev, path, staged, header, tables)
+}
+
+// Seals what was copied of a header's database; these are the ends of the databases' logs.
+fn seal_among<D: Device>(
+    engine: &Engine,
+    ends: &[Shown],
+    dev: &mut D,
+    path: &Text,
+    staged: &Staged,
+    header: &Header,
+) -> Result<(), SealError>
+    requires ready { IsReady engine.now }
+    requires ends { AreEnds engine.now ends.now }
+    requires whole { staged.now.failed ≡ false }
+    requires named { IsStagingFile staged.now.name }
+    requires keeps { KeepsConditions header.now }
+    requires standing { D.tells → AreStanding (D.disk dev.old) engine.now.hosting.stores }
+    requires staged { D.tells → IsStaged (D.disk dev.old) staged.now }
+    ensures standing { D.tells → AreStanding (D.disk dev.new) engine.now.hosting.stores }
+    ensures stands { D.tells → (w : World) (is : IsSetNow w header.now) → StandsFor (D.disk dev.old) engine.now w → HoldsCopy w is.db header.now.first header.now.last (D.disk dev.old) staged.now
+        → OnOk result (StandsFor (D.disk dev.new) engine.now (done w (set_sealed path.now header.now))) }
+    ensures crash { D.tells → (w : World) (is : IsSetNow w header.now) → StandsFor (D.disk dev.old) engine.now w → HoldsCopy w is.db header.now.first header.now.last (D.disk dev.old) staged.now
+        → Effect IsOurs (CutsAct w (set_sealed path.now header.now)) (D.disk dev.old) (D.disk dev.new) }
+    ensures touches { D.tells → TouchesOnly (IsAt path.now) (D.disk dev.old) (D.disk dev.new) }
+    ensures cause { HasCause D.disk_faults D.tell_faults dev.old dev.new (IsErrOf result Fault) }
+{
+    engine.at_rest(dev);
+    let seen = engine.view(engine.alloc(), ends)?;
+    seal_over(engine, &seen, dev, path, staged, header)
+}
+
+// Seals what was copied of a header's database.
+fn seal_seen<D: Device>(
+    engine: &Engine,
+    dev: &mut D,
+    path: &Text,
+    staged: &Staged,
+    header: &Header,
+) -> Result<(), SealError>
+    requires ready { IsReady engine.now }
+    requires whole { staged.now.failed ≡ false }
+    requires named { IsStagingFile staged.now.name }
+    requires keeps { KeepsConditions header.now }
+    requires standing { D.tells → AreStanding (D.disk dev.old) engine.now.hosting.stores }
+    requires staged { D.tells → IsStaged (D.disk dev.old) staged.now }
+    ensures standing { D.tells → AreStanding (D.disk dev.new) engine.now.hosting.stores }
+    ensures stands { D.tells → (w : World) (is : IsSetNow w header.now) → StandsFor (D.disk dev.old) engine.now w → HoldsCopy w is.db header.now.first header.now.last (D.disk dev.old) staged.now
+        → OnOk result (StandsFor (D.disk dev.new) engine.now (done w (set_sealed path.now header.now))) }
+    ensures crash { D.tells → (w : World) (is : IsSetNow w header.now) → StandsFor (D.disk dev.old) engine.now w → HoldsCopy w is.db header.now.first header.now.last (D.disk dev.old) staged.now
+        → Effect IsOurs (CutsAct w (set_sealed path.now header.now)) (D.disk dev.old) (D.disk dev.new) }
+    ensures touches { D.tells → TouchesOnly (IsAt path.now) (D.disk dev.old) (D.disk dev.new) }
+    ensures cause { HasCause D.disk_faults D.tell_faults dev.old dev.new (IsErrOf result Fault) }
+{
+    engine.at_rest(dev);
+    let ends = engine.ends(engine.alloc())?;
+    seal_among(engine, &ends, dev, path, staged, header)
+}
+
+/// Copies a header's database into a set, and seals that on the medium at a path. Where the header is that of a set of the database as it is, the instance stands for the world behind that then; a crash leaves the
+/// world before it, but for what waited, or the one behind it. The record names no set then.
+///
+/// Where there is no such database, its live log doesn't hold what the header says, what was copied keeps not what every set keeps, or there is no medium at the path, the call ends as if memory were wanting.
+pub fn seal_database<D: Device>(
+    engine: &mut Engine,
+    dev: &mut D,
+    path: &Text,
+    header: &Header,
+) -> Result<(), SealError>
+    requires ready { IsReady engine.old }
+    requires keeps { KeepsConditions header.now }
+    requires standing { D.tells → AreStanding (D.disk dev.old) engine.old.hosting.stores }
+    ensures ready { OnOk result (IsReady engine.new) }
+    ensures own { OnOk result (NamesSet None engine.old engine.new) }
+    ensures standing { D.tells → OnOk result (AreStanding (D.disk dev.new) engine.new.hosting.stores) }
+    ensures stands { D.tells → (w : World) → StandsFor (D.disk dev.old) engine.old w → IsSetNow w header.now → OnOk result (StandsFor (D.disk dev.new) engine.new (done w (set_sealed path.now header.now))) }
+    ensures crash { D.tells → (w : World) → StandsFor (D.disk dev.old) engine.old w → IsSetNow w header.now → Effect IsOurs (CutsAct w (set_sealed path.now header.now)) (D.disk dev.old) (D.disk dev.new) }
+    ensures touches { D.tells → TouchesOnly (IsAt path.now) (D.disk dev.old) (D.disk dev.new) }
+    ensures cause { HasCause D.disk_faults D.tell_faults dev.old dev.new (IsErrOf result Fault) }
+{
+    let mut staged = engine.begin_set(dev, header.set)?;
+    copy_into(engine, dev, &mut staged, header)?;
+    seal_seen(engine, dev, path, &staged, header)?;
+    engine.end_set(dev, staged)?;
+    Ok(())
+}

@@ -1,6 +1,0 @@
-use Rattle.std.proofs.Common.{◌≡◌, take}
-use Rattle.bk_machine.specs.Acts.{online_files}
-use Rattle.bk_taking.proofs.making.file_units.Given as goal
-
-abbrev pub invariant-loop-file : goal.invariant-loop-file
-invariant-loop-file l = l.units.items ≡ online_files (take l.file-index l.files)

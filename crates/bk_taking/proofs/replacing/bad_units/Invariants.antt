@@ -1,7 +1,0 @@
-use Rattle.std.proofs.Common.{◌≡◌, take}
-use Rattle.bk_machine.specs.Acts.{file_units}
-use Rattle.bk_world.specs.declared.database.State.TheVariants as state
-use Rattle.bk_taking.proofs.replacing.bad_units.Given as goal
-
-abbrev pub invariant-loop-file : goal.invariant-loop-file
-invariant-loop-file l = l.units.items ≡ file_units state.Bad (take l.file-index l.files)

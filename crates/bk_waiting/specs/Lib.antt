@@ -1,3 +1,0 @@
-pub mod Lagging
-pub mod Waiting
-pub mod WaitingLaws
