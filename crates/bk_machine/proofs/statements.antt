@@ -15,6 +15,7 @@ pub mod Rows
 pub mod Transactions
 pub mod Restore
 pub mod Said
+pub mod Checkpoint
 pub mod Backup
 pub mod Each
 pub mod Running

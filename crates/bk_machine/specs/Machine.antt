@@ -2,7 +2,7 @@
 use Rattle.std.specs.Prelude.{◌≡◌, ℕ}
 use Rattle.bk_items.specs.declared.item.ScriptEntry.{ScriptEntry}
 use Rattle.bk_items.specs.declared.item.ScriptItem.{ScriptItem}
-use Rattle.bk_items.specs.declared.item.ScriptItem.TheVariants.{CreateDatabase, DropDatabase, Use, CreateTable, Rows, BackupDatabase, RestoreDatabase, Begin, Commit, Rollback, Session, Syntax, TooLong}
+use Rattle.bk_items.specs.declared.item.ScriptItem.TheVariants.{CreateDatabase, DropDatabase, Use, CreateTable, Rows, BackupDatabase, RestoreDatabase, Begin, Commit, Rollback, Checkpoint, Session, Syntax, TooLong}
 use Rattle.bk_world.specs.declared.rule.Rule.TheVariants as rule
 use Rattle.bk_world.specs.declared.rule.Rule.TheVariants.{NotBuilt}
 use Rattle.bk_machine.specs.Acts.{done_all}
@@ -17,6 +17,7 @@ use Rattle.bk_machine.specs.statements.Begin.{check_begin, mark_of, DoesBegin}
 use Rattle.bk_machine.specs.statements.Commit.{check_commit, DoesCommit}
 use Rattle.bk_machine.specs.statements.Rollback.{check_rollback, DoesRollback}
 use Rattle.bk_machine.specs.statements.Session.{check_session, DoesSession}
+use Rattle.bk_machine.specs.statements.Checkpoint.{check_checkpoint, DoesCheckpoint}
 use Rattle.bk_machine.specs.statements.Backup.{check_backup, DoesBackup}
 use Rattle.bk_machine.specs.statements.Restore.{check_restore, DoesRestore}
 
@@ -32,6 +33,7 @@ ItemMay w line (RestoreDatabase name units disk options) now = ComesTo (check_re
 ItemMay w line (Begin transaction) now = ComesTo (check_begin w line transaction) (DoesBegin w (mark_of transaction))
 ItemMay w line Commit now = ComesTo (check_commit w) (DoesCommit w now)
 ItemMay w line Rollback now = ComesTo (check_rollback w) (DoesRollback w)
+ItemMay w line Checkpoint now = ComesTo (check_checkpoint w) (DoesCheckpoint w now)
 ItemMay w line (Session number) now = ComesTo (check_session line number) DoesSession
 ItemMay w line (Syntax there) now = λ outcome. outcome ≡ refused (rule.Syntax there)
 ItemMay w line TooLong now = λ outcome. outcome ≡ refused rule.TooLong

@@ -13,5 +13,6 @@ pub mod Begin
 pub mod Commit
 pub mod Rollback
 pub mod Session
+pub mod Checkpoint
 pub mod Backup
 pub mod Restore

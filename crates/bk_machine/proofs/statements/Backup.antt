@@ -36,6 +36,7 @@ use Rattle.bk_machine.proofs.Loads.{BuiltIn, act-built}
 use Rattle.bk_machine.specs.NamedLaws.{named-own, of-named}
 use Rattle.bk_machine.specs.CheckLaws.{Up, not-refused, passed, was-found, was-online}
 use Rattle.bk_machine.specs.Outcome.{Outcome}
+use Rattle.bk_machine.proofs.statements.Checkpoint.{checkpoint-tells, tells-left}
 use Rattle.bk_machine.proofs.statements.Facts.{Facts, facts-of, opens-those, own-checkpoint, own-stamp}
 use Rattle.bk_machine.proofs.statements.Numbering.{numbers-loud}
 use Rattle.bk_machine.specs.UpLaws.{IsUp, is-up}
@@ -69,18 +70,7 @@ checked w line name units path options db e =
           (first_false (used_up three.found.end) (used_up w.counter) (not-refused (used_up three.found.end || used_up w.counter) (LimitReached Lsn) four.found four.is));
     }
 
--- ---- records that change nothing
-
-tells-left : (w : World) (db : Database) (r : IsUp w db) → db.end ≤ kept_numbers + 16 → (db.end + 1) + (length (pending (log_of w.history db)) + length db.transactions) ≤ last_number
-tells-left w db r low =
-    let left : db.end + (length (pending (log_of w.history db)) + (length db.transactions + 16)) ≤ last_number = numbers-there (log_of w.history db) db.end db.transactions r.opens low in
-    omega (arith, left)
-
-checkpoint-tells : (w : World) (db : Database) (at : ℕ) (r : IsUp w db) → at ≤ latest → db.end ≤ kept_numbers + 16 → MayTell w db (alone (checkpointed at))
-checkpoint-tells w db at r timely low =
-    let t = tells-checkpoint (log_of w.history db) db.end at in
-    let fits : FitsLog (length db.groups) (more (log_of w.history db) db.end (alone (checkpointed at))) = fits-more (length db.groups) (log_of w.history db) db.end (alone (checkpointed at)) r.whole.fits.log t.tables (timely, tt) in
-    record { may = record { online = r.up; may = (tt, tt); tables = subst (AreNumbered 1) (sym t.tables) r.whole.log.tables; places = (tt, tt); fits = fits }; none = (λ b. refl, tt); same = t.pending; left = tells-left w db r low }
+-- ---- the stamp changes nothing
 
 stamp-tells : (w : World) (db : Database) (at : ℕ) (set : Guid) (r : IsUp w db) → at ≤ latest → db.end ≤ kept_numbers + 16 → MayTell w db (alone (stamped at set))
 stamp-tells w db at set r timely low =

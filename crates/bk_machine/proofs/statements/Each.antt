@@ -21,9 +21,11 @@ use Rattle.bk_machine.specs.statements.Begin.{check_begin, mark_of, DoesBegin}
 use Rattle.bk_machine.specs.statements.Commit.{check_commit, DoesCommit}
 use Rattle.bk_machine.specs.statements.Rollback.{check_rollback, DoesRollback}
 use Rattle.bk_machine.specs.statements.Session.{check_session, DoesSession}
+use Rattle.bk_machine.specs.statements.Checkpoint.{check_checkpoint, DoesCheckpoint}
 use Rattle.bk_machine.specs.statements.Backup.{check_backup, DoesBackup}
 use Rattle.bk_machine.specs.statements.Restore.{check_restore, DoesRestore}
 use Rattle.bk_machine.proofs.statements.Backup as backup
+use Rattle.bk_machine.proofs.statements.Checkpoint as checkpoint
 use Rattle.bk_machine.proofs.statements.CreateDatabase as create_database
 use Rattle.bk_machine.proofs.statements.CreateTable as create_table
 use Rattle.bk_machine.proofs.statements.Facts.{Facts, GoWell, NoMedium, comes-by, facts-of, facts-refused}
@@ -57,7 +59,7 @@ module _ (w : World) where
   item-facts line (Begin transaction) now = comes-to (Facts w NoMedium) (check_begin w line transaction) (DoesBegin w (mark_of transaction)) (facts-refused w) (begin-facts w line transaction (mark_of transaction))
   item-facts line Commit now = comes-to (Facts w NoMedium) (check_commit w) (DoesCommit w now) (facts-refused w) (commit-facts w now)
   item-facts line Rollback now = comes-to (Facts w NoMedium) (check_rollback w) (DoesRollback w) (facts-refused w) (rollback-facts w)
-  item-facts line Checkpoint now = λ outcome is. facts-of w _ outcome is (facts-refused w _)
+  item-facts line Checkpoint now = comes-to (Facts w NoMedium) (check_checkpoint w) (DoesCheckpoint w now) (facts-refused w) (checkpoint.facts w now)
   item-facts line (SetRecovery name model) now = λ outcome is. facts-of w _ outcome is (facts-refused w _)
   item-facts line (SelectCatalog catalog) now = λ outcome is. facts-of w _ outcome is (facts-refused w _)
   item-facts line (Session number) now = comes-to (Facts w NoMedium) (check_session line number) DoesSession (facts-refused w) (session-facts w line number)
@@ -99,7 +101,7 @@ module _ (w : World) (sound : IsSound w) (built : IsBuilt w) where
   item-comes line (Begin transaction) now = comes-by (check_begin w line transaction) (DoesBegin w (mark_of transaction)) (λ found e. (_, refl))
   item-comes line Commit now = comes-by (check_commit w) (DoesCommit w now) (λ found e. (_, refl))
   item-comes line Rollback now = comes-by (check_rollback w) (DoesRollback w) (λ found e. (_, refl))
-  item-comes line Checkpoint now = (_, refl)
+  item-comes line Checkpoint now = comes-by (check_checkpoint w) (DoesCheckpoint w now) (λ found e. (_, refl))
   item-comes line (SetRecovery name model) now = (_, refl)
   item-comes line (SelectCatalog catalog) now = (_, refl)
   item-comes line (Session number) now = comes-by (check_session line number) DoesSession (λ found e. (_, refl))
