@@ -53,3 +53,9 @@ pub record MarksNow (d : KeptDatabase) (time : ℕ) (stored : StoredAct) : Type 
   pub kept : ℕ
   pub is : stored ≡ Checkpointed d.name time kept
   pub kept_is : IsKeptBehind d kept
+
+-- By an act it marks one at a time, which is the machine's where its log is what it shows.
+pub record MarksThen (d : KeptDatabase) (now : ℕ) (stored : StoredAct) : Type 0 where
+  pub time : ℕ
+  pub marks : MarksNow d time stored
+  pub time_is : (w : World) → ShowsLog w.history d → time ≡ said_time w (database_of d) now

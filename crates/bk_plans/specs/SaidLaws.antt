@@ -83,6 +83,10 @@ module _ (w : World) (d : KeptDatabase) (said : List Said) (ts : List Open) (sto
       let its : Stores stored (logged d.name said ts) w = stores-said in
       record { means = means-said d said ts stored says; may = may; draws = its.draws; unused = its.unused; from_end = its.from_end; marked = its.marked; taken = its.taken }
 
+-- an act by which a database marks a checkpoint is the machine's
+means-marked : (d : KeptDatabase) (time : ℕ) (stored : StoredAct) → MarksNow d time stored → Means stored (logged d.name (alone (checkpointed time)) d.transactions)
+means-marked d time stored marks = subst (λ (s : StoredAct). Means s (logged d.name (alone (checkpointed time)) d.transactions)) (sym marks.is) (record { transactions = d.transactions; act_is = refl })
+
 -- what is known of an act by which a database marks a checkpoint
 module _ (w : World) (d : KeptDatabase) (time : ℕ) (stored : StoredAct) (marks : MarksNow d time stored) (named : database_named w.databases d.name ≡ Some (database_of d)) (shows : ShowsLog w.history d)
     (may : MayDo w (logged d.name (alone (checkpointed time)) d.transactions)) (low : d.shown.«end» + 1 ≤ 2 ^ 62) where
@@ -113,3 +117,15 @@ plans-said k Known s now d said ts stored answer plan one says law named shows l
     plans-one k Known s now stored (logged d.name said ts) answer plan one (means-said d said ts stored says) law may
     (λ w sound sees known.
     stores-said w d said ts stored says (named w sound sees known) (shows w sound sees known) (law w s now (in_one (logged d.name said ts) answer) sound (may w sound sees known)).0 low (placed w sound sees known))
+
+-- a statement by which a database marks a checkpoint
+pub plans-marked : (k : Kept) (Known : World → Type 0) (s : ScriptEntry) (now : ℕ) (d : KeptDatabase) (time : ℕ) (stored : StoredAct) (answer : Reply) (plan : Plan)
+    → IsOne stored answer plan → MarksNow d time stored → DoWhatTheyMay → InEach k Known (λ w. database_named w.databases d.name ≡ Some (database_of d)) → InEach k Known (λ w. ShowsLog w.history d)
+    → d.shown.«end» + 1 ≤ 2 ^ 62 → InEach k Known (λ w. May w s now (in_one (logged d.name (alone (checkpointed time)) d.transactions) answer)) → Plans k Known s now plan
+plans-marked k Known s now d time stored answer plan one marks law named shows low may =
+    plans-one k Known s now stored (logged d.name (alone (checkpointed time)) d.transactions) answer plan one (means-marked d time stored marks) law may
+    (λ w sound sees known.
+    let its : IsDone w stored (logged d.name (alone (checkpointed time)) d.transactions) =
+    done-marked w d time stored marks (named w sound sees known) (shows w sound sees known)
+    (law w s now (in_one (logged d.name (alone (checkpointed time)) d.transactions) answer) sound (may w sound sees known)).0 low in
+    record { draws = its.draws; unused = its.unused; from_end = its.from_end; marked = its.marked; taken = its.taken })
