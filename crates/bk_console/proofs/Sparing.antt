@@ -70,7 +70,7 @@ spares-more {written} {wider} within one = spares-wider within-touched one
     within-touched : (name : List ℕ) → IsTouched written name → IsTouched wider name
     within-touched name (inl store) = inl store
     within-touched name (inr (inl set)) = inr (inl set)
-    within-touched name (inr (inr medium)) = inr (inr (medium.0, within medium.0 medium.1, medium.2))
+    within-touched name (inr (inr medium)) = inr (inr (medium.0, within medium.0 medium.1, medium.2, medium.3))
 
 -- One statement more.
 

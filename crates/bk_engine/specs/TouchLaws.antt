@@ -1,5 +1,6 @@
 -- What is touched.
 use Rattle.std.proofs.Common.{◌≡◌, inl, inr, ℕ, List, sym, subst}
+use Rattle.bk_bytes.specs.Field.{AreBytes}
 use Rattle.bk_device.specs.Calls.{ChangesNothing}
 use Rattle.bk_device.specs.Compose.{effect_none, effect_widen}
 use Rattle.bk_device.specs.Disk.{Disk, Files}
@@ -32,8 +33,8 @@ module _ {named : List ℕ → Type 0} where
   ]) (λ image left others. tt) effect
 
   -- to a medium
-  pub medium-touch : {P : Files → Type 0} {a b : Disk} (path : List ℕ) → named path → Effect (IsName (medium_file path)) P a b → TouchesOnly named a b
-  medium-touch path is effect = effect_widen (λ name own. inr (inr (path, is, own))) (λ image left others. tt) effect
+  pub medium-touch : {P : Files → Type 0} {a b : Disk} (path : List ℕ) → named path → AreBytes path → Effect (IsName (medium_file path)) P a b → TouchesOnly named a b
+  medium-touch path is bytes effect = effect_widen (λ name own. inr (inr (path, is, bytes, own))) (λ image left others. tt) effect
 
   -- nothing is done
   pub rest-touch : {D : Type 0} (disk : D → Disk) (x y : D) → y ≡ x → TouchesOnly named (disk x) (disk y)
@@ -49,6 +50,6 @@ wider-touch within effect = effect_widen (λ name own. elim own [
   | inl store ↦ inl store
   | inr other ↦ elim other [
     | inl set ↦ inr (inl set)
-    | inr medium ↦ inr (inr (medium.0, within medium.0 medium.1, medium.2))
+    | inr medium ↦ inr (inr (medium.0, within medium.0 medium.1, medium.2, medium.3))
   ]
 ]) (λ image left others. tt) effect

@@ -1,15 +1,20 @@
 -- Which files a call touches, whatever they hold.
 -- SQL Server: "Database Files and Filegroups"; "Media Sets, Media Families, and Backup Sets".
 use Rattle.std.specs.Prelude.{◌≡◌, ◌⊎◌, ℕ, List, Option, Some}
+use Rattle.bk_bytes.specs.Field.{AreBytes}
 use Rattle.bk_device.specs.Disk.{Disk}
 use Rattle.bk_device.specs.Effects.{Effect}
 use Rattle.bk_stores.specs.Stores.{IsOurs as IsOfStores}
 use Rattle.bk_volume.specs.Names.{medium_file}
 use Rattle.bk_engine.specs.Stands.{IsStagingFile}
 
+-- the file of a medium at one of these paths, which are bytes
+abbrev pub IsMediumAt : (List ℕ → Type 0) → List ℕ → Type 0
+IsMediumAt named name = (path : List ℕ) × named path × AreBytes path × (name ≡ medium_file path)
+
 -- a file of the instance itself or of its stores, one of a set that is being written, or that of a medium at one of these paths
 abbrev pub IsTouched : (List ℕ → Type 0) → List ℕ → Type 0
-IsTouched named name = IsOfStores name ⊎ (IsStagingFile name ⊎ ((path : List ℕ) × named path × (name ≡ medium_file path)))
+IsTouched named name = IsOfStores name ⊎ (IsStagingFile name ⊎ IsMediumAt named name)
 
 -- only such files were touched, and nothing was told
 abbrev pub TouchesOnly : (List ℕ → Type 0) → Disk → Disk → Type 0

@@ -29,10 +29,16 @@ use bk_master::Own;
 use bk_stores::StoresError;
 use std::alloc::{AllocError, Global};
 
+// A path is bytes.
+pub(crate) fn path_law(path: &Text)
+    ensures { AreBytes path.now }
+{
+    let _path = path.as_str();
+}
+
 // A path of its own, with the same bytes.
 fn copy_path(alloc: Global, path: &Text) -> Result<Text, AllocError>
     ensures copy { IfOk result (λ copy. copy ≡ path.now) }
-    ensures bytes { AreBytes path.now }
 {
     let copy = String::from_str(alloc, path.as_str())?;
     Ok(Text::new(copy))
@@ -97,6 +103,7 @@ impl Engine {
         ensures cause { HasCause D.disk_faults D.tell_faults dev.old dev.new (IsErrOf result StoresError.Fault) }
     {
         hosted_databases_follow_acts();
+        path_law(path);
         self.hosting.at_rest(dev);
         make_at(self.alloc, dev, path)
     }
@@ -119,6 +126,7 @@ impl Engine {
     {
         acts_keep_worlds_sound();
         media_stay();
+        path_law(path);
         self.reserve(dev, 1)?;
         let making = copy_path(self.alloc, path)?;
         self.name_making(dev, Some(making))?;

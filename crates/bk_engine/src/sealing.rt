@@ -18,6 +18,7 @@ ghost use Rattle.bk_engine.specs.Stands.{IsOurs, IsReady, IsStagingFile, StandsF
 ghost use Rattle.bk_engine.specs.Touched.{IsAt, TouchesOnly};
 
 use crate::engine::Engine;
+use crate::making::path_law;
 use bk_archive::{SealError, seal_set};
 use bk_device::Device;
 use bk_hosted::hosted_databases_follow_acts;
@@ -84,6 +85,7 @@ impl Engine {
     {
         acts_keep_worlds_sound();
         hosted_databases_follow_acts();
+        path_law(path);
         self.hosting.at_rest(dev);
         seal_at(self.alloc, dev, path, staged, header, tables)
     }

@@ -26,7 +26,7 @@ returns-in_err-name_making-clause-crash g c = λ tells w is absent.
     let is1 : StandsFor a1 e1 w = c.in_ok-reserve.ensures.stands tells w is in
     let amid1 : Amid a1 e1.hosting w = stands-amid a1 e1 w c.in_ok-reserve.ensures.ready is1 in
     let media1 : KeepsMedia w (Some c.in_ok-making.making) a1.files =
-    c.media_stay.ensures.named w a1.files c.in_ok-making.making (subst AreBytes (sym c.in_ok-making.ensures.copy) c.copy_path.ensures.bytes) is1.media (ap (medium_at w.media) c.in_ok-making.ensures.copy ∙ absent) in
+    c.media_stay.ensures.named w a1.files c.in_ok-making.making (subst AreBytes (sym c.in_ok-making.ensures.copy) c.path_law.ensures) is1.media (ap (medium_at w.media) c.in_ok-making.ensures.copy ∙ absent) in
     let first = effect_then (effect_weaken (λ image covers. inl covers) (c.reserve.ensures.crash tells w is)) (effect_weaken (λ image covers. inl covers) (c.name_making.ensures.crash tells w amid1 media1)) in
     first
 
@@ -37,7 +37,7 @@ returns-in_err-make_named-clause-crash g c = λ tells w is absent.
     let is1 : StandsFor a1 e1 w = c.in_ok-reserve.ensures.stands tells w is in
     let amid1 : Amid a1 e1.hosting w = stands-amid a1 e1 w c.in_ok-reserve.ensures.ready is1 in
     let media1 : KeepsMedia w (Some c.in_ok-making.making) a1.files =
-    c.media_stay.ensures.named w a1.files c.in_ok-making.making (subst AreBytes (sym c.in_ok-making.ensures.copy) c.copy_path.ensures.bytes) is1.media (ap (medium_at w.media) c.in_ok-making.ensures.copy ∙ absent) in
+    c.media_stay.ensures.named w a1.files c.in_ok-making.making (subst AreBytes (sym c.in_ok-making.ensures.copy) c.path_law.ensures) is1.media (ap (medium_at w.media) c.in_ok-making.ensures.copy ∙ absent) in
     let amid2 : Amid (g.D.Device.disk c.name_making.new.dev) c.name_making.new.self.hosting w = c.in_ok-name_making.ensures.stands tells w amid1 media1 in
     let named : (own_in c.name_making.new.self).making ≡ Some c.args.path.now = ap (λ (o : Own). o.making) c.in_ok-name_making.ensures.own ∙ ap (λ p. Some p) c.in_ok-making.ensures.copy in
     let reserved : w.counter + 1 ≤ (own_in c.name_making.new.self).counter =
@@ -53,7 +53,7 @@ returns-in_err-name_making-2-clause-crash g c = λ tells w is absent.
     let is1 : StandsFor a1 e1 w = c.in_ok-reserve.ensures.stands tells w is in
     let amid1 : Amid a1 e1.hosting w = stands-amid a1 e1 w c.in_ok-reserve.ensures.ready is1 in
     let media1 : KeepsMedia w (Some c.in_ok-making.making) a1.files =
-    c.media_stay.ensures.named w a1.files c.in_ok-making.making (subst AreBytes (sym c.in_ok-making.ensures.copy) c.copy_path.ensures.bytes) is1.media (ap (medium_at w.media) c.in_ok-making.ensures.copy ∙ absent) in
+    c.media_stay.ensures.named w a1.files c.in_ok-making.making (subst AreBytes (sym c.in_ok-making.ensures.copy) c.path_law.ensures) is1.media (ap (medium_at w.media) c.in_ok-making.ensures.copy ∙ absent) in
     let amid2 : Amid (g.D.Device.disk c.name_making.new.dev) c.name_making.new.self.hosting w = c.in_ok-name_making.ensures.stands tells w amid1 media1 in
     let named : (own_in c.name_making.new.self).making ≡ Some c.args.path.now = ap (λ (o : Own). o.making) c.in_ok-name_making.ensures.own ∙ ap (λ p. Some p) c.in_ok-making.ensures.copy in
     let reserved : w.counter + 1 ≤ (own_in c.name_making.new.self).counter =
@@ -71,7 +71,7 @@ returns-clause-crash g c = λ tells w is absent.
     let is1 : StandsFor a1 e1 w = c.in_ok-reserve.ensures.stands tells w is in
     let amid1 : Amid a1 e1.hosting w = stands-amid a1 e1 w c.in_ok-reserve.ensures.ready is1 in
     let media1 : KeepsMedia w (Some c.in_ok-making.making) a1.files =
-    c.media_stay.ensures.named w a1.files c.in_ok-making.making (subst AreBytes (sym c.in_ok-making.ensures.copy) c.copy_path.ensures.bytes) is1.media (ap (medium_at w.media) c.in_ok-making.ensures.copy ∙ absent) in
+    c.media_stay.ensures.named w a1.files c.in_ok-making.making (subst AreBytes (sym c.in_ok-making.ensures.copy) c.path_law.ensures) is1.media (ap (medium_at w.media) c.in_ok-making.ensures.copy ∙ absent) in
     let amid2 : Amid (g.D.Device.disk c.name_making.new.dev) c.name_making.new.self.hosting w = c.in_ok-name_making.ensures.stands tells w amid1 media1 in
     let named : (own_in c.name_making.new.self).making ≡ Some c.args.path.now = ap (λ (o : Own). o.making) c.in_ok-name_making.ensures.own ∙ ap (λ p. Some p) c.in_ok-making.ensures.copy in
     let reserved : w.counter + 1 ≤ (own_in c.name_making.new.self).counter =
@@ -89,7 +89,7 @@ returns-clause-stands g c = λ tells w is absent.
     let is1 : StandsFor a1 e1 w = c.in_ok-reserve.ensures.stands tells w is in
     let amid1 : Amid a1 e1.hosting w = stands-amid a1 e1 w c.in_ok-reserve.ensures.ready is1 in
     let media1 : KeepsMedia w (Some c.in_ok-making.making) a1.files =
-    c.media_stay.ensures.named w a1.files c.in_ok-making.making (subst AreBytes (sym c.in_ok-making.ensures.copy) c.copy_path.ensures.bytes) is1.media (ap (medium_at w.media) c.in_ok-making.ensures.copy ∙ absent) in
+    c.media_stay.ensures.named w a1.files c.in_ok-making.making (subst AreBytes (sym c.in_ok-making.ensures.copy) c.path_law.ensures) is1.media (ap (medium_at w.media) c.in_ok-making.ensures.copy ∙ absent) in
     let amid2 : Amid (g.D.Device.disk c.name_making.new.dev) c.name_making.new.self.hosting w = c.in_ok-name_making.ensures.stands tells w amid1 media1 in
     let named : (own_in c.name_making.new.self).making ≡ Some c.args.path.now = ap (λ (o : Own). o.making) c.in_ok-name_making.ensures.own ∙ ap (λ p. Some p) c.in_ok-making.ensures.copy in
     let reserved : w.counter + 1 ≤ (own_in c.name_making.new.self).counter =

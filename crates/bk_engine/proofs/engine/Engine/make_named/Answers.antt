@@ -50,4 +50,4 @@ returns-clause-crash g c = λ tells w was its enough absent.
     made-crash a b x w c.args.path.now is named reserved absent hosts left effect
 
 pub returns-clause-touches : goal.returns-clause-touches
-returns-clause-touches g c = λ tells. moved g.D.Device.disk c.args.dev.now c.at_rest.new.dev c.at_rest.ensures.same (medium-touch c.args.path.now refl (c.make_at.ensures.spares tells))
+returns-clause-touches g c = λ tells. moved g.D.Device.disk c.args.dev.now c.at_rest.new.dev c.at_rest.ensures.same (medium-touch c.args.path.now refl c.path_law.ensures (c.make_at.ensures.spares tells))

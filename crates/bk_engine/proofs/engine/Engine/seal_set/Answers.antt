@@ -69,4 +69,4 @@ returns-clause-crash g c = λ tells w body is may.
 
 pub returns-clause-touches : goal.returns-clause-touches
 returns-clause-touches g c = λ tells.
-    moved g.D.Device.disk c.args.dev.now c.at_rest.new.dev c.at_rest.ensures.same (medium-touch c.args.path.now refl (c.seal_at.ensures.spares tells))
+    moved g.D.Device.disk c.args.dev.now c.at_rest.new.dev c.at_rest.ensures.same (medium-touch c.args.path.now refl c.path_law.ensures (c.seal_at.ensures.spares tells))

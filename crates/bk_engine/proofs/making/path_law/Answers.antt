@@ -1,0 +1,7 @@
+use Rattle.std.proofs.Common.{subst}
+use Rattle.bk_archive.specs.TextLaws.{text-bytes}
+use Rattle.bk_bytes.specs.Field.{AreBytes}
+use Rattle.bk_engine.proofs.making.path_law.Goals as goal
+
+pub returns : goal.returns
+returns c = subst AreBytes c.as_str.ensures (text-bytes c.as_str.result.now c.as_str.utf8)
