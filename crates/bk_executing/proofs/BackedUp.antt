@@ -6,7 +6,7 @@ use Rattle.bk_ids.specs.declared.guid.Guid.{Guid}
 use Rattle.bk_items.specs.declared.item.UnitName.{UnitName}
 use Rattle.bk_items.specs.declared.options.BackupOptions.{BackupOptions}
 use Rattle.bk_items.specs.declared.item.ScriptItem.TheVariants as script
-use Rattle.bk_machine.specs.Acts.{Act, based, done, drawn, gone_on, logged, medium_made, said_time, says, set_sealed, where_found}
+use Rattle.bk_machine.specs.Acts.{Act, done, drawn, gone_on, logged, medium_made, said_time, says, set_sealed, where_found}
 use Rattle.bk_machine.specs.CheckLaws.{Up, passed, was-found, was-online}
 use Rattle.bk_machine.specs.Checks.{Checked, ◌>>=◌, is_path, limit, online, or_refuse, outside, refuse_if, used_up}
 use Rattle.bk_machine.specs.Machine.{May}

@@ -1,7 +1,7 @@
 -- Data files of databases in memory have names of their own where their paths are free.
-use Rattle.std.proofs.Common.{◌≡◌, ◌≢◌, ◌<◌, ◌⊎◌, inl, inr, ℕ, zero, suc, Bool, true, false, List, [], ◌∷◌, ◌++◌, length, map, Option, Some, None, Ok, refl, sym, ◌∙◌, ap, subst, arith}
+use Rattle.std.proofs.Common.{◌≡◌, ◌≢◌, ℕ, zero, suc, Bool, true, false, List, [], ◌∷◌, length, map, Option, Some, None, Ok, refl, sym, ◌∙◌, ap, subst, arith}
 use Rattle.std.specs.Prelude.{◌||◌, not, slice_get}
-use Rattle.std.specs.List.{AllByRecursion, AllZip, flat_map}
+use Rattle.std.specs.List.{AllByRecursion, AllZip}
 use Rattle.std.specs.Str.{bytes_eq}
 use Rattle.std.proofs.lemmas.List.Folds.{list_any-append}
 use Rattle.std.proofs.lemmas.Option.{same_Some}
@@ -12,7 +12,6 @@ use Rattle.bk_device.specs.Disk.{Disk}
 use Rattle.bk_engine.specs.Acts.{HaveNoFileOf}
 use Rattle.bk_engine.specs.Bringing.{HaveNoneOf, files_on}
 use Rattle.bk_engine.specs.Stands.{Kept, StandsFor}
-use Rattle.bk_facts.specs.declared.facts.DataFile.{DataFile}
 use Rattle.bk_hosted.specs.Hosted.{Hosted, database_of, set_storage}
 use Rattle.bk_hosting.specs.Hosting.{Tells, WaitsBehind}
 use Rattle.bk_known.specs.declared.known.DatabaseSpec.{DatabaseSpec}

@@ -1,5 +1,5 @@
 -- What is known of a statement that reads no medium.
-use Rattle.std.proofs.Common.{◌≡◌, ℕ, List}
+use Rattle.std.proofs.Common.{ℕ, List}
 use Rattle.bk_device.specs.Disk.{Disk, IsLawful}
 use Rattle.bk_device.specs.Laws.{nothing_yet}
 use Rattle.bk_engine.specs.Stands.{Kept}

@@ -1,13 +1,13 @@
 -- A statement that was planned, and whose plan is followed.
 use Rattle.std.proofs.Common.{◌≡◌, inl, inr, ℕ, List, [], ◌∷◌, None, Ok, Err, refl, sym, ◌∙◌, subst}
-use Rattle.std.specs.Prelude.{Result, IfOk, OnOk, OnErr, IsErrOf}
+use Rattle.std.specs.Prelude.{Result, IfOk, OnOk, OnErr}
 use Rattle.bk_archive.specs.DiskLaws.{calm-nothing}
 use Rattle.bk_archive.specs.MediaLaws.{media-in}
 use Rattle.bk_device.specs.Calls.{ChangesNothing}
 use Rattle.bk_device.specs.Compose.{effect_of_nothing, effect_then}
 use Rattle.bk_device.specs.Disk.{Disk, IsLawful}
 use Rattle.bk_device.specs.Effects.{Effect}
-use Rattle.bk_device.specs.Laws.{effect_after_nothing, nothing_then, nothing_yet}
+use Rattle.bk_device.specs.Laws.{effect_after_nothing, nothing_then}
 use Rattle.bk_engine.specs.BesideLaws.{hosting-stays, stores-stand}
 use Rattle.bk_engine.specs.Stands.{IsOurs, Kept, StandsFor}
 use Rattle.bk_engine.specs.Touched.{IsPath, TouchesOnly}
@@ -18,7 +18,7 @@ use Rattle.bk_items.specs.declared.item.ScriptEntry.{ScriptEntry}
 use Rattle.bk_items.specs.declared.item.ScriptItem.{ScriptItem}
 use Rattle.bk_kept.specs.declared.kept.Kept.{Kept as KeptOf}
 use Rattle.bk_kept.specs.Keeps.{Sees}
-use Rattle.bk_machine.specs.Acts.{Act, done, done_all}
+use Rattle.bk_machine.specs.Acts.{Act, done}
 use Rattle.bk_machine.specs.Machine.{May}
 use Rattle.bk_machine.specs.MayDo.{MayDoAll}
 use Rattle.bk_machine.specs.Outcome.{Outcome}
@@ -40,7 +40,7 @@ use Rattle.bk_volume.specs.Names.{medium_file}
 use Rattle.bk_world.specs.declared.reply.Reply.{Reply}
 use Rattle.bk_world.specs.declared.rule.Rule.{Rule}
 use Rattle.bk_executing.specs.declared.error.ExecuteError.{ExecuteError}
-use Rattle.bk_executing.specs.Executing.{CutOff, Executed, Failed, Rests}
+use Rattle.bk_executing.specs.Executing.{Executed, Failed, Rests}
 use Rattle.bk_executing.specs.Parts.{CutsPlan, DoesPlan, HasNoParts, MayDoParts, MayFollow, PlanWrites, SealsNow}
 use Rattle.bk_executing.specs.Planned.{IsPlanned, IsRestorePlanned}
 use Rattle.bk_executing.proofs.Outcomes.{plan-writes, still-plan}

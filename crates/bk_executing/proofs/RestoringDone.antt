@@ -1,6 +1,6 @@
 -- A whole restore that was planned by the first set of its medium.
 use Rattle.std.proofs.Common.{◌≡◌, inl, inr, ℕ, List, Option, Ok, Err, None, Some, refl, sym, ◌∙◌, ap, subst}
-use Rattle.std.specs.Prelude.{Result, IfOk, IsErrOf, MatchOption, OnErr}
+use Rattle.std.specs.Prelude.{Result, IfOk, IsErrOf, OnErr}
 use Rattle.std.specs.List.{AllByRecursion}
 use Rattle.bk_archive.specs.First.{IsFirstSet}
 use Rattle.bk_archive.specs.Media.{KeepsMedia}
@@ -11,37 +11,29 @@ use Rattle.bk_device.specs.Calls.{ChangesNothing, contents}
 use Rattle.bk_device.specs.Compose.{effect_then}
 use Rattle.bk_device.specs.Disk.{Disk, Files, IsLawful}
 use Rattle.bk_device.specs.Effects.{Effect}
-use Rattle.bk_device.specs.Laws.{effect_after_nothing, nothing_then, nothing_yet}
+use Rattle.bk_device.specs.Laws.{effect_after_nothing, nothing_then}
 use Rattle.bk_engine.specs.Bringing.{IsSetOn}
 use Rattle.bk_engine.specs.Stands.{IsOurs, Kept, StandsFor}
 use Rattle.bk_engine.specs.Touched.{NoMedium, TouchesOnly}
 use Rattle.bk_engine.specs.TouchLaws.{wider-touch}
 use Rattle.bk_engine.specs.ViewLaws.{remembers}
-use Rattle.bk_engine.specs.Viewing.{Remembers}
 use Rattle.bk_ids.specs.declared.guid.Guid.{Guid}
 use Rattle.bk_ids.specs.declared.record.Rec.{Rec}
-use Rattle.bk_items.specs.declared.item.RestoredUnits.{RestoredUnits}
 use Rattle.bk_items.specs.declared.item.ScriptEntry.{ScriptEntry}
-use Rattle.bk_items.specs.declared.item.ScriptItem.TheVariants as script
-use Rattle.bk_items.specs.declared.options.RestoreOptions.{RestoreOptions}
-use Rattle.bk_kept.specs.declared.kept.Kept.{Kept as KeptOf}
-use Rattle.bk_kept.specs.Keeps.{Sees}
 use Rattle.bk_machine.specs.Acts.{Act, done_all}
 use Rattle.bk_machine.specs.Checks.{Checked}
 use Rattle.bk_machine.specs.Machine.{May}
 use Rattle.bk_machine.specs.MayDo.{MayDoAll}
-use Rattle.bk_machine.specs.Outcome.{Outcome}
+use Rattle.bk_machine.specs.Outcome.{Outcome, refused}
 use Rattle.bk_machine.specs.Sound.{IsSound}
 use Rattle.bk_machine.specs.World.{World}
-use Rattle.bk_machine.specs.Writes.{ActsWrite, IsStill, IsTurn, StatementWrites}
+use Rattle.bk_machine.specs.Writes.{ActsWrite, IsStill, IsTurn}
 use Rattle.bk_machine.specs.statements.Restore.{disk_path, first_set}
 use Rattle.bk_media_plans.specs.declared.restore_plan.RestorePlan.{RestorePlan}
 use Rattle.bk_media_plans.specs.declared.restore_plan.RestorePlan.TheVariants as restore
 use Rattle.bk_media_plans.specs.Firsts.{FindsFirst, First}
 use Rattle.bk_media_plans.specs.RestorePlans.{AreOfRestore}
-use Rattle.bk_plans.specs.declared.parts.Plan.{Plan}
 use Rattle.bk_plans.specs.declared.parts.Plan.TheVariants as plan
-use Rattle.bk_plans.specs.Planning.{Plans}
 use Rattle.bk_record.specs.Log.{IsLog}
 use Rattle.bk_restarts.specs.Crashes.{CutIn}
 use Rattle.bk_shown.specs.declared.error.TakeError.{TakeError}
@@ -61,9 +53,13 @@ use Rattle.bk_executing.specs.Errors.{taken_error}
 use Rattle.bk_executing.specs.Executing.{CutOff, Executed, Failed, Rests}
 use Rattle.bk_executing.specs.Planned.{IsPlanned, IsRestorePlanned}
 use Rattle.bk_executing.specs.Restoring.{first_of}
-use Rattle.bk_executing.proofs.Planned.{Knows, none-planned, planned, stands-nothing, touches-nothing}
+use Rattle.bk_executing.proofs.Planned.{Knows, stands-nothing, touches-nothing}
 
 -- ---- one that is refused
+
+-- one that is refused in every world by a rule is planned so
+pub refused-always : (e : Kept) (s : ScriptEntry) (now : ℕ) (rule : Rule) → ((w : World) → May w s now (refused rule)) → IsPlanned e (λ w. Unit {0}) s now (plan.Refused rule)
+refused-always e s now rule may = record { outcome = refused rule; replies = refl; may = λ w sound has known. may w; acts = λ w sound has known. refl }
 
 -- its plan is to refuse it
 pub refused-plan : (e : Kept) (Known : World → Type 0) (found : Result First Rule) (s : ScriptEntry) (now : ℕ) (rule : Rule) → IsRestorePlanned e Known found s now (restore.Refused rule) → IsPlanned e Known s now (plan.Refused rule)
@@ -123,21 +119,6 @@ other-error {B = B} {E = E} e x is =
     let made : E → Result B E = λ y. Err y in
     ap made same
 
--- and it is a refusal, which writes to no medium
-pub unbuilt-knows : {tells : Type 0} (e : Kept) (a : Disk) (line : ℕ) (name : List ℕ) (units : RestoredUnits) (disk : Option (List ℕ)) (options : RestoreOptions) (now : ℕ) (plan : Plan) (outcome : Outcome) → (tells → IsLawful a)
-    → ((w : World) (s : ScriptEntry) (at : ℕ) (outcome : Outcome) → IsSound w → May w s at outcome → MayDoAll w outcome.acts)
-    → ((w : World) (s : ScriptEntry) (at : ℕ) (outcome : Outcome) (path : List ℕ) → May w s at outcome → ActsWrite outcome.acts path → StatementWrites s.item path)
-    → Knows tells e a a (λ w. Unit {0}) plan (record { item = script.RestoreDatabase name units disk options; line = line }) now outcome
-unbuilt-knows e a line name units disk options now plan outcome lawful does media =
-    let s : ScriptEntry = record { item = script.RestoreDatabase name units disk options; line = line } in
-    record {
-      lawful = lawful;
-      call = λ told. nothing_yet a;
-      known = λ told w stands. tt;
-      may = λ w sound may. does w s now outcome sound may;
-      sets = λ w sound may acts. none-planned w plan outcome.acts acts (λ path writes. media w s now outcome path may writes);
-    }
-
 -- ---- what was found on the medium, once it was read
 
 pub first-there : (a b : Disk) (w : World) (path asked medium : List ℕ) (set : Stored) → ChangesNothing a b → path ≡ asked → medium ≡ medium_file path
@@ -161,12 +142,6 @@ never-bad one items log records others place same whole bad =
   where
     apart : None ≡ Some place → ⊥
     apart is = absurd (cc)
-
--- what isn't built is planned over what is seen
-pub unbuilt-plans : (e : Kept) (k : KeptOf) (s : ScriptEntry) (built : Type 0) (found : Option Plan) → ((w : World) → Remembers e w → Sees w k) → MatchOption found built (λ (plan : Plan). (now : ℕ) (kept : KeptOf) → Plans kept (λ w. Unit {0}) s now plan)
-    → MatchOption found built (λ (plan : Plan). (now : ℕ) → IsPlanned e (λ w. Unit {0}) s now plan)
-unbuilt-plans e k s built None sees is = is
-unbuilt-plans e k s built (Some plan) sees plans = λ now. planned k e (λ w. Unit {0}) s now plan sees (plans now k)
 
 -- a run that ends as broken by what couldn't be planned ends so by a set that isn't fit
 pub unfit-set : {A B : Type 0} (e : TakeError) → IsErrOf {T = A} {E = ExecuteError} (Err (taken_error e)) Broken → IsErrOf {T = B} {E = TakeError} (Err e) Unfit

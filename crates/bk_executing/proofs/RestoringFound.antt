@@ -1,20 +1,12 @@
 -- What was answered of a restore, once it is known which.
-use Rattle.std.proofs.Common.{◌≡◌, ℕ, List, Option, Some, Ok, Err, subst}
-use Rattle.std.specs.Prelude.{IfOk, MatchOption, Result}
+use Rattle.std.proofs.Common.{◌≡◌, ℕ, List, Option, Ok, Err, subst}
+use Rattle.std.specs.Prelude.{IfOk, Result}
 use Rattle.bk_archive.specs.First.{AnswersFirst, IsFirstSet, set_of}
 use Rattle.bk_archive.specs.declared.first.FirstSet.{FirstSet}
-use Rattle.bk_engine.specs.Stands.{Kept}
-use Rattle.bk_items.specs.declared.item.ScriptEntry.{ScriptEntry}
 use Rattle.bk_machine.specs.World.{World}
 use Rattle.bk_machine.specs.statements.Restore.{first_set}
-use Rattle.bk_plans.specs.declared.parts.Plan.{Plan}
 use Rattle.bk_world.specs.declared.rule.Rule.{Rule}
 use Rattle.bk_world.specs.Medium.{medium_at}
-use Rattle.bk_executing.specs.Planned.{IsPlanned}
-
--- the plan of one that isn't built
-pub some-planned : (e : Kept) (built : Type 0) (s : ScriptEntry) (found : Option Plan) (plan : Plan) → found ≡ Some plan → MatchOption found built (λ (p : Plan). (now : ℕ) → IsPlanned e (λ w. Unit {0}) s now p) → (now : ℕ) → IsPlanned e (λ w. Unit {0}) s now plan
-some-planned e built s found plan is plans = subst (λ (o : Option Plan). MatchOption o built (λ (p : Plan). (now : ℕ) → IsPlanned e (λ w. Unit {0}) s now p)) is plans
 
 -- the file of the set that was found
 pub named-so : (name : List ℕ) (r : Result FirstSet Rule) (first : FirstSet) → r ≡ Ok first → IfOk r (λ (f : FirstSet). f.medium.name ≡ name) → first.medium.name ≡ name

@@ -41,7 +41,7 @@ use Rattle.bk_executing.specs.Errors.{stores_error}
 use Rattle.bk_executing.specs.declared.error.ExecuteError.{ExecuteError}
 use Rattle.bk_executing.specs.declared.error.ExecuteError.TheVariants.{Broken}
 use Rattle.bk_executing.specs.Restoring.{first_of, known_in, spec_in}
-use Rattle.bk_executing.proofs.Files.{HaveBytes, NameLaw, none-of-set, specs-bytes}
+use Rattle.bk_executing.proofs.Files.{NameLaw, none-of-set, specs-bytes}
 
 -- ---- the set stays on its medium
 

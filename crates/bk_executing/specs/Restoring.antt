@@ -1,6 +1,6 @@
 -- What a whole restore parks, and what it is told of its set.
 -- SQL Server: RESTORE (Transact-SQL).
-use Rattle.std.specs.Prelude.{◌≡◌, ℕ, List}
+use Rattle.std.specs.Prelude.{ℕ, List}
 use Rattle.bk_hosted.specs.Hosted.{set_storage}
 use Rattle.bk_known.specs.declared.known.DatabaseSpec.{DatabaseSpec}
 use Rattle.bk_known.specs.declared.known.Known.{Known}

@@ -7,7 +7,7 @@ ghost use Rattle.bk_device.specs.Effects.{Effect};
 ghost use Rattle.bk_engine.specs.Loading.{Leaves};
 ghost use Rattle.bk_engine.specs.Stands.{IsOurs, IsReady, NamesSet, StandsFor, own_in};
 ghost use Rattle.bk_engine.specs.Touched.{NoMedium, TouchesOnly};
-ghost use Rattle.bk_engine.specs.Viewing.{AreEnds, Remembers};
+ghost use Rattle.bk_engine.specs.Viewing.{Remembers};
 ghost use Rattle.bk_executing.specs.Closing.{CutsEnd, RollsFirst, RollsSeen};
 ghost use Rattle.bk_restarts.specs.Crashes.{CutIn};
 ghost use Rattle.bk_executing.specs.declared.error.ExecuteError.TheVariants.{Broken, Fault};
@@ -29,7 +29,6 @@ use bk_engine::Engine;
 use bk_kept::{InstanceView, leave_numbers};
 use bk_machine::{runs_are_closed, runs_are_closed_one_by_one};
 use bk_planning::rollback_act;
-use bk_shown::Shown;
 use bk_stores::StoresError;
 use std::alloc::{AllocError, Global};
 
@@ -44,24 +43,15 @@ fn count_seen(seen: &InstanceView<'_>) -> u128
     count
 }
 
-// How many transactions are open; these are the ends of the databases' logs.
-fn count_among(engine: &Engine, ends: &[Shown]) -> Result<u128, AllocError>
-    requires ready { IsReady engine.now }
-    requires ends { AreEnds engine.now ends.now }
-    ensures { IfOk result (λ count. (w : World) → Remembers engine.now w → count ≡ closing.count_open w.databases) }
-{
-    let seen = engine.view(engine.alloc(), ends)?;
-    let count = count_seen(&seen);
-    Ok(count)
-}
-
 // How many transactions are open.
 fn count_open(engine: &Engine) -> Result<u128, AllocError>
     requires ready { IsReady engine.now }
     ensures { IfOk result (λ count. (w : World) → Remembers engine.now w → count ≡ closing.count_open w.databases) }
 {
     let ends = engine.ends(engine.alloc())?;
-    count_among(engine, &ends)
+    let seen = engine.view(engine.alloc(), &ends)?;
+    let count = count_seen(&seen);
+    Ok(count)
 }
 
 // The act that rolls the first open transaction back that is seen, if one is open. Where a database leaves no numbers the call ends as if memory were wanting.
@@ -82,18 +72,6 @@ fn rolling_back_seen(
     }
 }
 
-// The act that rolls the first open transaction back, if one is open; these are the ends of the databases' logs.
-fn rolling_back_among(engine: &Engine, ends: &[Shown]) -> Result<Option<StoredAct>, AllocError>
-    requires ready { IsReady engine.now }
-    requires ends { AreEnds engine.now ends.now }
-    ensures act { IfOk result (RollsFirst engine.now) }
-    ensures keeps { IfOk result (λ act. IfSome act KeepsAct) }
-{
-    let seen = engine.view(engine.alloc(), ends)?;
-    let act = rolling_back_seen(engine.alloc(), &seen)?;
-    Ok(act)
-}
-
 // The act that rolls the first open transaction back, if one is open.
 fn rolling_back(engine: &Engine) -> Result<Option<StoredAct>, AllocError>
     requires ready { IsReady engine.now }
@@ -101,7 +79,9 @@ fn rolling_back(engine: &Engine) -> Result<Option<StoredAct>, AllocError>
     ensures keeps { IfOk result (λ act. IfSome act KeepsAct) }
 {
     let ends = engine.ends(engine.alloc())?;
-    rolling_back_among(engine, &ends)
+    let seen = engine.view(engine.alloc(), &ends)?;
+    let act = rolling_back_seen(engine.alloc(), &seen)?;
+    Ok(act)
 }
 
 // Rolls the first open transaction back, if one is open.

@@ -1,5 +1,5 @@
 // What an act that outlasts a run does.
-ghost use Rattle.std.specs.Prelude.{OnOk, IfErr, IsErrOf};
+ghost use Rattle.std.specs.Prelude.{◌≤◌, OnOk, IfErr, IsErrOf};
 ghost use Rattle.bk_acts.specs.Conditions.{KeepsAct};
 ghost use Rattle.bk_acts.specs.declared.act.StoredAct.TheVariants as kind;
 ghost use Rattle.bk_device.specs.Counts.{HasCause};
@@ -17,10 +17,22 @@ use bk_ids::{Name, Rec, Sequence};
 use bk_kept::copy_transactions;
 use bk_side::name_law;
 use bk_stores::StoresError;
-use bk_world::{Creation, Open};
+use bk_world::{Creation, FileSpec, Open};
 
-// So many pages of a database are kept in memory, of 8 KiB each.
-const FRAMES: usize = 1024;
+// At most so many pages of a database are kept in memory, of 8 KiB each.
+const MOST_FRAMES: u32 = 1024;
+
+// So many pages of a database with these data files are kept in memory: as many as they have, from 1 to 1,024. Each extent has eight.
+fn frames_of(files: &[FileSpec]) -> usize
+    ensures some { 1 ≤ result }
+    ensures few { result ≤ 1024 }
+{
+    let mut pages: u32 = 0;
+    for file in files {
+        pages = pages.saturating_add(file.extents.saturating_mul(8));
+    }
+    pages.max(1).min(MOST_FRAMES) as usize
+}
 
 // Makes a database.
 fn create<D: Device>(
@@ -42,8 +54,9 @@ fn create<D: Device>(
 {
     name_law();
     engine.at_rest(dev);
+    let frames = frames_of(creation.storage.files.as_slice());
     let creation = copy_creation(engine.alloc(), creation)?;
-    engine.create(dev, creation, FRAMES)
+    engine.create(dev, creation, frames)
 }
 
 // A database says something.

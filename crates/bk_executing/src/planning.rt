@@ -1,7 +1,7 @@
 // What statements come to over what an engine has in memory.
 ghost use Rattle.std.specs.Prelude.{◌≡◌, true, is_some, IfOk, IsErrOf};
 ghost use Rattle.bk_engine.specs.Stands.{IsReady};
-ghost use Rattle.bk_engine.specs.Viewing.{AreEnds, Remembers};
+ghost use Rattle.bk_engine.specs.Viewing.{Remembers};
 ghost use Rattle.bk_executing.specs.Planned.{IsPlanned, IsRestorePlanned};
 ghost use Rattle.bk_items.specs.declared.item.ScriptItem.TheVariants as script;
 ghost use Rattle.bk_machine.specs.Sound.{IsSound};
@@ -20,7 +20,7 @@ use bk_kept::{InstanceView, leave_numbers};
 use bk_media_plans::{FirstView, RestorePlan, plan_backup, plan_restore};
 use bk_planning::plan;
 use bk_plans::Plan;
-use bk_shown::{Shown, TakeError};
+use bk_shown::TakeError;
 use bk_world::Rule;
 use std::alloc::{AllocError, Global};
 
@@ -40,23 +40,6 @@ fn plan_seen(
     plan(seen, alloc, statement, now)
 }
 
-// What a statement comes to that reads no medium; these are the ends of the databases' logs.
-fn plan_among(
-    engine: &Engine,
-    ends: &[Shown],
-    statement: &ScriptEntry,
-    now: u64,
-) -> Result<Plan, AllocError>
-    requires ready { IsReady engine.now }
-    requires ends { AreEnds engine.now ends.now }
-    ensures plans { IfOk result (λ plan. ReadsNoMedium statement.now.item → IsPlanned engine.now (λ w. Unit {0}) statement.now now plan) }
-    ensures keeps { IfOk result KeepsPlan }
-{
-    let seen = engine.view(engine.alloc(), ends)?;
-    let plan = plan_seen(&seen, engine.alloc(), statement, now)?;
-    Ok(plan)
-}
-
 /// What a statement comes to at `now`, in milliseconds since 1970-01-01 00:00:00 UTC, that reads no medium.
 pub(crate) fn plan_kept(
     engine: &Engine,
@@ -68,35 +51,9 @@ pub(crate) fn plan_kept(
     ensures keeps { IfOk result KeepsPlan }
 {
     let ends = engine.ends(engine.alloc())?;
-    plan_among(engine, &ends, statement, now)
-}
-
-// What a backup comes to; these are the ends of the databases' logs.
-fn plan_backup_among(
-    engine: &Engine,
-    ends: &[Shown],
-    line: u32,
-    database: &Text,
-    units: &Sequence<UnitName>,
-    disk: &Text,
-    options: &BackupOptions,
-    is_there: bool,
-    now: u64,
-) -> Result<Plan, TakeError>
-    requires ready { IsReady engine.now }
-    requires ends { AreEnds engine.now ends.now }
-    ensures plans { IfOk result (IsPlanned engine.now (λ w. is_some (medium_at w.media disk.now) ≡ is_there)
-        (record { item = script.BackupDatabase database.now units.now disk.now options.now; line = line }) now) }
-    ensures keeps { IfOk result KeepsPlan }
-    ensures unfit { IsErrOf result Unfit → (w : World) → IsSound w → Remembers engine.now w → is_some (medium_at w.media disk.now) ≡ is_there → ⊥ }
-{
-    let alloc = engine.alloc();
-    match engine.view(alloc, ends) {
-        Ok(seen) => plan_backup(
-            &seen, alloc, line, database, units, disk, options, is_there, now,
-        ),
-        Err(_) => Err(TakeError::NoMemory),
-    }
+    let seen = engine.view(engine.alloc(), &ends)?;
+    let plan = plan_seen(&seen, engine.alloc(), statement, now)?;
+    Ok(plan)
 }
 
 /// What `BACKUP DATABASE` on this line comes to at `now`, where a file is there at the path of its medium or not. `Unfit` comes only where the database fits no set: the engine stands for no world.
@@ -116,44 +73,12 @@ pub(crate) fn plan_kept_backup(
     ensures keeps { IfOk result KeepsPlan }
     ensures unfit { IsErrOf result Unfit → (w : World) → IsSound w → Remembers engine.now w → is_some (medium_at w.media disk.now) ≡ is_there → ⊥ }
 {
-    match engine.ends(engine.alloc()) {
-        Ok(ends) => plan_backup_among(
-            engine, &ends, line, database, units, disk, options, is_there, now,
-        ),
-        Err(_) => Err(TakeError::NoMemory),
-    }
-}
-
-// What a restore comes to; these are the ends of the databases' logs.
-fn plan_restore_among(
-    engine: &Engine,
-    ends: &[Shown],
-    line: u32,
-    database: &Text,
-    units: &RestoredUnits,
-    disk: &Option<Text>,
-    options: &RestoreOptions,
-    first: Result<FirstView<'_>, Rule>,
-    now: u64,
-) -> Result<RestorePlan, TakeError>
-    requires ready { IsReady engine.now }
-    requires ends { AreEnds engine.now ends.now }
-    requires built { request.is_built database.now units.now disk.now options.now ≡ true }
-    ensures plans { IfOk result (IsRestorePlanned engine.now (FindsFirst disk.now first.entry) first.entry
-        (record { item = script.RestoreDatabase database.now units.now disk.now options.now; line = line }) now) }
-    ensures keeps { IfOk result (KeepsRestore first.entry) }
-    ensures unfit { IsErrOf result Unfit → (w : World) → IsSound w → Remembers engine.now w → FindsFirst disk.now first.entry w → ⊥ }
-{
     let alloc = engine.alloc();
-    match engine.view(alloc, ends) {
-        Ok(seen) => plan_restore(
-            &seen, alloc, line, database, units, disk, options, first, now,
-        ),
-        Err(_) => {
-            drop(first);
-            Err(TakeError::NoMemory)
-        }
-    }
+    let ends = engine.ends(alloc)?;
+    let seen = engine.view(alloc, &ends)?;
+    plan_backup(
+        &seen, alloc, line, database, units, disk, options, is_there, now,
+    )
 }
 
 /// What `RESTORE DATABASE` on this line comes to, which is built, by the first set of its medium, or the rule by which that is refused. `Unfit` comes only where the set keeps not what every set keeps, its log
@@ -175,13 +100,10 @@ pub(crate) fn plan_kept_restore(
     ensures keeps { IfOk result (KeepsRestore first.entry) }
     ensures unfit { IsErrOf result Unfit → (w : World) → IsSound w → Remembers engine.now w → FindsFirst disk.now first.entry w → ⊥ }
 {
-    match engine.ends(engine.alloc()) {
-        Ok(ends) => plan_restore_among(
-            engine, &ends, line, database, units, disk, options, first, now,
-        ),
-        Err(_) => {
-            drop(first);
-            Err(TakeError::NoMemory)
-        }
-    }
+    let alloc = engine.alloc();
+    let ends = engine.ends(alloc)?;
+    let seen = engine.view(alloc, &ends)?;
+    plan_restore(
+        &seen, alloc, line, database, units, disk, options, first, now,
+    )
 }

@@ -1,5 +1,5 @@
 // RESTORE DATABASE.
-ghost use Rattle.std.specs.Prelude.{◌≡◌, ℕ, List, None, Ok, Err, true, IfOk, IfSome, MatchOption, OnOk, OnErr, IsErrOf};
+ghost use Rattle.std.specs.Prelude.{◌≡◌, ℕ, List, None, Ok, Err, true, IfOk, OnOk, OnErr, IsErrOf};
 ghost use Rattle.bk_archive.specs.First.{IsFirstSet};
 ghost use Rattle.bk_archive.specs.Media.{IsMediumFile};
 ghost use Rattle.bk_body.specs.Body.{Body};
@@ -9,9 +9,7 @@ ghost use Rattle.bk_device.specs.Effects.{Effect};
 ghost use Rattle.bk_engine.specs.Bringing.{IsSetOn};
 ghost use Rattle.bk_engine.specs.Stands.{IsOurs, IsReady, NamesSet, StandsFor, own_in};
 ghost use Rattle.bk_engine.specs.Touched.{IsPath, NoMedium, TouchesOnly};
-ghost use Rattle.bk_engine.specs.Viewing.{AreEnds};
 ghost use Rattle.bk_executing.specs.Executing.{Executed, Failed};
-ghost use Rattle.bk_executing.specs.Planned.{IsPlanned};
 ghost use Rattle.bk_executing.specs.Restoring.{first_of};
 ghost use Rattle.bk_executing.specs.declared.error.ExecuteError.TheVariants.{Broken, Fault};
 ghost use Rattle.bk_items.specs.declared.item.ScriptItem.TheVariants as script;
@@ -20,7 +18,6 @@ ghost use Rattle.bk_machine.specs.World.{World};
 ghost use Rattle.bk_machine.specs.statements.Restore as restore;
 ghost use Rattle.bk_media_plans.specs.RestorePlans.{AreOfRestore, KeepsSet};
 ghost use Rattle.bk_media_plans.specs.Restoring as request;
-ghost use Rattle.bk_plans.specs.Planning.{KeepsPlan};
 ghost use Rattle.bk_restarts.specs.Crashes.{CutIn};
 ghost use Rattle.bk_stores.specs.Standing.{AreStanding};
 ghost use Rattle.bk_volume.specs.Stored.{IsOf};
@@ -35,14 +32,12 @@ use bk_device::Device;
 use bk_engine::Engine;
 use bk_ids::{Guid, Lsn, Name, Text};
 use bk_items::{RestoreOptions, RestoredUnits};
-use bk_machine::{statements_do_what_they_may, what_statements_write_to};
+use bk_machine::statements_do_what_they_may;
 use bk_media_plans::{FirstView, RestorePlan, unbuilt_restore};
 use bk_plans::Plan;
 use bk_record::{Records, log_law};
-use bk_shown::Shown;
 use bk_side::name_law;
 use bk_world::{Reply, Rule};
-use std::alloc::AllocError;
 use std::thread::Threads;
 
 // The path of a medium, empty where none is named.
@@ -53,48 +48,6 @@ fn path_of(disk: &Option<Text>) -> &str
         Some(path) => path.as_str(),
         None => "",
     }
-}
-
-// What a restore that isn't built comes to over what an engine has in memory, `None` where it is built; these are the ends of the databases' logs.
-fn unbuilt_among(
-    engine: &Engine,
-    ends: &[Shown],
-    line: u32,
-    database: &Text,
-    units: &RestoredUnits,
-    disk: &Option<Text>,
-    options: &RestoreOptions,
-) -> Result<Option<Plan>, AllocError>
-    requires ready { IsReady engine.now }
-    requires ends { AreEnds engine.now ends.now }
-    ensures plans { IfOk result (λ found. MatchOption found
-        (request.is_built database.now units.now disk.now options.now ≡ true)
-        (λ plan. (now : ℕ) → IsPlanned engine.now (λ w. Unit {0}) (record { item = script.RestoreDatabase database.now units.now disk.now options.now; line = line }) now plan)) }
-    ensures keeps { IfOk result (λ found. IfSome found KeepsPlan) }
-{
-    let seen = engine.view(engine.alloc(), ends)?;
-    let plan = unbuilt_restore(line, database, units, disk, options);
-    drop(seen);
-    Ok(plan)
-}
-
-// What a restore on this line that isn't built comes to, `None` where it is built.
-fn unbuilt(
-    engine: &Engine,
-    line: u32,
-    database: &Text,
-    units: &RestoredUnits,
-    disk: &Option<Text>,
-    options: &RestoreOptions,
-) -> Result<Option<Plan>, AllocError>
-    requires ready { IsReady engine.now }
-    ensures plans { IfOk result (λ found. MatchOption found
-        (request.is_built database.now units.now disk.now options.now ≡ true)
-        (λ plan. (now : ℕ) → IsPlanned engine.now (λ w. Unit {0}) (record { item = script.RestoreDatabase database.now units.now disk.now options.now; line = line }) now plan)) }
-    ensures keeps { IfOk result (λ found. IfSome found KeepsPlan) }
-{
-    let ends = engine.ends(engine.alloc())?;
-    unbuilt_among(engine, &ends, line, database, units, disk, options)
 }
 
 // The log of a set that was opened. Changes nothing. `Broken` comes only where it isn't that of a set.
@@ -265,9 +218,8 @@ pub(crate) fn restore<R: Threads + Sync, D: Device>(
     ensures cause { HasCause D.disk_faults D.tell_faults dev.old dev.new (IsErrOf result Fault) }
 {
     statements_do_what_they_may();
-    what_statements_write_to();
-    if let Some(plan) = unbuilt(engine, line, database, units, disk, options)? {
-        return follow(engine, dev, plan);
+    if let Some(rule) = unbuilt_restore(line, database, units, disk, options) {
+        return follow(engine, dev, Plan::Refused { rule });
     }
     match first_set(engine.alloc(), dev, path_of(disk))? {
         Ok(first) => restore_set(

@@ -14,6 +14,7 @@ use Rattle.bk_machine.specs.Checks.{Checked, ◌>>=◌, different_paths, free_pa
 use Rattle.bk_machine.specs.FirstLaws.{first-in}
 use Rattle.bk_machine.specs.Machine.{May}
 use Rattle.bk_machine.specs.NamedLaws.{name-of-named}
+use Rattle.bk_machine.specs.Outcome.{refused}
 use Rattle.bk_machine.specs.Sound.{IsSound, IsSoundSet, SetIn, files_of_set}
 use Rattle.bk_machine.specs.World.{World, Database, database_named}
 use Rattle.bk_machine.specs.statements.Restore.{DoesRestore, Recovers, check_family, check_number, check_restore, check_set, check_tail, check_unused, disk_path, first_set, name_known, restored_whole, set_paths, whole_restore}
@@ -103,6 +104,11 @@ module _ (line : ℕ) (name : List ℕ) (units : RestoredUnits) (disk : Option (
   unfolding check_restore
   not-built w is = rw is refl
 
+  -- so it is refused, at each moment
+  pub unbuilt-refused : (w : World) (now : ℕ) → is_built name units disk options ≡ false → May w (record { item = script.RestoreDatabase name units disk options; line = line }) now (refused (NotBuilt line))
+  unfolding May
+  unbuilt-refused w now is = comes-refused (check_restore w line name units disk options) (DoesRestore w name) (NotBuilt line) (not-built w is)
+
   built-inside : (w : World) (refusal : Refusal) → is_built name units disk options ≡ true → IsRefused refusal (outside w) → IsRefused refusal (check_restore w line name units disk options)
   unfolding check_restore
   built-inside w (Broken rule) is inside = rw (is, inside) refl
@@ -123,11 +129,6 @@ module _ (k : Kept) (line now : ℕ) (name : List ℕ) (units : RestoredUnits) (
   -- the statement
   abbrev asked : ScriptEntry
   asked = record { item = script.RestoreDatabase name units disk options; line = line }
-
-  pub unbuilt-plan : is_built name units disk options ≡ false → Plans k (λ w. Unit {0}) asked now (Refused (NotBuilt line))
-  unfolding May
-  unbuilt-plan is = plans-refused k (λ w. Unit {0}) asked now (NotBuilt line)
-      (λ w sound sees known. comes-refused (check_restore w line name units disk options) (DoesRestore w name) (NotBuilt line) (not-built line name units disk options w is))
 
   -- a restore that is refused
   restore-refused : (found : Result First Rule) (rule : Rule) → Plans k (FindsFirst disk found) asked now (Refused rule) → PlansRestore k (FindsFirst disk found) found asked now (restore.Refused rule)

@@ -1,14 +1,14 @@
 //! Plans of `RESTORE DATABASE`.
 
-ghost use Rattle.std.specs.Prelude.{◌≡◌, ◌+◌, ℕ, true, nat_le, Ok, IfOk, IsErrOf, IfSome, MatchOption};
+ghost use Rattle.std.specs.Prelude.{◌≡◌, ◌+◌, ℕ, true, nat_le, Ok, IfOk, IsErrOf, MatchOption};
 ghost use Rattle.bk_items.specs.declared.item.ScriptItem.TheVariants as script;
 ghost use Rattle.bk_machine.specs.statements.Restore as restore;
 ghost use Rattle.bk_kept.specs.Keeps.{Sees};
-ghost use Rattle.bk_kept.specs.declared.kept.Kept.{Kept as KeptOf};
+ghost use Rattle.bk_machine.specs.Machine.{May};
+ghost use Rattle.bk_machine.specs.Outcome.{refused};
 ghost use Rattle.bk_machine.specs.Sound.{IsSound};
 ghost use Rattle.bk_machine.specs.World.{World};
 ghost use Rattle.bk_media_plans.specs.Restoring as request;
-ghost use Rattle.bk_plans.specs.Planning.{KeepsPlan, Plans};
 ghost use Rattle.bk_media_plans.specs.Firsts.{FindsFirst, KeepsFirst};
 ghost use Rattle.bk_media_plans.specs.RestorePlans.{KeepsRestore, PlansRestore};
 ghost use Rattle.bk_media_plans.specs.Restoring.{EndsRecovery, IsKnown, IsRefusedRestore, LeavesRecovery, RestoresWhole};
@@ -22,7 +22,7 @@ use bk_ids::{Guid, Lsn, Name, Text};
 use bk_items::{Ending, RestoreOptions, RestoredUnits};
 use bk_kept::InstanceView;
 use bk_machine::{recoveries_undo_what_is_pending, sets_that_stay, statements_do_what_they_may};
-use bk_plans::{Plan, Refusal, is_name, is_path, name_in, outside};
+use bk_plans::{Refusal, is_name, is_path, name_in, outside};
 use bk_record::Records;
 use bk_shown::{TakeError, pending_in, placed_logs};
 use bk_world::Rule;
@@ -91,25 +91,22 @@ fn is_built(
     }
 }
 
-/// The refusal of a `RESTORE DATABASE` on this line that isn't built, `None` where it is.
+/// The rule by which a `RESTORE DATABASE` on this line that isn't built is refused in every world, `None` where it is built.
 pub fn unbuilt_restore(
     line: u32,
     database: &Text,
     units: &RestoredUnits,
     disk: &Option<Text>,
     options: &RestoreOptions,
-) -> Option<Plan>
-    ensures plans { MatchOption result
+) -> Option<Rule>
+    ensures { MatchOption result
         (request.is_built database.now units.now disk.now options.now ≡ true)
-        (λ plan. (now : ℕ) (kept : KeptOf) → Plans kept (λ w. Unit {0}) (record { item = script.RestoreDatabase database.now units.now disk.now options.now; line = line }) now plan) }
-    ensures keeps { IfSome result KeepsPlan }
+        (λ rule. (w : World) (now : ℕ) → May w (record { item = script.RestoreDatabase database.now units.now disk.now options.now; line = line }) now (refused rule)) }
 {
     if is_built(database, units, disk, options) {
         return None;
     }
-    Some(Plan::Refused {
-        rule: Rule::NotBuilt { line },
-    })
+    Some(Rule::NotBuilt { line })
 }
 
 // Whether numbers from here on are left for a recovery that undoes so many writes: one for each, and one to name the branch.

@@ -1,9 +1,9 @@
 -- What was copied of a database may be sealed: it carries what its path shows.
-use Rattle.std.proofs.Common.{◌≡◌, ◌≤◌, ◌<◌, ℕ, ◌*◌, ◌+◌, ◌-◌, ◌^◌, Bool, true, List, [], ◌∷◌, length, map, Some, None, refl, sym, ◌∙◌, ap, subst, arith}
+use Rattle.std.proofs.Common.{◌≡◌, ◌≤◌, ◌<◌, ℕ, ◌-◌, ◌^◌, true, List, [], ◌∷◌, length, map, None, refl, sym, ◌∙◌, ap, subst, arith}
 use Rattle.std.specs.List.{AllByRecursion}
 use Rattle.std.proofs.lemmas.List.{length-drop, length-map, take_all}
 use Rattle.bk_body.specs.Body.{Body, Extent}
-use Rattle.bk_body.specs.Conditions.{ExtentsRise, IsLogOf, IsPageOf, KeepsExtent, has_extent, holds_extent}
+use Rattle.bk_body.specs.Conditions.{ExtentsRise, IsLogOf, KeepsExtent, KeepsRecords, has_extent, holds_extent}
 use Rattle.bk_carried.specs.Carried.{HoldsLog, IsCopied, data_extents, id_of, is_there}
 use Rattle.bk_carried.specs.Copied.{IsHeaderOf}
 use Rattle.bk_copying.specs.Copying.{AreCopies, IsCopy}
@@ -14,7 +14,8 @@ use Rattle.bk_engine.specs.Stands.{Kept, StandsFor}
 use Rattle.bk_header.specs.Conditions.{AreNumbered, KeepsConditions, total_extents}
 use Rattle.bk_ids.specs.declared.record.ExtentId.{ExtentId}
 use Rattle.bk_ids.specs.declared.record.Rec.{Rec}
-use Rattle.bk_machine.specs.Sound.{files_of_set}
+use Rattle.bk_machine.specs.Fits.{FitsLog}
+use Rattle.bk_machine.specs.Sound.{AreNumbered as AreTablesNumbered}
 use Rattle.bk_machine.specs.World.{World, log_of}
 use Rattle.bk_paged.specs.Paged.{from_to}
 use Rattle.bk_paths.specs.PageLaws.{page_since}
@@ -23,7 +24,7 @@ use Rattle.bk_record.specs.Log.{IsLog}
 use Rattle.bk_redo.specs.PageStates.{page_of}
 use Rattle.bk_shown.specs.Shown.{ArePlaced}
 use Rattle.bk_store.specs.Copying.{IsExtentOf, page_of_extent}
-use Rattle.bk_store.specs.Told.{Told, data_file, files_of}
+use Rattle.bk_store.specs.Told.{Told, data_file}
 use Rattle.bk_undo.specs.Spelled.{spelled}
 use Rattle.bk_volume.specs.Staging.{HoldsParts, Staging}
 use Rattle.bk_world.specs.declared.database.FileSpec.{FileSpec}
@@ -31,10 +32,12 @@ use Rattle.bk_world.specs.declared.database.TableSpec.{TableSpec}
 use Rattle.bk_world.specs.declared.header.Header.{Header}
 use Rattle.bk_world.specs.declared.header.HeaderFile.{HeaderFile}
 use Rattle.bk_world.specs.Lines.{log_below}
-use Rattle.bk_world.specs.Records.{Logged}
+use Rattle.bk_world.specs.Records.{Counts, Logged}
+use Rattle.bk_world.specs.SoundLogs.{IsSound as IsSoundLog}
 use Rattle.bk_world.specs.Telling as telling
 use Rattle.bk_sealing.specs.Copied.{HoldsCopy}
 use Rattle.bk_sealing.specs.Sealing.{IsSetNow, in_set}
+use Rattle.bk_sealing.proofs.Kept.{keeps-records}
 use Rattle.bk_sealing.proofs.Listed.{IsLow, copies-are, extents-are, extents-low}
 use Rattle.bk_sealing.proofs.Named.{IsKeptLog, found-log}
 
@@ -130,28 +133,40 @@ module _ (disk : Disk) (e : Kept) (w : World) (header : Header) (tables : List T
   ends : header.last ≡ end_of (map spelled copy.told.records)
   ends = let last = its-header.ends in let size : length (map spelled copy.told.records) ≡ length copy.told.records = length-map copy.told.records spelled in omega (arith, last, size)
 
+  placed : ArePlaced is.db.files [] copy.told.records
+  placed = subst (λ (rs : List Logged). ArePlaced is.db.files [] rs) back its-log.placed
+
   holds : HoldsLog copy.told.records (body_of header tables copy.extents copy.log)
-  holds =
-      let placed : ArePlaced is.db.files [] copy.told.records = subst (λ (rs : List Logged). ArePlaced is.db.files [] rs) back its-log.placed in record {
-        tables = same ∙ ap telling.tables back;
-        path = subst (λ (rs : List Logged). IsPath (map spelled rs)) back its-log.path;
-        placed = subst (λ (fs : List FileSpec). ArePlaced fs [] copy.told.records) (sym (its-header.files ∙ copy.is_told.files)) placed;
-        log = whole-log (map spelled copy.told.records) header.first header.last copy.log its-header.some (let a = its-header.order in let b = its-header.inside in omega (arith, a, b)) ends
-            (subst (λ (rs : List Logged). IsLog copy.log (from_to header.first header.last (map spelled rs)) None) back copy.is_log);
-        some = its-header.some;
-        order = its-header.order;
-        inside = its-header.inside;
-        begun = its-header.begun;
-        there = laws.there header.files copy.extents listed;
-        pages = copied-all copy.told header.checkpoint (extents_of (map data_file is.db.files)) copy.extents (let a = its-header.inside in omega (arith, a, ends)) copy.copies;
-      }
+  holds = record {
+    tables = same ∙ ap telling.tables back;
+    path = subst (λ (rs : List Logged). IsPath (map spelled rs)) back its-log.path;
+    placed = subst (λ (fs : List FileSpec). ArePlaced fs [] copy.told.records) (sym (its-header.files ∙ copy.is_told.files)) placed;
+    log = whole-log (map spelled copy.told.records) header.first header.last copy.log its-header.some (let a = its-header.order in let b = its-header.inside in omega (arith, a, b)) ends
+        (subst (λ (rs : List Logged). IsLog copy.log (from_to header.first header.last (map spelled rs)) None) back copy.is_log);
+    some = its-header.some;
+    order = its-header.order;
+    inside = its-header.inside;
+    begun = its-header.begun;
+    there = laws.there header.files copy.extents listed;
+    pages = copied-all copy.told header.checkpoint (extents_of (map data_file is.db.files)) copy.extents (let a = its-header.inside in omega (arith, a, ends)) copy.copies;
+  }
 
   reads : log_below w.history header.path header.last ≡ copy.told.records
   unfolding log_of
   reads = ap (λ p. log_below w.history p header.last) is.path ∙ ap (λ (n : ℕ). log_below w.history is.db.path n) is.ends ∙ back
 
-  pub may-seal : (then : Disk) → HoldsParts then set copy.extents copy.log → set.extents < 2 ^ 32 → set.log < 2 ^ 64 → IsLogOf header tables copy.log → MaySeal then w set header tables (body_of header tables copy.extents copy.log)
-  may-seal then parts few short log = record {
+  -- the log fits the header and the tables
+  kept : IsLogOf header tables copy.log
+  kept =
+      let rest : List Rec = kept_from header.first (map spelled copy.told.records) in
+      let its : KeepsRecords header (telling.tables copy.told.records) rest =
+      keeps-records header is.db.files copy.told.records is.files (subst (λ (rs : List Logged). Counts 1 rs header.last) reads is.sound.log.counts) (subst IsSoundLog reads is.sound.log.sound) placed
+      (subst (λ (rs : List Logged). AreTablesNumbered 1 (telling.tables rs)) reads is.sound.log.tables) (subst (FitsLog (length header.groups)) reads is.sound.fits.log) its-header.some
+      (let a = its-header.order in let b = its-header.inside in omega (arith, a, b)) in
+      (rest, holds.log, subst (λ (ts : List TableSpec). KeepsRecords header ts rest) (sym holds.tables) its)
+
+  pub may-seal : (then : Disk) → HoldsParts then set copy.extents copy.log → set.extents < 2 ^ 32 → set.log < 2 ^ 64 → MaySeal then w set header tables (body_of header tables copy.extents copy.log)
+  may-seal then parts few short = record {
     sound = is.sound;
     is = record {
       header = refl;
@@ -162,7 +177,7 @@ module _ (disk : Disk) (e : Kept) (w : World) (header : Header) (tables : List T
         few = let count = parts.count in omega (arith, count, few);
         rise = laws.rise header.files copy.extents keeps.files.numbered listed;
         extents = keeps-all copy.told header.files (extents_of (map data_file is.db.files)) copy.extents copy.copies (laws.held header.files copy.extents all-held listed) low;
-        log = log;
+        log = kept;
         log_short = let size = parts.size in omega (arith, size, short);
       };
     };

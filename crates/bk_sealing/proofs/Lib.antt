@@ -1,6 +1,6 @@
 mod Carried
+mod Kept
 mod Listed
 mod Named
-mod Results
 mod Seen
 mod Still

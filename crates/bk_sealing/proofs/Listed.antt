@@ -2,17 +2,17 @@
 use Rattle.std.proofs.Common.{◌≡◌, ◌≤◌, ◌<◌, ℕ, zero, suc, ◌+◌, ◌-◌, ◌*◌, ◌/◌, true, List, [], ◌∷◌, ◌++◌, length, length-append, map, Some, refl, sym, ◌∙◌, ap, subst, append_assoc, add-one, arith}
 use Rattle.std.specs.Prelude.{min, slice_get}
 use Rattle.std.specs.Option.{option_map_or}
-use Rattle.std.specs.List.{AllByRecursion, AllZip, range_with_len, sum_by}
+use Rattle.std.specs.List.{AllByRecursion, range_with_len}
 use Rattle.std.proofs.lemmas.List.{append-nil, length-map}
 use Rattle.std.proofs.lemmas.List.Sums.{sum_by-cons}
 use Rattle.bk_body.specs.Body.{Extent}
 use Rattle.bk_carried.specs.Carried.{data_extents, id_of}
-use Rattle.bk_copying.specs.Copying.{AreCopies, IsCopy}
+use Rattle.bk_copying.specs.Copying.{AreCopies}
 use Rattle.bk_copying.specs.Extents.{extent_count, extents_below, extents_of, extents_to}
 use Rattle.bk_facts.specs.declared.facts.DataFile.{DataFile}
 use Rattle.bk_header.specs.Conditions.{AreNumbered, total_extents}
 use Rattle.bk_ids.specs.declared.record.ExtentId.{ExtentId}
-use Rattle.bk_lemmas.specs.Lists.{all_joined, all_mapped}
+use Rattle.bk_lemmas.specs.Lists.{all_joined}
 use Rattle.bk_paged.specs.Names.{pages_in}
 use Rattle.bk_store.specs.Told.{Told, data_file}
 use Rattle.bk_world.specs.declared.database.FileSpec.{FileSpec}

@@ -1,5 +1,5 @@
 -- What is seen of a database that is online.
-use Rattle.std.proofs.Common.{◌≡◌, ◌∙◌, ap, sym, subst, true, Some, Option}
+use Rattle.std.proofs.Common.{◌≡◌, ◌∙◌, ap, subst, true, Some}
 use Rattle.std.proofs.lemmas.Option.{same_Some}
 use Rattle.bk_kept.specs.declared.kept.Database.{Database as KeptDatabase}
 use Rattle.bk_kept.specs.Keeps.{IsSeenOf, database_of}

@@ -1,6 +1,6 @@
 -- What a set that is being written holds of a database.
 -- SQL Server: "Full Database Backups".
-use Rattle.std.specs.Prelude.{◌≡◌, ℕ, List, map, None}
+use Rattle.std.specs.Prelude.{ℕ, List, map, None}
 use Rattle.bk_body.specs.Body.{Extent}
 use Rattle.bk_copying.specs.Copying.{AreCopies}
 use Rattle.bk_copying.specs.Extents.{extents_of}

@@ -3,7 +3,6 @@
 
 mod copying;
 mod error;
-mod keeping;
 mod sealing;
 
 pub use error::SealError;

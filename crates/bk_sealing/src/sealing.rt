@@ -1,11 +1,11 @@
 //! The set of a database is sealed.
-ghost use Rattle.std.specs.Prelude.{◌≡◌, None, false, OnOk, IsErrOf};
+ghost use Rattle.std.specs.Prelude.{◌≡◌, ◌<◌, ◌^◌, None, false, OnOk, IsErrOf};
 ghost use Rattle.bk_device.specs.Counts.{HasCause};
 ghost use Rattle.bk_device.specs.Effects.{Effect};
 ghost use Rattle.bk_engine.specs.Acts.{CutsAct};
 ghost use Rattle.bk_engine.specs.Stands.{IsOurs, IsReady, IsStagingFile, NamesSet, StandsFor};
 ghost use Rattle.bk_engine.specs.Touched.{IsAt, TouchesOnly};
-ghost use Rattle.bk_engine.specs.Viewing.{AreEnds, Remembers};
+ghost use Rattle.bk_engine.specs.Viewing.{Remembers};
 ghost use Rattle.bk_header.specs.Conditions.{KeepsConditions};
 ghost use Rattle.bk_kept.specs.Keeps.{Sees};
 ghost use Rattle.bk_machine.specs.Acts.{done, set_sealed};
@@ -19,20 +19,27 @@ ghost use Rattle.bk_sealing.specs.declared.error.SealError.TheVariants.{Fault};
 
 use crate::copying::copy_into;
 use crate::error::SealError;
-use crate::keeping::keeps_log;
 use bk_carried::extents_lie_in_order;
 use bk_device::Device;
 use bk_engine::Engine;
 use bk_ids::Text;
 use bk_kept::InstanceView;
-use bk_shown::Shown;
 use bk_volume::Staged;
 use bk_world::{Header, TableSpec};
 
 // A set has at most so many tables.
 const MOST_TABLES: usize = 64;
 
-// Seals what was copied of a database with these tables, where its log keeps what a set's does; else the call ends as if memory were wanting.
+// A set that is being written has fewer than 2^32 extents, and fewer than 2^64 bytes of log.
+fn size_law(staged: &Staged)
+    ensures few { staged.now.extents < 2 ^ 32 }
+    ensures short { staged.now.log < 2 ^ 64 }
+{
+    let _extents = staged.extents();
+    let _log = staged.log_len();
+}
+
+// Seals what was copied of a database with these tables. Where there are too many the call ends as if memory were wanting.
 fn seal_tables<D: Device>(
     engine: &Engine,
     dev: &mut D,
@@ -56,11 +63,9 @@ fn seal_tables<D: Device>(
     ensures cause { HasCause D.disk_faults D.tell_faults dev.old dev.new (IsErrOf result Fault) }
 {
     extents_lie_in_order();
+    size_law(staged);
     engine.at_rest(dev);
     if tables.len() > MOST_TABLES {
-        return Err(SealError::NoMemory);
-    }
-    if !keeps_log(engine.alloc(), dev, staged, header, tables)? {
         return Err(SealError::NoMemory);
     }
     engine.seal_set(dev, path, staged, header, tables)?;
@@ -99,35 +104,6 @@ fn seal_over<D: Device>(
     seal_tables(engine, dev, path, staged, header, tables)
 }
 
-// Seals what was copied of a header's database; these are the ends of the databases' logs.
-fn seal_among<D: Device>(
-    engine: &Engine,
-    ends: &[Shown],
-    dev: &mut D,
-    path: &Text,
-    staged: &Staged,
-    header: &Header,
-) -> Result<(), SealError>
-    requires ready { IsReady engine.now }
-    requires ends { AreEnds engine.now ends.now }
-    requires whole { staged.now.failed ≡ false }
-    requires named { IsStagingFile staged.now.name }
-    requires keeps { KeepsConditions header.now }
-    requires standing { D.tells → AreStanding (D.disk dev.old) engine.now.hosting.stores }
-    requires staged { D.tells → IsStaged (D.disk dev.old) staged.now }
-    ensures standing { D.tells → AreStanding (D.disk dev.new) engine.now.hosting.stores }
-    ensures stands { D.tells → (w : World) (is : IsSetNow w header.now) → StandsFor (D.disk dev.old) engine.now w → HoldsCopy w is.db header.now.first header.now.last (D.disk dev.old) staged.now
-        → OnOk result (StandsFor (D.disk dev.new) engine.now (done w (set_sealed path.now header.now))) }
-    ensures crash { D.tells → (w : World) (is : IsSetNow w header.now) → StandsFor (D.disk dev.old) engine.now w → HoldsCopy w is.db header.now.first header.now.last (D.disk dev.old) staged.now
-        → Effect IsOurs (CutsAct w (set_sealed path.now header.now)) (D.disk dev.old) (D.disk dev.new) }
-    ensures touches { D.tells → TouchesOnly (IsAt path.now) (D.disk dev.old) (D.disk dev.new) }
-    ensures cause { HasCause D.disk_faults D.tell_faults dev.old dev.new (IsErrOf result Fault) }
-{
-    engine.at_rest(dev);
-    let seen = engine.view(engine.alloc(), ends)?;
-    seal_over(engine, &seen, dev, path, staged, header)
-}
-
 // Seals what was copied of a header's database.
 fn seal_seen<D: Device>(
     engine: &Engine,
@@ -152,13 +128,14 @@ fn seal_seen<D: Device>(
 {
     engine.at_rest(dev);
     let ends = engine.ends(engine.alloc())?;
-    seal_among(engine, &ends, dev, path, staged, header)
+    let seen = engine.view(engine.alloc(), &ends)?;
+    seal_over(engine, &seen, dev, path, staged, header)
 }
 
 /// Copies a header's database into a set, and seals that on the medium at a path. Where the header is that of a set of the database as it is, the instance stands for the world behind that then; a crash leaves the
 /// world before it, but for what waited, or the one behind it. The record names no set then.
 ///
-/// Where there is no such database, its live log doesn't hold what the header says, what was copied keeps not what every set keeps, or there is no medium at the path, the call ends as if memory were wanting.
+/// Where there is no such database, its live log doesn't hold what the header says, it has more tables than a set may have, or there is no medium at the path, the call ends as if memory were wanting.
 pub fn seal_database<D: Device>(
     engine: &mut Engine,
     dev: &mut D,

@@ -1,8 +1,6 @@
-use Rattle.std.proofs.Common.{◌≡◌, ◌∙◌, inl, sym, ap, subst}
-use Rattle.std.specs.Prelude.{is_some}
+use Rattle.std.proofs.Common.{inl}
 use Rattle.std.proofs.lemmas.Result.{err_from_is_err_and}
 use Rattle.bk_engine.specs.ViewLaws.{remembers}
-use Rattle.bk_world.specs.Medium.{medium_at}
 use Rattle.bk_executing.proofs.Backing.{knows-backup, taken-there, unfit-broken}
 use Rattle.bk_executing.proofs.Planned.{plan-executed, plan-failed, plan-touches, standing-nothing, touches-nothing}
 use Rattle.bk_executing.proofs.Results.{on-error}

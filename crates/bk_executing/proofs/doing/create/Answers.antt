@@ -1,11 +1,10 @@
-use Rattle.std.proofs.Common.{◌≡◌, ◌∙◌, sym, ap, subst}
-use Rattle.bk_device.specs.Compose.{effect_then, effect_weaken}
+use Rattle.std.proofs.Common.{◌≡◌, sym, subst}
+use Rattle.bk_device.specs.Compose.{effect_weaken}
 use Rattle.bk_engine.specs.Stands.{StandsFor}
 use Rattle.bk_engine.specs.TouchLaws.{rest-touch}
 use Rattle.bk_restarts.specs.CutLaws.{cut-first}
 use Rattle.bk_stores.specs.Standing.{AreStanding}
 use Rattle.bk_executing.proofs.Results.{moved}
-use Rattle.bk_acts.specs.declared.act.StoredAct.TheVariants as kind
 use Rattle.bk_device.specs.Effects.{Effect}
 use Rattle.bk_engine.specs.Acts.{CutsAct, HaveNoFileOf}
 use Rattle.bk_engine.specs.Stands.{IsOurs}

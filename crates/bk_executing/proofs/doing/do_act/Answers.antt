@@ -1,7 +1,6 @@
-use Rattle.std.proofs.Common.{◌≡◌, ℕ, List, sym, subst}
+use Rattle.std.proofs.Common.{ℕ, List, sym, subst}
 use Rattle.std.specs.Prelude.{OnOk}
 use Rattle.bk_acts.specs.declared.act.StoredAct.{StoredAct}
-use Rattle.bk_acts.specs.declared.act.StoredAct.TheVariants as kind
 use Rattle.bk_device.specs.Effects.{Effect}
 use Rattle.bk_engine.specs.Acts.{CutsAct, DoesAct, MayMark, marking}
 use Rattle.bk_engine.specs.Stands.{IsOurs, StandsFor}

@@ -1,5 +1,5 @@
-use Rattle.std.proofs.Common.{◌≡◌, ◌∙◌, sym, ap, subst}
-use Rattle.bk_device.specs.Compose.{effect_then, effect_weaken}
+use Rattle.std.proofs.Common.{◌∙◌, sym, subst}
+use Rattle.bk_device.specs.Compose.{effect_weaken}
 use Rattle.bk_engine.specs.Stands.{StandsFor}
 use Rattle.bk_engine.specs.TouchLaws.{rest-touch}
 use Rattle.bk_restarts.specs.CutLaws.{cut-first}

@@ -1,4 +1,3 @@
-use Rattle.bk_engine.specs.TouchLaws.{wider-touch}
 use Rattle.bk_executing.proofs.Planned.{executed-by, failed-by}
 use Rattle.bk_executing.proofs.executing.execute.Goals as goal
 

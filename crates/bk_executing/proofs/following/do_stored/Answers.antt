@@ -1,5 +1,3 @@
-use Rattle.std.proofs.Common.{sym, subst}
-use Rattle.bk_executing.proofs.Results.{of-ok}
 use Rattle.bk_executing.proofs.following.do_stored.Goals as goal
 
 pub returns-clause-does : goal.returns-clause-does

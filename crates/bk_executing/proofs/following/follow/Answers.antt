@@ -1,4 +1,4 @@
-use Rattle.std.proofs.Common.{◌≡◌, ◌∙◌, List, [], OnOk, refl, subst, sym}
+use Rattle.std.proofs.Common.{List, refl, subst, sym}
 use Rattle.bk_device.specs.Compose.{effect_weaken}
 use Rattle.bk_device.specs.Laws.{nothing_yet}
 use Rattle.bk_engine.specs.Stands.{StandsFor}
@@ -10,7 +10,7 @@ use Rattle.bk_plans.specs.declared.parts.Plan.{Plan}
 use Rattle.bk_restarts.specs.CutLaws.{cut-first}
 use Rattle.bk_stores.specs.Standing.{AreStanding}
 use Rattle.bk_executing.specs.Executing.{Rests}
-use Rattle.bk_executing.specs.Parts.{CutsParts, CutsPlan, DoesParts, DoesPlan, PartsWrite, PlanWrites}
+use Rattle.bk_executing.specs.Parts.{CutsParts, CutsPlan, DoesPlan, PartsWrite, PlanWrites}
 use Rattle.bk_executing.proofs.following.follow.Goals as goal
 
 pub returns-in-Refused-clause-standing : goal.returns-in-Refused-clause-standing

@@ -1,33 +1,28 @@
-use Rattle.std.proofs.Common.{Option, inl, sym, ◌∙◌, ap, subst}
-use Rattle.std.specs.Prelude.{◌≡◌, ℕ, true, MatchOption}
 use Rattle.bk_archive.specs.TextLaws.{text-bytes}
 use Rattle.bk_device.specs.Compose.{effect_then}
+use Rattle.bk_device.specs.Laws.{nothing_yet}
 use Rattle.bk_engine.specs.TouchLaws.{wider-touch}
 use Rattle.bk_items.specs.declared.item.ScriptEntry.{ScriptEntry}
 use Rattle.bk_items.specs.declared.item.ScriptItem.TheVariants as script
-use Rattle.bk_machine.specs.World.{World}
-use Rattle.bk_media_plans.specs.Restoring as request
-use Rattle.bk_plans.specs.declared.parts.Plan.{Plan}
-use Rattle.bk_executing.specs.Planned.{IsPlanned}
-use Rattle.bk_executing.proofs.Planned.{plan-executed, plan-failed, plan-touches, stands-nothing, standing-nothing, touches-nothing}
-use Rattle.bk_executing.proofs.RestoringDone.{all-executed, all-failed, first-there, none-there, unbuilt-knows}
+use Rattle.bk_plans.specs.declared.parts.Plan.TheVariants as plan
+use Rattle.bk_executing.proofs.Planned.{plan-executed, plan-failed, stands-nothing, standing-nothing, touches-nothing}
+use Rattle.bk_executing.proofs.RestoringDone.{all-executed, all-failed, first-there, none-there, refused-always, refused-knows}
 use Rattle.bk_volume.specs.Names.{medium_file}
-use Rattle.bk_executing.proofs.RestoringFound.{found-so, named-so, refused-so, some-planned}
-use Rattle.bk_executing.proofs.Results.{on-error}
+use Rattle.bk_executing.proofs.RestoringFound.{found-so, named-so, refused-so}
 use Rattle.bk_executing.proofs.restoring.restore.Goals as goal
 
 pub returns-in-Some-clause-executed : goal.returns-in-Some-clause-executed
 returns-in-Some-clause-executed g c =
     let s : ScriptEntry = record { item = script.RestoreDatabase c.args.database.now c.args.units.now c.args.disk.now c.args.options.now; line = c.args.line } in
-    plan-executed c.args.engine.now c.follow.new.engine (g.D.Device.disk c.args.dev.now) (g.D.Device.disk c.args.dev.now) (g.D.Device.disk c.follow.new.dev) s c.args.now c.in-Some.plan (some-planned c.args.engine.now _ s _ c.in-Some.plan c.in-Some.is c.in_ok-plan.ensures.plans c.args.now)
-    (unbuilt-knows c.args.engine.now (g.D.Device.disk c.args.dev.now) c.args.line c.args.database.now c.args.units.now c.args.disk.now c.args.options.now c.args.now c.in-Some.plan _ (λ t. g.met.D.Device.lawful t c.args.dev.now) c.statements_do_what_they_may.ensures.may c.what_statements_write_to.ensures.media)
+    plan-executed c.args.engine.now c.follow.new.engine (g.D.Device.disk c.args.dev.now) (g.D.Device.disk c.args.dev.now) (g.D.Device.disk c.follow.new.dev) s c.args.now (plan.Refused c.in-Some.rule) (refused-always c.args.engine.now s c.args.now c.in-Some.rule (λ w. c.in-Some.ensures w c.args.now))
+    (refused-knows c.args.engine.now (g.D.Device.disk c.args.dev.now) (g.D.Device.disk c.args.dev.now) (λ w. Unit {0}) s c.args.now c.in-Some.rule _ (λ t. g.met.D.Device.lawful t c.args.dev.now) (λ told. nothing_yet (g.D.Device.disk c.args.dev.now)) (λ told w stands. tt) (λ w sound may. c.statements_do_what_they_may.ensures.may w s c.args.now _ sound may))
     c.follow.result (record { replies = c.follow.ensures.replies; does = c.follow.ensures.does; crash = c.follow.ensures.crash; still = c.follow.ensures.still; touches = c.follow.ensures.touches })
 
 pub returns-in-Some-clause-failed : goal.returns-in-Some-clause-failed
 returns-in-Some-clause-failed g c =
     let s : ScriptEntry = record { item = script.RestoreDatabase c.args.database.now c.args.units.now c.args.disk.now c.args.options.now; line = c.args.line } in
-    plan-failed c.args.engine.now c.follow.new.engine (g.D.Device.disk c.args.dev.now) (g.D.Device.disk c.args.dev.now) (g.D.Device.disk c.follow.new.dev) s c.args.now c.in-Some.plan (some-planned c.args.engine.now _ s _ c.in-Some.plan c.in-Some.is c.in_ok-plan.ensures.plans c.args.now)
-    (unbuilt-knows c.args.engine.now (g.D.Device.disk c.args.dev.now) c.args.line c.args.database.now c.args.units.now c.args.disk.now c.args.options.now c.args.now c.in-Some.plan _ (λ t. g.met.D.Device.lawful t c.args.dev.now) c.statements_do_what_they_may.ensures.may c.what_statements_write_to.ensures.media)
+    plan-failed c.args.engine.now c.follow.new.engine (g.D.Device.disk c.args.dev.now) (g.D.Device.disk c.args.dev.now) (g.D.Device.disk c.follow.new.dev) s c.args.now (plan.Refused c.in-Some.rule) (refused-always c.args.engine.now s c.args.now c.in-Some.rule (λ w. c.in-Some.ensures w c.args.now))
+    (refused-knows c.args.engine.now (g.D.Device.disk c.args.dev.now) (g.D.Device.disk c.args.dev.now) (λ w. Unit {0}) s c.args.now c.in-Some.rule _ (λ t. g.met.D.Device.lawful t c.args.dev.now) (λ told. nothing_yet (g.D.Device.disk c.args.dev.now)) (λ told w stands. tt) (λ w sound may. c.statements_do_what_they_may.ensures.may w s c.args.now _ sound may))
     c.follow.result (record { replies = c.follow.ensures.replies; does = c.follow.ensures.does; crash = c.follow.ensures.crash; still = c.follow.ensures.still; touches = c.follow.ensures.touches })
 
 pub returns-in-Some-clause-touches : goal.returns-in-Some-clause-touches

@@ -1,4 +1,4 @@
-use Rattle.std.proofs.Common.{◌≡◌, inl, inr, Ok, refl, sym, ap, subst}
+use Rattle.std.proofs.Common.{inl, inr, Ok, ap, subst}
 use Rattle.std.proofs.lemmas.Result.{err_from_is_err_and}
 use Rattle.bk_device.specs.Compose.{effect_then}
 use Rattle.bk_engine.specs.TouchLaws.{wider-touch}
@@ -11,7 +11,7 @@ use Rattle.bk_plans.specs.declared.parts.Plan.TheVariants as plan
 use Rattle.bk_world.specs.declared.reply.Reply.TheVariants as reply
 use Rattle.bk_executing.specs.declared.error.ExecuteError.TheVariants.{Broken}
 use Rattle.bk_executing.specs.Planned.{IsRestorePlanned}
-use Rattle.bk_executing.proofs.Planned.{plan-executed, plan-failed, standing-nothing, stands-nothing, touches-nothing}
+use Rattle.bk_executing.proofs.Planned.{plan-executed, plan-failed, standing-nothing, touches-nothing}
 use Rattle.bk_executing.proofs.RestoringDone.{brings-cut, brings-executed, brings-never, finds-first, finds-parts, of-set, other-error, parts, refused-knows, refused-plan, unfit-set}
 use Rattle.bk_executing.proofs.Results.{on-error}
 use Rattle.bk_executing.proofs.restoring.restore_set.Goals as goal
