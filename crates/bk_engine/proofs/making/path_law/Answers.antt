@@ -4,4 +4,4 @@ use Rattle.bk_bytes.specs.Field.{AreBytes}
 use Rattle.bk_engine.proofs.making.path_law.Goals as goal
 
 pub returns : goal.returns
-returns c = subst AreBytes c.as_str.ensures (text-bytes c.as_str.result.now c.as_str.utf8)
+returns c = subst AreBytes c.as_str-path.ensures (text-bytes c.as_str-path.result.now c.as_str-path.utf8)
