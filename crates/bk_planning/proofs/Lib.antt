@@ -5,3 +5,4 @@ pub mod PlannedSession
 pub mod PlannedBegin
 pub mod Marks
 pub mod PlannedEnds
+pub mod PlannedCheckpoint

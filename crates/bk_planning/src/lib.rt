@@ -3,6 +3,7 @@
 #![tactic(auto)]
 
 mod begin;
+mod checkpoint;
 mod commit;
 mod create_table;
 mod drop_database;

@@ -5,6 +5,7 @@ ghost use Rattle.bk_kept.specs.Numbers.{LeaveNumbers};
 ghost use Rattle.bk_plans.specs.Planning.{KeepsPlan, Plans, ReadsNoMedium};
 
 use crate::begin::plan_begin;
+use crate::checkpoint::plan_checkpoint;
 use crate::commit::plan_commit;
 use crate::create_table::plan_create_table;
 use crate::drop_database::plan_drop_database;
@@ -49,6 +50,7 @@ pub fn plan(
         ScriptItem::Begin { transaction } => plan_begin(kept, alloc, line, transaction),
         ScriptItem::Commit => plan_commit(kept, alloc, now),
         ScriptItem::Rollback => plan_rollback(kept, alloc),
+        ScriptItem::Checkpoint => plan_checkpoint(kept, alloc, now),
         ScriptItem::Session { number } => plan_session(kept, line, *number),
         ScriptItem::Syntax { line } => Ok(Plan::Refused {
             rule: Rule::Syntax { line: *line },

@@ -25,6 +25,7 @@ record IsOther (item : ScriptItem) : Type 0 where
   begin : (a : Option NamedTransaction) → item ≡ script.Begin a → ⊥
   commit : item ≡ script.Commit → ⊥
   rollback : item ≡ script.Rollback → ⊥
+  checkpoint : item ≡ script.Checkpoint → ⊥
   session : (a : ℕ) → item ≡ script.Session a → ⊥
   syntax_it : (a : ℕ) → item ≡ script.Syntax a → ⊥
   long : item ≡ script.TooLong → ⊥
@@ -42,7 +43,7 @@ module _ (w : World) (line now : ℕ) where
   unbuilt (script.Begin a) other plain = absurd (other.begin a refl)
   unbuilt (script.Commit) other plain = absurd (other.commit refl)
   unbuilt (script.Rollback) other plain = absurd (other.rollback refl)
-  unbuilt (script.Checkpoint) other plain = refl
+  unbuilt (script.Checkpoint) other plain = absurd (other.checkpoint refl)
   unbuilt (script.Use a) other plain = absurd (other.use_it a refl)
   unbuilt (script.SetRecovery a b) other plain = refl
   unbuilt (script.DropDatabase a) other plain = absurd (other.drop a refl)
@@ -84,6 +85,12 @@ returns-in-Rollback-clause-plans c =
     (λ plan plans plain. subst (λ (i : ScriptItem). Plans c.args.kept.now (λ w. Unit {0}) (record { item = i; line = c.args.statement.now.line }) c.args.now plan) (sym c.in-Rollback.is) (plans c.args.statement.now.line c.args.now))
     c.plan_rollback.ensures.plans
 
+pub returns-in-Checkpoint-clause-plans : goal.returns-in-Checkpoint-clause-plans
+returns-in-Checkpoint-clause-plans c =
+    if-plan _ _ c.plan_checkpoint.result
+    (λ plan plans plain. subst (λ (i : ScriptItem). Plans c.args.kept.now (λ w. Unit {0}) (record { item = i; line = c.args.statement.now.line }) c.args.now plan) (sym c.in-Checkpoint.is) (plans c.args.statement.now.line))
+    c.plan_checkpoint.ensures.plans
+
 pub returns-in-Session-clause-plans : goal.returns-in-Session-clause-plans
 returns-in-Session-clause-plans c =
     if-plan _ _ c.plan_session.result
@@ -117,6 +124,7 @@ returns-in_default c = record {
         begin = c.in_default.not-Begin;
         commit = c.in_default.not-Commit;
         rollback = c.in_default.not-Rollback;
+        checkpoint = c.in_default.not-Checkpoint;
         session = c.in_default.not-Session;
         syntax_it = c.in_default.not-Syntax;
         long = c.in_default.not-TooLong;
