@@ -18,6 +18,7 @@ use Rattle.bk_machine.specs.Outcome.{Outcome, refused}
 use Rattle.bk_machine.specs.World.{Held, World, log_of}
 use Rattle.bk_machine.specs.statements.Backup.{DoesBackup, check_backup}
 use Rattle.bk_machine.specs.statements.Begin.{DoesBegin, check_begin, mark_of}
+use Rattle.bk_machine.specs.statements.Checkpoint.{DoesCheckpoint, check_checkpoint}
 use Rattle.bk_machine.specs.statements.Commit.{DoesCommit, check_commit}
 use Rattle.bk_machine.specs.statements.CreateDatabase.{DoesCreateDatabase, check_create_database}
 use Rattle.bk_machine.specs.statements.CreateTable.{DoesCreateTable, check_create_table}
@@ -118,7 +119,7 @@ item-tells w line (QueryMedium query disk file) now = λ outcome is. told _ outc
 item-tells w line (Begin transaction) now = comes-to Tell (check_begin w line transaction) (DoesBegin w (mark_of transaction)) refusals-tell (λ found e o does. told _ o does (one-last _, tt))
 item-tells w line Commit now = comes-to Tell (check_commit w) (DoesCommit w now) refusals-tell (λ found e o does. told _ o does (one-last _, tt))
 item-tells w line Rollback now = comes-to Tell (check_rollback w) (DoesRollback w) refusals-tell (λ found e o does. told _ o does (rolls-last w found, tt))
-item-tells w line Checkpoint now = λ outcome is. told _ outcome is tt
+item-tells w line Checkpoint now = comes-to Tell (check_checkpoint w) (DoesCheckpoint w now) refusals-tell (λ found e o does. told _ o does (one-last _, tt))
 item-tells w line (SetRecovery name model) now = λ outcome is. told _ outcome is tt
 item-tells w line (SelectCatalog catalog) now = λ outcome is. told _ outcome is tt
 item-tells w line (Session number) now = comes-to Tell (check_session line number) DoesSession refusals-tell (λ found e o does. told _ o does (tt, tt))
