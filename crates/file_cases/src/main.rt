@@ -1,11 +1,12 @@
-//! Cases over the floor of files: the device in memory with its source and clock, control files, gate files, a database's log and
-//! its data files.
+//! Cases over the floor of files: the device in memory with its source and clock, control files, gate files, an instance's own files,
+//! a database's log and its data files.
 #![tactic(auto)]
 
 mod control;
 mod device;
 mod gate;
 mod log;
+mod master;
 mod session;
 mod side;
 mod trial;

@@ -3,7 +3,7 @@ ghost use Rattle.bk_device.specs.Disk.{IsSettled};
 ghost use Rattle.bk_device.specs.Replay.{disk_of};
 
 use crate::words::word;
-use crate::{control, gate, log, side};
+use crate::{control, gate, log, master, side};
 use bk_device::MemDevice;
 use std::alloc::{AllocError, Global};
 
@@ -11,7 +11,7 @@ use std::alloc::{AllocError, Global};
 #[derive(Clone, Copy)]
 pub(crate) struct Session<'a> {
     pub(crate) alloc: Global,
-    // `control`, `gate`, `log` or `side`
+    // `control`, `gate`, `log`, `master` or `side`
     pub(crate) layer: &'a str,
     // `make`, or anything else to load
     pub(crate) how: &'a str,
@@ -59,7 +59,8 @@ impl<'a> Session<'a> {
             "control" => control::run(self, device),
             "gate" => gate::run(self, device),
             "log" => log::run(self, device),
-            _ => side::run(self, device),
+            "side" => side::run(self, device),
+            _ => master::run(self, device),
         }
     }
 
@@ -71,7 +72,8 @@ impl<'a> Session<'a> {
             "control" => control::find(self, device),
             "gate" => gate::find(self, device),
             "log" => log::find(self, device),
-            _ => side::find(self, device),
+            "side" => side::find(self, device),
+            _ => master::find(self, device),
         }
     }
 }

@@ -1,4 +1,4 @@
-//! Cases over the values that are spelled as bytes or texts: fields, names, times, log records and headers.
+//! Cases over the values that are spelled as bytes or texts: fields, names, times, log records, headers, and sets on media.
 //!
 //! Each command speaks of the bytes that `bytes` and `more` gave, or of the words behind it. The files of `data/` are the cases.
 #![tactic(auto)]
@@ -9,6 +9,8 @@ mod headers;
 mod ids;
 mod paths;
 mod records;
+mod sets;
+mod shelf;
 mod spelled;
 mod splits;
 mod times;

@@ -1,24 +1,28 @@
 // What the commands of a case are put to.
 use crate::fault::Fault;
+use crate::shelf::Shelf;
 use crate::spelled::{Kind, kind_in};
 use crate::words::{append_words, show_bytes, word};
 use crate::{fields, ids, paths, spelled, splits, times};
 use cases::Subject;
 use std::alloc::{AllocError, Global};
 
-/// The bytes that a case has given.
+/// The bytes that a case has given, and its media.
 #[derive(Drop)]
 pub struct Values {
     alloc: Global,
     bytes: Vec<u8>,
+    shelf: Shelf,
 }
 
 impl Values {
-    /// No bytes.
+    /// No bytes, and no media.
     pub fn new(alloc: Global) -> Result<Self, AllocError> {
+        let shelf = Shelf::new(alloc)?;
         Ok(Values {
             alloc,
             bytes: Vec::new(alloc),
+            shelf,
         })
     }
 
@@ -71,11 +75,11 @@ impl Values {
         }
     }
 
-    // Commands on words alone.
-    fn other(&self, command: &str, words: &[&str], out: &mut String) -> Result<(), Fault> {
+    // Commands on media, or on words alone.
+    fn other(&mut self, command: &str, words: &[&str], out: &mut String) -> Result<(), Fault> {
         match on_words(self.alloc, command, words, out) {
             Some(done) => done,
-            None => Err(Fault::Misspelled),
+            None => self.shelf.put(command, words, &self.bytes, out),
         }
     }
 
