@@ -1,0 +1,6 @@
+pub mod Cells
+pub mod Databases
+pub mod Files
+pub mod Histories
+pub mod Sets
+pub mod Times

@@ -1,0 +1,13 @@
+//! What RESTORE HEADERONLY and FILELISTONLY and the tables of msdb show, as lines of text.
+#![tactic(auto)]
+
+mod cells;
+mod databases;
+mod files;
+mod histories;
+mod sets;
+
+pub use databases::push_database;
+pub use files::{push_files, push_valid};
+pub use histories::{push_mark, push_restore};
+pub use sets::{push_backup, push_header};
