@@ -1,0 +1,351 @@
+// What the databases of a script hold behind some of its items, worked out of the items and of the last lines of their replies alone.
+
+use crate::script::parts;
+use std::alloc::{AllocError, Global};
+use std::collections::BTreeMap;
+use std::mem;
+
+// So many sessions are counted, from 0.
+const SESSIONS: usize = 33;
+
+// A database, or what a set holds of one.
+#[derive(Drop)]
+enum Held {
+    // It is down, in this word.
+    Down(String),
+    // It has no table.
+    Bare,
+    // The rows of its table by key.
+    Rows(BTreeMap<u64, String>),
+}
+
+impl Held {
+    fn copy(&self, alloc: Global) -> Result<Self, AllocError> {
+        match self {
+            Held::Down(word) => Ok(Held::Down(String::from_str(alloc, word.as_str())?)),
+            Held::Bare => Ok(Held::Bare),
+            Held::Rows(rows) => Ok(Held::Rows(rows.clone()?)),
+        }
+    }
+
+    // What a SELECT shows of it.
+    fn show(&self, out: &mut String) -> Result<(), AllocError> {
+        match self {
+            Held::Down(word) => writeln!(out, "Refused 5 NotOnline {word}"),
+            Held::Bare => out.push_str("Refused 7 NoSuchTable\n"),
+            Held::Rows(rows) => show_rows(rows, out),
+        }
+    }
+}
+
+fn show_rows(rows: &BTreeMap<u64, String>, out: &mut String) -> Result<(), AllocError> {
+    for (key, value) in rows.iter() {
+        writeln!(out, "{key}\t{value}")?;
+    }
+    let count = rows.len();
+    writeln!(out, "({count} rows)")
+}
+
+// A row that a transaction wrote, or that is gone by it.
+#[derive(Drop)]
+struct Write {
+    key: u64,
+    value: Option<String>,
+}
+
+impl Write {
+    fn apply(&self, alloc: Global, rows: &mut BTreeMap<u64, String>) -> Result<(), AllocError> {
+        match &self.value {
+            Some(value) => {
+                let value = String::from_str(alloc, value.as_str())?;
+                rows.insert(self.key, value)?;
+            }
+            None => {
+                rows.remove(&self.key);
+            }
+        }
+        Ok(())
+    }
+}
+
+// A session: the name of its database, and what its transaction wrote there.
+#[derive(Drop)]
+struct Session {
+    current: String,
+    is_open: bool,
+    writes: Vec<Write>,
+}
+
+/// The databases, the sets by their paths, and the sessions.
+#[derive(Drop)]
+pub struct Plain {
+    alloc: Global,
+    databases: BTreeMap<String, Held>,
+    sets: BTreeMap<String, Held>,
+    sessions: Vec<Session>,
+    session: usize,
+}
+
+// What stands in a text between two others; nothing where these aren't there.
+fn between<'a>(text: &'a str, front: &str, end: &str) -> &'a str {
+    let Some((_, rest)) = text.split_once(front) else {
+        return "";
+    };
+    match rest.split_once(end) {
+        Some((inside, _)) => inside,
+        None => "",
+    }
+}
+
+fn key_in(words: &str, front: &str, end: &str) -> u64 {
+    between(words, front, end).parse().unwrap_or(0)
+}
+
+// The text or the path of an item.
+fn text_in(words: &str) -> &str {
+    between(words, "'", "'")
+}
+
+/// The database that an item names.
+pub fn database_in(words: &str) -> &str {
+    between(words, "DATABASE ", " ")
+}
+
+impl Plain {
+    fn new(alloc: Global) -> Result<Self, AllocError> {
+        let mut sessions = Vec::new(alloc);
+        for _ in 0..SESSIONS {
+            sessions.push(Session {
+                current: String::new(alloc),
+                is_open: false,
+                writes: Vec::new(alloc),
+            })?;
+        }
+        Ok(Plain {
+            alloc,
+            databases: BTreeMap::new(alloc),
+            sets: BTreeMap::new(alloc),
+            sessions,
+            session: 1,
+        })
+    }
+
+    /// Behind scripts that were run, and the front of one with so many items that are answered.
+    pub fn behind(
+        alloc: Global,
+        before: &str,
+        script: &str,
+        answered: usize,
+    ) -> Result<Self, AllocError> {
+        let mut plain = Plain::new(alloc)?;
+        let done = plain.take_both(before, script, answered);
+        match done {
+            Ok(()) => Ok(plain),
+            Err(error) => {
+                drop(plain);
+                Err(error)
+            }
+        }
+    }
+
+    fn take_both(&mut self, before: &str, script: &str, answered: usize) -> Result<(), AllocError> {
+        self.take_front(before, usize::MAX)?;
+        self.take_front(script, answered)
+    }
+
+    fn take_front(&mut self, script: &str, answered: usize) -> Result<(), AllocError> {
+        let mut left = answered;
+        for line in script.lines() {
+            let (item, reply) = parts(line);
+            if reply.is_some() {
+                if left == 0 {
+                    break;
+                }
+                left -= 1;
+            }
+            self.take(item, reply.unwrap_or(""))?;
+        }
+        Ok(())
+    }
+
+    // One item more, whose reply ends with this line.
+    fn take(&mut self, item: &str, reply: &str) -> Result<(), AllocError> {
+        if reply == "(0 rows)" || reply.starts_with("Refused ") {
+            return Ok(());
+        }
+        let (verb, words) = item.split_once(' ').unwrap_or((item, ""));
+        match verb {
+            "CREATE" => self.create(words),
+            "DROP" => {
+                self.databases.remove(between(words, "DATABASE ", ";"));
+                Ok(())
+            }
+            "BACKUP" => self.back_up(database_in(words), text_in(words)),
+            "RESTORE" => self.restore(database_in(words), text_in(words)),
+            _ => self.take_in_session(verb, words),
+        }
+    }
+
+    fn take_in_session(&mut self, verb: &str, words: &str) -> Result<(), AllocError> {
+        match verb {
+            ":session" => {
+                self.session = words.parse().unwrap_or(0);
+                Ok(())
+            }
+            ":run" => {
+                self.end_run();
+                Ok(())
+            }
+            "USE" => self.turn(words.strip_suffix(";").unwrap_or("")),
+            "INSERT" => self.write(key_in(words, "(", ","), Some(text_in(words))),
+            "UPDATE" => self.write(key_in(words, "k = ", ";"), Some(text_in(words))),
+            "DELETE" => self.write(key_in(words, "k = ", ";"), None),
+            "BEGIN" => {
+                self.set_open(true);
+                Ok(())
+            }
+            "COMMIT;" => self.commit(),
+            "ROLLBACK;" => {
+                self.roll_back();
+                Ok(())
+            }
+            _ => Ok(()),
+        }
+    }
+
+    fn create(&mut self, words: &str) -> Result<(), AllocError> {
+        if words.starts_with("DATABASE ") {
+            return self.set_database(database_in(words), Held::Bare);
+        }
+        let Some(session) = self.sessions.get(self.session) else {
+            return Ok(());
+        };
+        let name = String::from_str(self.alloc, session.current.as_str())?;
+        let rows = Held::Rows(BTreeMap::new(self.alloc));
+        self.databases.insert(name, rows)?;
+        Ok(())
+    }
+
+    fn set_database(&mut self, name: &str, held: Held) -> Result<(), AllocError> {
+        let name = String::from_str(self.alloc, name)?;
+        self.databases.insert(name, held)?;
+        Ok(())
+    }
+
+    /// A database is down, in this word.
+    pub fn bring_down(&mut self, name: &str, word: &str) -> Result<(), AllocError> {
+        let word = String::from_str(self.alloc, word)?;
+        self.set_database(name, Held::Down(word))
+    }
+
+    fn back_up(&mut self, name: &str, path: &str) -> Result<(), AllocError> {
+        let Some(held) = self.databases.get(name) else {
+            return Ok(());
+        };
+        let held = held.copy(self.alloc)?;
+        let path = String::from_str(self.alloc, path)?;
+        self.sets.insert(path, held)?;
+        Ok(())
+    }
+
+    fn restore(&mut self, name: &str, path: &str) -> Result<(), AllocError> {
+        let Some(held) = self.sets.get(path) else {
+            return Ok(());
+        };
+        let held = held.copy(self.alloc)?;
+        self.set_database(name, held)
+    }
+
+    fn turn(&mut self, name: &str) -> Result<(), AllocError> {
+        let name = String::from_str(self.alloc, name)?;
+        if let Some(session) = self.sessions.get_mut(self.session) {
+            session.current = name;
+        }
+        Ok(())
+    }
+
+    // No session has a database or a transaction any more.
+    fn end_run(&mut self) {
+        self.session = 1;
+        for session in self.sessions.iter_mut() {
+            session.current.clear();
+            session.is_open = false;
+            session.writes.clear();
+        }
+    }
+
+    fn set_open(&mut self, is_open: bool) {
+        if let Some(session) = self.sessions.get_mut(self.session) {
+            session.is_open = is_open;
+        }
+    }
+
+    // A write of the session's transaction, or of one of its own.
+    fn write(&mut self, key: u64, value: Option<&str>) -> Result<(), AllocError> {
+        let value = match value {
+            Some(value) => Some(String::from_str(self.alloc, value)?),
+            None => None,
+        };
+        let Some(session) = self.sessions.get_mut(self.session) else {
+            return Ok(());
+        };
+        session.writes.push(Write { key, value })?;
+        if session.is_open {
+            return Ok(());
+        }
+        self.commit()
+    }
+
+    // What the session's transaction wrote; it has none any more.
+    fn roll_back(&mut self) -> Vec<Write> {
+        self.set_open(false);
+        let none = Vec::new(self.alloc);
+        match self.sessions.get_mut(self.session) {
+            Some(session) => mem::replace(&mut session.writes, none),
+            None => none,
+        }
+    }
+
+    fn commit(&mut self) -> Result<(), AllocError> {
+        let writes = self.roll_back();
+        let Some(session) = self.sessions.get(self.session) else {
+            return Ok(());
+        };
+        let Some(Held::Rows(rows)) = self.databases.get_mut(session.current.as_str()) else {
+            return Ok(());
+        };
+        for write in &writes {
+            write.apply(self.alloc, rows)?;
+        }
+        Ok(())
+    }
+
+    /// What a look shows: the replies to the USE and the SELECT in each of its lines.
+    pub fn shown(&self, look: &str) -> Result<String, AllocError> {
+        let mut text = String::new(self.alloc);
+        let mut current = String::new(self.alloc);
+        for line in look.lines() {
+            self.show_line(between(line, "USE ", ";"), &mut current, &mut text)?;
+        }
+        Ok(text)
+    }
+
+    // The replies to a USE of this name, behind which it is the current one if it is there, and to a SELECT.
+    fn show_line(
+        &self,
+        name: &str,
+        current: &mut String,
+        out: &mut String,
+    ) -> Result<(), AllocError> {
+        if self.databases.contains_key(name) {
+            *current = String::from_str(self.alloc, name)?;
+            out.push_str("Done.\n")?;
+        } else {
+            out.push_str("Refused 3 NoSuchDatabase\n")?;
+        }
+        match self.databases.get(current.as_str()) {
+            Some(held) => held.show(out),
+            None => out.push_str("Refused 3 NoSuchDatabase\n"),
+        }
+    }
+}
