@@ -1,0 +1,205 @@
+-- What reading the file, making it and adding a row come to.
+use Rattle.std.proofs.Common.{◌≡◌, ◌⊎◌, ◌≤◌, ◌+◌, ℕ, Bool, true, false, List, [], ◌∷◌, ◌++◌, length, map, take, max, Option, Some, None, refl, inl, inr, sym, ap, subst, ◌∙◌, arith, lit<}
+use Rattle.std.specs.Prelude.{slice_get}
+use Rattle.std.proofs.lemmas.List.{length-map, take_all, take_more}
+use Rattle.std.proofs.lemmas.Option.{get_or_from_slice_get, slice_get_within}
+use Rattle.bk_device.specs.Calls.{contents, written, LeavesWrite, ChangesNothing}
+use Rattle.bk_device.specs.Compose.{effect_then, effect_weaken, effect_none, keeps_by_nothing}
+use Rattle.bk_device.specs.Disk.{Files, Disk, IsDurable}
+use Rattle.bk_device.specs.Effects.{Effect, IsName}
+use Rattle.bk_device.specs.Laws.{durable_by_nothing, torn-contents}
+use Rattle.bk_gate.specs.Blobs.{sealed, spans_of, part_of, IsGateFile}
+use Rattle.bk_gate.specs.BlobLaws.{ended_spans, foreign_blobs, no_blobs, short_blob}
+use Rattle.bk_gate.specs.Gate.{IsGate, Kept as KeptGate}
+use Rattle.bk_gate.specs.Laws.{blobs_are, gate_kept, gate_left}
+use Rattle.bk_gate.specs.Opened.{IsOpened, opened_stands}
+use Rattle.bk_msdb.specs.declared.row.Row.{Row}
+use Rattle.bk_msdb.specs.Laws.{foreign_shown, msdb_left, row_shown, shows_same, with_blobs_behind}
+use Rattle.bk_msdb.specs.Msdb.{Adds, IsBegun, IsMsdb, IsReady, IsUnmade, Kept, Shows, empty_file, msdb_file, tables_of, with_blob, with_blobs}
+use Rattle.bk_msdb.specs.Rows.{Tables, no_rows, with_row}
+use Rattle.bk_msdb.specs.Spelling.{read_row}
+
+-- ---- making the file
+
+nothing_sealed : sealed None ≡ []
+nothing_sealed = no_blobs [] (ended_spans [] (short_blob [] 16 (lit< tt)))
+
+-- what a write of so few bytes leaves of an absent file has no blob
+torn_empty : (n : ℕ) (file before : Option (List ℕ)) → n ≡ 17 → before ≡ None → LeavesWrite 0 n before file → sealed file ≡ []
+torn_empty n file before is gone leaves =
+    let torn = torn-contents 0 n before file leaves in
+    let empty : length (contents before) ≡ 0 = ap (λ (f : Option (List ℕ)). length (contents f)) gone in
+    let longest : length (contents file) ≤ max (length (contents before)) (0 + n) = torn.no_longer in
+    no_blobs (contents file) (ended_spans (contents file) (short_blob (contents file) 16 (omega (arith, longest, empty, is))))
+
+-- a crash leaves what it might have left, or no blob
+abbrev pub IsBefore : List ℕ → Disk → Files → Type 0
+IsBefore name a image = a.may name (image name) ⊎ (sealed (image name) ≡ [])
+
+-- the old file was removed
+pub made_removed : (name : List ℕ) (a b : Disk) → Effect (IsName name) (λ image. a.may name (image name) ⊎ (image name ≡ None)) a b → Effect (IsName name) (IsBefore name a) a b
+made_removed name a b effect = effect_weaken (λ image either. elim either [ inl before ↦ inl before | inr none ↦ inr (ap sealed none ∙ nothing_sealed) ]) effect
+
+-- and the new one written
+pub made_written : (n : ℕ) (name : List ℕ) (a b c : Disk) → n ≡ 17 → Effect (IsName name) (λ image. a.may name (image name) ⊎ (image name ≡ None)) a b → b.files name ≡ None → Effect (IsName name) (λ image. LeavesWrite 0 n (b.files name) (image name)) b c → Effect (IsName name) (IsBefore name a) a c
+made_written n name a b c is first gone second =
+    effect_then (made_removed name a b first) (effect_weaken (λ image leaves. inr (torn_empty n (image name) (b.files name) is gone leaves)) second)
+
+-- its bytes
+pub made_file : (name : List ℕ) (b c : Disk) → b.files name ≡ None → c.files name ≡ Some (written (contents (b.files name)) 0 empty_file) → c.files name ≡ Some empty_file
+made_file name b c gone wrote = wrote ∙ ap (λ (file : Option (List ℕ)). Some (written (contents file) 0 empty_file)) gone
+
+-- the gate of a file that was made stands
+pub made_gate : {gate : KeptGate} (name : List ℕ) (c : Disk) → name ≡ gate.name → IsOpened empty_file gate → c.files name ≡ Some empty_file → IsDurable c name → IsGate c gate
+made_gate {gate = gate} name c is opened made durable =
+    let file : contents (c.files gate.name) ≡ empty_file = ap (λ (n : List ℕ). contents (c.files n)) (sym is) ∙ ap contents made in
+    let Opened : List ℕ → Type 0 = λ f. IsOpened f gate in
+    let Durable : List ℕ → Type 0 = λ n. IsDurable c n in
+    opened_stands (subst Opened (sym file) opened) (subst Durable is durable)
+
+-- it has no blob, as before
+pub made_sealed : (name given : List ℕ) (a c : Disk) → given ≡ name → sealed (a.files name) ≡ [] → c.files given ≡ Some empty_file → sealed (c.files name) ≡ sealed (a.files name)
+made_sealed name given a c is none made =
+    let size : sealed (Some empty_file) ≡ [] = no_blobs empty_file (ended_spans empty_file (short_blob empty_file 16 (lit< tt))) in
+    ap (λ (n : List ℕ). sealed (c.files n)) (sym is) ∙ ap sealed made ∙ size ∙ sym none
+
+-- so each crash leaves the blobs that there were
+pub made_same : (name given : List ℕ) (a c : Disk) → given ≡ name → IsDurable a name → sealed (a.files name) ≡ [] → Effect (IsName given) (IsBefore given a) a c → Effect (IsName name) (λ image. sealed (image name) ≡ sealed (a.files name)) a c
+made_same name given a c is durable none effect =
+    let At : List ℕ → Type 0 = λ n. Effect (IsName n) (IsBefore n a) a c in
+    effect_weaken (λ image either. elim either [ inl before ↦ ap sealed (durable (image name) before) | inr nothing ↦ nothing ∙ sym none ]) (subst At is effect)
+
+-- where the file is made already nothing is done
+pub still_same : (a : Disk) (gate : KeptGate) → IsGate a gate → Effect (IsName gate.name) (λ image. sealed (image gate.name) ≡ sealed (a.files gate.name)) a a
+still_same a gate is = effect_none a (λ image mine. gate_left (image gate.name) is (mine gate.name refl))
+
+-- which of the two it is
+pub is_made_gate : (a : Disk) (gate : KeptGate) (is_made : Bool) → is_made ≡ true → IsReady a gate is_made → IsGate a gate
+is_made_gate a gate is_made is ready = let Ready : Bool → Type 0 = λ b. IsReady a gate b in subst Ready is ready
+
+pub is_unmade_gate : (a : Disk) (gate : KeptGate) (is_made : Bool) → is_made ≡ false → IsReady a gate is_made → IsUnmade a gate
+is_unmade_gate a gate is_made is ready = let Ready : Bool → Type 0 = λ b. IsReady a gate b in subst Ready is ready
+
+-- ---- a blob that is sealed
+
+abbrev pub Keeps : List ℕ → Disk → Files → Type 0
+Keeps name a image = sealed (image name) ≡ sealed (a.files name)
+
+abbrev pub Grows : List ℕ → List ℕ → Disk → Files → Type 0
+Grows name bytes a image = Keeps name a image ⊎ (sealed (image name) ≡ sealed (a.files name) ++ bytes ∷ [])
+
+-- the file is seen to, and then the blob sealed
+pub sealed_crash : (name bytes : List ℕ) (a b c : Disk) → sealed (b.files name) ≡ sealed (a.files name) → Effect (IsName name) (Keeps name a) a b → Effect (IsName name) (Grows name bytes b) b c → Effect (IsName name) (Grows name bytes a) a c
+sealed_crash name bytes a b c same first second =
+    effect_then (effect_weaken (λ image kept. inl kept) first)
+    (effect_weaken (λ image either. elim either [
+      | inl kept ↦ inl (kept ∙ same)
+      | inr grown ↦ inr (grown ∙ ap (λ (blobs : List (List ℕ)). blobs ++ bytes ∷ []) same)
+    ]) second)
+
+-- the spare is no part of what stands
+pub ready_reserved : (a : Disk) (gate : KeptGate) (spare : ℕ) (is_made : Bool) → IsReady a gate is_made → IsReady a (record gate { spare = spare }) is_made
+ready_reserved a gate spare true ready = record { at = ready.at; room = ready.room }
+ready_reserved a gate spare false ready = record { opened = record { stands = ready.opened.stands; shut = ready.opened.shut; none = ready.opened.none }; durable = ready.durable; none = ready.none }
+
+-- ---- a row that is added
+
+-- a crash leaves the tables without the row or with it
+pub added_crash : (name bytes : List ℕ) (row : Row) (tables : Tables) (a c : Disk) → name ≡ msdb_file → Shows a.files tables → read_row bytes ≡ Some row → Effect (IsName name) (Grows name bytes a) a c → Effect (IsName msdb_file) (Adds tables row) a c
+unfolding tables_of
+added_crash name bytes row tables a c is shows reads effect =
+    let At : List ℕ → Type 0 = λ n. Effect (IsName n) (Grows n bytes a) a c in
+    effect_weaken (λ image either. elim either [
+      | inl kept ↦ inl (ap (with_blobs no_rows) kept ∙ shows)
+      | inr grown ↦ inr (row_shown (a.files msdb_file) (image msdb_file) bytes row grown reads ∙ ap (λ (t : Tables). with_row t row) shows)
+    ]) (subst At is effect)
+
+-- the tables with the row stand
+pub added_stands : (a c : Disk) (old new : KeptGate) (bytes : List ℕ) (row : Row) (tables after : Tables) → old.name ≡ msdb_file → new.name ≡ old.name → Shows a.files tables → read_row bytes ≡ Some row → after ≡ with_row tables row
+    → sealed (c.files old.name) ≡ sealed (a.files old.name) ++ bytes ∷ [] → IsGate c new → IsMsdb c (record { gate = record new { spare = 0 }; is_made = true; tables = after; failed = false })
+added_stands a c old new bytes row tables after was is shows reads more grown gate =
+    let Grown : List ℕ → Type 0 = λ n. sealed (c.files n) ≡ sealed (a.files n) ++ bytes ∷ [] in
+    record {
+      name = is ∙ was;
+      ready = record { at = gate.at; room = gate.room };
+      shows = row_shown (a.files msdb_file) (c.files msdb_file) bytes row (subst Grown was grown) reads ∙ ap (λ (t : Tables). with_row t row) shows ∙ sym more;
+    }
+
+-- more room leaves what is seen of the value
+pub seen_same : (gate reserved : KeptGate) (is_made : Bool) (tables after : Tables) (failed : Bool) → reserved ≡ record gate { spare = reserved.spare } → after ≡ tables
+    → ◌≡◌ {A = Kept} (record { gate = record reserved { spare = 0 }; is_made = is_made; tables = after; failed = failed }) (record { gate = record gate { spare = 0 }; is_made = is_made; tables = tables; failed = failed })
+seen_same gate reserved is_made tables after failed same is = λ i. record { gate = record (same i) { spare = 0 }; is_made = is_made; tables = is i; failed = failed }
+
+-- where nothing was done, each crash leaves the tables
+pub add_none : {a : Disk} {kept : Kept} (row : Row) → IsMsdb a kept → Effect (IsName msdb_file) (Adds kept.tables row) a a
+add_none {a = a} row is = effect_none a (λ image mine. inl (msdb_left image is mine))
+
+-- the gate with more room is as ready
+pub ready_at : (a : Disk) (gate reserved : KeptGate) (is_made : Bool) → reserved ≡ record gate { spare = reserved.spare } → IsReady a (record gate { spare = 0 }) is_made → IsReady a reserved is_made
+ready_at a gate reserved is_made same ready = let Ready : KeptGate → Type 0 = λ k. IsReady a k is_made in subst Ready (sym same) (ready_reserved a (record gate { spare = 0 }) reserved.spare is_made ready)
+
+-- the file is under its name
+pub durable_there : (c : Disk) (name : List ℕ) → name ≡ msdb_file → IsDurable c name → IsDurable c msdb_file
+durable_there c name is durable = let Durable : List ℕ → Type 0 = λ n. IsDurable c n in subst Durable is durable
+
+-- ---- reading the rows
+
+-- one blob more
+pub read_more : (file : Option (List ℕ)) (i : ℕ) (blob : List ℕ) (tables : Tables) → slice_get (sealed file) i ≡ Some blob → tables ≡ with_blobs no_rows (take i (sealed file)) → with_blob tables blob ≡ with_blobs no_rows (take (i + 1) (sealed file))
+read_more file i blob tables there are =
+    let front : take (i + 1) (sealed file) ≡ take i (sealed file) ++ blob ∷ [] =
+    take_more (sealed file) i blob (slice_get_within (sealed file) i blob there) ∙ ap (λ (b : List ℕ). take i (sealed file) ++ b ∷ []) (get_or_from_slice_get (sealed file) i blob blob there) in
+    ap (λ (t : Tables). with_blob t blob) are ∙ sym (with_blobs_behind no_rows (take i (sealed file)) (blob ∷ [])) ∙ ap (with_blobs no_rows) (sym front)
+
+-- all of them
+pub read_all : (file : Option (List ℕ)) (spans : List (ℕ × ℕ)) (i : ℕ) (tables : Tables) → IsGateFile (contents file) → spans ≡ spans_of (contents file) → length spans ≤ i → tables ≡ with_blobs no_rows (take i (sealed file)) → tables_of file ≡ tables
+unfolding tables_of
+read_all file spans i tables gate are end is =
+    let blobs : sealed file ≡ map (part_of (contents file)) spans = blobs_are (contents file) spans gate are in
+    let count : length (sealed file) ≡ length spans = ap length blobs ∙ length-map spans (part_of (contents file)) in
+    sym (is ∙ ap (with_blobs no_rows) (take_all i (sealed file) (omega (arith, count, end))))
+
+-- ---- what was opened
+
+-- the blobs of a gate lie where they lay
+pub spans_there : {a b : Disk} (gate : KeptGate) (name : List ℕ) → gate.name ≡ name → ChangesNothing a b → gate.spans ≡ spans_of (contents (a.files name)) → gate.spans ≡ spans_of (contents (b.files gate.name))
+spans_there {b = b} gate name is call are = are ∙ ap (λ (file : Option (List ℕ)). spans_of (contents file)) (sym (ap b.files is ∙ call.files name))
+
+pub gate_there : {a b : Disk} (gate : KeptGate) (name : List ℕ) → gate.name ≡ name → ChangesNothing a b → IsGateFile (contents (a.files name)) → IsGateFile (contents (b.files gate.name))
+gate_there {b = b} gate name is call at = let Gate : Option (List ℕ) → Type 0 = λ file. IsGateFile (contents file) in subst Gate (sym (ap b.files is ∙ call.files name)) at
+
+-- the rows in the file of a gate
+pub read_shows : (files : Files) (gate : KeptGate) (tables : Tables) → gate.name ≡ msdb_file → tables_of (files gate.name) ≡ tables → Shows files tables
+read_shows files gate tables is are = ap (λ (name : List ℕ). tables_of (files name)) (sym is) ∙ are
+
+-- stand where the gate does
+pub read_stands : {a b : Disk} {gate : KeptGate} (tables : Tables) → gate.name ≡ msdb_file → ChangesNothing a b → IsGate a gate → tables_of (a.files gate.name) ≡ tables → IsMsdb b (record { gate = record gate { spare = 0 }; is_made = true; tables = tables; failed = false })
+read_stands {a = a} {b = b} {gate = gate} tables is call stands are = record {
+  name = is;
+  ready = ready_reserved b gate 0 true (gate_kept (keeps_by_nothing call) stands);
+  shows = shows_same a.files b.files tables (call.files msdb_file) (read_shows a.files gate tables is are);
+}
+
+-- no row stands where the file is no gate file
+pub begun_stands : {a b : Disk} {kept : Kept} → IsBegun kept → ChangesNothing a b → IsDurable a msdb_file → (IsGateFile (contents (a.files msdb_file)) → ⊥) → IsMsdb b kept
+begun_stands {a = a} {b = b} {kept = kept} is call durable foreign =
+    let Durable : List ℕ → Type 0 = λ n. IsDurable b n in
+    let Ready : Bool → Type 0 = λ is_made. IsReady b kept.gate is_made in
+    let unmade : IsUnmade b kept.gate = record {
+      opened = is.opened;
+      durable = subst Durable (sym is.name) (durable_by_nothing msdb_file call durable);
+      none = ap sealed (ap b.files is.name ∙ call.files msdb_file) ∙ foreign_blobs (contents (a.files msdb_file)) foreign;
+    } in
+    record {
+      name = is.name;
+      ready = subst Ready (sym is.unmade) unmade;
+      shows = ap tables_of (call.files msdb_file) ∙ foreign_shown (a.files msdb_file) foreign ∙ sym is.none;
+    }
+
+-- and none is shown there
+pub begun_shows : (files : Files) {kept : Kept} → IsBegun kept → (IsGateFile (contents (files msdb_file)) → ⊥) → Shows files kept.tables
+begun_shows files is foreign = foreign_shown (files msdb_file) foreign ∙ sym is.none
+
+-- the spare is no part of how it was opened
+pub opened_reserved : {gate : KeptGate} (file : List ℕ) (spare : ℕ) → IsOpened file gate → IsOpened file (record gate { spare = spare })
+opened_reserved file spare is = record { stands = is.stands; shut = is.shut; none = is.none }

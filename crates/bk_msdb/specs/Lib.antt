@@ -1,0 +1,4 @@
+pub mod Laws
+pub mod Msdb
+pub mod Rows
+pub mod Spelling
