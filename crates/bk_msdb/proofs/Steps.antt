@@ -125,10 +125,9 @@ added_stands a c old new bytes row tables after was is shows reads more grown ga
       shows = row_shown (a.files msdb_file) (c.files msdb_file) bytes row (subst Grown was grown) reads ∙ ap (λ (t : Tables). with_row t row) shows ∙ sym more;
     }
 
--- more room leaves what is seen of the value
-pub seen_same : (gate reserved : KeptGate) (is_made : Bool) (tables after : Tables) (failed : Bool) → reserved ≡ record gate { spare = reserved.spare } → after ≡ tables
-    → ◌≡◌ {A = Kept} (record { gate = record reserved { spare = 0 }; is_made = is_made; tables = after; failed = failed }) (record { gate = record gate { spare = 0 }; is_made = is_made; tables = tables; failed = failed })
-seen_same gate reserved is_made tables after failed same is = λ i. record { gate = record (same i) { spare = 0 }; is_made = is_made; tables = is i; failed = failed }
+-- more room leaves the name
+pub same_name : (gate reserved : KeptGate) → reserved ≡ record gate { spare = reserved.spare } → reserved.name ≡ gate.name
+same_name gate reserved same = ap (λ (k : KeptGate). k.name) same
 
 -- where nothing was done, each crash leaves the tables
 pub add_none : {a : Disk} {kept : Kept} (row : Row) → IsMsdb a kept → Effect (IsName msdb_file) (Adds kept.tables row) a a
@@ -145,11 +144,12 @@ durable_there c name is durable = let Durable : List ℕ → Type 0 = λ n. IsDu
 -- ---- reading the rows
 
 -- one blob more
-pub read_more : (file : Option (List ℕ)) (i : ℕ) (blob : List ℕ) (tables : Tables) → slice_get (sealed file) i ≡ Some blob → tables ≡ with_blobs no_rows (take i (sealed file)) → with_blob tables blob ≡ with_blobs no_rows (take (i + 1) (sealed file))
-read_more file i blob tables there are =
+pub read_more : (file : Option (List ℕ)) (i : ℕ) (blob read : List ℕ) (tables after : Tables) → after ≡ with_blob tables read → read ≡ blob → slice_get (sealed file) i ≡ Some blob → tables ≡ with_blobs no_rows (take i (sealed file)) → after ≡ with_blobs no_rows (take (i + 1) (sealed file))
+read_more file i blob read tables after put same there are =
     let front : take (i + 1) (sealed file) ≡ take i (sealed file) ++ blob ∷ [] =
     take_more (sealed file) i blob (slice_get_within (sealed file) i blob there) ∙ ap (λ (b : List ℕ). take i (sealed file) ++ b ∷ []) (get_or_from_slice_get (sealed file) i blob blob there) in
-    ap (λ (t : Tables). with_blob t blob) are ∙ sym (with_blobs_behind no_rows (take i (sealed file)) (blob ∷ [])) ∙ ap (with_blobs no_rows) (sym front)
+    let blobs : with_blob tables blob ≡ with_blobs no_rows (take i (sealed file) ++ blob ∷ []) = ap (λ (t : Tables). with_blob t blob) are ∙ sym (with_blobs_behind no_rows (take i (sealed file)) (blob ∷ [])) in
+    put ∙ ap (with_blob tables) same ∙ blobs ∙ ap (with_blobs no_rows) (sym front)
 
 -- all of them
 pub read_all : (file : Option (List ℕ)) (spans : List (ℕ × ℕ)) (i : ℕ) (tables : Tables) → IsGateFile (contents file) → spans ≡ spans_of (contents file) → length spans ≤ i → tables ≡ with_blobs no_rows (take i (sealed file)) → tables_of file ≡ tables

@@ -2,7 +2,6 @@ use Rattle.std.proofs.Common.{◌≡◌, List, ℕ, Option, Some, refl, sym, ap,
 use Rattle.std.specs.Prelude.{slice_get}
 use Rattle.bk_device.specs.Laws.{nothing_yet, nothing_then, cause_then}
 use Rattle.bk_gate.specs.Blobs.{sealed}
-use Rattle.bk_msdb.specs.Msdb.{with_blob}
 use Rattle.bk_msdb.proofs.Steps.{gate_there, read_all, read_more, spans_there}
 use Rattle.bk_msdb.proofs.opening.read_tables.Goals as goal
 
@@ -31,8 +30,7 @@ loop-i-preserved g c = record {
   tables = λ t.
       let there : slice_get (sealed ((g.D.Device.disk c.args.dev.now).files c.args.gate.now.name)) c.loop-i.i ≡ Some c.in_ok-bytes.bytes.items =
       ap (λ (file : Option (List ℕ)). slice_get (sealed file) c.loop-i.i) (sym ((c.loop-i.invariant.nothing t).files c.args.gate.now.name)) ∙ c.in_ok-bytes.ensures.bytes t in
-      c.in_ok-read.ensures ∙ ap (with_blob c.loop-i.tables) c.deref.ensures.value
-      ∙ read_more ((g.D.Device.disk c.args.dev.now).files c.args.gate.now.name) c.loop-i.i c.in_ok-bytes.bytes.items c.loop-i.tables there (c.loop-i.invariant.tables t);
+      read_more ((g.D.Device.disk c.args.dev.now).files c.args.gate.now.name) c.loop-i.i c.in_ok-bytes.bytes.items c.deref.result.now c.loop-i.tables c.read.new.self c.in_ok-read.ensures c.deref.ensures.value there (c.loop-i.invariant.tables t);
   cause = cause_then c.loop-i.invariant.cause c.read_blob.ensures.cause (λ none. absurd none);
 }
 
