@@ -1,6 +1,5 @@
 -- Lines of cells.
 use Rattle.std.specs.Prelude.{ℕ, Bool, true, false, List, [], ◌∷◌, ◌++◌, codes, Option, Some, None}
-use Rattle.std.specs.Fmt.{decimal}
 use Rattle.bk_report.specs.Times.{time_text}
 
 -- cells, joined by tabs

@@ -14,6 +14,7 @@ const LATEST: u64 = 253_402_300_799_999;
 /// What stands where there is nothing.
 pub const NULL: &str = "NULL";
 
+/// 1 where it is set, else 0.
 pub fn flag(is_set: bool) -> &'static str
     ensures { result.now ≡ spec.flag is_set }
 {
@@ -37,6 +38,7 @@ pub fn maybe_text(text: &Option<Text>) -> &str
     }
 }
 
+/// The text of a time in milliseconds since 1970-01-01 00:00:00 UTC; one above the last of 9999 is that one.
 pub fn time(alloc: Global, ms: u64) -> Result<String, AllocError>
     ensures { IfOk result (λ text. string_bytes text ≡ time_text ms) }
 {

@@ -1,6 +1,6 @@
 //! The databases of an instance.
 
-ghost use Rattle.std.specs.Prelude.{◌≡◌, ◌++◌, OnOk};
+ghost use Rattle.std.specs.Prelude.{◌≡◌, ◌++◌, OnOk, OnErr};
 ghost use Rattle.std.specs.String.{string_bytes};
 ghost use Rattle.bk_report.specs.Databases.{database_line};
 ghost use Rattle.bk_report.specs.Databases as spec;
@@ -26,7 +26,8 @@ pub fn push_database(
     name: &Name,
     status: Option<StatusWord>,
 ) -> Result<(), AllocError>
-    ensures { OnOk result (string_bytes text.new ≡ string_bytes text.old ++ database_line name.now status) }
+    ensures ok { OnOk result (string_bytes text.new ≡ string_bytes text.old ++ database_line name.now status) }
+    ensures err { OnErr result (string_bytes text.new ≡ string_bytes text.old) }
 {
     let name = name.as_str();
     let status = state_word(status);

@@ -1,6 +1,6 @@
 //! The files of a backup set.
 
-ghost use Rattle.std.specs.Prelude.{◌≡◌, ◌++◌, OnOk, flat_map, slice_get};
+ghost use Rattle.std.specs.Prelude.{◌≡◌, ◌++◌, OnOk, OnErr, flat_map, slice_get};
 ghost use Rattle.std.specs.String.{string_bytes};
 ghost use Rattle.bk_report.specs.Cells.{maybe_text};
 ghost use Rattle.bk_report.specs.Files.{file_line, file_lines, log_line, valid_line};
@@ -78,7 +78,8 @@ pub fn push_files(alloc: Global, text: &mut String, header: &Header) -> Result<(
 
 /// Adds what RESTORE VERIFYONLY says of a set that is whole. Where memory is wanting, the text is as it was.
 pub fn push_valid(alloc: Global, text: &mut String, position: u32) -> Result<(), AllocError>
-    ensures { OnOk result (string_bytes text.new ≡ string_bytes text.old ++ valid_line position) }
+    ensures ok { OnOk result (string_bytes text.new ≡ string_bytes text.old ++ valid_line position) }
+    ensures err { OnErr result (string_bytes text.new ≡ string_bytes text.old) }
 {
     text.push_str(&format!(in alloc; "Set {position} is valid.\n")?)?;
     Ok(())

@@ -1,6 +1,6 @@
 //! What was restored and marked.
 
-ghost use Rattle.std.specs.Prelude.{◌≡◌, ◌++◌, IfOk, OnOk};
+ghost use Rattle.std.specs.Prelude.{◌≡◌, ◌++◌, IfOk, OnOk, OnErr};
 ghost use Rattle.std.specs.String.{string_bytes};
 ghost use Rattle.bk_report.specs.Cells.{maybe_text};
 ghost use Rattle.bk_report.specs.Histories.{mark_line, restore_line};
@@ -48,7 +48,8 @@ pub fn push_restore(
     id: u64,
     row: &RestoreRow,
 ) -> Result<(), AllocError>
-    ensures { OnOk result (string_bytes text.new ≡ string_bytes text.old ++ restore_line id row.now) }
+    ensures ok { OnOk result (string_bytes text.new ≡ string_bytes text.old ++ restore_line id row.now) }
+    ensures err { OnErr result (string_bytes text.new ≡ string_bytes text.old) }
 {
     let restored = restored_cells(alloc, row)?;
     let asked = asked_cells(alloc, row)?;
@@ -67,7 +68,8 @@ fn description_text(description: &Option<Description>) -> &str
 
 /// Adds a row of logmarkhistory. Where memory is wanting, the text is as it was.
 pub fn push_mark(alloc: Global, text: &mut String, row: &MarkRow) -> Result<(), AllocError>
-    ensures { OnOk result (string_bytes text.new ≡ string_bytes text.old ++ mark_line row.now) }
+    ensures ok { OnOk result (string_bytes text.new ≡ string_bytes text.old ++ mark_line row.now) }
+    ensures err { OnErr result (string_bytes text.new ≡ string_bytes text.old) }
 {
     let database = row.database.as_str();
     let mark = row.mark.name.as_str();

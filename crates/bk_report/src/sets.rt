@@ -1,6 +1,6 @@
 //! Backup sets.
 
-ghost use Rattle.std.specs.Prelude.{◌≡◌, ◌++◌, IfOk, OnOk};
+ghost use Rattle.std.specs.Prelude.{◌≡◌, ◌++◌, IfOk, OnOk, OnErr};
 ghost use Rattle.std.specs.String.{string_bytes};
 ghost use Rattle.bk_report.specs.Sets.{header_line, backup_line};
 ghost use Rattle.bk_report.specs.Sets as spec;
@@ -21,6 +21,7 @@ fn type_number(kind: SetKind) -> &'static str
     }
 }
 
+/// The type of a set, as the tables of msdb have it.
 pub fn type_letter(kind: SetKind) -> &'static str
     ensures { result.now ≡ spec.type_letter kind }
 {
@@ -178,29 +179,30 @@ fn columns(alloc: Global, kind: &str, position: u32, header: &Header) -> Result<
     format!(in alloc; "{set}\t{log}\t{forks}\t{flags}\t{dates}")
 }
 
-/// Adds the line of RESTORE HEADERONLY for the set at a position. Where memory is wanting, the text may have a part of it.
+/// Adds the line of RESTORE HEADERONLY for the set at a position. Where memory is wanting, the text is as it was.
 pub fn push_header(
     alloc: Global,
     text: &mut String,
     position: u32,
     header: &Header,
 ) -> Result<(), AllocError>
-    ensures { OnOk result (string_bytes text.new ≡ string_bytes text.old ++ header_line position header.now) }
+    ensures ok { OnOk result (string_bytes text.new ≡ string_bytes text.old ++ header_line position header.now) }
+    ensures err { OnErr result (string_bytes text.new ≡ string_bytes text.old) }
 {
     let columns = columns(alloc, type_number(header.kind), position, header)?;
-    text.push_str(&columns)?;
-    text.push_str("\n")?;
+    text.push_str(&format!(in alloc; "{columns}\n")?)?;
     Ok(())
 }
 
-/// Adds a row of backupset, by its number in the table from 1. Where memory is wanting, the text may have a part of it.
+/// Adds a row of backupset, by its number in the table from 1. Where memory is wanting, the text is as it was.
 pub fn push_backup(
     alloc: Global,
     text: &mut String,
     id: u64,
     row: &BackupRow,
 ) -> Result<(), AllocError>
-    ensures { OnOk result (string_bytes text.new ≡ string_bytes text.old ++ backup_line id row.now) }
+    ensures ok { OnOk result (string_bytes text.new ≡ string_bytes text.old ++ backup_line id row.now) }
+    ensures err { OnErr result (string_bytes text.new ≡ string_bytes text.old) }
 {
     let kind = type_letter(row.header.kind);
     let columns = columns(alloc, kind, row.position, &row.header)?;
