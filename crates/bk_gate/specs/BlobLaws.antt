@@ -404,21 +404,21 @@ written_part at k n f x inside within =
     ∙ ap (λ (m : ℕ). take n (drop k (take m (drop at w)))) whole
     ∙ ap (λ (r : List ℕ). take n (drop k r)) (read_at-written at f x inside)
 
--- all of it, written at once
-pub laid_at_once : (end : ℕ) (bytes f : List ℕ) → end < length f → length bytes < 2 ^ 64 → IsLaid end bytes (written f (end + 1) (number_bytes (length bytes) ++ (bytes ++ 0 ∷ [])))
-laid_at_once end bytes f inside small =
-    let x : List ℕ = number_bytes (length bytes) ++ (bytes ++ 0 ∷ []) in
+-- all of it and more behind it, written at once
+pub laid_at_once : (end : ℕ) (bytes more f : List ℕ) → end < length f → length bytes < 2 ^ 64 → IsLaid end bytes (written f (end + 1) (number_bytes (length bytes) ++ (bytes ++ 0 ∷ more)))
+laid_at_once end bytes more f inside small =
+    let x : List ℕ = number_bytes (length bytes) ++ (bytes ++ 0 ∷ more) in
     let w : List ℕ = written f (end + 1) x in
     let eight : length (number_bytes (length bytes)) ≡ 8 = length-number_bytes (length bytes) in
-    let total : length x ≡ 9 + length bytes = simp (length-append, length-append) (omega (arith, eight)) in
+    let total : length x ≡ 9 + length bytes + length more = simp (length-append, length-append) (omega (arith, eight)) in
     let from : end + 1 ≤ length f = omega (arith, inside) in
     let long : length w ≡ max (length f) (end + 1 + length x) = written-length (end + 1) f x from in
     let blob_at_nine : end + 1 + 8 ≡ end + 9 = omega arith in
     let gate_behind : end + 1 + (8 + length bytes) ≡ end + 9 + length bytes = omega arith in
-    let behind : drop 8 x ≡ bytes ++ 0 ∷ [] = drop_at (number_bytes (length bytes)) (bytes ++ 0 ∷ []) 8 eight in
-    let last : drop (8 + length bytes) x ≡ 0 ∷ [] = sym (drop-drop (length bytes) 8 x) ∙ ap (drop (length bytes)) behind ∙ drop_at bytes (0 ∷ []) (length bytes) refl in
+    let behind : drop 8 x ≡ bytes ++ 0 ∷ more = drop_at (number_bytes (length bytes)) (bytes ++ 0 ∷ more) 8 eight in
+    let last : drop (8 + length bytes) x ≡ 0 ∷ more = sym (drop-drop (length bytes) 8 x) ∙ ap (drop (length bytes)) behind ∙ drop_at bytes (0 ∷ more) (length bytes) refl in
     let size : read_at w (end + 1) 8 ≡ number_bytes (length bytes) =
-    sym (take-take 8 (length x) (drop (end + 1) w) (omega (arith, total))) ∙ ap (take 8) (read_at-written (end + 1) f x from) ∙ take_at (number_bytes (length bytes)) (bytes ++ 0 ∷ []) 8 eight in
+    sym (take-take 8 (length x) (drop (end + 1) w) (omega (arith, total))) ∙ ap (take 8) (read_at-written (end + 1) f x from) ∙ take_at (number_bytes (length bytes)) (bytes ++ 0 ∷ more) 8 eight in
     let closed : slice_index w (end + 9 + length bytes) ≡ 0 =
     byte_read (end + 9 + length bytes) 0 w (ap (λ (p : ℕ). read_at w p 1) (sym gate_behind) ∙ written_part (end + 1) (8 + length bytes) 1 f x from (omega (arith, total)) ∙ ap (take 1) last) in
     record {
@@ -427,7 +427,7 @@ laid_at_once end bytes f inside small =
         inside = omega (arith, long, total);
         closed = λ open_. absurd (omega (arith, closed, open_));
       };
-      blob = ap (λ (p : ℕ). read_at w p (length bytes)) (sym blob_at_nine) ∙ written_part (end + 1) 8 (length bytes) f x from (omega (arith, total)) ∙ ap (take (length bytes)) behind ∙ take_at bytes (0 ∷ []) (length bytes) refl;
+      blob = ap (λ (p : ℕ). read_at w p (length bytes)) (sym blob_at_nine) ∙ written_part (end + 1) 8 (length bytes) f x from (omega (arith, total)) ∙ ap (take (length bytes)) behind ∙ take_at bytes (0 ∷ more) (length bytes) refl;
     }
 
 -- it lies so once each of the three was put where it belongs

@@ -142,8 +142,25 @@ const SHORT: usize = 65_527;
 // The room in which they are put together, of 64 KiB.
 const ROOM: usize = SHORT + 9;
 
-// Writes a blob of at most SHORT bytes behind the closed gate byte at the end, with its length and a closed gate byte, at once
-// and durably.
+// A file grows by so many bytes at once: a write that doesn't make a file longer is durable sooner.
+const STEP: usize = 16_384;
+
+// How many bytes of the room are written: up to the end of a step, as far as they go.
+fn laid_len(end: u64, len: usize) -> usize
+    requires { len ≤ 65527 }
+    ensures whole { 9 + len ≤ result }
+    ensures fits { result ≤ 65536 }
+{
+    let least = len + 9;
+    let over = ((end % STEP as u64) as usize + 1 + least) % STEP;
+    if over == 0 {
+        return least;
+    }
+    (least + (STEP - over)).min(ROOM)
+}
+
+// Writes a blob of at most SHORT bytes behind the closed gate byte at the end, with its length, a closed gate byte and zeros up to
+// the end of a step, at once and durably.
 fn lay_short<D: Device>(dev: &mut D, name: &str, end: u64, bytes: &[u8]) -> Result<(), Failed>
     requires short { length bytes.now ≤ 65527 }
     requires quiet { D.tells → (spans : List (ℕ × ℕ)) × Quiet spans end name.now (D.disk dev.old) }
@@ -162,7 +179,7 @@ fn lay_short<D: Device>(dev: &mut D, name: &str, end: u64, bytes: &[u8]) -> Resu
         name,
         end,
         end.saturating_add(1),
-        &room[..9 + bytes.len()],
+        &room[..laid_len(end, bytes.len())],
     )?;
     settle(dev, name, end)?;
     Ok(())

@@ -1,4 +1,5 @@
-use Rattle.std.proofs.Common.{◌≡◌, ◌+◌, ◌++◌, ◌∷◌, [], ◌∙◌, take, length, ap, sym, subst, arith, List, ℕ, refl}
+use Rattle.std.proofs.Common.{◌≡◌, ◌+◌, ◌++◌, ◌∷◌, [], ◌∙◌, take, drop, length, append_assoc, ap, sym, subst, arith, List, ℕ, refl}
+use Rattle.std.proofs.lemmas.List.{take-take, take-append-drop}
 use Rattle.bk_device.specs.Calls.{contents, written}
 use Rattle.bk_lemmas.specs.Numbers.{number_bytes}
 use Rattle.bk_gate.specs.BlobLaws.{laid_at_once}
@@ -13,12 +14,19 @@ returns-clause-laid g c t =
     let name = c.args.name.now in
     let bytes = c.args.bytes.now in
     let before = contents ((disk c.args.dev.now).files name) in
+    let room = c.put_all.new.room in
+    let least : ℕ = 9 + length bytes in
+    let n : ℕ = c.laid_len.result in
+    let more : List ℕ = drop least (take n room) in
     let at : c.saturating_add.result ≡ c.args.end + 1 = omega (arith, c.in_ok-append.ensures.small, c.saturating_add.ensures) in
-    let file : contents ((disk c.settle.new.dev).files name) ≡ written before (c.args.end + 1) (number_bytes (length bytes) ++ (bytes ++ 0 ∷ [])) =
-    ap contents (c.in_ok-settle.ensures.same t) ∙ ap contents (c.in_ok-append.ensures.written t) ∙ ap (λ (p : ℕ). written before p (take (9 + length bytes) c.put_all.new.room)) at ∙ ap (written before (c.args.end + 1)) c.put_all.ensures in
+    let front : take least (take n room) ≡ number_bytes (length bytes) ++ (bytes ++ 0 ∷ []) = take-take least n room c.laid_len.ensures.whole ∙ c.put_all.ensures in
+    let put : take n room ≡ number_bytes (length bytes) ++ (bytes ++ 0 ∷ more) =
+    sym (take-append-drop least (take n room)) ∙ ap (λ (xs : List ℕ). xs ++ more) front ∙ append_assoc (number_bytes (length bytes)) (bytes ++ 0 ∷ []) more ∙ ap (λ (xs : List ℕ). number_bytes (length bytes) ++ xs) (append_assoc bytes (0 ∷ []) more) in
+    let file : contents ((disk c.settle.new.dev).files name) ≡ written before (c.args.end + 1) (number_bytes (length bytes) ++ (bytes ++ 0 ∷ more)) =
+    ap contents (c.in_ok-settle.ensures.same t) ∙ ap contents (c.in_ok-append.ensures.written t) ∙ ap (λ (p : ℕ). written before p (take n room)) at ∙ ap (written before (c.args.end + 1)) put in
     let quiet = c.requires.quiet t in
     let Laid : List ℕ → Type 0 = IsLaid c.args.end bytes in
-    subst Laid (sym file) (laid_at_once c.args.end bytes before quiet.1.inside (omega (arith, c.requires.short)))
+    subst Laid (sym file) (laid_at_once c.args.end bytes more before quiet.1.inside (omega (arith, c.requires.short)))
 
 pub append-requires-clause-behind : goal.append-requires-clause-behind
 append-requires-clause-behind g c small = omega (arith, small, c.saturating_add.ensures)
