@@ -18,7 +18,7 @@ pub use log_laws::{
     settling, sound_logs,
 };
 pub use msdb::{BackupRow, MarkRow, RestoreKind, RestoreRow};
-pub use reply::Reply;
+pub use reply::{Listing, Reply};
 pub use row::PlacedRow;
 pub use rule::{Limit, Rule, StatusWord};
 pub use transaction::Open;

@@ -1,5 +1,23 @@
+use crate::database::Storage;
+use crate::header::Header;
+use crate::msdb::{BackupRow, MarkRow, RestoreRow};
 use crate::rule::Rule;
 use bk_ids::{Lsn, Sequence, Value};
+
+/// What is listed, a line of columns each.
+#[derive(Debug, Drop)]
+pub enum Listing {
+    /// Sets of a medium, each with its position from 1.
+    Sets { sets: Sequence<(u64, Header)> },
+    /// The data files and the log of the database of a set.
+    Files { storage: Storage },
+    /// The rows of backupset.
+    Backups { rows: Sequence<BackupRow> },
+    /// The rows of restorehistory.
+    Restores { rows: Sequence<RestoreRow> },
+    /// The rows of logmarkhistory.
+    Marks { rows: Sequence<MarkRow> },
+}
 
 /// What is answered to a statement.
 #[derive(Debug, Drop)]
@@ -23,6 +41,16 @@ pub enum Reply {
         first: Lsn,
         checkpoint: Lsn,
         last: Lsn,
+    },
+    /// A backup was started.
+    JobStarted,
+    /// The set at this position can be read.
+    Valid {
+        position: u64,
+    },
+    /// What was asked for.
+    Listed {
+        listing: Listing,
     },
     /// The database was recovered, and shows what was committed below this number.
     Recovered {

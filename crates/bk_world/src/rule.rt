@@ -23,6 +23,8 @@ pub enum Limit {
     Key,
     /// The transaction has 1,024 writes.
     Writes,
+    /// The medium has 65,535 sets.
+    Sets,
     /// Log records or GUIDs are used up, but for those that what is never refused may need.
     Lsn,
 }
@@ -40,6 +42,7 @@ impl Limit {
             Limit::Tables => "TABLES",
             Limit::Key => "KEY",
             Limit::Writes => "WRITES",
+            Limit::Sets => "SETS",
             Limit::Lsn => "LSN",
         }
     }
@@ -100,6 +103,10 @@ pub enum Rule {
     InTransaction,
     /// The session has no open transaction.
     NoTransaction,
+    /// A backup of the database runs.
+    JobRunning,
+    /// No backup of the session's current database runs.
+    NoJob,
     /// There is no file at the medium's path.
     MediaMissing,
     /// The file is no medium, or what stands at the position is no backup set.
@@ -114,6 +121,8 @@ pub enum Rule {
     OtherFamily { database: Guid, set: Guid },
     /// Log records from `archive` to below `end` weren't backed up, and would be lost.
     TailNotBackedUp { archive: Lsn, end: Lsn },
+    /// The set doesn't name this file.
+    UnitNotInSet { unit: Text },
     /// The recovery path has 64 branches, and can take no more.
     PathFull,
     /// A data file of another database has this path, or two data files of the database would have it; or two of its data files or filegroups would have this name.
@@ -150,6 +159,8 @@ impl Rule {
             }
             Rule::InTransaction => String::from_str(alloc, "16 InTransaction"),
             Rule::NoTransaction => String::from_str(alloc, "17 NoTransaction"),
+            Rule::JobRunning => String::from_str(alloc, "23 JobRunning"),
+            Rule::NoJob => String::from_str(alloc, "24 NoJob"),
             Rule::MediaMissing => String::from_str(alloc, "30 MediaMissing"),
             Rule::NotMedia => String::from_str(alloc, "31 NotMedia"),
             Rule::NoSuchSet { position, count } => {
@@ -160,6 +171,10 @@ impl Rule {
             Rule::OtherFamily { database, set } => family_text(alloc, *database, *set),
             Rule::TailNotBackedUp { archive, end } => {
                 format!(in alloc; "37 TailNotBackedUp {archive} {end}")
+            }
+            Rule::UnitNotInSet { unit } => {
+                let unit = unit.as_str();
+                format!(in alloc; "48 UnitNotInSet {unit}")
             }
             Rule::PathFull => String::from_str(alloc, "52 PathFull 64"),
             Rule::FileInUse { what } => {
