@@ -76,3 +76,22 @@ pub fn read_page<D: Device>(
         None => Ok(false),
     }
 }
+
+// Reads a page. Answers whether it is whole in its data file.
+pub fn read_plain<D: Device>(
+    dev: &mut D,
+    names: &[Text],
+    file: u16,
+    number: u32,
+    page: &mut Page,
+) -> Result<bool, Failed>
+    ensures short { D.tells → IfOk result (λ is_whole. is_whole ≡ false → IsSound (page_of names.now (D.disk dev.old).files (file, number)) → ⊥) }
+    ensures page { D.tells → IfOk result (λ is_whole. is_whole ≡ true → page.new ≡ page_of names.now (D.disk dev.old).files (file, number)) }
+    ensures effect { D.tells → ChangesNothing (D.disk dev.old) (D.disk dev.new) }
+    ensures cause { HasCause D.disk_faults D.tell_faults dev.old dev.new (IsErr result) }
+{
+    match name_of(names, file) {
+        Some(name) => read_whole(dev, name, number, page),
+        None => Ok(false),
+    }
+}

@@ -14,7 +14,7 @@ use crate::error::SideError;
 use crate::finishing::{finish, settle};
 use crate::making::make_file;
 use crate::name::{data_files, name_of, side_file};
-use crate::reading::read_page;
+use crate::reading::{read_page, read_plain};
 use bk_device::{Device, Failed, remove_durably};
 use bk_frames::Page;
 use bk_gate::Gate;
@@ -148,6 +148,25 @@ impl Side {
     {
         let is_sound = read_page(dev, &self.names, file, number, page)?;
         Ok(is_sound)
+    }
+
+    /// Reads a page, whatever digest it stores. Answers whether it is whole in its data file: then its bytes stand in the buffer,
+    /// which may else hold anything. Changes nothing.
+    pub fn read_plain<D: Device>(
+        &self,
+        dev: &mut D,
+        file: u16,
+        number: u32,
+        page: &mut Page,
+    ) -> Result<bool, Failed>
+        requires { D.tells → IsSide (D.disk dev.old) self.now }
+        ensures short { D.tells → IfOk result (λ is_whole. is_whole ≡ false → IsSound (pages_of self.now (D.disk dev.old).files (file, number)) → ⊥) }
+        ensures page { D.tells → IfOk result (λ is_whole. is_whole ≡ true → page.new ≡ pages_of self.now (D.disk dev.old).files (file, number)) }
+        ensures effect { D.tells → ChangesNothing (D.disk dev.old) (D.disk dev.new) }
+        ensures cause { HasCause D.disk_faults D.tell_faults dev.old dev.new (IsErr result) }
+    {
+        let is_whole = read_plain(dev, &self.names, file, number, page)?;
+        Ok(is_whole)
     }
 
     /// Makes a data file of so many pages, each as it is before any log record, in place of what was there. There is a data file of
