@@ -34,12 +34,10 @@ fn check_size(copy: &[u8]) -> Result<(), CopyError>
     Ok(())
 }
 
-/// Copies a data extent as of the end into `copy`, in place of what was there, and adds it to a set that has no log yet. Where no frame of the store is clean, what waited is made durable and all
-/// changed pages are written first.
+/// Copies a data extent as of the end into `copy`, in place of what was there, and adds it to a set that has no log yet.
 ///
 /// After an error the store is no longer used, and the set is removed.
 pub fn copy_extent<D: Device>(
-    alloc: Global,
     dev: &mut D,
     store: &mut Store,
     staged: &mut Staged,
@@ -68,7 +66,7 @@ pub fn copy_extent<D: Device>(
     ensures touches { D.tells → TouchesBoth store.old staged.old (D.disk dev.old) (D.disk dev.new) }
     ensures cause { HasCause D.disk_faults D.tell_faults dev.old dev.new (IsErrOf result CopyError.Fault) }
 {
-    store.read_extent(alloc, dev, at.file, at.extent, copy)?;
+    store.read_extent(dev, at.file, at.extent, copy)?;
     check_size(copy)?;
     staged.add_extent(dev, at.file, at.extent, copy)?;
     Ok(())
@@ -107,7 +105,7 @@ pub fn copy_extents<D: Device>(
 {
     let mut copy = Vec::new(alloc);
     for i in 0..extents.len() {
-        copy_extent(alloc, dev, store, staged, extents[i], &mut copy)?;
+        copy_extent(dev, store, staged, extents[i], &mut copy)?;
     }
     Ok(())
 }

@@ -63,7 +63,7 @@ pub side_shown : (p : Kept) (stood : Stood) (a : Disk) → IsPaged a p stood →
 side_shown p stood a is at =
     ap₂ (λ (s : List ℕ) (ns : List (List ℕ)). shown s ns a.files (at.file, at.page)) is.standing.side_name (is.standing.side_names ∙ ap names_of is.files)
 
-there_too : (p : Kept) (stood : Stood) (a : Disk) (at : PageAt) → IsPaged a p stood → IsThere p.facts.files at → IsThere stood.files at
+pub there_too : (p : Kept) (stood : Stood) (a : Disk) (at : PageAt) → IsPaged a p stood → IsThere p.facts.files at → IsThere stood.files at
 there_too p stood a at is there = subst (λ (fs : List DataFile). IsThere fs at) is.files there
 
 pub page_sound : (p : Kept) (stood : Stood) (a : Disk) (at : PageAt) → IsPaged a p stood → IsThere p.facts.files at → IsSound (pages_of p.side a.files (at.file, at.page))

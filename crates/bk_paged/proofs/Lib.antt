@@ -1,6 +1,7 @@
 mod Adding
 mod Batching
 mod Changing
+mod Copied
 mod Fetching
 mod Made
 mod Noting

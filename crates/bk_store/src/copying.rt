@@ -56,7 +56,6 @@ impl Store {
     // A page as of the end, with its digest.
     fn copy_page<D: Device>(
         &mut self,
-        alloc: Global,
         dev: &mut D,
         file: u16,
         page: u32,
@@ -76,16 +75,15 @@ impl Store {
         ensures touches { D.tells → Touches self.old.paged (D.disk dev.old) (D.disk dev.new) }
         ensures cause { HasCause D.disk_faults D.tell_faults dev.old dev.new (IsErrOf result StoreError.Fault) }
     {
-        let bytes = self.paged.copy_page(alloc, dev, file, page)?;
+        let bytes = self.paged.copy_page(dev, file, page)?;
         Ok(bytes)
     }
 
     /// Copies an extent of a data file into `copy`, in place of what was there: the 65,536 bytes of its eight pages as of the end, each with its digest. Extents count from 1, up to 4,096, and
-    /// `pages` says how many pages there are. Where no frame is clean, what waited is made durable and all changed pages are written first. A crash leaves what was durable, or some more of what
-    /// was said.
+    /// `pages` says how many pages there are. Pages that weren't changed since they were written are copied as their data file has them. A crash leaves what was durable, or some more of what was
+    /// said.
     pub fn read_extent<D: Device>(
         &mut self,
-        alloc: Global,
         dev: &mut D,
         file: u16,
         extent: u32,
@@ -110,7 +108,7 @@ impl Store {
         self.at_rest(dev);
         copy.clear();
         'pages: for i in 0..8 {
-            let bytes = self.copy_page(alloc, dev, file, page_in(extent, i))?;
+            let bytes = self.copy_page(dev, file, page_in(extent, i))?;
             copy.extend_from_slice(&bytes)?;
         }
         Ok(())

@@ -131,7 +131,7 @@ pub(crate) fn add_extent(
         return Ok(());
     }
     let mut copy = Vec::new(alloc);
-    store.read_extent(alloc, device, file, extent, &mut copy)?;
+    store.read_extent(device, file, extent, &mut copy)?;
     add_copy(&copy, file, extent, gave)?;
     Ok(())
 }

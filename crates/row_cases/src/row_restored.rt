@@ -47,7 +47,7 @@ fn add_extent(
         return Ok(());
     }
     let mut copy = Vec::new(alloc);
-    store.read_extent(alloc, device, file, extent, &mut copy)?;
+    store.read_extent(device, file, extent, &mut copy)?;
     pages.extend_from_slice(&copy)?;
     Ok(())
 }
