@@ -14,8 +14,9 @@ use Rattle.bk_pool.specs.Laws.{slice_get-set_other, slice_get-set_same}
 use Rattle.bk_pool.specs.Pool.{IsAbsent, IsIn, Pool}
 use Rattle.bk_pool.specs.Sound.{HoldsPage}
 use Rattle.bk_redo.specs.declared.place.PageAt.{PageAt}
+use Rattle.bk_side.specs.Pages.{IsSound}
 use Rattle.bk_paged.specs.Names.{IsThere, pages_in}
-use Rattle.bk_opening.specs.Opening.{ArePlaces, AreRead, IsBefore, ArePut, Marks}
+use Rattle.bk_opening.specs.Opening.{ArePlaces, AreRead, AreSound, IsBefore, ArePut, Marks}
 use Rattle.bk_paged.specs.Pooled.{IsPool}
 
 -- ---- elements
@@ -207,6 +208,34 @@ read_more shown places n old new at page was is held inside are read same_page i
   where
     lower : (i ≡ n → ⊥) → i < n
     lower differs = elim (cases_lt i n) [ inl less ↦ less | inr least ↦ absurd (differs (omega (arith, below, least))) ]
+
+-- ---- pages that are checked in frames
+
+pub sound_more : (n : ℕ) (frames : List (List ℕ)) (page : List ℕ) → AreSound n frames → slice_get frames n ≡ Some page → IsSound page → AreSound (n + 1) frames
+sound_more n frames page is held sound i below = elim (cases_lt i n) [
+  | inl less ↦ is i less
+  | inr least ↦
+      let same : n ≡ i = omega (arith, below, least) in
+      subst (λ (k : ℕ). IsSound (slice_index_or frames k [])) same (subst IsSound (sym (get_or_from_slice_get frames n page [] held)) sound)
+]
+
+-- frames hold sound pages where the pages that were read into them are
+pub sound_read : (shown : ℕ × ℕ → List ℕ) (places : List PageAt) (frames : List (List ℕ)) → AreRead shown places (length places) frames
+    → ((i : ℕ) (at : PageAt) → slice_get places i ≡ Some at → IsSound (shown (at.file, at.page))) → AreSound (length places) frames
+sound_read shown places frames read all i below =
+    let at : PageAt = slice_index_or places i (record { file = 0; page = 0 }) in
+    let held : slice_get places i ≡ Some at = slice_get-get_or places i (record { file = 0; page = 0 }) below in
+    subst IsSound (sym (read i at below held)) (all i at held)
+
+-- and all pages of the data files are where the frames do
+pub all_sound : (files listed : List DataFile) (places one : List PageAt) (shown : ℕ × ℕ → List ℕ) (frames : List (List ℕ)) → listed ≡ files → ArePlaces listed (length listed + 1) 0 places → one ≡ places
+    → AreRead shown one (length one) frames → AreSound (length one) frames → (at : PageAt) → IsThere files at → IsSound (shown (at.file, at.page))
+all_sound files listed places one shown frames same are first read sound at there =
+    let held = places_all listed places at are (subst (λ (fs : List DataFile). IsThere fs at) (sym same) there) in
+    let below : held.0 < length places = slice_get_within places held.0 at held.1 in
+    let are_read : AreRead shown places (length places) frames = subst (λ (ps : List PageAt). AreRead shown ps (length ps) frames) first read in
+    let are_sound : AreSound (length places) frames = subst (λ (ps : List PageAt). AreSound (length ps) frames) first sound in
+    subst IsSound (are_read held.0 at below held.1) (are_sound held.0 below)
 
 -- ---- frames that are marked
 

@@ -11,6 +11,7 @@ use Rattle.bk_paths.specs.Paths.{IsPath, end_of, kept_from}
 use Rattle.bk_pool.specs.Pool.{IsIn, Pool}
 use Rattle.bk_record.specs.Log.{IsLog}
 use Rattle.bk_redo.specs.declared.place.PageAt.{PageAt}
+use Rattle.bk_side.specs.Pages.{IsSound}
 use Rattle.bk_paged.specs.Holds.{IsStored, Stood}
 use Rattle.bk_paged.specs.Names.{IsOwn, IsThere}
 use Rattle.bk_paged.specs.Paged.{Kept}
@@ -33,6 +34,10 @@ pub record ArePut (places : List PageAt) (n : ℕ) (pages : List (Option (ℕ ×
 -- the first n frames hold these pages as files show them
 abbrev pub AreRead : (ℕ × ℕ → List ℕ) → List PageAt → ℕ → List (List ℕ) → Type 0
 AreRead shown places n frames = (i : ℕ) (at : PageAt) → i < n → slice_get places i ≡ Some at → slice_index_or frames i [] ≡ shown (at.file, at.page)
+
+-- the pages in the first n frames are whole, and each stores its digest
+abbrev pub AreSound : ℕ → List (List ℕ) → Type 0
+AreSound n frames = (i : ℕ) → i < n → IsSound (slice_index_or frames i [])
 
 -- Of the first n frames those are dirty whose page has this number or a higher one, and each of their pages is whole. All else but marks is as it was.
 pub record Marks (from n : ℕ) (old new : Pool) : Type 0 where

@@ -1,12 +1,12 @@
 // Reading all pages into a pool, and bringing them to the end.
-ghost use Rattle.std.specs.Prelude.{◌≡◌, ◌≢◌, ◌≤◌, ◌<◌, ◌⊎◌, ◌+◌, ◌^◌, [], ℕ, List, None, Some, true, length, slice_get, slice_set, slice_index_or, IfOk, OnOk, IsErrOf};
+ghost use Rattle.std.specs.Prelude.{◌≡◌, ◌≢◌, ◌≤◌, ◌<◌, ◌⊎◌, ◌+◌, ◌^◌, [], ℕ, List, None, Some, true, length, slice_get, slice_set, slice_index_or, IfOk, OnOk, IsErrOf, MatchBool};
 ghost use Rattle.std.specs.List.{AllPairs};
 ghost use Rattle.bk_device.specs.Calls.{ChangesNothing};
 ghost use Rattle.bk_device.specs.Counts.{HasCause};
 ghost use Rattle.bk_ids.specs.declared.record.Rec.{Rec};
-ghost use Rattle.bk_page.specs.Page.{lsn_of};
+ghost use Rattle.bk_page.specs.Page.{lsn_of, page_digest};
 ghost use Rattle.bk_paged.specs.Names.{IsThere};
-ghost use Rattle.bk_opening.specs.Opening.{AreIn, ArePlaces, AreRead, Brings, ArePut, Marks};
+ghost use Rattle.bk_opening.specs.Opening.{AreIn, ArePlaces, AreRead, AreSound, Brings, ArePut, Marks};
 ghost use Rattle.bk_paged.specs.Paged.{IsDirty, IsLast};
 ghost use Rattle.bk_paged.specs.Pooled.{IsPool};
 ghost use Rattle.bk_paths.specs.Pages.{last_page};
@@ -23,7 +23,7 @@ use bk_device::Device;
 use bk_facts::{DataFile, Facts};
 use bk_frames::{Frames, Page};
 use bk_ids::Lsn;
-use bk_page::page_lsn;
+use bk_page::{page_digests, page_lsn};
 use bk_paged::{PagedError, pages_in};
 use bk_paths::pages_law;
 use bk_pool::Pool;
@@ -73,7 +73,7 @@ fn pool_of(alloc: Global, places: &[PageAt]) -> Result<Pool, AllocError>
     Ok(pool)
 }
 
-// Reads a page. `Foreign` is answered where it isn't whole.
+// Reads a page, whatever digest it stores. `Foreign` is answered where it isn't whole.
 fn read_frame<D: Device>(
     dev: &mut D,
     side: &Side,
@@ -87,13 +87,13 @@ fn read_frame<D: Device>(
     ensures effect { D.tells → ChangesNothing (D.disk dev.old) (D.disk dev.new) }
     ensures cause { HasCause D.disk_faults D.tell_faults dev.old dev.new (IsErrOf result PagedError.Fault) }
 {
-    if !side.read(dev, at.file, at.page, page)? {
+    if !side.read_plain(dev, at.file, at.page, page)? {
         return Err(PagedError::Foreign);
     }
     Ok(())
 }
 
-// Reads pages into frames, one after the other. `Foreign` is answered where one isn't whole.
+// Reads pages into frames, one after the other, whatever digests they store. `Foreign` is answered where one isn't whole.
 fn read_frames<D: Device>(
     dev: &mut D,
     side: &Side,
@@ -113,6 +113,57 @@ fn read_frames<D: Device>(
         read_frame(dev, side, places[i], frames.page_mut(i))?;
     }
     Ok(())
+}
+
+// Whether a page stores its digest, which is given. The page is whole.
+fn is_sound(page: &Page, digest: &[u8; 32]) -> bool
+    requires { digest.now ≡ page_digest page.now }
+    ensures { MatchBool result (IsSound page.now) (IsSound page.now → ⊥) }
+{
+    page[32..64] == digest[..]
+}
+
+// Checks the pages in the first frames, on as many threads as there are processors. `Foreign` is answered where one doesn't store its digest.
+fn check_frames<R: Threads + Sync>(
+    rt: &R,
+    alloc: Global,
+    frames: &Frames,
+    count: usize,
+) -> Result<(), PagedError>
+    requires { count ≤ length frames.now }
+    ensures sound { OnOk result (AreSound count frames.now) }
+    ensures foreign { IsErrOf result PagedError.Foreign → AreSound count frames.now → ⊥ }
+    ensures fault { IsErrOf result PagedError.Fault → ⊥ }
+{
+    let digests = page_digests(rt, alloc, frames)?;
+    for i in 0..count {
+        if !is_sound(frames.page(i), &digests[i]) {
+            return Err(PagedError::Foreign);
+        }
+    }
+    Ok(())
+}
+
+// Reads pages into frames, one after the other, and then checks them all. `Foreign` is answered where one isn't whole or doesn't store its digest.
+fn load_frames<R: Threads + Sync, D: Device>(
+    rt: &R,
+    alloc: Global,
+    dev: &mut D,
+    side: &Side,
+    places: &[PageAt],
+    frames: &mut Frames,
+) -> Result<(), PagedError>
+    requires enough { length places.now ≤ length frames.old }
+    requires stands { D.tells → IsSide (D.disk dev.old) side.now }
+    ensures size { length frames.new ≡ length frames.old }
+    ensures read { D.tells → OnOk result (AreRead (pages_of side.now (D.disk dev.old).files) places.now (length places.now) frames.new) }
+    ensures sound { OnOk result (AreSound (length places.now) frames.new) }
+    ensures foreign { D.tells → IsErrOf result PagedError.Foreign → ((i : ℕ) (at : At) → slice_get places.now i ≡ Some at → IsSound (pages_of side.now (D.disk dev.old).files (at.file, at.page))) → ⊥ }
+    ensures effect { D.tells → ChangesNothing (D.disk dev.old) (D.disk dev.new) }
+    ensures cause { HasCause D.disk_faults D.tell_faults dev.old dev.new (IsErrOf result PagedError.Fault) }
+{
+    read_frames(dev, side, places, frames)?;
+    check_frames(rt, alloc, frames, places.len())
 }
 
 // Redoes pages in frames by the records of a log from a number on and below another. `Foreign` is answered where the bytes are no log.
@@ -176,7 +227,7 @@ fn mark_pages(pool: &mut Pool, from: Lsn)
 
 // A pool with all pages of data files, brought to the end by a log of these bytes from the latest checkpoint on. Each page that isn't as of the end in its file is dirty.
 //
-// `Foreign` is answered where a page isn't whole, or the bytes are no log.
+// `Foreign` is answered where a page isn't whole or doesn't store its digest, or the bytes are no log.
 pub fn open_pool<R: Threads + Sync, D: Device>(
     rt: &R,
     alloc: Global,
@@ -193,6 +244,7 @@ pub fn open_pool<R: Threads + Sync, D: Device>(
         → IfOk result (λ pool. (i : ℕ) (at : At) → IsIn pool.pages i at.file at.page → IsThere facts.now.files at × IsLast records at (slice_index_or pool.frames i [])) }
     ensures clean { D.tells → (records : List Rec) → Brings facts.now (pages_of side.now (D.disk dev.old).files) log.now end records
         → IfOk result (λ pool. (at : At) → IsThere facts.now.files at → (IsDirty pool at → ⊥) → page_of (pages_of side.now (D.disk dev.old).files (at.file, at.page)) ≡ last_page at records) }
+    ensures sound { D.tells → IfOk result (λ pool. (at : At) → IsThere facts.now.files at → IsSound (pages_of side.now (D.disk dev.old).files (at.file, at.page))) }
     ensures foreign { D.tells → IsErrOf result PagedError.Foreign → (records : List Rec) → Brings facts.now (pages_of side.now (D.disk dev.old).files) log.now end records → length facts.now.files < 2 ^ 16 → ⊥ }
     ensures effect { D.tells → ChangesNothing (D.disk dev.old) (D.disk dev.new) }
     ensures cause { HasCause D.disk_faults D.tell_faults dev.old dev.new (IsErrOf result PagedError.Fault) }
@@ -200,7 +252,7 @@ pub fn open_pool<R: Threads + Sync, D: Device>(
     pages_law();
     let places = places_of(alloc, facts.files.as_slice())?;
     let mut pool = pool_of(alloc, &places)?;
-    read_frames(dev, side, &places, pool.frames())?;
+    load_frames(rt, alloc, dev, side, &places, pool.frames())?;
     redo_frames(
         rt,
         alloc,
