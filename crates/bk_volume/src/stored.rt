@@ -31,6 +31,15 @@ impl StoredSet {
         &self.front.header
     }
 
+    /// Its header, for the set itself. It takes no memory.
+    pub fn into_header(self) -> Header
+        ensures { result ≡ self.header }
+    {
+        let StoredSet { front, .. } = self;
+        let Front { header, .. } = front;
+        header
+    }
+
     /// The tables of its database.
     pub fn tables(&self) -> &[TableSpec]
         ensures { result.now ≡ self.now.tables }
