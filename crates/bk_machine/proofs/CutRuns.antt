@@ -6,7 +6,7 @@ use Rattle.bk_world.specs.Cut.{settled}
 use Rattle.bk_lemmas.specs.Lists.{all_both}
 use Rattle.bk_world.specs.Records.{Logged}
 use Rattle.bk_world.specs.declared.database.Status.TheVariants.{Online}
-use Rattle.bk_machine.specs.Acts.{Act, turned, seated, created, dropped, logged, medium_made, set_sealed, based, replaced, restored, recovered, done, done_all}
+use Rattle.bk_machine.specs.Acts.{Act, turned, seated, created, dropped, logged, medium_made, set_drawn, set_sealed, based, replaced, restored, recovered, done, done_all}
 use Rattle.bk_machine.specs.Crash.{CutsRun, IsQuiet, Leaves, WorldLeft, front_of, next_acts}
 use Rattle.bk_machine.specs.MayDo.{MayDoAll}
 use Rattle.bk_machine.specs.Outcome.{Outcome}
@@ -59,6 +59,7 @@ none-said (seated session) acts (suc n) not_logged = refl
 none-said (created c) acts (suc n) not_logged = refl
 none-said (dropped name) acts (suc n) not_logged = refl
 none-said (medium_made path) acts (suc n) not_logged = refl
+none-said set_drawn acts (suc n) not_logged = refl
 none-said (set_sealed path header) acts (suc n) not_logged = refl
 none-said (based name header) acts (suc n) not_logged = refl
 none-said (replaced name header) acts (suc n) not_logged = refl

@@ -37,6 +37,7 @@ mod Cells
 mod Lying
 mod Room
 mod CellCount
+mod Moved
 mod Recovering
 mod Loads
 mod Reaching

@@ -13,7 +13,7 @@ use Rattle.bk_world.specs.declared.database.FileSpec.{FileSpec}
 use Rattle.bk_world.specs.declared.header.Header.{Header}
 use Rattle.bk_world.specs.GrowthLaws.{records-grown}
 use Rattle.bk_machine.specs.NewFileLaws.{apart-from}
-use Rattle.bk_machine.specs.Acts.{Act, Recovery, based, based_on, created, creation_said, done, done_all, dropped, gone_on, gone_online, goes_online, logged, medium_made, new_database, recovered, replaced, restored, says, seated, set_sealed, taken_over, turned, where_found, with_slot}
+use Rattle.bk_machine.specs.Acts.{Act, Recovery, based, based_on, created, creation_said, done, done_all, dropped, gone_on, gone_online, goes_online, logged, medium_made, set_drawn, new_database, recovered, replaced, restored, says, seated, set_sealed, taken_over, turned, where_found, with_slot}
 use Rattle.bk_machine.specs.Built.{IsBuilt, IsBuiltLog, IsBuiltReading, IsBuiltSlot, IsNoLoad, SayNoLoad, SaysNoLoad}
 use Rattle.bk_machine.specs.MayDo.{HoldsOf, MayDo, MayDoAll, MayLog, MayRecover}
 use Rattle.bk_machine.specs.Sound.{IsSound, IsSoundReading, IsSoundSlot, IsWholeDatabase, files_of_set}
@@ -134,6 +134,10 @@ module _ (w : World) (sound : IsSound w) (built : IsBuilt w) where
   medium_made-built path =
       let new : World = done w (medium_made path) in
       record { databases = built.databases; media = (tt, all_filter (λ (m : List ℕ × Reading). IsBuiltReading new m.1) (λ (m : List ℕ × Reading). not (bytes_eq m.0 path)) w.media (media-as-they-were new refl)) }
+
+  set_drawn-built : IsBuilt (done w set_drawn)
+  unfolding done
+  set_drawn-built = record { databases = built.databases; media = media-as-they-were (done w set_drawn) refl }
 
   sealed-built : (path : List ℕ) (header : Header) → IsBuiltLog (files_of_set header) (log_below w.history header.path header.last) → IsBuilt (done w (set_sealed path header))
   unfolding done
@@ -259,6 +263,7 @@ module _ (w : World) (sound : IsSound w) (built : IsBuilt w) where
   act-built (dropped name) may none = dropped-built name
   act-built (logged name said transactions) may none = logged-built name said transactions may none
   act-built (medium_made path) may none = medium_made-built path
+  act-built set_drawn may none = set_drawn-built
   act-built (set_sealed path header) may none = sealed-built path header none
   act-built (based name header) may none = based-built name header
   act-built (replaced name header) may none = replaced-built name header none

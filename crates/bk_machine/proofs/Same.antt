@@ -5,7 +5,7 @@ use Rattle.bk_world.specs.Lines.{Grew}
 use Rattle.bk_lemmas.specs.Lists.{all_mapped}
 use Rattle.bk_world.specs.declared.header.Header.{Header}
 use Rattle.bk_world.specs.GrowthLaws.{records-grown}
-use Rattle.bk_machine.specs.Acts.{done, medium_made, seated, set_sealed, turned}
+use Rattle.bk_machine.specs.Acts.{done, medium_made, set_drawn, seated, set_sealed, turned}
 use Rattle.bk_machine.specs.Events.{MediumAdded, MediumChanged, MediumRemoved, StandbyRemoved}
 use Rattle.bk_machine.specs.Same.{SameLogs}
 use Rattle.bk_machine.specs.SettledLaws.{logs-same}
@@ -40,6 +40,10 @@ same-seated w session = logs-same w (done w (seated session)) refl refl
 pub same-medium_made : (w : World) (path : List ℕ) → SameLogs w (done w (medium_made path))
 unfolding done
 same-medium_made w path = logs-same w (done w (medium_made path)) refl refl
+
+pub same-set_drawn : (w : World) → SameLogs w (done w set_drawn)
+unfolding done
+same-set_drawn w = logs-same w (done w set_drawn) refl refl
 
 pub same-sealed : (w : World) (path : List ℕ) (header : Header) → SameLogs w (done w (set_sealed path header))
 unfolding done

@@ -1,6 +1,6 @@
 -- Worlds with the same media, whose sets read the same.
 use Rattle.std.proofs.Common.{◌≡◌, ℕ, List, Option, None, Some, refl}
-use Rattle.bk_machine.specs.Acts.{done, logged, seated, says, turned, where_found}
+use Rattle.bk_machine.specs.Acts.{done, logged, seated, set_drawn, says, turned, where_found}
 use Rattle.bk_machine.specs.MayDo.{MayDo}
 use Rattle.bk_machine.specs.Same.{SameMedia}
 use Rattle.bk_machine.specs.SettledLaws.{media-same}
@@ -17,6 +17,10 @@ media-turned w name = media-same w (done w (turned name)) refl refl refl
 pub media-seated : (w : World) (session : ℕ) → SameMedia w (done w (seated session))
 unfolding done
 media-seated w session = media-same w (done w (seated session)) refl refl refl
+
+pub media-set_drawn : (w : World) → SameMedia w (done w set_drawn)
+unfolding done
+media-set_drawn w = media-same w (done w set_drawn) refl refl refl
 
 pub media-opened : (w : World) → SameMedia w (opened w)
 unfolding opened

@@ -2,7 +2,8 @@
 use Rattle.std.proofs.Common.{◌≡◌, inl, inr, ℕ, List, [], ◌∷◌, Option, sym, subst}
 use Rattle.std.specs.List.{AllByRecursion}
 use Rattle.bk_items.specs.declared.item.ScriptEntry.{ScriptEntry}
-use Rattle.bk_items.specs.declared.item.ScriptItem.TheVariants.{Rows, Use, Session}
+use Rattle.bk_items.specs.declared.item.MediumQuery.{MediumQuery}
+use Rattle.bk_items.specs.declared.item.ScriptItem.TheVariants.{QueryMedium, Rows, Use, Session}
 use Rattle.bk_items.specs.declared.rows.RowStatement.TheVariants.{Select}
 use Rattle.bk_world.specs.declared.reply.Reply.{Reply}
 use Rattle.bk_world.specs.declared.reply.Reply.TheVariants.{Done, Refused}
@@ -13,6 +14,7 @@ use Rattle.bk_machine.specs.Machine.{May}
 use Rattle.bk_machine.specs.Outcome.{Outcome, answered, in_one}
 use Rattle.bk_machine.specs.World.{World}
 use Rattle.bk_machine.specs.Writes.{ActWrites, ActsWrite, IsStill, IsTurn, StatementWrites}
+use Rattle.bk_machine.specs.statements.Query.{check_query, DoesQuery}
 use Rattle.bk_machine.specs.statements.Session.{check_session, DoesSession}
 use Rattle.bk_machine.specs.statements.Select.{check_select, DoesSelect}
 use Rattle.bk_machine.specs.statements.Use.{check_use, DoesUse}
@@ -51,6 +53,11 @@ use-still w line name now = comes-to IsStill (check_use w name) DoesUse (λ rule
 pub session-still : (w : World) (line n : ℕ) (now : ℕ) (outcome : Outcome) → May w (record { item = Session n; line = line }) now outcome → IsStill outcome
 unfolding May
 session-still w line n now = comes-to IsStill (check_session line n) DoesSession (λ rule. tt) (λ found e outcome is. subst IsStill (sym is) (tt, tt))
+
+-- nor do the headers of sets, their files, and the word that a set can be read
+pub query-still : (w : World) (line : ℕ) (query : MediumQuery) (disk : List ℕ) (file : Option ℕ) (now : ℕ) (outcome : Outcome) → May w (record { item = QueryMedium query disk file; line = line }) now outcome → IsStill outcome
+unfolding May
+query-still w line query disk file now = comes-to IsStill (check_query w line query disk file) DoesQuery (λ rule. tt) (λ reply e outcome is. subst IsStill (sym is) tt)
 
 answered-still : (answer : Reply) (outcome : Outcome) → outcome ≡ answered answer → IsStill outcome
 answered-still answer outcome is = subst IsStill (sym is) tt

@@ -46,6 +46,8 @@ pub data Act : Type 0 where
   logged : List ℕ → List Said → List Open → Act
   -- a medium is made at a path, without sets, for a set whose GUID is drawn
   medium_made : List ℕ → Act
+  -- the GUID of a set is drawn that comes behind those on a medium
+  set_drawn : Act
   -- a set is sealed behind those on a medium
   set_sealed : List ℕ → Header → Act
   -- a database is based on a set
@@ -286,6 +288,7 @@ done w (dropped name) = record w {
 }
 done w (logged name records transactions) = where_found w (database_named w.databases name) (λ db. says w db records transactions)
 done w (medium_made path) = record w { counter = w.counter + 1; media = with_medium w.media path (medium []) }
+done w set_drawn = record w { counter = w.counter + 1 }
 done w (set_sealed path header) = record w { media = with_medium w.media path (with_slot (medium_at w.media path) (readable header)) }
 done w (based name header) = record w { databases = with_database w.databases name (based_on header) }
 done w (replaced name header) = record w {

@@ -28,7 +28,7 @@ pub mod ReadyLaws
 pub mod UpLaws
 pub mod HeldLaws
 pub mod TargetLaws
-pub mod FirstLaws
+pub mod SetAtLaws
 pub mod SettledLaws
 pub mod ClosingLaws
 pub mod JoinLaws

@@ -6,7 +6,7 @@ use Rattle.bk_world.specs.declared.database.Status.TheVariants.{Online, Down}
 use Rattle.bk_world.specs.Records.{Said, more, numbered}
 use Rattle.bk_world.specs.SoundLogs.{MayFollow}
 use Rattle.bk_world.specs.Telling.{tables}
-use Rattle.bk_machine.specs.Acts.{latest, Act, Recovery, turned, seated, created, dropped, logged, medium_made, set_sealed, based, replaced, restored, recovered, done, drawn}
+use Rattle.bk_machine.specs.Acts.{latest, Act, Recovery, turned, seated, created, dropped, logged, medium_made, set_drawn, set_sealed, based, replaced, restored, recovered, done, drawn}
 use Rattle.bk_machine.specs.Checks.{last_number, most_branches}
 use Rattle.bk_machine.specs.Fits.{FitsLog, FitsStorage}
 use Rattle.bk_machine.specs.Sound.{AreNumbered, AreOpen, ArePlaced, IsSoundSet, has_begin}
@@ -63,6 +63,7 @@ MayDo w (created c) = MayCreate w c
 MayDo w (dropped name) = Unit {0}
 MayDo w (logged name said transactions) = HoldsOf (database_named w.databases name) (λ db. MayLog w db said transactions)
 MayDo w (medium_made path) = Unit {0}
+MayDo w set_drawn = Unit {0}
 MayDo w (set_sealed path header) = IsSoundSet w header
 MayDo w (based name header) = Unit {0}
 MayDo w (replaced name header) = IsSoundSet w header

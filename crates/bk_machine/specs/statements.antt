@@ -16,3 +16,4 @@ pub mod Session
 pub mod Checkpoint
 pub mod Backup
 pub mod Restore
+pub mod Query

@@ -1,5 +1,5 @@
 ghost use Rattle.std.specs.Prelude.{ℕ, List, Option};
-ghost use Rattle.bk_machine.specs.Acts.{done, logged, medium_made, seated, set_sealed, turned};
+ghost use Rattle.bk_machine.specs.Acts.{done, logged, medium_made, seated, set_drawn, set_sealed, turned};
 ghost use Rattle.bk_machine.specs.Events.{MediumAdded, MediumChanged, MediumRemoved, StandbyRemoved};
 ghost use Rattle.bk_machine.specs.MayDo.{MayDo};
 ghost use Rattle.bk_machine.specs.Same.{SameLogs, SameMedia};
@@ -18,6 +18,7 @@ pub fn logs_that_stay()
     ensures turned { (w : World) (name : Option (List ℕ)) → SameLogs w (done w (turned name)) }
     ensures seated { (w : World) (session : ℕ) → SameLogs w (done w (seated session)) }
     ensures medium_made { (w : World) (path : List ℕ) → SameLogs w (done w (medium_made path)) }
+    ensures set_drawn { (w : World) → SameLogs w (done w set_drawn) }
     ensures set_sealed { (w : World) (path : List ℕ) (header : Header) → SameLogs w (done w (set_sealed path header)) }
     ensures opened { (w : World) → SameLogs w (opened w) }
     ensures ended { (w : World) → SameLogs w (ended w) }
@@ -28,14 +29,15 @@ pub fn logs_that_stay()
     ensures medium_added { (old new : World) → IsSound old → MediumAdded old new → SameLogs old new }
 {}
 
-/// The media of an instance stay, and sets on them read the same, behind acts on sessions, where a run begins and ends, and behind
-/// a crash of nothing that was said.
+/// The media of an instance stay, and sets on them read the same, behind acts on sessions, where the GUID of a set is drawn, where a run
+/// begins and ends, and behind a crash of nothing that was said.
 pub fn media_that_stay()
     ensures reflexive { (w : World) → SameMedia w w }
     ensures symmetric { (a b : World) → SameMedia a b → SameMedia b a }
     ensures transitive { (a b c : World) → SameMedia a b → SameMedia b c → SameMedia a c }
     ensures turned { (w : World) (name : Option (List ℕ)) → SameMedia w (done w (turned name)) }
     ensures seated { (w : World) (session : ℕ) → SameMedia w (done w (seated session)) }
+    ensures set_drawn { (w : World) → SameMedia w (done w set_drawn) }
     ensures said { (w : World) (name : List ℕ) (said : List Said) (transactions : List Open) → IsSound w → MayDo w (logged name said transactions)
         → SameMedia w (done w (logged name said transactions)) }
     ensures opened { (w : World) → SameMedia w (opened w) }

@@ -1,4 +1,5 @@
 ghost use Rattle.std.specs.Prelude.{◌≡◌, ℕ, List, Option, take};
+ghost use Rattle.bk_items.specs.declared.item.MediumQuery.{MediumQuery};
 ghost use Rattle.bk_items.specs.declared.item.ScriptEntry.{ScriptEntry};
 ghost use Rattle.bk_items.specs.declared.item.ScriptItem.TheVariants as script;
 ghost use Rattle.bk_items.specs.declared.rows.RowStatement.TheVariants as row;
@@ -27,14 +28,16 @@ pub fn acts_of_statements()
     ensures idle { (w : World) (act : Act) → IsSound w → AreIdle w → MayDo w act → LeavesIdle act → AreIdle (done w act) }
 {}
 
-/// What statements write to: one that is refused, USE, `:session` and SELECT store nothing, and only BACKUP writes to a medium, the one
-/// that it names.
+/// What statements write to: one that is refused, USE, `:session`, SELECT, and what asks of a medium store nothing, and only BACKUP
+/// writes to a medium, the one that it names.
 pub fn what_statements_write_to()
     ensures refused { (w : World) (s : ScriptEntry) (now : ℕ) (outcome : Outcome) (rule : Rule) → May w s now outcome → outcome.reply ≡ Refused rule → IsStill outcome }
     ensures uses { (w : World) (line : ℕ) (name : List ℕ) (now : ℕ) (outcome : Outcome) → May w (record { item = script.Use name; line = line }) now outcome → IsStill outcome }
     ensures sits { (w : World) (line n : ℕ) (now : ℕ) (outcome : Outcome) → May w (record { item = script.Session n; line = line }) now outcome → IsStill outcome }
     ensures selects { (w : World) (line : ℕ) (table : List ℕ) (key : Option ℕ) (now : ℕ) (outcome : Outcome)
         → May w (record { item = script.Rows table (row.Select key); line = line }) now outcome → IsStill outcome }
+    ensures asks { (w : World) (line : ℕ) (query : MediumQuery) (disk : List ℕ) (file : Option ℕ) (now : ℕ) (outcome : Outcome)
+        → May w (record { item = script.QueryMedium query disk file; line = line }) now outcome → IsStill outcome }
     ensures media { (w : World) (s : ScriptEntry) (now : ℕ) (outcome : Outcome) (path : List ℕ) → May w s now outcome → ActsWrite outcome.acts path → StatementWrites s.item path }
 {}
 

@@ -1,6 +1,6 @@
 -- BACKUP DATABASE seals a sound set.
 use Rattle.std.proofs.Common.{◌≡◌, ◌≢◌, ◌<◌, ◌≤◌, ◌⊎◌, inl, inr, ℕ, ◌+◌, true, false, List, [], ◌∷◌, ◌++◌, length, map, Option, None, Some, refl, sym, ◌∙◌, ap, subst, arith}
-use Rattle.std.specs.Prelude.{◌&&◌, ◌||◌, is_some, not, Ok}
+use Rattle.std.specs.Prelude.{◌&&◌, ◌||◌, not, Ok}
 use Rattle.std.specs.List.{AllByRecursion}
 use Rattle.bk_ids.specs.declared.guid.Guid.{Guid}
 use Rattle.bk_ids.specs.declared.path.Branch.{Branch}
@@ -14,22 +14,24 @@ use Rattle.bk_world.specs.declared.rule.Limit.TheVariants.{Lsn}
 use Rattle.bk_world.specs.declared.rule.Rule.TheVariants.{LimitReached, NoSuchDatabase, NotBuilt}
 use Rattle.bk_world.specs.SaidLaws.{line_of-appended}
 use Rattle.bk_world.specs.Lines.{MayGoOn, RecordLine, RecordLines, line_on, log_below, said_on_last}
-use Rattle.bk_world.specs.Medium.{medium_at}
+use Rattle.bk_world.specs.Medium.{Reading, medium, medium_at, with_medium}
 use Rattle.bk_world.specs.Pending.{pending}
 use Rattle.bk_world.specs.Records.{Logged, Said, checkpointed, more, numbered, stamped}
 use Rattle.bk_world.specs.Says.{alone}
 use Rattle.bk_world.specs.Telling.{model, telling, time}
 use Rattle.bk_lemmas.specs.Tests.{first_false}
-use Rattle.bk_machine.specs.Acts.{latest, based, done, drawn, gone_on, logged, medium_made, said_time, says, set_sealed}
-use Rattle.bk_machine.specs.Built.{IsBuilt, IsBuiltLog, SayNoLoad}
+use Rattle.bk_machine.specs.Acts.{Act, latest, based, done, drawn, gone_on, logged, said_time, says, set_sealed}
+use Rattle.bk_machine.specs.Built.{IsBuilt, IsBuiltLog, SayNoLoad, SaysNoLoad}
 use Rattle.bk_machine.specs.Checks.{is_path, kept_numbers, last_number, limit, online, or_refuse, outside, refuse_if, used_up}
 use Rattle.bk_machine.specs.FitLaws.{said-time}
 use Rattle.bk_machine.specs.Fits.{FitsLog, FitsSet}
-use Rattle.bk_machine.specs.MayDo.{MayDoAll}
+use Rattle.bk_machine.specs.MayDo.{MayDo, MayDoAll}
 use Rattle.bk_machine.specs.Sound.{AreNumbered, IsHeld, IsLog, IsPassed, IsReached, IsSound, IsSoundSet, files_of_set, storage_of}
 use Rattle.bk_machine.specs.World.{World, Database, database_named, log_of}
-use Rattle.bk_machine.specs.statements.Backup.{check_backup, full_backup, full_header, is_whole_backup, DoesBackup}
+use Rattle.bk_machine.specs.statements.Backup.{check_backup, check_medium, draws_set, full_header, full_parts, is_whole_backup, DoesBackup}
 use Rattle.bk_machine.proofs.Acting.{act-sound}
+use Rattle.bk_machine.proofs.Cutting.{HasNumbers, IsOwn, OpensOwn}
+use Rattle.bk_machine.proofs.Ends.{IsSteady}
 use Rattle.bk_machine.proofs.Fitting.{fits-more}
 use Rattle.bk_machine.proofs.LeftNumbers.{below-kept, numbers-there}
 use Rattle.bk_machine.proofs.Loads.{BuiltIn, act-built}
@@ -37,7 +39,7 @@ use Rattle.bk_machine.specs.NamedLaws.{named-own, of-named}
 use Rattle.bk_machine.specs.CheckLaws.{Up, not-refused, passed, was-found, was-online}
 use Rattle.bk_machine.specs.Outcome.{Outcome}
 use Rattle.bk_machine.proofs.statements.Checkpoint.{checkpoint-tells, tells-left}
-use Rattle.bk_machine.proofs.statements.Facts.{Facts, facts-of, opens-those, own-checkpoint, own-stamp}
+use Rattle.bk_machine.proofs.statements.Facts.{Facts, WritesOnly, facts-of, opens-those, own-checkpoint, own-stamp}
 use Rattle.bk_machine.proofs.statements.Numbering.{numbers-loud}
 use Rattle.bk_machine.specs.UpLaws.{IsUp, is-up}
 use Rattle.bk_machine.proofs.statements.Said.{MayTell, done-is, log-after, may-do, sound-after, up-after}
@@ -54,11 +56,12 @@ record IsFound (w : World) (db : Database) : Type 0 where
 checked : (w : World) (line : ℕ) (name : List ℕ) (units : List UnitName) (path : List ℕ) (options : BackupOptions) (db : Database) → check_backup w line name units path options ≡ Ok db → IsFound w db
 unfolding check_backup
 checked w line name units path options db e =
-    let one = passed (refuse_if (not (is_whole_backup units options && is_path path) || is_some (medium_at w.media path)) (NotBuilt line)) _ db e in
+    let one = passed (refuse_if (not (is_whole_backup units options && is_path path)) (NotBuilt line)) _ db e in
     let out = passed (outside w) _ db one.then in
     let two = passed (or_refuse (database_named w.databases name) NoSuchDatabase) _ db out.then in
     let three = passed (online two.found) _ db two.then in
-    let four = passed (limit (used_up three.found.end || used_up w.counter)) _ db three.then in
+    let fits = passed (check_medium (medium_at w.media path)) _ db three.then in
+    let four = passed (limit (used_up three.found.end || used_up w.counter)) _ db fits.then in
     let up : Up two.found three.found = was-online two.found three.found three.is in
     let last = four.then in
     let same : three.found ≡ db = cc in
@@ -97,9 +100,32 @@ files-same : (h : Header) (files : List FileSpec) → files_of_set (record h { f
 files-same h [] = refl
 files-same h (f ∷ files) = ap (λ (rest : List FileSpec). f ∷ rest) (files-same h files)
 
+-- ---- the first part
+
+-- a world in which a GUID is drawn, with these media
+abbrev drawing : World → List (List ℕ × Reading) → World
+drawing w media = record w { counter = w.counter + 1; media = media }
+
+-- an act that draws the GUID of a set, and writes to no other medium
+record Draws (w : World) (path : List ℕ) (act : Act) : Type 0 where
+  media : List (List ℕ × Reading)
+  does : done w act ≡ drawing w media
+  may : MayDo w act
+  writes : WritesOnly (λ at. at ≡ path) act
+  opens : OpensOwn w act
+  own : IsOwn w act
+  numbers : HasNumbers w act
+  steady : IsSteady act
+  plain : SaysNoLoad w act
+
+draws : (w : World) (path : List ℕ) (before : Option Reading) → Draws w path (draws_set before path)
+unfolding done
+draws w path None = record { media = with_medium w.media path (medium []); does = refl; may = tt; writes = refl; opens = tt; own = tt; numbers = tt; steady = tt; plain = tt }
+draws w path (Some reading) = record { media = w.media; does = refl; may = tt; writes = tt; opens = tt; own = tt; numbers = tt; steady = tt; plain = tt }
+
 -- ---- the parts
 
-module _ (w : World) (db : Database) (path : List ℕ) (now : ℕ) (sound : IsSound w) (r : IsUp w db) (low : db.end < kept_numbers) where
+module _ (w : World) (db : Database) (path : List ℕ) (options : BackupOptions) (now : ℕ) (sound : IsSound w) (r : IsUp w db) (low : db.end < kept_numbers) (act : Act) (draw : Draws w path act) where
   abbrev at : ℕ
   at = said_time w db now
 
@@ -107,21 +133,20 @@ module _ (w : World) (db : Database) (path : List ℕ) (now : ℕ) (sound : IsSo
   set = drawn w w.counter
 
   abbrev header : Header
-  header = full_header w db (drawn w w.counter) (said_time w db now)
+  header = full_header w db options (drawn w w.counter) (said_time w db now)
 
   timely : said_time w db now ≤ latest
   timely = said-time w db now (length db.groups) r.whole.fits.log
 
-  -- behind the medium
+  -- behind the first part
   abbrev made : World
-  made = done w (medium_made path)
+  made = drawing w draw.media
 
-  made-sound : IsSound (done w (medium_made path))
-  made-sound = act-sound w (medium_made path) sound tt
+  made-sound : IsSound (drawing w draw.media)
+  made-sound = subst IsSound draw.does (act-sound w act sound draw.may)
 
-  made-up : IsUp (done w (medium_made path)) db
-  unfolding done
-  made-up = is-up (done w (medium_made path)) db made-sound r.named r.up
+  made-up : IsUp (drawing w draw.media) db
+  made-up = is-up (drawing w draw.media) db made-sound r.named r.up
 
   -- behind the checkpoint at its start
   abbrev start_said : List Said
@@ -198,25 +223,24 @@ module _ (w : World) (db : Database) (path : List ℕ) (now : ℕ) (sound : IsSo
       }
 
   -- each part may be done
-  pub backs-up : MayDoAll w (full_backup db path (full_header w db (drawn w w.counter) (said_time w db now)))
+  backs-up : MayDoAll w (act ∷ full_parts db path (full_header w db options (drawn w w.counter) (said_time w db now)))
   unfolding full_header
   backs-up =
       let seal : MayDoAll finished (set_sealed path header ∷ based db.name header ∷ []) = (sealed, (tt, tt)) in
       let stamp : MayDoAll started (logged db.name finish_said db.transactions ∷ set_sealed path header ∷ based db.name header ∷ []) = (
         may-do started started_db finish_said started-sound started-up finish-tells,
         subst (λ v. MayDoAll v (set_sealed path header ∷ based db.name header ∷ [])) (sym (done-is started started_db finish_said started-sound started-up finish-tells)) seal,
-      ) in (
-        tt,
-        (
-          may-do made db start_said made-sound made-up start-tells,
-          subst (λ v. MayDoAll v (logged db.name finish_said db.transactions ∷ set_sealed path header ∷ based db.name header ∷ [])) (sym (done-is made db start_said made-sound made-up start-tells)) stamp,
-        ),
-      )
+      ) in
+      let start : MayDoAll made (full_parts db path header) = (
+        may-do made db start_said made-sound made-up start-tells,
+        subst (λ v. MayDoAll v (logged db.name finish_said db.transactions ∷ set_sealed path header ∷ based db.name header ∷ [])) (sym (done-is made db start_said made-sound made-up start-tells)) stamp,
+      ) in
+      (draw.may, subst (λ v. MayDoAll v (full_parts db path header)) (sym draw.does) start)
 
   -- no part says a load, and the log of the set has none
 
-  made-built : IsBuilt w → IsBuilt (done w (medium_made path))
-  made-built built = act-built w sound built (medium_made path) tt tt
+  made-built : IsBuilt w → IsBuilt (drawing w draw.media)
+  made-built built = subst IsBuilt draw.does (act-built w sound built act draw.may draw.plain)
 
   started-built : IsBuilt w → IsBuilt started
   started-built built =
@@ -235,47 +259,49 @@ module _ (w : World) (db : Database) (path : List ℕ) (now : ℕ) (sound : IsSo
       let own : IsBuiltLog finished_db.files (log_of finished.history finished_db) = of-named (BuiltIn finished.history) finished.databases finished_db.name finished_db (finished-built built).databases finished-up.named in
       subst (λ files. IsBuiltLog files (log_below finished.history db.path (db.end + 2))) (sym (files-same header db.files)) (subst (λ n. IsBuiltLog db.files (log_below finished.history db.path n)) end own)
 
-  pub backs-no-load : IsBuilt w → SayNoLoad w (full_backup db path (full_header w db (drawn w w.counter) (said_time w db now)))
+  backs-no-load : IsBuilt w → SayNoLoad w (act ∷ full_parts db path (full_header w db options (drawn w w.counter) (said_time w db now)))
   unfolding full_header
   backs-no-load built =
       let seal : SayNoLoad finished (set_sealed path header ∷ based db.name header ∷ []) = (set-plain built, (tt, tt)) in
       let stamp : SayNoLoad started (logged db.name finish_said db.transactions ∷ set_sealed path header ∷ based db.name header ∷ []) = (
         (tt, tt),
         subst (λ v. SayNoLoad v (set_sealed path header ∷ based db.name header ∷ [])) (sym (done-is started started_db finish_said started-sound started-up finish-tells)) seal,
-      ) in (
-        tt,
-        (
-          (tt, tt),
-          subst (λ v. SayNoLoad v (logged db.name finish_said db.transactions ∷ set_sealed path header ∷ based db.name header ∷ [])) (sym (done-is made db start_said made-sound made-up start-tells)) stamp,
-        ),
-      )
+      ) in
+      let start : SayNoLoad made (full_parts db path header) = (
+        (tt, tt),
+        subst (λ v. SayNoLoad v (logged db.name finish_said db.transactions ∷ set_sealed path header ∷ based db.name header ∷ [])) (sym (done-is made db start_said made-sound made-up start-tells)) stamp,
+      ) in
+      (draw.plain, subst (λ v. SayNoLoad v (full_parts db path header)) (sym draw.does) start)
 
 its-up : (w : World) (line : ℕ) (name : List ℕ) (units : List UnitName) (path : List ℕ) (options : BackupOptions) (db : Database) → IsSound w → check_backup w line name units path options ≡ Ok db → IsUp w db
 its-up w line name units path options db sound e = let its : IsFound w db = checked w line name units path options db e in is-up w db sound its.named its.up
 
 pub facts : (w : World) (line : ℕ) (name : List ℕ) (units : List UnitName) (path : List ℕ) (options : BackupOptions) (now : ℕ) (db : Database) → check_backup w line name units path options ≡ Ok db
-    → (outcome : Outcome) → DoesBackup w path now db outcome → Facts w (λ at. at ≡ path) outcome
+    → (outcome : Outcome) → DoesBackup w path options now db outcome → Facts w (λ at. at ≡ path) outcome
 unfolding full_header
-facts w line name units path options now db e outcome is = facts-of w _ outcome is (record {
-  writes = (refl, (tt, (tt, (refl, (tt, tt)))));
-  refused = λ rule no. absurd cc;
-  well = λ sound. let r : IsUp w db = its-up w line name units path options db sound e in
-      let low : db.end < kept_numbers = below-kept db.end (checked w line name units path options db e).low in record {
-        may = backs-up w db path now sound r low;
-        opens = (tt, (opens-those w db (alone (checkpointed (said_time w db now))) r.named, (opens-those w db (alone (stamped (said_time w db now) (drawn w w.counter))) r.named, (tt, (tt, tt)))));
-        own = (tt, (own-checkpoint w db.name (said_time w db now) db.transactions, (own-stamp w db.name (said_time w db now) (drawn w w.counter) db.transactions, (tt, (tt, tt)))));
-        numbers = (
-          tt,
-          (
-            numbers-loud (made w db path now sound r low) db.name (record { begin = 0; deed = checkpointed (said_time w db now) }) db.transactions (λ none. absurd cc),
-            (
-              numbers-loud (done (made w db path now sound r low) (logged db.name (alone (checkpointed (said_time w db now))) db.transactions)) db.name (record { begin = 0; deed = stamped (said_time w db now) (drawn w w.counter) }) db.transactions
-                  (λ none. absurd cc),
-              (tt, (tt, tt)),
-            ),
-          ),
-        );
-        ends = inl (tt, (tt, (tt, (tt, (tt, tt)))));
-        plain = λ built. backs-no-load w db path now sound r low built;
-      };
-})
+facts w line name units path options now db e outcome is =
+    let act : Act = draws_set (medium_at w.media path) path in
+    let draw : Draws w path act = draws w path (medium_at w.media path) in
+    let at : ℕ = said_time w db now in
+    let set : Guid = drawn w w.counter in facts-of w _ outcome is (record {
+      writes = (draw.writes, (tt, (tt, (refl, (tt, tt)))));
+      refused = λ rule no. absurd cc;
+      well = λ sound. let r : IsUp w db = its-up w line name units path options db sound e in
+          let low : db.end < kept_numbers = below-kept db.end (checked w line name units path options db e).low in record {
+            may = backs-up w db path options now sound r low act draw;
+            opens = (draw.opens, (opens-those w db (alone (checkpointed at)) r.named, (opens-those w db (alone (stamped at set)) r.named, (tt, (tt, tt)))));
+            own = (draw.own, (own-checkpoint w db.name at db.transactions, (own-stamp w db.name at set db.transactions, (tt, (tt, tt)))));
+            numbers = (
+              draw.numbers,
+              (
+                numbers-loud (done w act) db.name (record { begin = 0; deed = checkpointed at }) db.transactions (λ none. absurd cc),
+                (
+                  numbers-loud (done (done w act) (logged db.name (alone (checkpointed at)) db.transactions)) db.name (record { begin = 0; deed = stamped at set }) db.transactions (λ none. absurd cc),
+                  (tt, (tt, tt)),
+                ),
+              ),
+            );
+            ends = inl (draw.steady, (tt, (tt, (tt, (tt, tt)))));
+            plain = λ built. backs-no-load w db path options now sound r low act draw built;
+          };
+    })

@@ -24,11 +24,12 @@ use Rattle.bk_machine.specs.statements.Session.{check_session, DoesSession}
 use Rattle.bk_machine.specs.statements.Checkpoint.{check_checkpoint, DoesCheckpoint}
 use Rattle.bk_machine.specs.statements.Backup.{check_backup, DoesBackup}
 use Rattle.bk_machine.specs.statements.Restore.{check_restore, DoesRestore}
+use Rattle.bk_machine.specs.statements.Query.{check_query, DoesQuery}
 use Rattle.bk_machine.proofs.statements.Backup as backup
 use Rattle.bk_machine.proofs.statements.Checkpoint as checkpoint
 use Rattle.bk_machine.proofs.statements.CreateDatabase as create_database
 use Rattle.bk_machine.proofs.statements.CreateTable as create_table
-use Rattle.bk_machine.proofs.statements.Facts.{Facts, GoWell, NoMedium, comes-by, facts-of, facts-refused}
+use Rattle.bk_machine.proofs.statements.Facts.{Facts, GoWell, NoMedium, comes-by, facts-answered, facts-of, facts-refused}
 use Rattle.bk_machine.proofs.statements.Restore as restore
 use Rattle.bk_machine.proofs.statements.Rows as rows
 use Rattle.bk_machine.proofs.statements.Transactions.{begin-facts, commit-facts, rollback-facts, session-facts}
@@ -49,13 +50,13 @@ module _ (w : World) where
   item-facts line (Use name) now = comes-to (Facts w NoMedium) (check_use w name) DoesUse (facts-refused w) (λ found e o is. facts-of w _ o is (turn-facts w found))
   item-facts line (CreateTable name group) now = comes-to (Facts w NoMedium) (check_create_table w line name group) (DoesCreateTable w name now) (facts-refused w) (create_table.facts w line name group now)
   item-facts line (Rows table statement) now = rows.facts w line table statement now
-  item-facts line (BackupDatabase name units disk options) now = comes-to (Facts w (λ path. path ≡ disk)) (check_backup w line name units disk options) (DoesBackup w disk now) (facts-refused w)
+  item-facts line (BackupDatabase name units disk options) now = comes-to (Facts w (λ path. path ≡ disk)) (check_backup w line name units disk options) (DoesBackup w disk options now) (facts-refused w)
       (backup.facts w line name units disk options now)
   item-facts line (RestoreDatabase name units disk options) now = comes-to (Facts w NoMedium) (check_restore w line name units disk options) (DoesRestore w name) (facts-refused w)
       (restore.facts w line name units disk options)
   item-facts line (BackupLog name disk options) now = λ outcome is. facts-of w _ outcome is (facts-refused w _)
   item-facts line (RestoreLog name disk options) now = λ outcome is. facts-of w _ outcome is (facts-refused w _)
-  item-facts line (QueryMedium query disk file) now = λ outcome is. facts-of w _ outcome is (facts-refused w _)
+  item-facts line (QueryMedium query disk file) now = comes-to (Facts w NoMedium) (check_query w line query disk file) DoesQuery (facts-refused w) (λ reply e o is. facts-of w _ o is (facts-answered w reply))
   item-facts line (Begin transaction) now = comes-to (Facts w NoMedium) (check_begin w line transaction) (DoesBegin w (mark_of transaction)) (facts-refused w) (begin-facts w line transaction (mark_of transaction))
   item-facts line Commit now = comes-to (Facts w NoMedium) (check_commit w) (DoesCommit w now) (facts-refused w) (commit-facts w now)
   item-facts line Rollback now = comes-to (Facts w NoMedium) (check_rollback w) (DoesRollback w) (facts-refused w) (rollback-facts w)
@@ -92,12 +93,12 @@ module _ (w : World) (sound : IsSound w) (built : IsBuilt w) where
   item-comes line (Use name) now = comes-by (check_use w name) DoesUse (λ found e. (_, refl))
   item-comes line (CreateTable name group) now = comes-by (check_create_table w line name group) (DoesCreateTable w name now) (λ found e. (_, refl))
   item-comes line (Rows table statement) now = rows.comes w line table statement now sound built
-  item-comes line (BackupDatabase name units disk options) now = comes-by (check_backup w line name units disk options) (DoesBackup w disk now) (λ found e. (_, refl))
+  item-comes line (BackupDatabase name units disk options) now = comes-by (check_backup w line name units disk options) (DoesBackup w disk options now) (λ found e. (_, refl))
   item-comes line (RestoreDatabase name units disk options) now = comes-by (check_restore w line name units disk options) (DoesRestore w name)
       (λ header e. restore.comes w line name units disk options header e sound built)
   item-comes line (BackupLog name disk options) now = (_, refl)
   item-comes line (RestoreLog name disk options) now = (_, refl)
-  item-comes line (QueryMedium query disk file) now = (_, refl)
+  item-comes line (QueryMedium query disk file) now = comes-by (check_query w line query disk file) DoesQuery (λ found e. (_, refl))
   item-comes line (Begin transaction) now = comes-by (check_begin w line transaction) (DoesBegin w (mark_of transaction)) (λ found e. (_, refl))
   item-comes line Commit now = comes-by (check_commit w) (DoesCommit w now) (λ found e. (_, refl))
   item-comes line Rollback now = comes-by (check_rollback w) (DoesRollback w) (λ found e. (_, refl))

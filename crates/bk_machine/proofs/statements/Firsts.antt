@@ -5,6 +5,7 @@ use Rattle.std.specs.List.{AllByRecursion}
 use Rattle.std.proofs.Math.Nat.{min-le_left, min-le_right}
 use Rattle.std.proofs.lemmas.Bool.Decides.{nat_tests}
 use Rattle.bk_ids.specs.declared.guid.Guid.{Guid}
+use Rattle.bk_items.specs.declared.options.BackupOptions.{BackupOptions}
 use Rattle.bk_lemmas.specs.Lists.{all_mapped}
 use Rattle.bk_world.specs.Pending.{Pending, pending}
 use Rattle.bk_world.specs.declared.database.Status.TheVariants.{Online}
@@ -30,17 +31,17 @@ of-begin (t ∷ ts) n b all there = by (t.begin == b) refl there (of-begin ts n 
     by true is there later = let same : t.begin ≡ b = grind (arith, nat_tests, is) in omega (arith, same, all.0)
     by false is there later = later there
 
-module _ (w : World) (db : Database) (set : Guid) (time : ℕ) where
-  pub first-checkpoint : (full_header w db set time).first ≤ (full_header w db set time).checkpoint
+module _ (w : World) (db : Database) (options : BackupOptions) (set : Guid) (time : ℕ) where
+  pub first-checkpoint : (full_header w db options set time).first ≤ (full_header w db options set time).checkpoint
   unfolding full_header
   first-checkpoint = least-end db.transactions db.end
 
-  pub first-begins : AllByRecursion (λ (t : Open). (full_header w db set time).first ≤ t.begin) db.transactions
+  pub first-begins : AllByRecursion (λ (t : Open). (full_header w db options set time).first ≤ t.begin) db.transactions
   unfolding full_header
   first-begins = least-each db.transactions db.end (least_begin db.transactions db.end) (omega arith)
 
-  pub first-pending : IsSound w → database_named w.databases db.name ≡ Some db → db.status ≡ Online → AllByRecursion (λ (p : Pending). (full_header w db set time).first ≤ p.begin) (pending (log_of w.history db))
+  pub first-pending : IsSound w → database_named w.databases db.name ≡ Some db → db.status ≡ Online → AllByRecursion (λ (p : Pending). (full_header w db options set time).first ≤ p.begin) (pending (log_of w.history db))
   first-pending sound named up =
       let r : IsUp w db = is-up w db sound named up in
-      all_mapped (λ (p : Pending). has_begin db.transactions p.begin ≡ true) (λ (p : Pending). (full_header w db set time).first ≤ p.begin)
-      (λ p there. of-begin db.transactions (full_header w db set time).first p.begin first-begins there) (pending (log_of w.history db)) r.opens.pending
+      all_mapped (λ (p : Pending). has_begin db.transactions p.begin ≡ true) (λ (p : Pending). (full_header w db options set time).first ≤ p.begin)
+      (λ p there. of-begin db.transactions (full_header w db options set time).first p.begin first-begins there) (pending (log_of w.history db)) r.opens.pending

@@ -1,6 +1,6 @@
--- BACKUP DATABASE, until media hold several sets: a full backup to a new medium, part by part.
--- SQL Server: BACKUP (Transact-SQL); "Full Database Backups"; "backupset (Transact-SQL)".
-use Rattle.std.specs.Prelude.{◌≡◌, ℕ, ◌+◌, Bool, true, false, not, ◌&&◌, ◌||◌, List, [], ◌∷◌, map, Option, Some, None, is_some, is_none, Ok}
+-- BACKUP DATABASE: a full backup to a medium, a new one or one that is there, part by part.
+-- SQL Server: BACKUP (Transact-SQL); "Full Database Backups"; "Media Sets, Media Families, and Backup Sets"; "backupset (Transact-SQL)".
+use Rattle.std.specs.Prelude.{◌≡◌, ℕ, ◌+◌, Bool, true, false, not, ◌&&◌, ◌||◌, nat_le, List, [], ◌∷◌, length, map, Option, Some, None, is_none, Ok, Err}
 use Rattle.bk_ids.specs.declared.guid.Guid.{Guid}
 use Rattle.bk_items.specs.declared.item.UnitName.{UnitName}
 use Rattle.bk_items.specs.declared.options.BackupOptions.{BackupOptions}
@@ -8,40 +8,77 @@ use Rattle.bk_world.specs.declared.database.Base.{Base}
 use Rattle.bk_world.specs.declared.header.Header.{Header}
 use Rattle.bk_world.specs.declared.header.SetKind.TheVariants as kind
 use Rattle.bk_world.specs.declared.reply.Reply.TheVariants.{SetMade}
-use Rattle.bk_world.specs.declared.rule.Rule.TheVariants.{NoSuchDatabase, NotBuilt}
-use Rattle.bk_world.specs.Medium.{medium_at}
+use Rattle.bk_world.specs.declared.rule.Limit.TheVariants.{Sets}
+use Rattle.bk_world.specs.declared.rule.Rule.TheVariants.{NoSuchDatabase, NotMedia, LimitReached, NotBuilt}
+use Rattle.bk_world.specs.Medium.{Reading, medium, medium_at, not_media}
 use Rattle.bk_world.specs.Records.{checkpointed, stamped}
 use Rattle.bk_world.specs.Says.{alone}
 use Rattle.bk_world.specs.Telling.{model}
-use Rattle.bk_machine.specs.Acts.{Act, logged, medium_made, set_sealed, based, drawn, said_time}
+use Rattle.bk_machine.specs.Acts.{Act, logged, medium_made, set_drawn, set_sealed, based, drawn, said_time}
 use Rattle.bk_machine.specs.Checks.{Checked, ◌>>=◌, refuse_if, or_refuse, outside, online, limit, used_up, is_path}
 use Rattle.bk_machine.specs.Outcome.{Outcome}
 use Rattle.bk_machine.specs.World.{World, Database, database_named, log_of, least_begin}
 
 -- Which of them are built.
 
--- a switch that is off, or isn't there
-abbrev pub is_off : Option Bool → Bool
-is_off None = true
-is_off (Some on) = not on
+-- a switch that is on, and one that is off or isn't there
+abbrev pub is_on : Option Bool → Bool
+is_on None = false
+is_on (Some on) = on
 
--- no option is there, but for switches that are off, and options without effect
-abbrev pub has_no_option : BackupOptions → Bool
-has_no_option o = is_off o.init && is_off o.format && is_off o.skip && is_off o.checksum && is_none o.name && is_none o.expire && is_none o.retain
-    && not (o.copy_only || o.differential || o.no_recovery || o.no_truncate)
+abbrev pub is_off : Option Bool → Bool
+is_off switch = not (is_on switch)
+
+-- how many bytes the name of a set has at most (a script has no longer ones: their items are TooLong there)
+abbrev pub most_set_name_bytes : ℕ
+most_set_name_bytes = 65535
+
+-- the name of a set, empty where none is given
+abbrev pub set_name : Option (List ℕ) → List ℕ
+set_name None = []
+set_name (Some name) = name
+
+-- media aren't emptied yet, sets don't expire, and there are no copies and no differentials
+abbrev pub has_built_options : BackupOptions → Bool
+has_built_options o = is_off o.init && is_off o.format && is_off o.skip && is_none o.expire && is_none o.retain
+    && not (o.copy_only || o.differential || o.no_recovery || o.no_truncate) && nat_le (length (set_name o.name)) most_set_name_bytes
 
 abbrev pub is_whole_backup : List UnitName → BackupOptions → Bool
-is_whole_backup [] options = has_no_option options
+is_whole_backup [] options = has_built_options options
 is_whole_backup (unit ∷ units) options = false
+
+-- Media.
+
+-- how many sets a medium has at most, damaged ones among them
+abbrev pub most_sets : ℕ
+most_sets = 65535
+
+-- refused where the file at a medium's path is no medium, or has no room for a set
+abbrev pub check_medium : Option Reading → Checked (Unit {0})
+check_medium None = Ok tt
+check_medium (Some not_media) = Err NotMedia
+check_medium (Some (medium slots)) = refuse_if (nat_le most_sets (length slots)) (LimitReached Sets)
+
+-- the position of the next set on a medium, which is made where none is there
+abbrev pub next_position : Option Reading → ℕ
+next_position None = 1
+next_position (Some not_media) = 1
+next_position (Some (medium slots)) = length slots + 1
+
+-- the set's GUID is drawn: the medium is made for it, or it comes behind the sets that are there
+abbrev pub draws_set : Option Reading → List ℕ → Act
+draws_set None path = medium_made path
+draws_set (Some reading) path = set_drawn
 
 -- Rules.
 
 unfoldable pub check_backup : World → ℕ → List ℕ → List UnitName → List ℕ → BackupOptions → Checked Database
 check_backup w line name units path options = do
-  _ ← refuse_if (not (is_whole_backup units options && is_path path) || is_some (medium_at w.media path)) (NotBuilt line)
+  _ ← refuse_if (not (is_whole_backup units options && is_path path)) (NotBuilt line)
   _ ← outside w
   named ← or_refuse (database_named w.databases name) NoSuchDatabase
   db ← online named
+  _ ← check_medium (medium_at w.media path)
   _ ← limit (used_up db.end || used_up w.counter)
   Ok db
 
@@ -53,15 +90,15 @@ base_lsn None = 0
 base_lsn (Some base) = base.lsn
 
 -- the header of a full backup of a database whose checkpoint is its end, and whose stamp comes next
-unfoldable pub full_header : World → Database → Guid → ℕ → Header
-full_header w db set time = record {
+unfoldable pub full_header : World → Database → BackupOptions → Guid → ℕ → Header
+full_header w db options set time = record {
   version = 1;
   kind = kind.Full;
   model = model (log_of w.history db);
   copy_only = false;
   bulk = false;
   begins_chain = false;
-  checksums = false;
+  checksums = is_on options.checksum;
   set = set;
   family = db.family;
   first = least_begin db.transactions db.end;
@@ -73,7 +110,7 @@ full_header w db set time = record {
   finish = time;
   expiry = None;
   database = db.name;
-  name = [];
+  name = set_name options.name;
   path = db.path;
   groups = db.groups;
   files = map (λ file. record { spec = file; in_set = true }) db.files;
@@ -81,18 +118,21 @@ full_header w db set time = record {
   log_path = db.log_path;
 }
 
--- the set's GUID is drawn and its medium made; the checkpoint at its start; the stamp at its finish; the set is sealed; the points move
-abbrev pub full_backup : Database → List ℕ → Header → List Act
-full_backup db path header =
-    medium_made path
-    ∷ logged db.name (alone (checkpointed header.start)) db.transactions
+-- the checkpoint at its start; the stamp at its finish; the set is sealed; the points move
+abbrev pub full_parts : Database → List ℕ → Header → List Act
+full_parts db path header =
+    logged db.name (alone (checkpointed header.start)) db.transactions
     ∷ logged db.name (alone (stamped header.finish header.set)) db.transactions
     ∷ set_sealed path header
     ∷ based db.name header
     ∷ []
 
-abbrev pub backed_up : Database → List ℕ → Header → Outcome
-backed_up db path header = record { acts = full_backup db path header; reply = SetMade 1 header.first header.checkpoint header.last }
+-- before all that the set's GUID is drawn
+abbrev pub full_backup : Option Reading → Database → List ℕ → Header → List Act
+full_backup before db path header = draws_set before path ∷ full_parts db path header
 
-abbrev pub DoesBackup : World → List ℕ → ℕ → Database → Outcome → Type 0
-DoesBackup w path now db outcome = outcome ≡ backed_up db path (full_header w db (drawn w w.counter) (said_time w db now))
+abbrev pub backed_up : Option Reading → Database → List ℕ → Header → Outcome
+backed_up before db path header = record { acts = full_backup before db path header; reply = SetMade (next_position before) header.first header.checkpoint header.last }
+
+abbrev pub DoesBackup : World → List ℕ → BackupOptions → ℕ → Database → Outcome → Type 0
+DoesBackup w path options now db outcome = outcome ≡ backed_up (medium_at w.media path) db path (full_header w db options (drawn w w.counter) (said_time w db now))

@@ -1,7 +1,7 @@
--- RESTORE DATABASE, until media hold several sets: a whole restore from the first set of a medium, with recovery.
--- SQL Server: RESTORE (Transact-SQL); "Complete Database Restores"; "Tail-Log Backups"; "Recovery Paths".
-use Rattle.std.specs.Prelude.{◌≡◌, ◌≤◌, ℕ, min, Bool, true, false, not, ◌&&◌, ◌||◌, ◌==◌, List, [], ◌∷◌, length, map, nat_lt, nat_le, Option, Some, None, is_none, Ok, Err, if◌then◌else◌}
-use Rattle.std.specs.List.{AllByRecursion, count_by}
+-- RESTORE DATABASE: a whole restore from a set of a medium, with recovery.
+-- SQL Server: RESTORE (Transact-SQL); "Complete Database Restores"; "Restore a Database to a New Location"; "Tail-Log Backups"; "Recovery Paths".
+use Rattle.std.specs.Prelude.{◌≡◌, ◌≤◌, ℕ, zero, suc, min, Bool, true, false, not, ◌&&◌, ◌||◌, List, [], ◌∷◌, length, map, nat_lt, nat_le, slice_get, Option, Some, None, is_none, Ok, Err, if◌then◌else◌}
+use Rattle.std.specs.List.{AllByRecursion, count_by, list_all, list_any}
 use Rattle.bk_ids.specs.declared.guid.Guid.{Guid}
 use Rattle.bk_items.specs.declared.item.RestoredUnits.{RestoredUnits}
 use Rattle.bk_items.specs.declared.item.RestoredUnits.TheVariants.{Named, Pages}
@@ -12,10 +12,12 @@ use Rattle.bk_items.specs.declared.options.RestoreOptions.{RestoreOptions}
 use Rattle.bk_world.specs.declared.database.Base.{Base}
 use Rattle.bk_world.specs.declared.database.Status.{Status}
 use Rattle.bk_world.specs.declared.database.Status.TheVariants as status
+use Rattle.bk_ids.specs.Name.{same_name}
 use Rattle.bk_world.specs.declared.header.Header.{Header}
+use Rattle.bk_world.specs.declared.header.HeaderFile.{HeaderFile}
 use Rattle.bk_world.specs.declared.reply.Reply.TheVariants.{Recovered}
 use Rattle.bk_world.specs.declared.rule.Limit.TheVariants.{Databases}
-use Rattle.bk_world.specs.declared.rule.Rule.TheVariants.{MediaMissing, NotMedia, NoSuchSet, SetDamaged, OtherFamily, TailNotBackedUp, PathFull, LimitReached, NotBuilt}
+use Rattle.bk_world.specs.declared.rule.Rule.TheVariants.{MediaMissing, NotMedia, NoSuchSet, SetDamaged, OtherFamily, TailNotBackedUp, UnitNotInSet, PathFull, LimitReached, NotBuilt}
 use Rattle.bk_world.specs.History.{is_guid}
 use Rattle.bk_world.specs.Lines.{log_below}
 use Rattle.bk_world.specs.Medium.{Slot, Reading, readable, damaged, no_set, not_media, medium, medium_at}
@@ -24,7 +26,7 @@ use Rattle.bk_world.specs.Records.{Deed, Logged, Said, more, numbered, undone, r
 use Rattle.bk_world.specs.SoundLogs.{MayFollow}
 use Rattle.bk_world.specs.Telling.{model}
 use Rattle.bk_machine.specs.Acts.{Act, Recovery, replaced, restored, recovered, drawn, is_simple}
-use Rattle.bk_machine.specs.Checks.{Checked, ◌>>=◌, refuse_if, outside, unused, limit, used_up, is_name, is_path, most_branches, most_databases, paths_of, others, free_paths, different_paths}
+use Rattle.bk_machine.specs.Checks.{Checked, ◌>>=◌, refuse_if, or_refuse, outside, unused, limit, used_up, is_name, is_path, most_branches, most_databases, paths_of, others, free_paths, different_paths}
 use Rattle.bk_machine.specs.Outcome.{Outcome}
 use Rattle.bk_machine.specs.World.{World, Database, database_named, log_of}
 
@@ -35,18 +37,13 @@ is_recovery None = true
 is_recovery (Some EndRecovery) = true
 is_recovery (Some _) = false
 
-abbrev pub has_no_move : List FileMove → Bool
-has_no_move [] = true
-has_no_move (move ∷ moves) = false
+-- a file is moved by its name to a path (a script has no others)
+abbrev pub is_move : FileMove → Bool
+is_move m = is_name m.name && is_path m.path
 
--- the first set of a medium, where none is named
-abbrev pub is_first : Option ℕ → Bool
-is_first None = true
-is_first (Some n) = n == 1
-
--- at most FILE = 1, RECOVERY and REPLACE are there, beside CHECKSUM and options without effect
+-- FILE, MOVE, RECOVERY and REPLACE may be there, beside CHECKSUM and options without effect
 abbrev pub is_plain : RestoreOptions → Bool
-is_plain o = is_first o.file && is_recovery o.ending && is_none o.stop && not o.partial && has_no_move o.moves
+is_plain o = is_recovery o.ending && is_none o.stop && not o.partial && list_all is_move o.moves
 
 abbrev pub lists_none : RestoredUnits → Bool
 lists_none (Named []) = true
@@ -57,7 +54,7 @@ abbrev pub is_whole_restore : RestoredUnits → Option (List ℕ) → RestoreOpt
 is_whole_restore units None options = false
 is_whole_restore units (Some disk) options = lists_none units && is_plain options
 
--- Rules.
+-- Sets.
 
 -- the header of a slot, where it is a set that can be read
 abbrev pub read_slot : Slot → Checked Header
@@ -65,12 +62,58 @@ read_slot (readable header) = Ok header
 read_slot (damaged stored found) = Err (SetDamaged (record { bytes = stored }) (record { bytes = found }))
 read_slot no_set = Err NotMedia
 
--- the header of the first set of a medium
-abbrev pub first_set : Option Reading → Checked Header
-first_set None = Err MediaMissing
-first_set (Some not_media) = Err NotMedia
-first_set (Some (medium [])) = Err (NoSuchSet 1 0)
-first_set (Some (medium (slot ∷ slots))) = read_slot slot
+-- the slot at a position, which counts from 1
+abbrev pub slot_at : List Slot → ℕ → Option Slot
+slot_at slots zero = None
+slot_at slots (suc n) = slice_get slots n
+
+-- the slots of a medium
+abbrev pub slots_of : Option Reading → Checked (List Slot)
+slots_of None = Err MediaMissing
+slots_of (Some not_media) = Err NotMedia
+slots_of (Some (medium slots)) = Ok slots
+
+-- the header of the set at a position of a medium
+unfoldable pub set_at : ℕ → Option Reading → Checked Header
+set_at n reading = do
+  slots ← slots_of reading
+  slot ← or_refuse (slot_at slots n) (NoSuchSet n (length slots))
+  read_slot slot
+
+-- the set that FILE chooses, the first one where there is no FILE
+abbrev pub position_of : Option ℕ → ℕ
+position_of None = 1
+position_of (Some n) = n
+
+-- Moves.
+
+-- the path that moves give a file of this name: that of the last one that names it
+abbrev pub moved_path : List FileMove → List ℕ → List ℕ → List ℕ
+moved_path [] name path = path
+moved_path (m ∷ moves) name path = moved_path moves name (if same_name m.name name then m.path else path)
+
+-- a data file of a set, moved
+abbrev pub moved_file : List FileMove → HeaderFile → HeaderFile
+moved_file moves file = record file { spec = record file.spec { path = moved_path moves file.spec.name file.spec.path } }
+
+-- a data file of the set has this name
+abbrev pub names_file : Header → List ℕ → Bool
+names_file header name = list_any (λ (file : HeaderFile). same_name file.spec.name name) header.files
+
+-- the path of its log: a name that is a data file's means that one
+abbrev pub moved_log : List FileMove → Header → List ℕ
+moved_log moves header = if names_file header header.log_name then header.log_path else moved_path moves header.log_name header.log_path
+
+-- a set as it is restored, with its files at the paths to which they are moved
+abbrev pub moved : List FileMove → Header → Header
+moved moves header = record header { files = map (moved_file moves) header.files; log_path = moved_log moves header }
+
+-- refused at the first name that no file of the set has
+abbrev pub check_moves : Header → List FileMove → Checked (Unit {0})
+check_moves header [] = Ok tt
+check_moves header (m ∷ moves) = if names_file header m.name || same_name header.log_name m.name then check_moves header moves else Err (UnitNotInSet m.name)
+
+-- Rules.
 
 -- a session has an open transaction in the database, if it is there
 abbrev pub check_unused : Option Database → Checked (Unit {0})
@@ -109,25 +152,31 @@ abbrev pub disk_path : Option (List ℕ) → List ℕ
 disk_path None = []
 disk_path (Some path) = path
 
--- what is checked of a set by its header
-unfoldable pub check_set : World → List ℕ → Bool → Header → Checked (Unit {0})
-check_set w name replace header = do
-  _ ← check_unused (database_named w.databases name)
-  _ ← check_family (database_named w.databases name) replace header
-  _ ← check_tail w (database_named w.databases name) replace
-  _ ← check_number w.databases (database_named w.databases name)
+-- its files lie at paths that no other file has; its path takes one more branch; there are numbers left
+unfoldable pub check_room : World → List ℕ → Header → Checked Header
+check_room w name header = do
   _ ← free_paths (paths_of (others w.databases name)) (set_paths header)
   _ ← different_paths [] (set_paths header)
   _ ← refuse_if (nat_le most_branches (length header.path)) PathFull
-  limit (used_up header.last || used_up w.counter)
+  _ ← limit (used_up header.last || used_up w.counter)
+  Ok header
+
+-- what is checked of a set by its header, and of what it is restored as
+unfoldable pub check_set : World → List ℕ → RestoreOptions → Header → Checked Header
+check_set w name options header = do
+  _ ← check_unused (database_named w.databases name)
+  _ ← check_family (database_named w.databases name) options.replace header
+  _ ← check_moves header options.moves
+  _ ← check_tail w (database_named w.databases name) options.replace
+  _ ← check_number w.databases (database_named w.databases name)
+  check_room w name (moved options.moves header)
 
 unfoldable pub check_restore : World → ℕ → List ℕ → RestoredUnits → Option (List ℕ) → RestoreOptions → Checked Header
 check_restore w line name units disk options = do
   _ ← refuse_if (not (is_whole_restore units disk options && is_name name && is_path (disk_path disk))) (NotBuilt line)
   _ ← outside w
-  header ← first_set (medium_at w.media (disk_path disk))
-  _ ← check_set w name options.replace header
-  Ok header
+  header ← set_at (position_of options.file) (medium_at w.media (disk_path disk))
+  check_set w name options header
 
 -- Parts.
 
