@@ -1,6 +1,6 @@
 -- BACKUP DATABASE: a full backup to a medium, a new one or one that is there, part by part.
 -- SQL Server: BACKUP (Transact-SQL); "Full Database Backups"; "Media Sets, Media Families, and Backup Sets"; "backupset (Transact-SQL)".
-use Rattle.std.specs.Prelude.{◌≡◌, ℕ, ◌+◌, Bool, true, false, not, ◌&&◌, ◌||◌, nat_le, List, [], ◌∷◌, length, map, Option, Some, None, is_none, Ok, Err}
+use Rattle.std.specs.Prelude.{◌≡◌, ◌<◌, ℕ, ◌+◌, Bool, true, false, not, ◌&&◌, ◌||◌, nat_le, List, [], ◌∷◌, length, map, Option, Some, None, is_none, Result, Ok, Err}
 use Rattle.bk_ids.specs.declared.guid.Guid.{Guid}
 use Rattle.bk_items.specs.declared.item.UnitName.{UnitName}
 use Rattle.bk_items.specs.declared.options.BackupOptions.{BackupOptions}
@@ -9,8 +9,9 @@ use Rattle.bk_world.specs.declared.header.Header.{Header}
 use Rattle.bk_world.specs.declared.header.SetKind.TheVariants as kind
 use Rattle.bk_world.specs.declared.reply.Reply.TheVariants.{SetMade}
 use Rattle.bk_world.specs.declared.rule.Limit.TheVariants.{Sets}
+use Rattle.bk_world.specs.declared.rule.Rule.{Rule}
 use Rattle.bk_world.specs.declared.rule.Rule.TheVariants.{NoSuchDatabase, NotMedia, LimitReached, NotBuilt}
-use Rattle.bk_world.specs.Medium.{Reading, medium, medium_at, not_media}
+use Rattle.bk_world.specs.Medium.{Reading, Slot, medium, medium_at, not_media}
 use Rattle.bk_world.specs.Records.{checkpointed, stamped}
 use Rattle.bk_world.specs.Says.{alone}
 use Rattle.bk_world.specs.Telling.{model}
@@ -58,6 +59,12 @@ abbrev pub check_medium : Option Reading → Checked (Unit {0})
 check_medium None = Ok tt
 check_medium (Some not_media) = Err NotMedia
 check_medium (Some (medium slots)) = refuse_if (nat_le most_sets (length slots)) (LimitReached Sets)
+
+-- what a backup is told of the file at its medium's path: there is none; it is a medium with so many sets and room for one more; or the rule by which it is refused
+abbrev pub ShowsRoom : Option Reading → Result (Option ℕ) Rule → Type 0
+ShowsRoom reading (Ok None) = reading ≡ None
+ShowsRoom reading (Ok (Some n)) = (slots : List Slot) × (reading ≡ Some (medium slots)) × (length slots ≡ n) × (n < most_sets)
+ShowsRoom reading (Err rule) = check_medium reading ≡ Err rule
 
 -- the position of the next set on a medium, which is made where none is there
 abbrev pub next_position : Option Reading → ℕ
