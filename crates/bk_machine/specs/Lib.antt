@@ -29,6 +29,7 @@ pub mod UpLaws
 pub mod HeldLaws
 pub mod TargetLaws
 pub mod SetAtLaws
+pub mod MovedLaws
 pub mod SettledLaws
 pub mod ClosingLaws
 pub mod JoinLaws

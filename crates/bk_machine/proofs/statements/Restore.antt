@@ -1,5 +1,5 @@
 -- RESTORE DATABASE takes over a set of a medium, and recovers it at its end.
-use Rattle.std.proofs.Common.{◌≡◌, ◌<◌, ◌≤◌, inr, ℕ, min, Bool, true, false, List, [], length, Option, None, Some, refl, sym, subst, arith}
+use Rattle.std.proofs.Common.{◌≡◌, ◌<◌, ◌≤◌, inr, ℕ, min, Bool, true, false, List, [], ◌∷◌, length, Option, None, Some, refl, sym, subst, arith}
 use Rattle.std.specs.Prelude.{◌&&◌, ◌||◌, is_none, nat_le, not, Ok}
 use Rattle.std.specs.List.{list_all}
 use Rattle.std.proofs.Math.Nat.{min-le_right}
@@ -21,7 +21,7 @@ use Rattle.bk_machine.specs.Checks.{different_paths, free_paths, is_name, is_pat
 use Rattle.bk_machine.specs.MayDo.{MayDoAll}
 use Rattle.bk_machine.specs.Sound.{IsSound, IsSoundSet, SetIn, files_of_set}
 use Rattle.bk_machine.specs.World.{World, Database, database_named, log_to, with_new_database}
-use Rattle.bk_machine.specs.statements.Restore.{DoesRestore, Recovers, base_of, check_family, check_moves, check_number, check_restore, check_room, check_set, check_tail, check_unused, disk_path, is_move, is_plain, is_recovery, is_whole_restore, lists_none, moved, name_known, position_of, restored_whole, set_at, set_paths, whole_restore}
+use Rattle.bk_machine.specs.statements.Restore.{DoesRestore, Recovers, base_of, check_family, check_moves, check_number, check_restore, check_room, check_set, check_tail, check_unused, disk_path, has_no_move, is_move, is_plain, is_recovery, is_whole_restore, lists_none, moved, name_known, position_of, restored_whole, set_at, set_paths, whole_restore}
 use Rattle.bk_machine.specs.Built.{IsBuilt, IsBuiltLog, IsBuiltReading, IsBuiltSlot}
 use Rattle.bk_machine.specs.Outcome.{Outcome}
 use Rattle.bk_machine.proofs.Happened.{of-medium}
@@ -88,9 +88,16 @@ fourth true true false d e = absurd cc
 fourth true false c d e = absurd cc
 fourth false b c d e = absurd cc
 
+none-fit : (moves : List FileMove) → has_no_move moves ≡ true → list_all is_move moves ≡ true
+none-fit [] e = refl
+none-fit (m ∷ moves) e = absurd (false-true e)
+  where
+    false-true : false ≡ true → ⊥
+    false-true is = cc
+
 whole-moves : (units : RestoredUnits) (disk : Option (List ℕ)) (options : RestoreOptions) → is_whole_restore units disk options ≡ true → list_all is_move options.moves ≡ true
 whole-moves units None options e = absurd cc
-whole-moves units (Some disk) options e = fourth (is_recovery options.ending) (is_none options.stop) (not options.partial) (list_all is_move options.moves) (both-second (lists_none units) (is_plain options) e)
+whole-moves units (Some disk) options e = none-fit options.moves (fourth (is_recovery options.ending) (is_none options.stop) (not options.partial) (has_no_move options.moves) (both-second (lists_none units) (is_plain options) e))
 
 -- ---- what was found: a set of the medium, and what it is restored as
 

@@ -1,7 +1,7 @@
 -- RESTORE DATABASE: a whole restore from a set of a medium, with recovery.
 -- SQL Server: RESTORE (Transact-SQL); "Complete Database Restores"; "Restore a Database to a New Location"; "Tail-Log Backups"; "Recovery Paths".
 use Rattle.std.specs.Prelude.{◌≡◌, ◌≤◌, ℕ, zero, suc, min, Bool, true, false, not, ◌&&◌, ◌||◌, List, [], ◌∷◌, length, map, nat_lt, nat_le, slice_get, Option, Some, None, is_none, Ok, Err, if◌then◌else◌}
-use Rattle.std.specs.List.{AllByRecursion, count_by, list_all, list_any}
+use Rattle.std.specs.List.{AllByRecursion, count_by, list_any}
 use Rattle.bk_ids.specs.declared.guid.Guid.{Guid}
 use Rattle.bk_items.specs.declared.item.RestoredUnits.{RestoredUnits}
 use Rattle.bk_items.specs.declared.item.RestoredUnits.TheVariants.{Named, Pages}
@@ -41,9 +41,14 @@ is_recovery (Some _) = false
 abbrev pub is_move : FileMove → Bool
 is_move m = is_name m.name && is_path m.path
 
--- FILE, MOVE, RECOVERY and REPLACE may be there, beside CHECKSUM and options without effect
+-- files aren't moved yet: each is restored to the path that its set names
+abbrev pub has_no_move : List FileMove → Bool
+has_no_move [] = true
+has_no_move (m ∷ moves) = false
+
+-- FILE, RECOVERY and REPLACE may be there, beside CHECKSUM and options without effect
 abbrev pub is_plain : RestoreOptions → Bool
-is_plain o = is_recovery o.ending && is_none o.stop && not o.partial && list_all is_move o.moves
+is_plain o = is_recovery o.ending && is_none o.stop && not o.partial && has_no_move o.moves
 
 abbrev pub lists_none : RestoredUnits → Bool
 lists_none (Named []) = true
