@@ -6,7 +6,7 @@ use Rattle.std.proofs.lemmas.List.{map-append}
 use Rattle.std.proofs.lemmas.List.Quantifiers.{position-Some}
 use Rattle.bk_ids.specs.declared.path.Branch.{Branch}
 use Rattle.bk_lemmas.specs.Lists.{all_at, all_both, all_mapped}
-use Rattle.bk_machine.specs.Acts.{Act, Recovery, based, based_on, created, done, dropped, goes_online, gone_on, gone_online, logged, medium_made, new_database, says, seated, set_sealed, turned}
+use Rattle.bk_machine.specs.Acts.{Act, Recovery, based, based_on, created, done, dropped, goes_online, gone_on, gone_online, logged, medium_made, new_database, says, seated, set_drawn, set_sealed, turned}
 use Rattle.bk_machine.specs.MayDo.{HoldsOf, MayDo, MayLog, MayRecover, MaySay}
 use Rattle.bk_machine.specs.SaysLaws.{done-says}
 use Rattle.bk_machine.specs.Sound.{IsSound, IsWhole, IsWholeDatabase}
@@ -237,6 +237,10 @@ hosts-seated w session hosted hosts = same-hosts w (done w (seated session)) hos
 pub hosts-medium : (w : World) (path : List ℕ) (hosted : List Hosted) → Hosts w hosted → Hosts (done w (medium_made path)) hosted
 unfolding done
 hosts-medium w path hosted hosts = same-hosts w (done w (medium_made path)) hosted refl refl hosts
+
+pub hosts-drawn : (w : World) (hosted : List Hosted) → Hosts w hosted → Hosts (done w set_drawn) hosted
+unfolding done
+hosts-drawn w hosted hosts = same-hosts w (done w set_drawn) hosted refl refl hosts
 
 pub hosts-sealed : (w : World) (path : List ℕ) (header : Header) (hosted : List Hosted) → Hosts w hosted → Hosts (done w (set_sealed path header)) hosted
 unfolding done

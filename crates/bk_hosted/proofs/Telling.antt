@@ -16,7 +16,7 @@ use Rattle.bk_machine.specs.Crash.{AreQuiet}
 use Rattle.bk_machine.specs.Machine.{ItemMay, May}
 use Rattle.bk_machine.specs.Outcome.{Outcome, refused}
 use Rattle.bk_machine.specs.World.{Held, World, log_of}
-use Rattle.bk_machine.specs.statements.Backup.{DoesBackup, check_backup}
+use Rattle.bk_machine.specs.statements.Backup.{DoesBackup, check_backup, draws_set}
 use Rattle.bk_machine.specs.statements.Begin.{DoesBegin, check_begin, mark_of}
 use Rattle.bk_machine.specs.statements.Checkpoint.{DoesCheckpoint, check_checkpoint}
 use Rattle.bk_machine.specs.statements.Commit.{DoesCommit, check_commit}
@@ -25,6 +25,7 @@ use Rattle.bk_machine.specs.statements.CreateTable.{DoesCreateTable, check_creat
 use Rattle.bk_machine.specs.statements.Delete.{DoesDelete, check_delete}
 use Rattle.bk_machine.specs.statements.DropDatabase.{DoesDropDatabase, check_drop_database}
 use Rattle.bk_machine.specs.statements.Insert.{DoesInsert, check_insert}
+use Rattle.bk_machine.specs.statements.Query.{DoesQuery, check_query}
 use Rattle.bk_machine.specs.statements.Restore.{DoesRestore, check_restore}
 use Rattle.bk_machine.specs.statements.Rollback.{DoesRollback, check_rollback, rolls_back}
 use Rattle.bk_machine.specs.statements.Select.{DoesSelect, check_select}
@@ -36,6 +37,7 @@ use Rattle.bk_machine.specs.statements.Use.{DoesUse, check_use}
 use Rattle.bk_world.specs.declared.rule.Rule.{Rule}
 use Rattle.bk_world.specs.declared.transaction.Open.{Open}
 use Rattle.bk_world.specs.Entry.{RowChange}
+use Rattle.bk_world.specs.Medium.{Reading, medium_at}
 use Rattle.bk_world.specs.Pending.{Pending, of_transaction, pending}
 use Rattle.bk_world.specs.Records.{Said}
 use Rattle.bk_world.specs.Says.{rollback_said, single_said, undoing}
@@ -103,19 +105,23 @@ rows-tell w line table (Delete key) now = comes-to Tell (check_delete w table ke
 rows-tell w line table (Select key) now = comes-to Tell (check_select w table) (DoesSelect w key) refusals-tell (λ to e o does. told _ o does tt)
 rows-tell w line table (BulkInsert first count value) now = λ outcome is. told _ outcome is tt
 
+draws-last : (before : Option Reading) (path : List ℕ) → TellsLast (draws_set before path)
+draws-last None path = tt
+draws-last (Some reading) path = tt
+
 item-tells : (w : World) (line : ℕ) (item : ScriptItem) (now : ℕ) (outcome : Outcome) → ItemMay w line item now outcome → Tell outcome
 item-tells w line (CreateDatabase name primary groups log) now = comes-to Tell (check_create_database w line name primary groups log) (DoesCreateDatabase w name now) refusals-tell (λ found e o does. told _ o does (tt, tt))
 item-tells w line (DropDatabase name) now = comes-to Tell (check_drop_database w name) DoesDropDatabase refusals-tell (λ found e o does. told _ o does (tt, tt))
 item-tells w line (Use name) now = comes-to Tell (check_use w name) DoesUse refusals-tell (λ found e o does. told _ o does (tt, tt))
 item-tells w line (CreateTable name group) now = comes-to Tell (check_create_table w line name group) (DoesCreateTable w name now) refusals-tell (λ found e o does. told _ o does (one-last _, tt))
 item-tells w line (Rows table statement) now = rows-tell w line table statement now
-item-tells w line (BackupDatabase name units disk options) now = comes-to Tell (check_backup w line name units disk options) (DoesBackup w disk now) refusals-tell
-    (λ found e o does. told _ o does (tt, (one-last _, (one-last _, (tt, (tt, tt))))))
+item-tells w line (BackupDatabase name units disk options) now = comes-to Tell (check_backup w line name units disk options) (DoesBackup w disk options now) refusals-tell
+    (λ found e o does. told _ o does (draws-last (medium_at w.media disk) disk, (one-last _, (one-last _, (tt, (tt, tt))))))
 item-tells w line (RestoreDatabase name units disk options) now = comes-to Tell (check_restore w line name units disk options) (DoesRestore w name) refusals-tell
     (λ found e o does. told _ o does.4 (tt, (tt, (tt, tt))))
 item-tells w line (BackupLog name disk options) now = λ outcome is. told _ outcome is tt
 item-tells w line (RestoreLog name disk options) now = λ outcome is. told _ outcome is tt
-item-tells w line (QueryMedium query disk file) now = λ outcome is. told _ outcome is tt
+item-tells w line (QueryMedium query disk file) now = comes-to Tell (check_query w line query disk file) DoesQuery refusals-tell (λ found e o does. told _ o does tt)
 item-tells w line (Begin transaction) now = comes-to Tell (check_begin w line transaction) (DoesBegin w (mark_of transaction)) refusals-tell (λ found e o does. told _ o does (one-last _, tt))
 item-tells w line Commit now = comes-to Tell (check_commit w) (DoesCommit w now) refusals-tell (λ found e o does. told _ o does (one-last _, tt))
 item-tells w line Rollback now = comes-to Tell (check_rollback w) (DoesRollback w) refusals-tell (λ found e o does. told _ o does (rolls-last w found, tt))

@@ -1,7 +1,7 @@
 ghost use Rattle.std.specs.Prelude.{◌≡◌, ℕ, true, List, [], ◌∷◌, ◌++◌, Option, None, Some, remove, set, slice_get};
 ghost use Rattle.std.specs.List.{position};
 ghost use Rattle.bk_hosted.specs.Hosted.{Hosted, Hosts, SaysNoCheckpoint, basing, bringing_up, creating, folding, is_up, names, noting, parking, restoring, saying, set_log};
-ghost use Rattle.bk_machine.specs.Acts.{Recovery, based, created, done, done_all, dropped, logged, medium_made, replaced, seated, set_sealed, turned};
+ghost use Rattle.bk_machine.specs.Acts.{Recovery, based, created, done, done_all, dropped, logged, medium_made, replaced, seated, set_drawn, set_sealed, turned};
 ghost use Rattle.bk_machine.specs.MayDo.{MayDo, MayDoAll};
 ghost use Rattle.bk_machine.specs.Sound.{IsSound, IsSoundSet};
 ghost use Rattle.bk_machine.specs.World.{World, ended, opened};
@@ -43,6 +43,7 @@ pub fn hosted_databases_follow_acts()
     ensures turned { (w : World) (name : Option (List ℕ)) (hosted : List Hosted) → Hosts w hosted → Hosts (done w (turned name)) hosted }
     ensures seated { (w : World) (session : ℕ) (hosted : List Hosted) → Hosts w hosted → Hosts (done w (seated session)) hosted }
     ensures medium_made { (w : World) (path : List ℕ) (hosted : List Hosted) → Hosts w hosted → Hosts (done w (medium_made path)) hosted }
+    ensures set_drawn { (w : World) (hosted : List Hosted) → Hosts w hosted → Hosts (done w set_drawn) hosted }
     ensures set_sealed { (w : World) (path : List ℕ) (header : Header) (hosted : List Hosted) → Hosts w hosted → Hosts (done w (set_sealed path header)) hosted }
     ensures opened { (w : World) (hosted : List Hosted) → Hosts w hosted → Hosts (opened w) hosted }
     ensures ended { (w : World) (hosted : List Hosted) → Hosts w hosted → Hosts (ended w) hosted }

@@ -1,4 +1,4 @@
-use Rattle.bk_hosted.proofs.Acts.{hosts-based, hosts-checkpoint, hosts-created, hosts-dropped, hosts-ended, hosts-folded, hosts-medium, hosts-noted, hosts-opened, hosts-said, hosts-sealed, hosts-seated, hosts-turned}
+use Rattle.bk_hosted.proofs.Acts.{hosts-based, hosts-checkpoint, hosts-created, hosts-drawn, hosts-dropped, hosts-ended, hosts-folded, hosts-medium, hosts-noted, hosts-opened, hosts-said, hosts-sealed, hosts-seated, hosts-turned}
 use Rattle.bk_hosted.proofs.Sayings.{hosts-saying, says-grows}
 use Rattle.bk_hosted.proofs.act_laws.hosted_databases_follow_acts.Goals as goal
 
@@ -37,6 +37,9 @@ returns-clause-seated c = hosts-seated
 
 pub returns-clause-medium_made : goal.returns-clause-medium_made
 returns-clause-medium_made c = hosts-medium
+
+pub returns-clause-set_drawn : goal.returns-clause-set_drawn
+returns-clause-set_drawn c = hosts-drawn
 
 pub returns-clause-set_sealed : goal.returns-clause-set_sealed
 returns-clause-set_sealed c = hosts-sealed
