@@ -2,6 +2,7 @@
 use Rattle.std.proofs.Common.{◌≡◌, ◌≤◌, ◌<◌, ℕ, ◌+◌, true, List, [], ◌∷◌, map, Some, refl, sym, ◌∙◌, ap, subst, arith}
 use Rattle.std.specs.List.{AllByRecursion}
 use Rattle.bk_ids.specs.declared.guid.Guid.{Guid}
+use Rattle.bk_items.specs.declared.options.BackupOptions.{BackupOptions}
 use Rattle.bk_lemmas.specs.Lists.{all_mapped}
 use Rattle.bk_machine.specs.BeginLaws.{least-end, least-open}
 use Rattle.bk_machine.specs.Sound.{IsSound, has_begin}
@@ -39,11 +40,11 @@ still-pending rs header =
     let first : List Logged = said_last rs (checkpointed header.start) in
     pending-more first (numbered (end_behind first) (alone (stamped header.finish header.set))) ∙ pending-more rs (numbered (end_behind rs) (alone (checkpointed header.start)))
 
-pub full-header : (w : World) (db : Database) (set : Guid) (time : ℕ) (told : Told) → IsSound w → database_named w.databases db.name ≡ Some db → db.status ≡ Online → files_of told ≡ db.files
-    → told.records ≡ backed_up (log_of w.history db) (full_header w db set time) → IsHeaderOf told (full_header w db set time)
+pub full-header : (w : World) (db : Database) (options : BackupOptions) (set : Guid) (time : ℕ) (told : Told) → IsSound w → database_named w.databases db.name ≡ Some db → db.status ≡ Online → files_of told ≡ db.files
+    → told.records ≡ backed_up (log_of w.history db) (full_header w db options set time) → IsHeaderOf told (full_header w db options set time)
 unfolding full_header
-full-header w db set time told sound named up files records =
-    let header : Header = full_header w db set time in
+full-header w db options set time told sound named up files records =
+    let header : Header = full_header w db options set time in
     let is : IsUp w db = is-up w db sound named up in
     let log : List Logged = log_of w.history db in
     let first : List Logged = said_last log (checkpointed time) in

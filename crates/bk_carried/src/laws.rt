@@ -13,6 +13,7 @@ ghost use Rattle.bk_header.specs.Conditions.{AreNumbered};
 ghost use Rattle.bk_hosted.specs.Hosted.{set_storage};
 ghost use Rattle.bk_ids.specs.declared.guid.Guid.{Guid};
 ghost use Rattle.bk_ids.specs.declared.record.Rec.{Rec};
+ghost use Rattle.bk_items.specs.declared.options.BackupOptions.{BackupOptions};
 ghost use Rattle.bk_known.specs.Known.{KeepsKnown};
 ghost use Rattle.bk_known.specs.declared.known.DatabaseSpec.{DatabaseSpec};
 ghost use Rattle.bk_machine.specs.Acts.{Recovery};
@@ -47,8 +48,8 @@ pub fn backups_carry()
 
 /// The header of a full backup in a sound world is of its database as it is once the checkpoint and the stamp are said.
 pub fn full_headers_are_of_databases()
-    ensures { (w : World) (db : Database) (set : Guid) (time : ℕ) (told : Told) → IsSound w → database_named w.databases db.name ≡ Some db → db.status ≡ Online → files_of told ≡ db.files
-        → told.records ≡ backed_up (log_of w.history db) (full_header w db set time) → IsHeaderOf told (full_header w db set time) }
+    ensures { (w : World) (db : Database) (options : BackupOptions) (set : Guid) (time : ℕ) (told : Told) → IsSound w → database_named w.databases db.name ≡ Some db → db.status ≡ Online → files_of told ≡ db.files
+        → told.records ≡ backed_up (log_of w.history db) (full_header w db options set time) → IsHeaderOf told (full_header w db options set time) }
 {}
 
 /// A set goes on carrying its log where that reads the same.
