@@ -3,6 +3,7 @@ mod Logged
 mod Changed
 mod Reserved
 mod Made
+mod Drawn
 mod Marked
 mod Said
 mod Sealed

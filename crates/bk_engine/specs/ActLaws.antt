@@ -1,7 +1,7 @@
 -- What acts leave of a world's instance, counter, sessions and media.
 use Rattle.std.proofs.Common.{◌≡◌, ◌∙◌, ℕ, ◌+◌, List, Option, Some, None, refl, arith}
 use Rattle.bk_hosted.specs.Hosted.{bringing_up}
-use Rattle.bk_machine.specs.Acts.{Act, Recovery, based, created, done, done_all, dropped, goes_online, logged, medium_made, recovered, replaced, restored, says, seated, set_sealed, turned, where_found}
+use Rattle.bk_machine.specs.Acts.{Act, Recovery, based, created, done, done_all, dropped, goes_online, logged, medium_made, recovered, replaced, restored, says, seated, set_drawn, set_sealed, turned, where_found}
 use Rattle.bk_machine.specs.MayDo.{HoldsOf, MayDo, MayDoAll, MayRecover}
 use Rattle.bk_machine.specs.World.{Database, World, database_named}
 use Rattle.bk_machine.specs.statements.Restore.{base_of}
@@ -14,6 +14,7 @@ use Rattle.bk_world.specs.Records.{Said}
 abbrev pub draws : Act → ℕ
 draws (created c) = 2
 draws (medium_made path) = 1
+draws set_drawn = 1
 draws (recovered name r) = 1
 draws _ = 0
 
@@ -30,6 +31,7 @@ done-instance w (logged name said transactions) = by (database_named w.databases
     by None = refl
     by (Some db) = refl
 done-instance w (medium_made path) = refl
+done-instance w set_drawn = refl
 done-instance w (set_sealed path header) = refl
 done-instance w (based name header) = refl
 done-instance w (replaced name header) = refl
@@ -53,6 +55,7 @@ done-counter w (logged name said transactions) may = by (database_named w.databa
     by None = omega arith
     by (Some db) = omega arith
 done-counter w (medium_made path) may = refl
+done-counter w set_drawn may = refl
 done-counter w (set_sealed path header) may = omega arith
 done-counter w (based name header) may = omega arith
 done-counter w (replaced name header) may = omega arith
@@ -80,6 +83,7 @@ done-seats w (logged name said transactions) other = by (database_named w.databa
     by None = record { session = refl; sessions = refl }
     by (Some db) = record { session = refl; sessions = refl }
 done-seats w (medium_made path) other = record { session = refl; sessions = refl }
+done-seats w set_drawn other = record { session = refl; sessions = refl }
 done-seats w (set_sealed path header) other = record { session = refl; sessions = refl }
 done-seats w (based name header) other = record { session = refl; sessions = refl }
 done-seats w (replaced name header) other = record { session = refl; sessions = refl }

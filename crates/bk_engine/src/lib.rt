@@ -7,6 +7,7 @@ mod closing;
 mod coming;
 mod copying;
 mod creating;
+mod drawing;
 mod dropping;
 mod engine;
 mod finishing;
