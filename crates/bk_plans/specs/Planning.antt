@@ -5,8 +5,8 @@ use Rattle.bk_acts.specs.Conditions.{KeepsAct}
 use Rattle.bk_header.specs.Conditions.{KeepsConditions}
 use Rattle.bk_items.specs.declared.item.ScriptEntry.{ScriptEntry}
 use Rattle.bk_items.specs.declared.item.ScriptItem.{ScriptItem}
-use Rattle.bk_items.specs.declared.item.ScriptItem.TheVariants.{BackupDatabase, RestoreDatabase}
-use Rattle.bk_machine.specs.Acts.{Act, turned, seated, medium_made, set_sealed, done}
+use Rattle.bk_items.specs.declared.item.ScriptItem.TheVariants.{BackupDatabase, RestoreDatabase, QueryMedium}
+use Rattle.bk_machine.specs.Acts.{Act, turned, seated, medium_made, set_drawn, set_sealed, done}
 use Rattle.bk_machine.specs.Checks.{used_up, is_path}
 use Rattle.bk_machine.specs.Machine.{May}
 use Rattle.bk_machine.specs.MayDo.{MayDo}
@@ -19,7 +19,7 @@ use Rattle.bk_world.specs.declared.reply.Reply.{Reply}
 use Rattle.bk_world.specs.declared.reply.Reply.TheVariants as reply
 use Rattle.bk_kept.specs.declared.kept.Kept.{Kept}
 use Rattle.bk_plans.specs.declared.parts.Part.{Part}
-use Rattle.bk_plans.specs.declared.parts.Part.TheVariants.{Stored, MediumMade, SetSealed}
+use Rattle.bk_plans.specs.declared.parts.Part.TheVariants.{Stored, MediumMade, SetDrawn, SetSealed}
 use Rattle.bk_plans.specs.declared.parts.Plan.{Plan}
 use Rattle.bk_plans.specs.declared.parts.Plan.TheVariants.{Refused, Answered, Turned, Seated, Parts}
 use Rattle.bk_kept.specs.Keeps.{Sees}
@@ -33,6 +33,11 @@ pub record MakesMedium (w : World) (path : List ℕ) (act : Act) : Type 0 where
   pub absent : medium_at w.media path ≡ None
   pub draws : used_up w.counter ≡ false
 
+-- the GUID of a set is drawn, and one is left for it
+pub record DrawsSet (w : World) (act : Act) : Type 0 where
+  pub is : act ≡ set_drawn
+  pub draws : used_up w.counter ≡ false
+
 -- a set is sealed on a medium that is there
 pub record SealsSet (w : World) (path : List ℕ) (header : Header) (act : Act) : Type 0 where
   pub is : act ≡ set_sealed path header
@@ -44,6 +49,7 @@ pub record SealsSet (w : World) (path : List ℕ) (header : Header) (act : Act) 
 abbrev pub IsPart : World → Part → Act → Type 0
 IsPart w (Stored stored) act = IsDone w stored act
 IsPart w (MediumMade path) act = MakesMedium w path act
+IsPart w SetDrawn act = DrawsSet w act
 IsPart w (SetSealed path header) act = SealsSet w path header act
 
 -- parts are these acts, each of which may be done behind those before it
@@ -56,6 +62,7 @@ AreParts w _ _ = ⊥
 abbrev pub KeepsPart : Part → Type 0
 KeepsPart (Stored stored) = KeepsAct stored
 KeepsPart (MediumMade path) = is_path path ≡ true
+KeepsPart SetDrawn = Unit {0}
 KeepsPart (SetSealed path header) = (is_path path ≡ true) × KeepsConditions header
 
 -- Plans.
@@ -93,4 +100,5 @@ pub record Plans (k : Kept) (Known : World → Type 0) (s : ScriptEntry) (now : 
 abbrev pub ReadsNoMedium : ScriptItem → Type 0
 ReadsNoMedium (BackupDatabase name units disk options) = ⊥
 ReadsNoMedium (RestoreDatabase name units disk options) = ⊥
+ReadsNoMedium (QueryMedium query disk file) = ⊥
 ReadsNoMedium _ = Unit {0}

@@ -11,6 +11,8 @@ pub enum Part {
     Stored(StoredAct),
     /// A medium is made at a path of 1 to 100 bytes where none is, without sets.
     MediumMade { path: Text },
+    /// The GUID of a set is drawn that comes behind those on a medium.
+    SetDrawn,
     /// A set with this header is sealed behind those on the medium at a path.
     SetSealed { path: Text, header: Header },
 }

@@ -37,7 +37,7 @@ module _ (w : World) (line now : ℕ) where
   unbuilt (script.BackupLog a b c) other plain = refl
   unbuilt (script.RestoreDatabase a b c d) other plain = absurd plain
   unbuilt (script.RestoreLog a b c) other plain = refl
-  unbuilt (script.QueryMedium a b c) other plain = refl
+  unbuilt (script.QueryMedium a b c) other plain = absurd plain
   unbuilt (script.CreateTable a b) other plain = absurd (other.table a b refl)
   unbuilt (script.Rows a b) other plain = absurd (other.rows a b refl)
   unbuilt (script.Begin a) other plain = absurd (other.begin a refl)
