@@ -1,7 +1,8 @@
 pub mod SetFiles
 pub mod SetFits
-pub mod FirstSets
+pub mod FoundSets
 pub mod BackupParts
 pub mod Recoveries
+pub mod Unmoved
 pub mod Backed
 pub mod PlannedRestore

@@ -1,6 +1,6 @@
 pub mod SetPaths
 pub mod Sets
 pub mod Backups
-pub mod Firsts
+pub mod Found
 pub mod Restoring
 pub mod RestorePlans

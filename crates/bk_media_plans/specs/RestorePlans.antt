@@ -27,7 +27,7 @@ use Rattle.bk_kept.specs.declared.kept.Kept.{Kept}
 use Rattle.bk_kept.specs.Keeps.{Sees}
 use Rattle.bk_media_plans.specs.declared.restore_plan.RestorePlan.{RestorePlan}
 use Rattle.bk_media_plans.specs.declared.restore_plan.RestorePlan.TheVariants.{Refused, BringsUp}
-use Rattle.bk_media_plans.specs.Firsts.{First}
+use Rattle.bk_media_plans.specs.Found.{Found}
 
 -- what a recovery at a set's end says: all that is pending there is undone, the last write first, and one record names the branch
 abbrev pub ending_of : World → Header → Guid → Recovery
@@ -35,29 +35,29 @@ ending_of w header branch = record { at = header.last; branch = branch; said = s
 
 -- These acts of a world bring up the database of a name by a set: it takes the database's place, its files are restored, and it is recovered at its end on a branch, which the record of the last
 -- number names. Its tables are those of its path, no database of another name has the path of one of its files, and GUIDs are left.
-pub record AreOfRestore (w : World) (first : First) (name : List ℕ) (branch : Guid) (last : ℕ) (acts : List Act) : Type 0 where
-  pub are : acts ≡ replaced name first.header ∷ bringing_up name first.header (ending_of w first.header branch)
+pub record AreOfRestore (w : World) (set : Found) (name : List ℕ) (branch : Guid) (last : ℕ) (acts : List Act) : Type 0 where
+  pub are : acts ≡ replaced name set.header ∷ bringing_up name set.header (ending_of w set.header branch)
   pub may : MayDoAll w acts
-  pub last_is : last ≡ first.header.last + length (pending (set_log w first.header))
-  pub tables_are : tables (set_log w first.header) ≡ first.tables
-  pub unused : free_paths (paths_of (others w.databases name)) (set_paths first.header) ≡ Ok tt
+  pub last_is : last ≡ set.header.last + length (pending (set_log w set.header))
+  pub tables_are : tables (set_log w set.header) ≡ set.tables
+  pub unused : free_paths (paths_of (others w.databases name)) (set_paths set.header) ≡ Ok tt
   pub draws : used_up w.counter ≡ false
 
--- the acts of a restore that is planned by the set that was found first
-abbrev pub AreRestoreActs : World → Result First Rule → RestorePlan → List Act → Type 0
+-- the acts of a restore that is planned by the set that was found
+abbrev pub AreRestoreActs : World → Result Found Rule → RestorePlan → List Act → Type 0
 AreRestoreActs w found (Refused rule) acts = acts ≡ []
-AreRestoreActs w (Ok first) (BringsUp name branch last) acts = AreOfRestore w first name branch last acts
+AreRestoreActs w (Ok set) (BringsUp name branch last) acts = AreOfRestore w set name branch last acts
 AreRestoreActs w (Err rule) (BringsUp name branch last) acts = ⊥
 
 -- what it replies
-abbrev pub restore_reply : Result First Rule → RestorePlan → Reply
+abbrev pub restore_reply : Result Found Rule → RestorePlan → Reply
 restore_reply found (Refused rule) = reply.Refused rule
-restore_reply (Ok first) (BringsUp name branch last) = reply.Recovered first.header.last
+restore_reply (Ok set) (BringsUp name branch last) = reply.Recovered set.header.last
 restore_reply (Err rule) (BringsUp name branch last) = reply.Refused rule
 
--- A plan of a restore at a moment, by the set that was found first: one outcome, to which the restore may come in each world that is seen and of which this is known, and whose acts are then those
+-- A plan of a restore at a moment, by the set that was found: one outcome, to which the restore may come in each world that is seen and of which this is known, and whose acts are then those
 -- of the plan.
-pub record PlansRestore (k : Kept) (Known : World → Type 0) (found : Result First Rule) (s : ScriptEntry) (now : ℕ) (plan : RestorePlan) : Type 0 where
+pub record PlansRestore (k : Kept) (Known : World → Type 0) (found : Result Found Rule) (s : ScriptEntry) (now : ℕ) (plan : RestorePlan) : Type 0 where
   pub outcome : Outcome
   pub replies : outcome.reply ≡ restore_reply found plan
   pub may : (w : World) → IsSound w → Sees w k → Known w → May w s now outcome
@@ -70,7 +70,7 @@ pub record KeepsSet (header : Header) (made : List TableSpec) : Type 0 where
   pub few : length made ≤ most_tables
 
 -- what a plan of a restore keeps beside its types
-abbrev pub KeepsRestore : Result First Rule → RestorePlan → Type 0
+abbrev pub KeepsRestore : Result Found Rule → RestorePlan → Type 0
 KeepsRestore found (Refused rule) = Unit {0}
-KeepsRestore (Ok first) (BringsUp name branch last) = KeepsSet first.header first.tables
+KeepsRestore (Ok set) (BringsUp name branch last) = KeepsSet set.header set.tables
 KeepsRestore (Err rule) (BringsUp name branch last) = Unit {0}

@@ -1,26 +1,24 @@
 -- What a whole restore brings up, and what its plan is told.
-use Rattle.std.specs.Prelude.{◌≡◌, ◌≤◌, ℕ, ◌+◌, Bool, ◌&&◌, ◌||◌, nat_le, List, [], length, Option}
+use Rattle.std.specs.Prelude.{◌≡◌, ◌≤◌, ℕ, ◌+◌, Bool, ◌&&◌, List, [], length, Option}
 use Rattle.bk_ids.specs.declared.guid.Guid.{Guid}
 use Rattle.bk_items.specs.declared.item.RestoredUnits.{RestoredUnits}
 use Rattle.bk_items.specs.declared.options.RestoreOptions.{RestoreOptions}
-use Rattle.bk_machine.specs.Checks.{Checked, ◌>>=◌, different_paths, free_paths, is_name, is_path, last_number, limit, others, paths_of, refuse_if, used_up}
+use Rattle.bk_machine.specs.Checks.{is_name, is_path, last_number}
 use Rattle.bk_machine.specs.World.{World, database_named}
-use Rattle.bk_machine.specs.statements.Restore.{disk_path, is_whole_restore, name_known, set_paths}
+use Rattle.bk_machine.specs.statements.Restore.{disk_path, is_whole_restore, name_known}
 use Rattle.bk_shown.specs.Ends.{HoldsPending}
 use Rattle.bk_shown.specs.Shown.{ArePlaced}
 use Rattle.bk_world.specs.Pending.{Pending, pending}
 use Rattle.bk_world.specs.Records.{Counts, Logged}
 use Rattle.bk_world.specs.SoundLogs.{IsSound}
 use Rattle.bk_world.specs.declared.database.FileSpec.{FileSpec}
-use Rattle.bk_world.specs.declared.header.Header.{Header}
-use Rattle.bk_world.specs.declared.rule.Rule.TheVariants.{PathFull}
 use Rattle.bk_kept.specs.declared.kept.Kept.{Kept}
 use Rattle.bk_kept.specs.Keeps.{Sees}
 use Rattle.bk_plans.specs.declared.refusal.Refusal.{Refusal}
 use Rattle.bk_plans.specs.declared.refusal.Refusal.TheVariants.{Broken, NoMemory}
 use Rattle.bk_media_plans.specs.declared.restore_plan.RestorePlan.{RestorePlan}
 use Rattle.bk_media_plans.specs.declared.restore_plan.RestorePlan.TheVariants.{Refused, BringsUp}
-use Rattle.bk_media_plans.specs.Firsts.{First}
+use Rattle.bk_media_plans.specs.Found.{Found}
 
 -- these writes are pending in each log that ends in these bytes
 abbrev pub ArePending : List ℕ → List Pending → Type 0
@@ -49,15 +47,15 @@ abbrev pub IsKnown : Kept → List ℕ → List ℕ → Type 0
 IsKnown k asked name = (w : World) → Sees w k → name ≡ name_known (database_named w.databases asked) asked
 
 -- what is asked for is restored under the name that is known, on the next GUID, up to the record that names the branch
-pub record IsOfRestore (k : Kept) (asked : List ℕ) (first : First) (name : List ℕ) (branch : Guid) (last : ℕ) : Type 0 where
+pub record IsOfRestore (k : Kept) (asked : List ℕ) (set : Found) (name : List ℕ) (branch : Guid) (last : ℕ) : Type 0 where
   pub known : IsKnown k asked name
   pub branch_is : branch ≡ record { high = k.number; low = k.counter }
-  pub ends : EndsRecovery first.log first.header.last last
+  pub ends : EndsRecovery set.log set.header.last last
 
 -- a plan restores it so
-abbrev pub RestoresWhole : Kept → List ℕ → First → RestorePlan → Type 0
-RestoresWhole k asked first (BringsUp name branch last) = IsOfRestore k asked first name branch last
-RestoresWhole k asked first (Refused rule) = ⊥
+abbrev pub RestoresWhole : Kept → List ℕ → Found → RestorePlan → Type 0
+RestoresWhole k asked set (BringsUp name branch last) = IsOfRestore k asked set name branch last
+RestoresWhole k asked set (Refused rule) = ⊥
 
 -- a plan refuses by the rule of a refusal
 abbrev pub IsRefusedRestore : Refusal → RestorePlan → Type 0
@@ -67,11 +65,3 @@ IsRefusedRestore NoMemory plan = ⊥
 -- a RESTORE DATABASE is built: a whole restore, of a name and from a path
 abbrev pub is_built : List ℕ → RestoredUnits → Option (List ℕ) → RestoreOptions → Bool
 is_built name units disk options = is_whole_restore units disk options && is_name name && is_path (disk_path disk)
-
--- what is checked of a set behind its database: its files, its path, and numbers
-abbrev pub check_header : World → List ℕ → Header → Checked (Unit {0})
-check_header w name header = do
-  _ ← free_paths (paths_of (others w.databases name)) (set_paths header)
-  _ ← different_paths [] (set_paths header)
-  _ ← refuse_if (nat_le 64 (length header.path)) PathFull
-  limit (used_up header.last || used_up w.counter)

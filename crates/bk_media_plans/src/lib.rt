@@ -2,14 +2,14 @@
 #![tactic(auto)]
 
 mod backing_up;
-mod first_set;
 mod headers;
 mod planning_backup;
 mod planning_restore;
 mod restore_plan;
 mod restoring;
+mod set_view;
 
-pub use first_set::FirstView;
 pub use planning_backup::plan_backup;
 pub use planning_restore::{plan_restore, unbuilt_restore};
 pub use restore_plan::RestorePlan;
+pub use set_view::{SetView, position_of};

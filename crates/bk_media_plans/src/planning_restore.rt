@@ -9,15 +9,15 @@ ghost use Rattle.bk_machine.specs.Outcome.{refused};
 ghost use Rattle.bk_machine.specs.Sound.{IsSound};
 ghost use Rattle.bk_machine.specs.World.{World};
 ghost use Rattle.bk_media_plans.specs.Restoring as request;
-ghost use Rattle.bk_media_plans.specs.Firsts.{FindsFirst, KeepsFirst};
+ghost use Rattle.bk_media_plans.specs.Found.{FindsSet, KeepsFound};
 ghost use Rattle.bk_media_plans.specs.RestorePlans.{KeepsRestore, PlansRestore};
 ghost use Rattle.bk_media_plans.specs.Restoring.{EndsRecovery, IsKnown, IsRefusedRestore, LeavesRecovery, RestoresWhole};
 ghost use Rattle.bk_machine.specs.Checks as checks;
 ghost use Rattle.bk_shown.specs.declared.error.TakeError.TheVariants.{Unfit};
 
-use crate::first_set::{FirstView, keeps_first};
 use crate::restore_plan::RestorePlan;
 use crate::restoring::check_set;
+use crate::set_view::{SetView, keeps_found};
 use bk_ids::{Guid, Lsn, Name, Text};
 use bk_items::{Ending, RestoreOptions, RestoredUnits};
 use bk_kept::InstanceView;
@@ -41,25 +41,11 @@ fn is_recovery(ending: &Option<Ending>) -> bool
     }
 }
 
-// Whether no set is named, or the first one of a medium is.
-fn is_first(file: Option<u64>) -> bool
-    ensures { result ≡ restore.is_first file }
-{
-    match file {
-        None => true,
-        Some(n) => n == 1,
-    }
-}
-
-// Whether at most FILE = 1, RECOVERY and REPLACE are there, beside CHECKSUM and options without effect.
+// Whether at most FILE, RECOVERY and REPLACE are there, beside CHECKSUM and options without effect.
 fn is_plain(o: &RestoreOptions) -> bool
     ensures { result ≡ restore.is_plain o.now }
 {
-    is_first(o.file)
-        && is_recovery(&o.ending)
-        && o.stop.is_none()
-        && !o.partial
-        && o.moves.as_slice().is_empty()
+    is_recovery(&o.ending) && o.stop.is_none() && !o.partial && o.moves.as_slice().is_empty()
 }
 
 // Whether a restore lists no units.
@@ -146,17 +132,17 @@ fn bringing_up(
     kept: &InstanceView<'_>,
     alloc: Global,
     asked: &Text,
-    first: &FirstView<'_>,
+    set: &SetView<'_>,
 ) -> Result<RestorePlan, TakeError>
     requires { checks.is_name asked.now ≡ true }
-    ensures whole { IfOk result (RestoresWhole kept.now asked.now first.now) }
-    ensures unfit { IsErrOf result Unfit → KeepsFirst first.now → LeavesRecovery first.now.log first.now.header.last → ⊥ }
-    ensures keeps { IfOk result (λ plan. KeepsFirst first.now) }
+    ensures whole { IfOk result (RestoresWhole kept.now asked.now set.now) }
+    ensures unfit { IsErrOf result Unfit → KeepsFound set.now → LeavesRecovery set.now.log set.now.header.last → ⊥ }
+    ensures keeps { IfOk result (λ plan. KeepsFound set.now) }
 {
-    if !keeps_first(first) {
+    if !keeps_found(set) {
         return Err(TakeError::Unfit);
     }
-    let last = last_of(alloc, first.log, first.header.last)?;
+    let last = last_of(alloc, set.log, set.header.last)?;
     let name = known_name(kept, alloc, asked)?;
     let branch = Guid {
         high: kept.number,
@@ -176,8 +162,8 @@ fn refusing_restore(refusal: Refusal) -> Result<RestorePlan, TakeError>
     }
 }
 
-// What a restore that is built comes to outside of a transaction, by the first set of its medium.
-fn restore_first(
+// What a restore that is built comes to outside of a transaction, by the set of its medium that it chooses.
+fn restore_set(
     kept: &InstanceView<'_>,
     alloc: Global,
     line: u32,
@@ -185,29 +171,29 @@ fn restore_first(
     units: &RestoredUnits,
     disk: &Option<Text>,
     options: &RestoreOptions,
-    first: &FirstView<'_>,
+    set: &SetView<'_>,
     now: u64,
 ) -> Result<RestorePlan, TakeError>
     requires built { request.is_built database.now units.now disk.now options.now ≡ true }
     requires out { (w : World) → Sees w kept.now → checks.outside w ≡ Ok tt }
-    ensures plans { IfOk result (PlansRestore kept.now (FindsFirst disk.now (Ok first.now)) (Ok first.now)
+    ensures plans { IfOk result (PlansRestore kept.now (FindsSet (restore.position_of options.now.file) disk.now (Ok set.now)) (Ok set.now)
         (record { item = script.RestoreDatabase database.now units.now disk.now options.now; line = line }) now) }
-    ensures unfit { IsErrOf result Unfit → (w : World) → IsSound w → FindsFirst disk.now (Ok first.now) w → ⊥ }
-    ensures keeps { IfOk result (KeepsRestore (Ok first.now)) }
+    ensures unfit { IsErrOf result Unfit → (w : World) → IsSound w → FindsSet (restore.position_of options.now.file) disk.now (Ok set.now) w → ⊥ }
+    ensures keeps { IfOk result (KeepsRestore (Ok set.now)) }
 {
     sets_that_stay();
     statements_do_what_they_may();
     recoveries_undo_what_is_pending();
     placed_logs();
-    match check_set(kept, alloc, database, options.replace, first.header) {
-        Ok(()) => bringing_up(kept, alloc, database, first),
+    match check_set(kept, alloc, database, options, set.header) {
+        Ok(()) => bringing_up(kept, alloc, database, set),
         Err(refusal) => refusing_restore(refusal),
     }
 }
 
-/// What `RESTORE DATABASE` on this line comes to, which is built, by the first set of its medium, or the rule by which that is
-/// refused. `Unfit` comes only where the set doesn't keep what every set keeps, where its log isn't what its path shows, or where it leaves
-/// no numbers for what its recovery says: in no sound world that finds the set first.
+/// What `RESTORE DATABASE` on this line comes to, which is built, by the set at its position on its medium, or the rule by which
+/// that is refused. `Unfit` comes only where the set doesn't keep what every set keeps, where its log isn't what its path shows, or where it leaves
+/// no numbers for what its recovery says: in no sound world that finds the set there.
 pub fn plan_restore(
     kept: &InstanceView<'_>,
     alloc: Global,
@@ -216,24 +202,22 @@ pub fn plan_restore(
     units: &RestoredUnits,
     disk: &Option<Text>,
     options: &RestoreOptions,
-    first: Result<FirstView<'_>, Rule>,
+    set: Result<SetView<'_>, Rule>,
     now: u64,
 ) -> Result<RestorePlan, TakeError>
     requires built { request.is_built database.now units.now disk.now options.now ≡ true }
-    ensures plans { IfOk result (PlansRestore kept.now (FindsFirst disk.now first.entry) first.entry
+    ensures plans { IfOk result (PlansRestore kept.now (FindsSet (restore.position_of options.now.file) disk.now set.entry) set.entry
         (record { item = script.RestoreDatabase database.now units.now disk.now options.now; line = line }) now) }
-    ensures keeps { IfOk result (KeepsRestore first.entry) }
-    ensures unfit { IsErrOf result Unfit → (w : World) → IsSound w → FindsFirst disk.now first.entry w → ⊥ }
+    ensures keeps { IfOk result (KeepsRestore set.entry) }
+    ensures unfit { IsErrOf result Unfit → (w : World) → IsSound w → FindsSet (restore.position_of options.now.file) disk.now set.entry w → ⊥ }
 {
     match outside(kept) {
-        Ok(()) => match first {
-            Ok(first) => restore_first(
-                kept, alloc, line, database, units, disk, options, &first, now,
-            ),
+        Ok(()) => match set {
+            Ok(set) => restore_set(kept, alloc, line, database, units, disk, options, &set, now),
             Err(rule) => Ok(RestorePlan::Refused { rule }),
         },
         Err(refusal) => {
-            drop(first);
+            drop(set);
             refusing_restore(refusal)
         }
     }

@@ -1,6 +1,6 @@
 //! The checks of a whole restore, by the header of its set.
 
-ghost use Rattle.std.specs.Prelude.{◌≡◌, [], map, IfSome};
+ghost use Rattle.std.specs.Prelude.{◌≡◌, [], true, map, IfSome};
 ghost use Rattle.std.specs.List.{find};
 ghost use Rattle.std.specs.Option.{option_map};
 ghost use Rattle.bk_machine.specs.Checks as checks;
@@ -9,11 +9,11 @@ ghost use Rattle.bk_machine.specs.World.{World, database_named};
 ghost use Rattle.bk_machine.specs.statements.Restore as restore;
 ghost use Rattle.bk_kept.specs.Keeps.{IsSeenOf, Sees, database_of};
 ghost use Rattle.bk_plans.specs.Checking.{IsCheck};
-ghost use Rattle.bk_media_plans.specs.Restoring as requests;
 ghost use Rattle.bk_media_plans.specs.SetPaths as paths;
 ghost use Rattle.bk_media_plans.specs.SetPaths.{file_check};
 
 use bk_ids::Text;
+use bk_items::RestoreOptions;
 use bk_kept::{DatabaseView, InstanceView, used_up};
 use bk_plans::{MOST_DATABASES, Refusal, in_use, is_in_use_by_others, limit, refuse_if, unused};
 use bk_world::{Header, HeaderFile, Limit, Rule, Status};
@@ -150,13 +150,14 @@ fn different_paths(alloc: Global, files: &[HeaderFile]) -> Result<(), Refusal>
 }
 
 // Whether the files of a set may be used, its path can take a branch more, and numbers are left.
-fn check_header(
+#[tactic(auto, unfolding(bk_machine::specs::statements::Restore::check_room))]
+fn check_room(
     kept: &InstanceView<'_>,
     alloc: Global,
     name: &Text,
     header: &Header,
 ) -> Result<(), Refusal>
-    ensures { (w : World) → Sees w kept.now → IsCheck (λ u. u) result (requests.check_header w name.now header.now) }
+    ensures { (w : World) → Sees w kept.now → IsCheck (λ u. header.now) result (restore.check_room w name.now header.now) }
 {
     let files = header.files.as_slice();
     free_paths(alloc, &kept.databases, name.as_str(), files)?;
@@ -165,7 +166,8 @@ fn check_header(
         header.path.as_slice().len() >= MOST_BRANCHES,
         Rule::PathFull,
     )?;
-    limit(used_up(header.last) || used_up(kept.counter))
+    limit(used_up(header.last) || used_up(kept.counter))?;
+    Ok(())
 }
 
 // The database of this name, if there is one.
@@ -177,21 +179,22 @@ fn named_in<'a>(kept: &'a InstanceView<'a>, name: &Text) -> Option<&'a DatabaseV
     Some(database)
 }
 
-// Whether the set with this header may take the place of the database of this name, or come behind the others.
+// Whether the set with this header, of which no file is moved, may take the place of the database of this name, or come behind the others.
 #[tactic(auto, unfolding(bk_machine::specs::statements::Restore::check_set))]
 pub(crate) fn check_set(
     kept: &InstanceView<'_>,
     alloc: Global,
     name: &Text,
-    replace: bool,
+    options: &RestoreOptions,
     header: &Header,
 ) -> Result<(), Refusal>
-    ensures { (w : World) → Sees w kept.now → IsCheck (λ u. u) result (restore.check_set w name.now replace header.now) }
+    requires { restore.has_no_move options.now.moves ≡ true }
+    ensures { (w : World) → Sees w kept.now → IsCheck (λ u. header.now) result (restore.check_set w name.now options.now header.now) }
 {
     let named = named_in(kept, name);
     check_unused(named)?;
-    check_family(named, replace, header)?;
-    check_tail(named, replace)?;
+    check_family(named, options.replace, header)?;
+    check_tail(named, options.replace)?;
     check_number(&kept.databases, named)?;
-    check_header(kept, alloc, name, header)
+    check_room(kept, alloc, name, header)
 }

@@ -3,25 +3,30 @@ use Rattle.std.proofs.Common.{List, Option, map, sym, ◌∙◌, ap, subst}
 use Rattle.std.specs.Option.{option_map}
 use Rattle.bk_kept.specs.Keeps.{database_of}
 use Rattle.bk_machine.specs.Checks.{Checked, ◌>>=◌}
+use Rattle.bk_machine.specs.MovedLaws.{moved-none}
 use Rattle.bk_machine.specs.World.{Database}
-use Rattle.bk_machine.specs.statements.Restore.{check_family, check_number, check_set, check_tail, check_unused}
+use Rattle.bk_machine.specs.statements.Restore.{check_family, check_moves, check_number, check_room, check_set, check_tail, check_unused, moved}
 use Rattle.bk_plans.specs.Checking.{IsCheck}
 use Rattle.bk_plans.specs.CheckingLaws.{passed-on}
-use Rattle.bk_media_plans.specs.Restoring.{check_header}
+use Rattle.bk_world.specs.declared.header.Header.{Header}
 use Rattle.bk_kept.specs.declared.kept.Kept.{Kept}
+use Rattle.bk_media_plans.proofs.Unmoved.{none-checked}
 use Rattle.bk_media_plans.proofs.restoring.check_set.Goals as goal
 
 pub returns : goal.returns
 unfolding check_set
 returns c = λ w sees.
     let name = c.args.name.now in
-    let replace = c.args.replace in
+    let moves = c.args.options.now.moves in
+    let replace = c.args.options.now.replace in
     let header = c.args.header.now in
     let o : Option Database = option_map (λ d. database_of d.now) c.named_in-named.result in
-    let chain : Option Database → Checked (Unit {0}) =
-    λ (x : Option Database). check_unused x >>= (λ (a : Unit {0}). check_family x replace header >>= (λ (b : Unit {0}). check_tail w x replace >>= (λ (e : Unit {0}). check_number w.databases x >>= (λ (f : Unit {0}). check_header w name header)))) in
-    subst (λ (x : Option Database). IsCheck (λ u. u) c.check_header.result (chain x)) (c.named_in-named.ensures.found w sees)
+    let chain : Option Database → Checked Header =
+    λ (x : Option Database). check_unused x >>= (λ (a : Unit {0}). check_family x replace header >>= (λ (b : Unit {0}). check_moves header moves >>= (λ (d : Unit {0}). check_tail w x replace >>= (λ (e : Unit {0}). check_number w.databases x >>= (λ (f : Unit {0}). check_room w name (moved moves header)))))) in
+    subst (λ (x : Option Database). IsCheck (λ u. header) c.check_room.result (chain x)) (c.named_in-named.ensures.found w sees)
     (passed-on _ _ (check_unused o) _ tt c.in_ok-check_unused.ensures
     (passed-on _ _ (check_family o replace header) _ tt c.in_ok-check_family.ensures
+    (passed-on _ _ (check_moves header moves) _ tt (none-checked header moves c.requires)
     (passed-on _ _ (check_tail w o replace) _ tt (c.in_ok-check_tail.ensures w (c.named_in-named.ensures.seen w sees))
-    (passed-on _ _ (check_number w.databases o) _ tt (ap (λ (dbs : List Database). check_number dbs o) (sees.databases ∙ ap (map database_of) (sym (c.deref.ensures.value ∙ ap (λ (k : Kept). k.databases.items) c.kept.view_is))) ∙ c.in_ok-check_number.ensures) (c.check_header.ensures w sees)))))
+    (passed-on _ _ (check_number w.databases o) _ tt (ap (λ (dbs : List Database). check_number dbs o) (sees.databases ∙ ap (map database_of) (sym (c.deref.ensures.value ∙ ap (λ (k : Kept). k.databases.items) c.kept.view_is))) ∙ c.in_ok-check_number.ensures)
+    (subst (λ (h : Header). IsCheck (λ u. header) c.check_room.result (check_room w name h)) (sym (moved-none moves header c.requires)) (c.check_room.ensures w sees)))))))

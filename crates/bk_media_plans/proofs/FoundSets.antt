@@ -1,4 +1,4 @@
--- What is known of the first set of a medium.
+-- What is known of a set that was found on a medium.
 use Rattle.std.proofs.Common.{◌≡◌, ◌<◌, ◌≤◌, ℕ, ◌+◌, ◌-◌, true, List, [], ◌∷◌, length, map, take, drop, None, refl, sym, ◌∙◌, ap, subst, arith}
 use Rattle.std.specs.List.{AllByRecursion}
 use Rattle.std.specs.Prelude.{nat_le, nat_lt}
@@ -29,46 +29,46 @@ use Rattle.bk_world.specs.declared.database.FileSpec.{FileSpec}
 use Rattle.bk_world.specs.declared.database.TableSpec.{TableSpec}
 use Rattle.bk_world.specs.declared.header.Header.{Header}
 use Rattle.bk_world.specs.declared.header.HeaderFile.{HeaderFile}
-use Rattle.bk_media_plans.specs.Firsts.{First, IsSetOf, KeepsFirst}
+use Rattle.bk_media_plans.specs.Found.{Found, IsSetOf, KeepsFound}
 use Rattle.bk_media_plans.specs.RestorePlans.{KeepsSet}
 
 -- ---- what it holds of its log
 
-module _ (w : World) (first : First) (of : IsSetOf w.history first) where
+module _ (w : World) (set : Found) (of : IsSetOf w.history set) where
   -- the log of its path
   abbrev log : List Logged
-  log = log_below w.history first.header.path first.header.last
+  log = log_below w.history set.header.path set.header.last
 
   holds : HoldsLog log of.body
   holds = subst (λ (h : Header). HoldsLog (log_below w.history h.path h.last) of.body) of.header_is of.carries
 
-  pub set-tables : tables (log_below w.history first.header.path first.header.last) ≡ first.tables
+  pub set-tables : tables (log_below w.history set.header.path set.header.last) ≡ set.tables
   set-tables = sym holds.tables ∙ of.tables_are
 
-  pub set-placed : ArePlaced (files_of_set first.header) [] (log_below w.history first.header.path first.header.last)
+  pub set-placed : ArePlaced (files_of_set set.header) [] (log_below w.history set.header.path set.header.last)
   set-placed = subst (λ (h : Header). ArePlaced (files_of_set h) [] log) of.header_is holds.placed
 
   -- its number of the first record that it has
-  first-is : of.body.header.first ≡ first.header.first
+  first-is : of.body.header.first ≡ set.header.first
   first-is = ap (λ (h : Header). h.first) of.header_is
 
-  spells : IsLog first.log (map spelled (drop (first.header.first - 1) log)) None
+  spells : IsLog set.log (map spelled (drop (set.header.first - 1) log)) None
   spells =
-      subst (λ (bytes : List ℕ). IsLog bytes (map spelled (drop (first.header.first - 1) log)) None) of.log_is
-      (subst (λ (rs : List Rec). IsLog of.body.log rs None) (ap (λ (n : ℕ). drop (n - 1) (map spelled log)) first-is ∙ drop-map spelled (first.header.first - 1) log) holds.log)
+      subst (λ (bytes : List ℕ). IsLog bytes (map spelled (drop (set.header.first - 1) log)) None) of.log_is
+      (subst (λ (rs : List Rec). IsLog of.body.log rs None) (ap (λ (n : ℕ). drop (n - 1) (map spelled log)) first-is ∙ drop-map spelled (set.header.first - 1) log) holds.log)
 
   -- it has all that is told of what is pending at its end
-  pub set-pending : IsSoundSet w first.header → HoldsPending (log_below w.history first.header.path first.header.last) first.header.first first.log
+  pub set-pending : IsSoundSet w set.header → HoldsPending (log_below w.history set.header.path set.header.last) set.header.first set.log
   set-pending sound =
-      let counted : first.header.last ≡ 1 + length log = counts-length 1 log first.header.last sound.log.counts in
-      let last : of.body.header.last ≡ first.header.last = ap (λ (h : Header). h.last) of.header_is in
-      let within : first.header.first - 1 ≤ length log = omega (arith, counted, last, first-is, holds.some, holds.order, holds.inside) in
-      let front : length (take (first.header.first - 1) log) ≡ first.header.first - 1 = length-take-le (first.header.first - 1) log within in
+      let counted : set.header.last ≡ 1 + length log = counts-length 1 log set.header.last sound.log.counts in
+      let last : of.body.header.last ≡ set.header.last = ap (λ (h : Header). h.last) of.header_is in
+      let within : set.header.first - 1 ≤ length log = omega (arith, counted, last, first-is, holds.some, holds.order, holds.inside) in
+      let front : length (take (set.header.first - 1) log) ≡ set.header.first - 1 = length-take-le (set.header.first - 1) log within in
       record {
         spells = record {
-          before = take (first.header.first - 1) log;
-          from = drop (first.header.first - 1) log;
-          splits = sym (take-append-drop (first.header.first - 1) log);
+          before = take (set.header.first - 1) log;
+          from = drop (set.header.first - 1) log;
+          splits = sym (take-append-drop (set.header.first - 1) log);
           first_is = omega (arith, front, first-is, holds.some);
           spelled_is = spells;
         };
@@ -76,8 +76,8 @@ module _ (w : World) (first : First) (of : IsSetOf w.history first) where
       }
 
   -- it keeps what every set keeps
-  pub keeps-first : IsSoundSet w first.header → KeepsFirst first
-  keeps-first sound = record {
+  pub keeps-found : IsSoundSet w set.header → KeepsFound set
+  keeps-found sound = record {
     header = subst KeepsConditions of.header_is (header_keeps of.body.header of.is_body.header);
     few = subst (λ (made : List TableSpec). length made ≤ most_tables) set-tables sound.fits.log.few;
   }
@@ -114,14 +114,14 @@ files-fit groups files keep =
       small = omega (arith, keep.small, extents-are files);
     }
 
-pub keeps-set : (first : First) → KeepsFirst first → KeepsSet first.header first.tables
-keeps-set first keeps =
-    let same : map spec_of first.header.files ≡ files_of_set first.header = sym (specs-are first.header) in record {
+pub keeps-set : (set : Found) → KeepsFound set → KeepsSet set.header set.tables
+keeps-set set keeps =
+    let same : map spec_of set.header.files ≡ files_of_set set.header = sym (specs-are set.header) in record {
       storage = record {
         groups = keeps.header.groups_few;
-        files = subst (AreDataFiles (length first.header.groups)) same (files-fit (length first.header.groups) first.header.files keeps.header.files);
-        paths = subst (AllByRecursion (λ (f : FileSpec). is_path f.path ≡ true)) same (paths-are first.header.files (recursion_from_All HasPath first.header.files keeps.header.files.paths));
-        log_path = path-is first.header.log_path keeps.header.log_path_some keeps.header.log_path_short;
+        files = subst (AreDataFiles (length set.header.groups)) same (files-fit (length set.header.groups) set.header.files keeps.header.files);
+        paths = subst (AllByRecursion (λ (f : FileSpec). is_path f.path ≡ true)) same (paths-are set.header.files (recursion_from_All HasPath set.header.files keeps.header.files.paths));
+        log_path = path-is set.header.log_path keeps.header.log_path_some keeps.header.log_path_short;
       };
       branches = keeps.header.path_short;
       few = keeps.few;
