@@ -5,9 +5,11 @@ mod cells;
 mod databases;
 mod files;
 mod histories;
+mod listing;
 mod sets;
 
 pub use databases::push_database;
-pub use files::{push_files, push_valid};
+pub use files::push_files;
 pub use histories::{push_mark, push_restore};
+pub use listing::push_listing;
 pub use sets::{push_backup, push_header};

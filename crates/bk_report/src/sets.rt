@@ -46,7 +46,7 @@ fn model_word(model: RecoveryModel) -> &'static str
 fn set_cells(
     alloc: Global,
     kind: &str,
-    position: u32,
+    position: u64,
     header: &Header,
 ) -> Result<String, AllocError>
     ensures { IfOk result (λ text. string_bytes text ≡ spec.set_cells kind.now position header.now) }
@@ -168,7 +168,7 @@ fn date_cells(alloc: Global, header: &Header) -> Result<String, AllocError>
     format!(in alloc; "{start}\t{finish}\t{expiry}")
 }
 
-fn columns(alloc: Global, kind: &str, position: u32, header: &Header) -> Result<String, AllocError>
+fn columns(alloc: Global, kind: &str, position: u64, header: &Header) -> Result<String, AllocError>
     ensures { IfOk result (λ text. string_bytes text ≡ spec.columns kind.now position header.now) }
 {
     let set = set_cells(alloc, kind, position, header)?;
@@ -183,7 +183,7 @@ fn columns(alloc: Global, kind: &str, position: u32, header: &Header) -> Result<
 pub fn push_header(
     alloc: Global,
     text: &mut String,
-    position: u32,
+    position: u64,
     header: &Header,
 ) -> Result<(), AllocError>
     ensures ok { OnOk result (string_bytes text.new ≡ string_bytes text.old ++ header_line position header.now) }
@@ -205,7 +205,7 @@ pub fn push_backup(
     ensures err { OnErr result (string_bytes text.new ≡ string_bytes text.old) }
 {
     let kind = type_letter(row.header.kind);
-    let columns = columns(alloc, kind, row.position, &row.header)?;
+    let columns = columns(alloc, kind, u64::from(row.position), &row.header)?;
     text.push_str(&format!(in alloc; "{id}\t{columns}\n")?)?;
     Ok(())
 }
