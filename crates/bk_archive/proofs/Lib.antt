@@ -1,8 +1,10 @@
 pub mod Acts
 pub mod Begun
 pub mod Clears
-pub mod Firsts
 pub mod Happens
 pub mod Joined
+pub mod Listings
 pub mod Makes
+pub mod Openings
+pub mod Rooms
 pub mod Seals

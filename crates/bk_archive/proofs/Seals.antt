@@ -4,7 +4,7 @@ use Rattle.std.specs.Prelude.{IsErrAnd, IsErrOf, Result}
 use Rattle.bk_body.specs.Body.{Body}
 use Rattle.bk_bytes.specs.Field.{AreBytes}
 use Rattle.bk_device.specs.Calls.{CallsOn, ChangesNothing, LeavesSame, contents}
-use Rattle.bk_device.specs.Compose.{effect_of_nothing, effect_of_sync, effect_then, effect_weaken, effect_widen}
+use Rattle.bk_device.specs.Compose.{effect_of_nothing, effect_of_sync, effect_then, effect_widen}
 use Rattle.bk_device.specs.Disk.{Disk, IsDurable, IsLawful}
 use Rattle.bk_device.specs.Effects.{Effect, IsName}
 use Rattle.bk_device.specs.Laws.{nothing_by_sync, nothing_then}

@@ -1,6 +1,7 @@
 pub mod Media
 pub mod Calls
-pub mod First
+pub mod Opened
+pub mod Listed
 pub mod Errors
 pub mod Events
 pub mod SlotLaws
@@ -9,5 +10,6 @@ pub mod MediumLaws
 pub mod ActLaws
 pub mod ClearLaws
 pub mod DiskLaws
-pub mod FirstLaws
+pub mod OpenedLaws
+pub mod ListedLaws
 pub mod TextLaws

@@ -2,17 +2,20 @@
 #![tactic(auto)]
 
 mod error;
-mod finding;
 mod finishing;
-mod first;
 mod laws;
+mod listing;
+mod loading;
 mod making;
+mod opening;
+mod room;
 mod sealing;
 
 pub use error::{ArchiveError, SealError};
-pub use finding::is_taken;
 pub use finishing::finish_medium;
-pub use first::{FirstSet, first_set};
 pub use laws::{acts_keep_media, events_keep_media, media_stay};
+pub use listing::list_sets;
 pub use making::make_medium;
+pub use opening::{OpenedSet, open_set};
+pub use room::room_at;
 pub use sealing::seal_set;
