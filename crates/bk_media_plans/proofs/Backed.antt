@@ -1,7 +1,8 @@
 -- BACKUP DATABASE as it is planned.
-use Rattle.std.proofs.Common.{◌≡◌, ◌<◌, ℕ, ◌+◌, ◌^◌, Bool, true, false, List, [], ◌∷◌, length, Option, Some, None, Ok, refl, sym, ◌∙◌, ap, subst, arith, length-append}
-use Rattle.std.specs.Prelude.{◌||◌, ◌&&◌, ◌≤◌, not, is_some}
+use Rattle.std.proofs.Common.{◌≡◌, ◌<◌, ℕ, ◌+◌, ◌^◌, true, false, List, [], ◌∷◌, length, Option, Some, None, Result, Ok, refl, sym, ◌∙◌, ap, subst, arith, length-append}
+use Rattle.std.specs.Prelude.{◌||◌, ◌&&◌, ◌≤◌, nat_le, not}
 use Rattle.std.specs.Str.{bytes_eq}
+use Rattle.std.proofs.lemmas.Bool.{and_parts, leb-true, not-false}
 use Rattle.std.proofs.lemmas.Bool.Decides.{nat_tests}
 use Rattle.std.proofs.lemmas.Slice.Eq.{bytes_eq-Decides}
 use Rattle.bk_acts.specs.declared.act.StoredAct.TheVariants.{Checkpointed, Logged as LoggedAct, Based}
@@ -13,8 +14,8 @@ use Rattle.bk_items.specs.declared.item.UnitName.{UnitName}
 use Rattle.bk_items.specs.declared.options.BackupOptions.{BackupOptions}
 use Rattle.bk_machine.specs.FitLaws.{said-time}
 use Rattle.bk_media_plans.specs.Sets.{MayMakeSet}
-use Rattle.bk_machine.specs.Acts.{latest, Act, based, done, drawn, gone_on, logged, medium_made, said_time, says, set_sealed}
-use Rattle.bk_machine.specs.CheckLaws.{is-none, not-refused, passed, second-false, was-found, was-online}
+use Rattle.bk_machine.specs.Acts.{latest, Act, based, done, drawn, gone_on, logged, medium_made, said_time, says, set_drawn, set_sealed}
+use Rattle.bk_machine.specs.CheckLaws.{not-refused, passed, second-false, was-found, was-online}
 use Rattle.bk_machine.specs.Checks.{limit, online, or_refuse, outside, refuse_if, used_up, is_path}
 use Rattle.bk_machine.specs.Machine.{May}
 use Rattle.bk_machine.specs.MayDo.{HoldsOf, MayDo, MayDoAll, MayLog, MaySay}
@@ -22,17 +23,19 @@ use Rattle.bk_machine.specs.NamedLaws.{named-own, of-named}
 use Rattle.bk_machine.specs.Outcome.{Outcome}
 use Rattle.bk_machine.specs.Sound.{IsSound, IsWhole, IsWholeDatabase}
 use Rattle.bk_machine.specs.World.{World, Database, database_named, least_begin, log_of}
-use Rattle.bk_machine.specs.statements.Backup.{DoesBackup, backed_up, check_backup, full_header, is_whole_backup}
+use Rattle.bk_machine.specs.statements.Backup.{DoesBackup, ShowsRoom, backed_up, check_backup, check_medium, draws_set, full_header, full_parts, is_whole_backup, most_set_name_bytes, next_position, set_name}
 use Rattle.bk_shown.specs.Shown.{AreNext}
 use Rattle.bk_world.specs.Lines.{RecordLines, log_below}
-use Rattle.bk_world.specs.Medium.{medium, medium_at}
+use Rattle.bk_world.specs.Medium.{Reading, Slot, medium, medium_at}
 use Rattle.bk_world.specs.declared.database.Status.TheVariants.{Online}
 use Rattle.bk_world.specs.Records.{Logged, Said, checkpointed, more, numbered, stamped}
 use Rattle.bk_world.specs.Says.{alone}
 use Rattle.bk_world.specs.Telling.{model}
 use Rattle.bk_world.specs.declared.header.Header.{Header}
 use Rattle.bk_world.specs.declared.transaction.Open.{Open}
+use Rattle.bk_world.specs.declared.reply.Reply.{Reply}
 use Rattle.bk_world.specs.declared.reply.Reply.TheVariants.{SetMade}
+use Rattle.bk_world.specs.declared.rule.Rule.{Rule}
 use Rattle.bk_world.specs.declared.rule.Rule.TheVariants.{NoSuchDatabase, NotBuilt}
 use Rattle.bk_kept.specs.declared.kept.Database.{Database as KeptDatabase}
 use Rattle.bk_kept.specs.declared.kept.Kept.{Kept}
@@ -43,53 +46,60 @@ use Rattle.bk_plans.specs.declared.refusal.Refusal.{Refusal}
 use Rattle.bk_lemmas.specs.Tests.{first_false}
 use Rattle.bk_world.specs.CrashLaws.{counts-length}
 use Rattle.bk_machine.specs.SaysLaws.{done-says}
-use Rattle.bk_media_plans.specs.Backups.{IsBackup, IsBackupPlan}
+use Rattle.bk_media_plans.specs.Backups.{HasRoom, IsBackup, IsBackupPlan, IsBackupReply, draws_part, position_behind}
 use Rattle.bk_plans.specs.Checking.{IsRefused}
 use Rattle.bk_kept.specs.Keeps.{Sees, ShowsLog, database_of}
 use Rattle.bk_plans.specs.Planned.{IsRefusedBy}
-use Rattle.bk_plans.specs.Planning.{AreParts, MakesMedium, Plans, SealsSet}
+use Rattle.bk_plans.specs.Planning.{AreParts, IsPart, Plans, SealsSet}
 use Rattle.bk_kept.specs.Stored.{IsDone}
 use Rattle.bk_plans.specs.SaidLaws.{done-marked}
 use Rattle.bk_plans.specs.PlanLaws.{DoWhatTheyMay, comes-found, comes-refused, plans-refusal}
 
 -- What was checked.
 
--- where a backup is checked, its database is found and online, no medium is there, and numbers are left
-pub record IsChecked (w : World) (path : List ℕ) (db : Database) : Type 0 where
+-- where all units are backed up, the set's name is short enough
+short-name : (units : List UnitName) (options : BackupOptions) → is_whole_backup units options ≡ true → length (set_name options.name) ≤ most_set_name_bytes
+short-name [] options is = leb-true (length (set_name options.name)) most_set_name_bytes (and_parts _ (nat_le (length (set_name options.name)) most_set_name_bytes) is).1
+short-name (unit ∷ units) options is = absurd cc
+
+-- where a backup is checked, its database is found and online, its set's name is short enough, and numbers are left
+pub record IsChecked (w : World) (options : BackupOptions) (db : Database) : Type 0 where
   pub named : database_named w.databases db.name ≡ Some db
   pub online : db.status ≡ Online
-  pub absent : medium_at w.media path ≡ None
+  pub name : length (set_name options.name) ≤ most_set_name_bytes
   pub left : used_up db.end ≡ false
   pub draws : used_up w.counter ≡ false
 
-checked : (w : World) (line : ℕ) (name : List ℕ) (units : List UnitName) (path : List ℕ) (options : BackupOptions) (db : Database) → check_backup w line name units path options ≡ Ok db → IsChecked w path db
+checked : (w : World) (line : ℕ) (name : List ℕ) (units : List UnitName) (path : List ℕ) (options : BackupOptions) (db : Database) → check_backup w line name units path options ≡ Ok db → IsChecked w options db
 unfolding check_backup
 checked w line name units path options db e =
-    let one = passed (refuse_if (not (is_whole_backup units options && is_path path) || is_some (medium_at w.media path)) (NotBuilt line)) _ db e in
+    let one = passed (refuse_if (not (is_whole_backup units options && is_path path)) (NotBuilt line)) _ db e in
     let out = passed (outside w) _ db one.then in
     let two = passed (or_refuse (database_named w.databases name) NoSuchDatabase) _ db out.then in
     let three = passed (online two.found) _ db two.then in
-    let four = passed (limit (used_up three.found.end || used_up w.counter)) _ db three.then in
+    let room = passed (check_medium (medium_at w.media path)) _ db three.then in
+    let four = passed (limit (used_up three.found.end || used_up w.counter)) _ db room.then in
     let last = four.then in
     let same : three.found ≡ db = cc in
     let up = was-online two.found three.found three.is in
     let whole : two.found ≡ db = up.is ∙ same in
+    let built : (is_whole_backup units options && is_path path) ≡ true = not-false (is_whole_backup units options && is_path path) (not-refused _ (NotBuilt line) one.found one.is) in
     let free : (used_up three.found.end || used_up w.counter) ≡ false = not-refused (used_up three.found.end || used_up w.counter) _ four.found four.is in
     record {
       named = named-own w.databases name db (was-found (database_named w.databases name) NoSuchDatabase two.found two.is ∙ ap (λ (d : Database). Some d) whole);
       online = subst (λ (d : Database). d.status ≡ Online) same up.up;
-      absent = is-none (medium_at w.media path) (second-false (not (is_whole_backup units options && is_path path)) (is_some (medium_at w.media path)) (not-refused _ (NotBuilt line) one.found one.is));
+      name = short-name units options (and_parts (is_whole_backup units options) (is_path path) built).0;
       left = subst (λ (d : Database). used_up d.end ≡ false) same (first_false (used_up three.found.end) (used_up w.counter) free);
       draws = second-false (used_up three.found.end) (used_up w.counter) free;
     }
 
 -- a database that is found so in a sound world may make a set now
 pub may-make : (w : World) (line : ℕ) (name : List ℕ) (units : List UnitName) (path : List ℕ) (options : BackupOptions) (now : ℕ) (d : KeptDatabase) (time : ℕ) → IsSound w
-    → check_backup w line name units path options ≡ Ok (database_of d) → ShowsLog w.history d → time ≡ said_time w (database_of d) now → MayMakeSet w d time
+    → check_backup w line name units path options ≡ Ok (database_of d) → ShowsLog w.history d → time ≡ said_time w (database_of d) now → MayMakeSet w d options time
 may-make w line name units path options now d time sound passes shows time-is =
-    let its : IsChecked w path (database_of d) = checked w line name units path options (database_of d) passes in
+    let its : IsChecked w options (database_of d) = checked w line name units path options (database_of d) passes in
     let whole : IsWholeDatabase w (database_of d) = of-named (IsWholeDatabase w) w.databases d.name (database_of d) sound.whole.databases its.named in
-    record { whole = whole; shows = shows; left = its.left; timely = subst (λ (t : ℕ). t ≤ latest) (sym time-is) (said-time w (database_of d) now (length d.groups) whole.fits.log) }
+    record { whole = whole; shows = shows; name = its.name; left = its.left; timely = subst (λ (t : ℕ). t ≤ latest) (sym time-is) (said-time w (database_of d) now (length d.groups) whole.fits.log) }
 
 -- The laws of worlds.
 
@@ -141,40 +151,75 @@ say-done v name db said ts records named may spell next = record {
   taken = subst (λ (o : Option Database). HoldsOf o (λ db. AreNext db.files (log_of v.history db) (numbered db.end said))) (sym named) next;
 }
 
--- The medium is made.
+-- The set's GUID is drawn.
 
-made-databases : (w : World) (path : List ℕ) → (done w (medium_made path)).databases ≡ w.databases
-unfolding done
-made-databases w path = refl
+-- the act of that
+abbrev pub draws : Option ℕ → List ℕ → Act
+draws None path = medium_made path
+draws (Some sets) path = set_drawn
 
-made-history : (w : World) (path : List ℕ) → (done w (medium_made path)).history ≡ w.history
-unfolding done
-made-history w path = refl
+-- behind it there is a medium, and databases and their logs are as they were
+record Drawn (w : World) (path : List ℕ) (sets : Option ℕ) (v : World) : Type 0 where
+  databases : v.databases ≡ w.databases
+  history : v.history ≡ w.history
+  slots : List Slot
+  there : medium_at v.media path ≡ Some (medium slots)
+  part : IsPart w (draws_part sets path) (draws sets path)
 
-made-there : (w : World) (path : List ℕ) → medium_at (done w (medium_made path)).media path ≡ Some (medium [])
+drawn-now : (w : World) (path : List ℕ) (sets : Option ℕ) → ShowsRoom (medium_at w.media path) (Ok sets) → used_up w.counter ≡ false → Drawn w path sets (done w (draws sets path))
 unfolding done
-made-there w path = let same : bytes_eq path path ≡ true = (bytes_eq-Decides path path).1 refl in rw same refl
+drawn-now w path None room left = record {
+  databases = refl;
+  history = refl;
+  slots = [];
+  there = let same : bytes_eq path path ≡ true = (bytes_eq-Decides path path).1 refl in rw same refl;
+  part = record { is = refl; absent = room; draws = left };
+}
+drawn-now w path (Some sets) room left = record {
+  databases = refl;
+  history = refl;
+  slots = room.0;
+  there = room.1;
+  part = record { is = refl; draws = left };
+}
+
+-- it is the machine's, and so is the position of the set
+draws-is : (path : List ℕ) (sets : Option ℕ) (reading : Option Reading) → ShowsRoom reading (Ok sets) → draws sets path ≡ draws_set reading path
+draws-is path None reading room = ap (λ r. draws_set r path) (sym room)
+draws-is path (Some sets) reading room = ap (λ r. draws_set r path) (sym room.1)
+
+position-is : (sets : Option ℕ) (reading : Option Reading) → ShowsRoom reading (Ok sets) → position_behind sets ≡ next_position reading
+position-is None reading room = ap next_position (sym room)
+position-is (Some sets) reading room = ap (λ n. n + 1) (sym room.2) ∙ ap next_position (sym room.1)
+
+has-room : (sets : Option ℕ) (reading : Option Reading) → ShowsRoom reading (Ok sets) → HasRoom sets
+has-room None reading room = tt
+has-room (Some sets) reading room = room.3
 
 -- The parts.
 
-module _ (d : KeptDatabase) (path : List ℕ) (set : Guid) (time : ℕ) where
+module _ (d : KeptDatabase) (path : List ℕ) (sets : Option ℕ) (options : BackupOptions) (set : Guid) (time : ℕ) (answer : Reply) where
   -- what the statement comes to, by the header of its set
   pub outcome_by : Header → Outcome
   outcome_by h = record {
-    acts = medium_made path ∷ logged d.name (alone (checkpointed time)) d.transactions ∷ logged d.name (alone (stamped time set)) d.transactions ∷ set_sealed path h ∷ based d.name h ∷ [];
-    reply = SetMade 1 (least_begin d.transactions d.shown.«end») d.shown.«end» (d.shown.«end» + 2);
+    acts = draws sets path ∷ logged d.name (alone (checkpointed time)) d.transactions ∷ logged d.name (alone (stamped time set)) d.transactions ∷ set_sealed path h ∷ based d.name h ∷ [];
+    reply = answer;
   }
 
-  is-outcome : (w : World) (now : ℕ) (h : Header) → h ≡ full_header w (database_of d) set time → set ≡ drawn w w.counter → time ≡ said_time w (database_of d) now
-      → outcome_by h ≡ backed_up (database_of d) path (full_header w (database_of d) (drawn w w.counter) (said_time w (database_of d) now))
+  is-outcome : (w : World) (now : ℕ) (h : Header) → h ≡ full_header w (database_of d) options set time → ShowsRoom (medium_at w.media path) (Ok sets) → IsBackupReply d sets answer → set ≡ drawn w w.counter
+      → time ≡ said_time w (database_of d) now
+      → outcome_by h ≡ backed_up (medium_at w.media path) (database_of d) path (full_header w (database_of d) options (drawn w w.counter) (said_time w (database_of d) now))
   unfolding full_header outcome_by
-  is-outcome w now h is set-is time-is =
+  is-outcome w now h is room replies set-is time-is =
       ap outcome_by is
-      ∙ ap (λ (s : Guid). backed_up (database_of d) path (full_header w (database_of d) s time)) set-is
-      ∙ ap (λ (t : ℕ). backed_up (database_of d) path (full_header w (database_of d) (drawn w w.counter) t)) time-is
+      ∙ ap (λ (r : Reply). record { acts = draws sets path ∷ full_parts (database_of d) path (full_header w (database_of d) options set time); reply = r }) (replies (has-room sets (medium_at w.media path) room))
+      ∙ ap (λ (a : Act). record { acts = a ∷ full_parts (database_of d) path (full_header w (database_of d) options set time); reply = SetMade (position_behind sets) (least_begin d.transactions d.shown.«end») d.shown.«end» (d.shown.«end» + 2) }) (draws-is path sets (medium_at w.media path) room)
+      ∙ ap (λ (n : ℕ). record { acts = draws_set (medium_at w.media path) path ∷ full_parts (database_of d) path (full_header w (database_of d) options set time); reply = SetMade n (least_begin d.transactions d.shown.«end») d.shown.«end» (d.shown.«end» + 2) }) (position-is sets (medium_at w.media path) room)
+      ∙ ap (λ (s : Guid). backed_up (medium_at w.media path) (database_of d) path (full_header w (database_of d) options s time)) set-is
+      ∙ ap (λ (t : ℕ). backed_up (medium_at w.media path) (database_of d) path (full_header w (database_of d) options (drawn w w.counter) t)) time-is
 
-  module _ (laws : Laws) (w : World) (sound : IsSound w) (shows : ShowsLog w.history d) (its : IsChecked w path (database_of d)) (parts : List Part) (b : IsBackup d path set time parts)
-      (may : MayDoAll w (outcome_by b.header).acts) where
+  module _ (laws : Laws) (w : World) (sound : IsSound w) (shows : ShowsLog w.history d) (its : IsChecked w options (database_of d)) (room : ShowsRoom (medium_at w.media path) (Ok sets)) (parts : List Part)
+      (b : IsBackup d path sets options set time parts) (may : MayDoAll w (outcome_by b.header).acts) where
     abbrev db : Database
     db = database_of d
 
@@ -187,19 +232,23 @@ module _ (d : KeptDatabase) (path : List ℕ) (set : Guid) (time : ℕ) where
     abbrev finish_said : List Said
     finish_said = alone (stamped time set)
 
-    -- behind the medium
+    -- behind the draw
     abbrev made : World
-    made = done w (medium_made path)
+    made = done w (draws sets path)
+
+    drew : Drawn w path sets made
+    drew = drawn-now w path sets room its.draws
 
     made-sound : IsSound made
-    made-sound = laws.act w (medium_made path) sound tt
+    unfolding outcome_by
+    made-sound = laws.act w (draws sets path) sound may.0
 
     made-named : database_named made.databases d.name ≡ Some db
-    made-named = ap (λ dbs. database_named dbs d.name) (made-databases w path) ∙ its.named
+    made-named = ap (λ dbs. database_named dbs d.name) drew.databases ∙ its.named
 
     made-log : log_of made.history db ≡ rs
     unfolding log_of
-    made-log = ap (λ h. log_below h d.path d.shown.«end») (made-history w path)
+    made-log = ap (λ h. log_below h d.path d.shown.«end») drew.history
 
     may-start : MayDo made (logged d.name start_said d.transactions)
     unfolding outcome_by
@@ -240,7 +289,7 @@ module _ (d : KeptDatabase) (path : List ℕ) (set : Guid) (time : ℕ) where
     low = let left : used_up d.shown.«end» ≡ false = its.left in grind (arith, nat_tests, left)
 
     made-shows : ShowsLog made.history d
-    made-shows = subst (λ (h : RecordLines). ShowsLog h d) (sym (made-history w path)) shows
+    made-shows = subst (λ (h : RecordLines). ShowsLog h d) (sym drew.history) shows
 
     start-done : IsDone made (Checkpointed d.name time b.kept) (logged d.name start_said d.transactions)
     start-done = done-marked made d time (Checkpointed d.name time b.kept) (record { kept = b.kept; is = refl; kept_is = b.kept_is }) made-named made-shows may-start (omega (arith, low))
@@ -256,8 +305,8 @@ module _ (d : KeptDatabase) (path : List ℕ) (set : Guid) (time : ℕ) where
     sealed = record {
       is = refl;
       may = may.1.1.1.0;
-      slots = [];
-      there = ap (λ m. medium_at m path) (finish.media ∙ start.media) ∙ made-there w path;
+      slots = drew.slots;
+      there = ap (λ m. medium_at m path) (finish.media ∙ start.media) ∙ drew.there;
     }
 
     base-done : (v : World) → IsDone v (Based d.name b.base) (based d.name b.header)
@@ -266,48 +315,53 @@ module _ (d : KeptDatabase) (path : List ℕ) (set : Guid) (time : ℕ) where
     pub parts-done : AreParts w parts (outcome_by b.header).acts
     unfolding outcome_by
     parts-done =
-        let makes : MakesMedium w path (medium_made path) = record { is = refl; absent = its.absent; draws = its.draws } in
         subst (λ (ps : List Part). AreParts w ps (outcome_by b.header).acts) (sym b.are)
-        (makes, (start-done, (finish-done, (sealed, (base-done _, tt)))))
+        (drew.part, (start-done, (finish-done, (sealed, (base-done _, tt)))))
 
-module _ (k : Kept) (line now : ℕ) (name : List ℕ) (units : List UnitName) (path : List ℕ) (options : BackupOptions) (is_there : Bool) where
+module _ (k : Kept) (line now : ℕ) (name : List ℕ) (units : List UnitName) (path : List ℕ) (options : BackupOptions) (room : Result (Option ℕ) Rule) where
   abbrev Known : World → Type 0
-  Known w = is_some (medium_at w.media path) ≡ is_there
+  Known w = ShowsRoom (medium_at w.media path) room
+
+  abbrev drawn_set : Guid
+  drawn_set = record { high = k.number; low = k.counter }
 
   pub backup-refused : (refusal : Refusal) (plan : Plan) → IsRefusedBy refusal plan
-      → ((w : World) → Sees w k → is_some (medium_at w.media path) ≡ is_there → IsRefused refusal (check_backup w line name units path options))
-      → Plans k (λ w. is_some (medium_at w.media path) ≡ is_there) (record { item = script.BackupDatabase name units path options; line = line }) now plan
+      → ((w : World) → Sees w k → ShowsRoom (medium_at w.media path) room → IsRefused refusal (check_backup w line name units path options))
+      → Plans k (λ w. ShowsRoom (medium_at w.media path) room) (record { item = script.BackupDatabase name units path options; line = line }) now plan
   unfolding May
   backup-refused refusal plan is refuses =
       plans-refusal k Known (record { item = script.BackupDatabase name units path options; line = line }) now (λ w. check_backup w line name units path options) refusal plan is
-      (λ w sound sees known. refuses w sees known) (λ w rule e. comes-refused (check_backup w line name units path options) (DoesBackup w path now) rule e)
+      (λ w sound sees known. refuses w sees known) (λ w rule e. comes-refused (check_backup w line name units path options) (DoesBackup w path options now) rule e)
 
   -- it may be done where it is checked
-  may-back : (d : KeptDatabase) (time : ℕ) (h : Header) (w : World) → Sees w k → ShowsLog w.history d → h ≡ full_header w (database_of d) (record { high = k.number; low = k.counter }) time → time ≡ said_time w (database_of d) now
-      → check_backup w line name units path options ≡ Ok (database_of d)
-      → May w (record { item = script.BackupDatabase name units path options; line = line }) now (outcome_by d path (record { high = k.number; low = k.counter }) time h)
+  may-back : (d : KeptDatabase) (sets : Option ℕ) (time : ℕ) (answer : Reply) (h : Header) (w : World) → Sees w k → h ≡ full_header w (database_of d) options drawn_set time
+      → ShowsRoom (medium_at w.media path) (Ok sets) → IsBackupReply d sets answer → time ≡ said_time w (database_of d) now → check_backup w line name units path options ≡ Ok (database_of d)
+      → May w (record { item = script.BackupDatabase name units path options; line = line }) now (outcome_by d path sets options drawn_set time answer h)
   unfolding May
-  may-back d time h w sees shows is time-is passes =
-      comes-found (check_backup w line name units path options) (DoesBackup w path now) (database_of d) _ passes
-      (is-outcome d path _ time w now h is (ap (λ (n : ℕ). record { high = n; low = k.counter }) (sym sees.number) ∙ ap (λ (n : ℕ). record { high = w.instance; low = n }) (sym sees.counter)) time-is)
+  may-back d sets time answer h w sees is shown replies time-is passes =
+      comes-found (check_backup w line name units path options) (DoesBackup w path options now) (database_of d) _ passes
+      (is-outcome d path sets options drawn_set time answer w now h is shown replies (ap (λ (n : ℕ). record { high = n; low = k.counter }) (sym sees.number) ∙ ap (λ (n : ℕ). record { high = w.instance; low = n }) (sym sees.counter)) time-is)
 
-  pub backup-made : Laws → (d : KeptDatabase) (time : ℕ) (plan : Plan) → IsBackupPlan d path (record { high = k.number; low = k.counter }) time plan
-      → ((w : World) → Sees w k → is_some (medium_at w.media path) ≡ is_there → check_backup w line name units path options ≡ Ok (database_of d))
+  pub backup-made : Laws → (d : KeptDatabase) (sets : Option ℕ) (time : ℕ) (plan : Plan) → room ≡ Ok sets → IsBackupPlan d path sets options (record { high = k.number; low = k.counter }) time plan
+      → ((w : World) → Sees w k → ShowsRoom (medium_at w.media path) room → check_backup w line name units path options ≡ Ok (database_of d))
       → ((w : World) → Sees w k → ShowsLog w.history d) → ((w : World) → ShowsLog w.history d → time ≡ said_time w (database_of d) now)
-      → Plans k (λ w. is_some (medium_at w.media path) ≡ is_there) (record { item = script.BackupDatabase name units path options; line = line }) now plan
+      → Plans k (λ w. ShowsRoom (medium_at w.media path) room) (record { item = script.BackupDatabase name units path options; line = line }) now plan
   unfolding outcome_by
-  backup-made laws d time (Parts parts answer) is passes shows time-is = record {
-    outcome = outcome_by d path (record { high = k.number; low = k.counter }) time is.0.header;
-    replies = sym is.1;
+  backup-made laws d sets time (Parts parts answer) room-is is passes shows time-is = record {
+    outcome = outcome_by d path sets options drawn_set time answer is.0.header;
+    replies = refl;
     may = may;
     acts = λ w sound sees known.
-        parts-done d path (record { high = k.number; low = k.counter }) time laws w sound (shows w sees) (checked w line name units path options (database_of d) (passes w sees known)) parts.items is.0
-        (laws.may w (record { item = script.BackupDatabase name units path options; line = line }) now (outcome_by d path (record { high = k.number; low = k.counter }) time is.0.header) sound (may w sound sees known));
+        parts-done d path sets options drawn_set time answer laws w sound (shows w sees) (checked w line name units path options (database_of d) (passes w sees known)) (its-room w known) parts.items is.0
+        (laws.may w (record { item = script.BackupDatabase name units path options; line = line }) now (outcome_by d path sets options drawn_set time answer is.0.header) sound (may w sound sees known));
   }
     where
-      may : (w : World) → IsSound w → Sees w k → Known w → May w (record { item = script.BackupDatabase name units path options; line = line }) now (outcome_by d path (record { high = k.number; low = k.counter }) time is.0.header)
-      may w sound sees known = may-back d time is.0.header w sees (shows w sees) (is.0.is_header w (shows w sees)) (time-is w (shows w sees)) (passes w sees known)
-  backup-made laws d time (Refused rule) is passes shows time-is = absurd is
-  backup-made laws d time (Answered reply) is passes shows time-is = absurd is
-  backup-made laws d time (Turned name) is passes shows time-is = absurd is
-  backup-made laws d time (Seated session) is passes shows time-is = absurd is
+      its-room : (w : World) → Known w → ShowsRoom (medium_at w.media path) (Ok sets)
+      its-room w known = subst (ShowsRoom (medium_at w.media path)) room-is known
+
+      may : (w : World) → IsSound w → Sees w k → Known w → May w (record { item = script.BackupDatabase name units path options; line = line }) now (outcome_by d path sets options drawn_set time answer is.0.header)
+      may w sound sees known = may-back d sets time answer is.0.header w sees (is.0.is_header w (shows w sees)) (its-room w known) is.1 (time-is w (shows w sees)) (passes w sees known)
+  backup-made laws d sets time (Refused rule) room-is is passes shows time-is = absurd is
+  backup-made laws d sets time (Answered reply) room-is is passes shows time-is = absurd is
+  backup-made laws d sets time (Turned name) room-is is passes shows time-is = absurd is
+  backup-made laws d sets time (Seated session) room-is is passes shows time-is = absurd is

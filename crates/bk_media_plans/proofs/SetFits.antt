@@ -10,6 +10,7 @@ use Rattle.bk_ids.specs.declared.guid.Guid.{Guid}
 use Rattle.bk_ids.specs.declared.path.Branch.{Branch}
 use Rattle.bk_ids.specs.Path.{IsPath}
 use Rattle.bk_header.specs.Conditions.{AreNumbered as AreFilesNumbered, HasPath, KeepFiles, KeepsConditions, KeepsPath, total_extents}
+use Rattle.bk_items.specs.declared.options.BackupOptions.{BackupOptions}
 use Rattle.bk_kept.specs.Keeps.{database_of}
 use Rattle.bk_kept.specs.declared.kept.Database.{Database as KeptDatabase}
 use Rattle.bk_lemmas.specs.Lists.{all_mapped}
@@ -69,9 +70,9 @@ some-group : (groups : ℕ) (files : List FileSpec) → 0 < length files → All
 some-group groups [] some all = absurd (omega (arith, some))
 some-group groups (f ∷ files) some all = omega (arith, all.0)
 
-pub header-keeps : (w : World) (d : KeptDatabase) (set : Guid) (time : ℕ) → MayMakeSet w d time → KeepsConditions (full_header w (database_of d) set time)
+pub header-keeps : (w : World) (d : KeptDatabase) (options : BackupOptions) (set : Guid) (time : ℕ) → MayMakeSet w d options time → KeepsConditions (full_header w (database_of d) options set time)
 unfolding full_header
-header-keeps w d set time may =
+header-keeps w d options set time may =
     let storage : FitsStorage (record { groups = d.groups; files = d.files; log_name = d.log_name; log_path = d.log_path }) = may.whole.fits.storage in
     let log_path = path-length d.log_path storage.log_path in
     let first : least_begin d.transactions d.shown.«end» ≤ d.shown.«end» = least-below d.transactions d.shown.«end» in
@@ -82,7 +83,7 @@ header-keeps w d set time may =
       start = may.timely;
       finish = may.timely;
       expiry = tt;
-      name_short = omega arith;
+      name_short = omega (arith, may.name);
       path = path-keeps d.shown.«end» (d.shown.«end» + 2) d.path (omega arith) may.whole.path may.whole.starts;
       path_short = may.whole.fits.branches;
       groups_some = some-group (length d.groups) d.files storage.files.some storage.files.grouped;

@@ -8,8 +8,10 @@ ghost use Rattle.bk_media_plans.specs.Backups.{IsFullHeader};
 ghost use Rattle.bk_media_plans.specs.Sets.{MayMakeSet};
 ghost use Rattle.bk_shown.specs.declared.error.TakeError.TheVariants.{Unfit};
 
+use crate::backing_up::is_on;
 use bk_header::keeps;
 use bk_ids::{Guid, Lsn, Sequence, Text};
+use bk_items::BackupOptions;
 use bk_kept::{DatabaseView, copy_file, copy_groups};
 use bk_shown::TakeError;
 use bk_world::{Base, FileSpec, Header, HeaderFile, SetKind};
@@ -37,15 +39,26 @@ fn base_lsn(base: Option<Base>) -> Lsn
     }
 }
 
-// The header of a full backup of a database whose checkpoint is its end, and whose stamp comes next.
+// The name of a set, empty where none is given.
+fn set_name(alloc: Global, name: &Option<Text>) -> Result<Text, AllocError>
+    ensures { IfOk result (λ text. text ≡ backup.set_name name.now) }
+{
+    match name {
+        Some(name) => name.copy(alloc),
+        None => Ok(Text::new(String::new(alloc))),
+    }
+}
+
+// The header of a full backup, by its options, of a database whose checkpoint is its end, and whose stamp comes next.
 pub(crate) fn header_of(
     alloc: Global,
     database: &DatabaseView<'_>,
+    options: &BackupOptions,
     set: Guid,
     time: u64,
 ) -> Result<Header, AllocError>
     requires { database.now.shown.«end» + 2 < 2 ^ 64 }
-    ensures { IfOk result (IsFullHeader database.now set time) }
+    ensures { IfOk result (IsFullHeader database.now options.now set time) }
 {
     let end = database.shown.end();
     Ok(Header {
@@ -55,7 +68,7 @@ pub(crate) fn header_of(
         copy_only: false,
         bulk: false,
         begins_chain: false,
-        checksums: false,
+        checksums: is_on(options.checksum),
         set,
         family: database.family,
         first: database.least_begin(end),
@@ -67,7 +80,7 @@ pub(crate) fn header_of(
         finish: time,
         expiry: None,
         database: database.name.copy(alloc)?,
-        name: Text::new(String::new(alloc)),
+        name: set_name(alloc, &options.name)?,
         path: database.path.copy(alloc)?,
         groups: copy_groups(alloc, database.groups.as_slice())?,
         files: header_files(alloc, database.files.as_slice())?,
@@ -76,19 +89,20 @@ pub(crate) fn header_of(
     })
 }
 
-// That header, where it keeps the conditions of a set. `Unfit` comes only where the database fits no set.
+// That header, where it keeps the conditions of a set. `Unfit` comes only where the database or the set's name fits no set.
 pub(crate) fn kept_header(
     alloc: Global,
     database: &DatabaseView<'_>,
+    options: &BackupOptions,
     set: Guid,
     time: u64,
 ) -> Result<Header, TakeError>
     requires { database.now.shown.«end» + 2 < 2 ^ 64 }
-    ensures header { IfOk result (IsFullHeader database.now set time) }
+    ensures header { IfOk result (IsFullHeader database.now options.now set time) }
     ensures keeps { IfOk result KeepsConditions }
-    ensures unfit { IsErrOf result Unfit → (w : World) → MayMakeSet w database.now time → ⊥ }
+    ensures unfit { IsErrOf result Unfit → (w : World) → MayMakeSet w database.now options.now time → ⊥ }
 {
-    let header = header_of(alloc, database, set, time)?;
+    let header = header_of(alloc, database, options, set, time)?;
     if keeps(&header) {
         Ok(header)
     } else {

@@ -1,15 +1,15 @@
 //! The plan of a full backup.
 
-ghost use Rattle.std.specs.Prelude.{◌≡◌, ◌<◌, ◌+◌, ◌∷◌, ◌++◌, [], ◌^◌, true, false, is_some, IfOk, IsErrOf, OnOk};
+ghost use Rattle.std.specs.Prelude.{◌≡◌, ◌<◌, ◌+◌, ◌∷◌, ◌++◌, [], ◌^◌, true, false, IfOk, IsErrOf, OnOk};
 ghost use Rattle.bk_items.specs.declared.item.ScriptItem.TheVariants as script;
 ghost use Rattle.bk_machine.specs.Checks as checks;
 ghost use Rattle.bk_kept.specs.Keeps.{Sees};
 ghost use Rattle.bk_machine.specs.Sound.{IsSound};
 ghost use Rattle.bk_machine.specs.World.{World};
+ghost use Rattle.bk_machine.specs.statements.Backup.{ShowsRoom};
 ghost use Rattle.bk_media_plans.specs.Sets.{MayMakeSet};
 ghost use Rattle.bk_shown.specs.declared.error.TakeError.TheVariants.{Unfit};
-ghost use Rattle.bk_media_plans.specs.Backups.{BasesOne, IsBackup, IsBackupPlan, IsStamp, MarksOne, SealsOne, StampsOne};
-ghost use Rattle.bk_plans.specs.declared.parts.Part.TheVariants.{MediumMade};
+ghost use Rattle.bk_media_plans.specs.Backups.{BasesOne, HasRoom, IsBackup, IsBackupPlan, IsBackupReply, IsStamp, MarksOne, SealsOne, StampsOne, draws_part, position_behind};
 ghost use Rattle.bk_plans.specs.Planned.{IsRefusedBy};
 ghost use Rattle.bk_plans.specs.Planning.{KeepsPlan, Plans};
 ghost use Rattle.bk_world.specs.Medium.{medium_at};
@@ -23,7 +23,7 @@ use bk_kept::{DatabaseView, InstanceView, copy_transactions};
 use bk_machine::{acts_keep_worlds_sound, statements_do_what_they_may, what_is_said_comes_last};
 use bk_plans::{Part, Plan, Refusal, logged, marked, refused, said_time, say_one};
 use bk_shown::TakeError;
-use bk_world::Reply;
+use bk_world::{Reply, Rule};
 use std::alloc::{AllocError, Global};
 
 // One part more.
@@ -34,12 +34,29 @@ fn push(parts: &mut Vec<Part>, part: Part) -> Result<(), AllocError>
     Ok(())
 }
 
-// One part more: the medium is made.
-fn push_medium(alloc: Global, parts: &mut Vec<Part>, disk: &Text) -> Result<(), AllocError>
-    ensures { OnOk result (parts.new.items ≡ parts.old.items ++ MediumMade disk.now ∷ []) }
+// The part by which a set's GUID is drawn: its medium is made where none is, or it comes behind so many sets.
+fn drawing(alloc: Global, disk: &Text, sets: Option<u64>) -> Result<Part, AllocError>
+    ensures { IfOk result (λ part. part ≡ draws_part sets disk.now) }
 {
-    let path = disk.copy(alloc)?;
-    push(parts, Part::MediumMade { path })?;
+    match sets {
+        Some(_) => Ok(Part::SetDrawn),
+        None => Ok(Part::MediumMade {
+            path: disk.copy(alloc)?,
+        }),
+    }
+}
+
+// One part more: the set's GUID is drawn.
+fn push_draw(
+    alloc: Global,
+    parts: &mut Vec<Part>,
+    disk: &Text,
+    sets: Option<u64>,
+) -> Result<(), AllocError>
+    ensures { OnOk result (parts.new.items ≡ parts.old.items ++ draws_part sets disk.now ∷ []) }
+{
+    let part = drawing(alloc, disk, sets)?;
+    push(parts, part)?;
     Ok(())
 }
 
@@ -94,21 +111,22 @@ fn push_stamp(
     Ok(())
 }
 
-// One part more: the set is sealed on the medium. `Unfit` comes only where the database fits no set.
+// One part more: the set is sealed on the medium. `Unfit` comes only where the database or the set's name fits no set.
 fn push_set(
     alloc: Global,
     parts: &mut Vec<Part>,
     database: &DatabaseView<'_>,
     disk: &Text,
+    options: &BackupOptions,
     set: Guid,
     time: u64,
 ) -> Result<(), TakeError>
     requires { database.now.shown.«end» + 2 < 2 ^ 64 }
-    ensures seals { OnOk result (SealsOne database.now disk.now set time parts.old.items parts.new.items) }
-    ensures unfit { IsErrOf result Unfit → (w : World) → MayMakeSet w database.now time → ⊥ }
+    ensures seals { OnOk result (SealsOne database.now disk.now options.now set time parts.old.items parts.new.items) }
+    ensures unfit { IsErrOf result Unfit → (w : World) → MayMakeSet w database.now options.now time → ⊥ }
 {
     let path = disk.copy(alloc)?;
-    let header = kept_header(alloc, database, set, time)?;
+    let header = kept_header(alloc, database, options, set, time)?;
     push(parts, Part::SetSealed { path, header })?;
     Ok(())
 }
@@ -118,65 +136,91 @@ fn push_base(
     alloc: Global,
     parts: &mut Vec<Part>,
     database: &DatabaseView<'_>,
+    options: &BackupOptions,
     set: Guid,
     time: u64,
 ) -> Result<(), AllocError>
     requires { database.now.shown.«end» + 2 < 2 ^ 64 }
-    ensures { OnOk result (BasesOne database.now set time parts.old.items parts.new.items) }
+    ensures { OnOk result (BasesOne database.now options.now set time parts.old.items parts.new.items) }
 {
     let name = database.name.copy(alloc)?;
-    let header = header_of(alloc, database, set, time)?;
+    let header = header_of(alloc, database, options, set, time)?;
     push(parts, Part::Stored(StoredAct::Based { name, header }))?;
     Ok(())
 }
 
-// The parts of a backup of a database by which a set of this GUID is made at a time. `Unfit` comes only where the database fits no set.
+// The parts of a backup of a database by which a set of this GUID is made at a time. `Unfit` comes only where the database or the set's name fits no set.
 fn backup_parts(
     alloc: Global,
     database: &DatabaseView<'_>,
     disk: &Text,
+    sets: Option<u64>,
+    options: &BackupOptions,
     set: Guid,
     time: u64,
 ) -> Result<Vec<Part>, TakeError>
     requires left { checks.used_up database.now.shown.«end» ≡ false }
-    ensures parts { IfOk result (λ parts. IsBackup database.now disk.now set time parts.items) }
-    ensures unfit { IsErrOf result Unfit → (w : World) → MayMakeSet w database.now time → ⊥ }
+    ensures parts { IfOk result (λ parts. IsBackup database.now disk.now sets options.now set time parts.items) }
+    ensures unfit { IsErrOf result Unfit → (w : World) → MayMakeSet w database.now options.now time → ⊥ }
 {
     let mut parts = Vec::new(alloc);
-    push_medium(alloc, &mut parts, disk)?;
+    push_draw(alloc, &mut parts, disk, sets)?;
     push_mark(alloc, &mut parts, database, time)?;
     push_stamp(alloc, &mut parts, database, set, time)?;
-    push_set(alloc, &mut parts, database, disk, set, time)?;
-    push_base(alloc, &mut parts, database, set, time)?;
+    push_set(alloc, &mut parts, database, disk, options, set, time)?;
+    push_base(alloc, &mut parts, database, options, set, time)?;
     Ok(parts)
 }
 
-// The plan of a backup of a database at a time. `Unfit` comes only where the database fits no set.
+// How many sets a medium has at most.
+const MOST_SETS: u64 = 65_535;
+
+// The position of the next set on a medium that has room for one, from 1.
+fn next_position(sets: Option<u64>) -> u32
+    ensures { HasRoom sets → result ≡ position_behind sets }
+{
+    match sets {
+        Some(sets) => sets.min(MOST_SETS) as u32 + 1,
+        None => 1,
+    }
+}
+
+// The reply to a backup of a database.
+fn reply_to(database: &DatabaseView<'_>, sets: Option<u64>) -> Reply
+    requires { database.now.shown.«end» + 2 < 2 ^ 64 }
+    ensures { IsBackupReply database.now sets result }
+{
+    let end = database.shown.end();
+    Reply::SetMade {
+        position: next_position(sets),
+        first: database.least_begin(end),
+        checkpoint: end,
+        last: end + 2,
+    }
+}
+
+// The plan of a backup at a time. `Unfit` comes only where the database or the set's name fits no set.
 fn backup(
     kept: &InstanceView<'_>,
     alloc: Global,
     database: &DatabaseView<'_>,
     disk: &Text,
+    sets: Option<u64>,
+    options: &BackupOptions,
     time: u64,
 ) -> Result<Plan, TakeError>
     requires path { checks.is_path disk.now ≡ true }
     requires left { checks.used_up database.now.shown.«end» ≡ false }
-    ensures parts { IfOk result (IsBackupPlan database.now disk.now (record { high = kept.now.number; low = kept.now.counter }) time) }
+    ensures parts { IfOk result (IsBackupPlan database.now disk.now sets options.now (record { high = kept.now.number; low = kept.now.counter }) time) }
     ensures keeps { IfOk result KeepsPlan }
-    ensures unfit { IsErrOf result Unfit → (w : World) → MayMakeSet w database.now time → ⊥ }
+    ensures unfit { IsErrOf result Unfit → (w : World) → MayMakeSet w database.now options.now time → ⊥ }
 {
     let set = Guid {
         high: kept.number,
         low: kept.counter,
     };
-    let end = database.shown.end();
-    let parts = backup_parts(alloc, database, disk, set, time)?;
-    let reply = Reply::SetMade {
-        position: 1,
-        first: database.least_begin(end),
-        checkpoint: end,
-        last: end + 2,
-    };
+    let parts = backup_parts(alloc, database, disk, sets, options, set, time)?;
+    let reply = reply_to(database, sets);
     Ok(Plan::Parts { parts, reply })
 }
 
@@ -189,8 +233,9 @@ fn refusing(refusal: Refusal) -> Result<Plan, TakeError>
     Ok(refused(refusal)?)
 }
 
-/// What `BACKUP DATABASE` on this line comes to at `now`, in milliseconds since 1970-01-01 00:00:00 UTC, where a file is there at
-/// the path of its medium or not. `Unfit` comes only where the database fits no set: it is that of no sound world.
+/// What `BACKUP DATABASE` on this line comes to at `now`, in milliseconds since 1970-01-01 00:00:00 UTC, where `room` was found at
+/// the path of its medium: how many sets are there, `None` for no medium, or the rule by which it is refused. `Unfit` comes only
+/// where the database fits no set: it is that of no sound world.
 pub fn plan_backup(
     kept: &InstanceView<'_>,
     alloc: Global,
@@ -199,19 +244,23 @@ pub fn plan_backup(
     units: &Sequence<UnitName>,
     disk: &Text,
     options: &BackupOptions,
-    is_there: bool,
+    room: Result<Option<u64>, Rule>,
     now: u64,
 ) -> Result<Plan, TakeError>
-    ensures plans { IfOk result (Plans kept.now (λ w. is_some (medium_at w.media disk.now) ≡ is_there)
+    ensures plans { IfOk result (Plans kept.now (λ w. ShowsRoom (medium_at w.media disk.now) room)
         (record { item = script.BackupDatabase database.now units.now disk.now options.now; line = line }) now) }
     ensures keeps { IfOk result KeepsPlan }
-    ensures unfit { IsErrOf result Unfit → (w : World) → IsSound w → Sees w kept.now → is_some (medium_at w.media disk.now) ≡ is_there → ⊥ }
+    ensures unfit { IsErrOf result Unfit → (w : World) → IsSound w → Sees w kept.now → ShowsRoom (medium_at w.media disk.now) room → ⊥ }
 {
     statements_do_what_they_may();
     acts_keep_worlds_sound();
     what_is_said_comes_last();
-    match check_backup(kept, line, database, units, disk, is_there, options) {
-        Ok(database) => backup(kept, alloc, database, disk, said_time(database, now)),
+    match check_backup(kept, line, database, units, disk, options, room) {
+        Ok(backing) => {
+            let database = backing.database;
+            let time = said_time(database, now);
+            backup(kept, alloc, database, disk, backing.sets, options, time)
+        }
         Err(refusal) => refusing(refusal),
     }
 }

@@ -1,4 +1,4 @@
-use Rattle.std.proofs.Common.{◌≡◌, true, [], map, refl, ◌∙◌, ap}
+use Rattle.std.proofs.Common.{◌≡◌, true, map, refl, ◌∙◌, ap}
 use Rattle.bk_machine.specs.World.{log_of}
 use Rattle.bk_machine.specs.statements.Backup.{base_lsn, full_header}
 use Rattle.bk_world.specs.declared.database.FileSpec.{FileSpec}
@@ -17,11 +17,12 @@ returns c = λ w shows.
     let at = c.end-end.ensures.same ∙ ap (λ (d : KeptDatabase). d.shown.«end») c.database.view_is in
     let base = c.base_lsn.ensures ∙ ap (λ (d : KeptDatabase). base_lsn d.base) c.database.view_is in
     let name = c.in_ok-copy.ensures ∙ ap (λ (d : KeptDatabase). d.name) c.database.view_is in
-    let none : c.new-2.result ≡ [] = c.new-2.ensures ∙ c.new.ensures.bytes in
+    let checksums = c.is_on.ensures in
+    let given = c.in_ok-set_name.ensures in
     let path = c.in_ok-copy-2.ensures ∙ ap (λ (d : KeptDatabase). d.path) c.database.view_is in
     let groups : c.in_ok-copy_groups.field-0 ≡ c.args.database.now.groups = c.in_ok-copy_groups.ensures ∙ c.as_slice.ensures ∙ ap (λ (d : KeptDatabase). d.groups) c.database.view_is in
     let files : c.in_ok-header_files.field-0 ≡ map (λ (file : FileSpec). record { spec = file; in_set = true }) c.args.database.now.files =
     c.in_ok-header_files.ensures ∙ ap (map (λ (file : FileSpec). record { spec = file; in_set = true })) (c.as_slice-2.ensures ∙ ap (λ (d : KeptDatabase). d.files) c.database.view_is) in
     let log_name = c.in_ok-copy-3.ensures ∙ ap (λ (d : KeptDatabase). d.log_name) c.database.view_is in
     let log_path = c.in_ok-copy-4.ensures ∙ ap (λ (d : KeptDatabase). d.log_path) c.database.view_is in
-    rw (model, family, c.least_begin.ensures, at, base, name, none, path, groups, files, log_name, log_path) refl
+    rw (model, family, c.least_begin.ensures, at, checksums, base, name, given, path, groups, files, log_name, log_path) refl

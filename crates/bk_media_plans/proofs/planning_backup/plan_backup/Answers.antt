@@ -10,19 +10,20 @@ returns-in-Ok-clause-plans c =
       found = c.what_is_said_comes_last.ensures.found;
       log = c.what_is_said_comes_last.ensures.log;
     } in
+    let b = c.in-Ok.backing in
     if-plan _ _ c.backup.result
-    (λ plan is. backup-made c.args.kept.now c.args.line c.args.now c.args.database.now c.args.units.now c.args.disk.now c.args.options.now c.args.is_there laws c.in-Ok.database.now c.said_time.result plan is
-    c.in-Ok.ensures.check c.in-Ok.ensures.shows (λ w shows. c.said_time.ensures w shows))
+    (λ plan is. backup-made c.args.kept.now c.args.line c.args.now c.args.database.now c.args.units.now c.args.disk.now c.args.options.now c.args.room laws b.database.now b.sets c.said_time-time.result plan
+    c.in-Ok.ensures.room is c.in-Ok.ensures.check c.in-Ok.ensures.shows (λ w shows. c.said_time-time.ensures w shows))
     c.backup.ensures.parts
 
 pub returns-in-Err-clause-plans : goal.returns-in-Err-clause-plans
 returns-in-Err-clause-plans c =
     if-plan _ _ c.refusing.result
-    (λ plan is. backup-refused c.args.kept.now c.args.line c.args.now c.args.database.now c.args.units.now c.args.disk.now c.args.options.now c.args.is_there c.in-Err.refusal plan is c.in-Err.ensures.check)
+    (λ plan is. backup-refused c.args.kept.now c.args.line c.args.now c.args.database.now c.args.units.now c.args.disk.now c.args.options.now c.args.room c.in-Err.refusal plan is c.in-Err.ensures.check)
     c.refusing.ensures.rule
 
 pub returns-in-Ok-clause-unfit : goal.returns-in-Ok-clause-unfit
 returns-in-Ok-clause-unfit c = λ unfit w sound sees known.
     c.backup.ensures.unfit unfit w
-    (may-make w c.args.line c.args.database.now c.args.units.now c.args.disk.now c.args.options.now c.args.now c.in-Ok.database.now c.said_time.result sound (c.in-Ok.ensures.check w sees known) (c.in-Ok.ensures.shows w sees)
-    (c.said_time.ensures w (c.in-Ok.ensures.shows w sees)))
+    (may-make w c.args.line c.args.database.now c.args.units.now c.args.disk.now c.args.options.now c.args.now c.in-Ok.backing.database.now c.said_time-time.result sound (c.in-Ok.ensures.check w sees known) (c.in-Ok.ensures.shows w sees)
+    (c.said_time-time.ensures w (c.in-Ok.ensures.shows w sees)))
