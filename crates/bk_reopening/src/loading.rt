@@ -19,6 +19,7 @@ use crate::restoring::shown_of;
 use bk_cells::{cells_law, rows_law};
 use bk_device::Device;
 use bk_known::Known;
+use bk_log::LogBytes;
 use bk_opening::load as load_paged;
 use bk_paged::Paged;
 use bk_paths::settling_law;
@@ -27,27 +28,33 @@ use bk_store::Store;
 use std::alloc::Global;
 use std::thread::Threads;
 
-// What the log of a database shows in which nothing is pending and all records are durable.
-fn shown_in(alloc: Global, paged: &Paged, records: &[u8], known: &Known) -> Result<Shown, OpenError>
+// What the log of a database shows in which nothing is pending and all records are durable. The records are let go before the rows are read, so that both are never in memory together.
+fn shown_in(
+    alloc: Global,
+    paged: &Paged,
+    records: LogBytes,
+    known: &Known,
+) -> Result<Shown, OpenError>
     requires files { AreFiles known.now.spec.storage.files }
     ensures early { IfOk result (λ shown. known.now.as_of.from ≤ paged.now.log.stored) }
-    ensures shows { (told : Told) → IsSettled paged.now records.now known.now told → IfOk result (Shows (files_of told) told.records) }
-    ensures foreign { IsErrOf result OpenError.Foreign → (told : Told) → IsSettled paged.now records.now known.now told → ⊥ }
+    ensures shows { (told : Told) → IsSettled paged.now records known.now told → IfOk result (Shows (files_of told) told.records) }
+    ensures foreign { IsErrOf result OpenError.Foreign → (told : Told) → IsSettled paged.now records known.now told → ⊥ }
     ensures fault { IsErrOf result OpenError.Fault → ⊥ }
 {
     rows_law();
     placed_logs();
-    let recent = recent_of(alloc, paged, records, known)?;
+    let recent = recent_of(alloc, paged, records.as_slice(), known)?;
+    drop(records);
     let shown = shown_of(alloc, paged, known.spec.storage.files.as_slice(), &recent)?;
     Ok(shown)
 }
 
 // What the note of a database and its log show.
-fn read_parts(alloc: Global, paged: &Paged, records: &[u8]) -> Result<(Noted, Shown), OpenError>
+fn read_parts(alloc: Global, paged: &Paged, records: LogBytes) -> Result<(Noted, Shown), OpenError>
     ensures tells { IfOk result (λ parts. Tells paged.now.note parts.0) }
     ensures early { IfOk result (λ parts. parts.0.known.as_of.from ≤ paged.now.log.stored) }
-    ensures shows { (known : Knowns) (told : Told) → IsSettled paged.now records.now known told → IfOk result (λ parts. Shows (files_of told) told.records parts.1) }
-    ensures foreign { IsErrOf result OpenError.Foreign → (known : Knowns) (told : Told) → IsSettled paged.now records.now known told → ⊥ }
+    ensures shows { (known : Knowns) (told : Told) → IsSettled paged.now records known told → IfOk result (λ parts. Shows (files_of told) told.records parts.1) }
+    ensures foreign { IsErrOf result OpenError.Foreign → (known : Knowns) (told : Told) → IsSettled paged.now records known told → ⊥ }
     ensures fault { IsErrOf result OpenError.Fault → ⊥ }
 {
     let noted = noted_in(alloc, paged.note())?;
@@ -81,6 +88,7 @@ pub fn load<R: Threads + Sync, D: Device>(
     cells_law();
     placed_logs();
     let opened = load_paged(rt, alloc, dev, db)?;
-    let (noted, shown) = read_parts(alloc, &opened.paged, opened.records.as_slice())?;
+    let records = opened.records;
+    let (noted, shown) = read_parts(alloc, &opened.paged, records)?;
     Ok(Store::from_parts(opened.paged, shown, noted.known, noted.note))
 }

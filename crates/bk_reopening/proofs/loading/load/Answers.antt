@@ -1,8 +1,6 @@
 use Rattle.std.proofs.Common.{sym, subst}
 use Rattle.std.proofs.lemmas.Result.{err_from_is_err_and}
 use Rattle.bk_lemmas.specs.Tests.{same_error}
-use Rattle.bk_opening.specs.Opening.{AreHeld}
-use Rattle.bk_paged.specs.Holds.{recovered}
 use Rattle.bk_paged.specs.Paged.{Touches}
 use Rattle.bk_store.specs.Store.{IsStore, Kept}
 use Rattle.bk_store.specs.Told.{stood_of}
@@ -33,8 +31,8 @@ returns-in_err-noted-clause-foreign g c =
     let o = c.in_ok-opened in
     rw (e.1, e.2) (λ t is told closed.
     let h = closed.holds in
-    let now = settled-now c.settling_law.ensures.machine c.cells_law.ensures laws told h.known (g.D.Device.disk c.load.new.dev) o.opened.paged c.as_slice.result.now h.noted h.log (o.ensures.stands t (stood_of h.known told) closed.durable h.holds)
-    (subst (AreHeld o.opened.paged (recovered (stood_of h.known told))) (sym c.as_slice.ensures) (o.ensures.records t (stood_of h.known told) closed.durable h.holds)) o.ensures.sealed o.ensures.whole in
+    let now = settled-now c.settling_law.ensures.machine c.cells_law.ensures laws told h.known (g.D.Device.disk c.load.new.dev) o.opened.paged o.opened.records h.noted h.log (o.ensures.stands t (stood_of h.known told) closed.durable h.holds)
+    (o.ensures.records t (stood_of h.known told) closed.durable h.holds) o.ensures.sealed o.ensures.whole in
     c.in_err-noted.ensures.foreign (same_error c.in_err-noted.field-0.0 Foreign is) h.known (settled told) now)
 
 pub returns-in_err-noted-clause-crash : goal.returns-in_err-noted-clause-crash
@@ -57,9 +55,9 @@ returns-clause-stands g c t told closed =
     let o = c.in_ok-opened in
     let h = closed.holds in
     let is = o.ensures.stands t (stood_of h.known told) closed.durable h.holds in
-    let now = settled-now c.settling_law.ensures.machine c.cells_law.ensures laws told h.known d o.opened.paged c.as_slice.result.now h.noted h.log is
-    (subst (AreHeld o.opened.paged (recovered (stood_of h.known told))) (sym c.as_slice.ensures) (o.ensures.records t (stood_of h.known told) closed.durable h.holds)) o.ensures.sealed o.ensures.whole in
-    let here = store-is d o.opened.paged c.as_slice.result.now c.in_ok-noted.shown h.known (settled told) c.in_ok-noted.noted c.in_ok-noted.ensures.tells now (stands-settled c.settling_law.ensures.machine h.known told o.opened.paged d h.log is)
+    let now = settled-now c.settling_law.ensures.machine c.cells_law.ensures laws told h.known d o.opened.paged o.opened.records h.noted h.log is
+    (o.ensures.records t (stood_of h.known told) closed.durable h.holds) o.ensures.sealed o.ensures.whole in
+    let here = store-is d o.opened.paged o.opened.records c.in_ok-noted.shown h.known (settled told) c.in_ok-noted.noted c.in_ok-noted.ensures.tells now (stands-settled c.settling_law.ensures.machine h.known told o.opened.paged d h.log is)
     (c.in_ok-noted.ensures.shows h.known (settled told) now) c.in_ok-noted.ensures.early in
     subst (λ (s : Kept). IsStore d s (settled told)) (sym c.from_parts.ensures) here
 

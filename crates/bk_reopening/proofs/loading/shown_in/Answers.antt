@@ -1,9 +1,9 @@
-use Rattle.std.proofs.Common.{List, sym, subst}
+use Rattle.std.proofs.Common.{ℕ, List, sym, subst}
 use Rattle.std.proofs.lemmas.Result.{err_from_is_err_and}
 use Rattle.bk_lemmas.specs.Tests.{same_error}
 use Rattle.bk_shown.specs.Shown.{Shows}
 use Rattle.bk_world.specs.declared.database.FileSpec.{FileSpec}
-use Rattle.bk_reopening.specs.Reopening.{IsQuiet}
+use Rattle.bk_reopening.specs.Reopening.{IsQuiet, IsSettled}
 use Rattle.bk_reopening.specs.declared.error.OpenError.TheVariants.{Foreign}
 use Rattle.bk_reopening.proofs.Opened.{files-read}
 use Rattle.bk_reopening.proofs.Settled.{is-quiet}
@@ -12,21 +12,24 @@ use Rattle.bk_reopening.proofs.loading.shown_in.Goals as goal
 pub returns-in_err-recent-clause-foreign : goal.returns-in_err-recent-clause-foreign
 returns-in_err-recent-clause-foreign c =
     let p = err_from_is_err_and c.from_residual.result c.from_residual.ensures.1 in
-    rw (p.1, p.2) (λ is. c.in_err-recent.ensures.foreign (same_error c.in_err-recent.field-0.0 Foreign is))
+    rw (p.1, p.2) (λ is told its. c.in_err-recent.ensures.foreign (same_error c.in_err-recent.field-0.0 Foreign is) told
+    (subst (λ (bytes : List ℕ). IsSettled c.args.paged.now bytes c.args.known.now told) (sym c.as_slice.ensures) its))
 
 -- the files that are handed on are those of the database
 pub returns-in_err-shown-clause-foreign : goal.returns-in_err-shown-clause-foreign
 returns-in_err-shown-clause-foreign c =
     let p = err_from_is_err_and c.from_residual-in_err-shown.result c.from_residual-in_err-shown.ensures.1 in
     rw (p.1, p.2) (λ is told its.
-    let files = files-read c.args.known.now told c.as_slice.result.now c.as_slice.ensures its.noted in
-    let quiet = is-quiet c.args.paged.now c.args.records.now c.args.known.now told c.in_ok-recent.recent its (c.in_ok-recent.ensures.says told its) in
+    let files = files-read c.args.known.now told c.as_slice-2.result.now c.as_slice-2.ensures its.noted in
+    let read = subst (λ (bytes : List ℕ). IsSettled c.args.paged.now bytes c.args.known.now told) (sym c.as_slice.ensures) its in
+    let quiet = is-quiet c.args.paged.now c.args.records c.args.known.now told c.in_ok-recent.recent its (c.in_ok-recent.ensures.says told read) in
     c.in_err-shown.ensures.foreign (same_error c.in_err-shown.field-0.0 Foreign is) told.records
     (subst (λ (fs : List FileSpec). IsQuiet fs told.records c.args.paged.now c.in_ok-recent.recent) (sym files) quiet))
 
 pub returns-clause-shows : goal.returns-clause-shows
 returns-clause-shows c told its =
-    let files = files-read c.args.known.now told c.as_slice.result.now c.as_slice.ensures its.noted in
-    let quiet = is-quiet c.args.paged.now c.args.records.now c.args.known.now told c.in_ok-recent.recent its (c.in_ok-recent.ensures.says told its) in
+    let files = files-read c.args.known.now told c.as_slice-2.result.now c.as_slice-2.ensures its.noted in
+    let read = subst (λ (bytes : List ℕ). IsSettled c.args.paged.now bytes c.args.known.now told) (sym c.as_slice.ensures) its in
+    let quiet = is-quiet c.args.paged.now c.args.records c.args.known.now told c.in_ok-recent.recent its (c.in_ok-recent.ensures.says told read) in
     subst (λ (fs : List FileSpec). Shows fs told.records c.in_ok-shown.shown) files
     (c.in_ok-shown.ensures.shows told.records (subst (λ (fs : List FileSpec). IsQuiet fs told.records c.args.paged.now c.in_ok-recent.recent) (sym files) quiet))
