@@ -18,8 +18,9 @@ use Rattle.bk_machine.specs.Run.{IsRun, behind_all, replies_of}
 use Rattle.bk_machine.specs.World.{World}
 use Rattle.bk_machine.specs.Writes.{ActsWrite}
 use Rattle.bk_restarts.specs.Crashes.{CrashLaws}
+use Rattle.bk_report.specs.Listing.{listing_text}
 use Rattle.bk_world.specs.declared.reply.Reply.{Reply}
-use Rattle.bk_world.specs.declared.reply.Reply.TheVariants.{Done, Nothing, Counted, Selected, SetMade, Recovered, Refused}
+use Rattle.bk_world.specs.declared.reply.Reply.TheVariants.{Done, Nothing, Counted, Selected, SetMade, JobStarted, Valid, Listed, Recovered, Refused}
 use Rattle.bk_world.specs.Text.{reply_text, replies_text}
 use Rattle.bk_lemmas.specs.Tests.{first_false}
 use Rattle.bk_console.specs.Answers.{is_refusal, NoneRefused, EndsRefused, GoesOnAccepted, Asked, CrashLeaves, CutWithin, CutNowhere, Runs, Answered, CutTelling, CutExecuting, CutShort, AnsweredFront, Stopped, CutAll}
@@ -56,6 +57,9 @@ ends-refused before Nothing is = let no : ⊥ = cc is in absurd no
 ends-refused before (Counted rows) is = let no : ⊥ = cc is in absurd no
 ends-refused before (Selected rows) is = let no : ⊥ = cc is in absurd no
 ends-refused before (SetMade position first checkpoint last) is = let no : ⊥ = cc is in absurd no
+ends-refused before JobStarted is = let no : ⊥ = cc is in absurd no
+ends-refused before (Valid position) is = let no : ⊥ = cc is in absurd no
+ends-refused before (Listed listing) is = let no : ⊥ = cc is in absurd no
 ends-refused before (Recovered at) is = let no : ⊥ = cc is in absurd no
 
 -- a refusal that stops nothing, or none
@@ -84,27 +88,27 @@ asked_more tells before middle after moments now first last = record {
     one t i lt = later t i lt (cases_lt i (length moments))
 
 -- the texts of the replies, with one more
-texts_more : (told told1 told2 : List ℕ) (replies : List Reply) (reply : Reply) → told1 ≡ told ++ replies_text replies → told2 ≡ told1 ++ reply_text reply
-    → told2 ≡ told ++ replies_text (replies ++ reply ∷ [])
+texts_more : (told told1 told2 : List ℕ) (replies : List Reply) (reply : Reply) → told1 ≡ told ++ replies_text listing_text replies → told2 ≡ told1 ++ reply_text listing_text reply
+    → told2 ≡ told ++ replies_text listing_text (replies ++ reply ∷ [])
 texts_more told told1 told2 replies reply before more =
-    more ∙ ap (λ front. front ++ reply_text reply) before ∙ append_assoc told (replies_text replies) (reply_text reply)
-    ∙ ap (λ texts. told ++ texts) (ap (λ last. replies_text replies ++ last) (sym (append-nil (reply_text reply))) ∙ sym (flat_map-append reply_text replies (reply ∷ [])))
+    more ∙ ap (λ front. front ++ reply_text listing_text reply) before ∙ append_assoc told (replies_text listing_text replies) (reply_text listing_text reply)
+    ∙ ap (λ texts. told ++ texts) (ap (λ last. replies_text listing_text replies ++ last) (sym (append-nil (reply_text listing_text reply))) ∙ sym (flat_map-append (reply_text listing_text) replies (reply ∷ [])))
 
 -- a front of the text of one more
-front_more : (told told1 told2 : List ℕ) (replies : List Reply) (reply : Reply) → told1 ≡ told ++ replies_text replies → TellsFront (reply_text reply) told1 told2
-    → TellsFront (replies_text (replies ++ reply ∷ [])) told told2
+front_more : (told told1 told2 : List ℕ) (replies : List Reply) (reply : Reply) → told1 ≡ told ++ replies_text listing_text replies → TellsFront (reply_text listing_text reply) told1 told2
+    → TellsFront (replies_text listing_text (replies ++ reply ∷ [])) told told2
 front_more told told1 told2 replies reply before more = (
-  length (replies_text replies) + more.0,
-  more.1 ∙ ap (λ front. front ++ take more.0 (reply_text reply)) before ∙ append_assoc told (replies_text replies) (take more.0 (reply_text reply))
-      ∙ ap (λ texts. told ++ texts) (sym (take-append-add (replies_text replies) (reply_text reply) more.0))
-      ∙ ap (λ texts. told ++ take (length (replies_text replies) + more.0) texts)
-      (ap (λ last. replies_text replies ++ last) (sym (append-nil (reply_text reply))) ∙ sym (flat_map-append reply_text replies (reply ∷ []))),
+  length (replies_text listing_text replies) + more.0,
+  more.1 ∙ ap (λ front. front ++ take more.0 (reply_text listing_text reply)) before ∙ append_assoc told (replies_text listing_text replies) (take more.0 (reply_text listing_text reply))
+      ∙ ap (λ texts. told ++ texts) (sym (take-append-add (replies_text listing_text replies) (reply_text listing_text reply) more.0))
+      ∙ ap (λ texts. told ++ take (length (replies_text listing_text replies) + more.0) texts)
+      (ap (λ last. replies_text listing_text replies ++ last) (sym (append-nil (reply_text listing_text reply))) ∙ sym (flat_map-append (reply_text listing_text) replies (reply ∷ []))),
 )
 
 -- nothing more
-pub front_same : (told told1 told2 : List ℕ) (replies : List Reply) → told1 ≡ told ++ replies_text replies → told2 ≡ told1 → TellsFront (replies_text replies) told told2
+pub front_same : (told told1 told2 : List ℕ) (replies : List Reply) → told1 ≡ told ++ replies_text listing_text replies → told2 ≡ told1 → TellsFront (replies_text listing_text replies) told told2
 front_same told told1 told2 replies before same =
-    (length (replies_text replies), same ∙ before ∙ ap (λ texts. told ++ texts) (sym (take-length (replies_text replies))))
+    (length (replies_text listing_text replies), same ∙ before ∙ ap (λ texts. told ++ texts) (sym (take-length (replies_text listing_text replies))))
 
 -- the same of outcomes
 none-next : (os : List Outcome) (o : Outcome) → NoneRefused (replies_of os) → is_refusal o.reply ≡ false → NoneRefused (replies_of (os ++ o ∷ []))
@@ -113,14 +117,14 @@ none-next os o none accepted = subst NoneRefused (sym (replies-more os o)) (none
 goes-next : (os : List Outcome) (o : Outcome) (n : ℕ) → length os ≡ n → NoneRefused (replies_of os) → GoesOnAccepted (n + 1) (replies_of (os ++ o ∷ []))
 goes-next os o n is none = subst (GoesOnAccepted (n + 1)) (sym (replies-more os o)) (goes-on (replies_of os) (o.reply ∷ []) n (replies-length os ∙ is) none)
 
-text_next : (told told1 told2 : List ℕ) (os : List Outcome) (o : Outcome) → told1 ≡ told ++ replies_text (replies_of os) → told2 ≡ told1 ++ reply_text o.reply
-    → told2 ≡ told ++ replies_text (replies_of (os ++ o ∷ []))
-text_next told told1 told2 os o before more = texts_more told told1 told2 (replies_of os) o.reply before more ∙ ap (λ rs. told ++ replies_text rs) (sym (replies-more os o))
+text_next : (told told1 told2 : List ℕ) (os : List Outcome) (o : Outcome) → told1 ≡ told ++ replies_text listing_text (replies_of os) → told2 ≡ told1 ++ reply_text listing_text o.reply
+    → told2 ≡ told ++ replies_text listing_text (replies_of (os ++ o ∷ []))
+text_next told told1 told2 os o before more = texts_more told told1 told2 (replies_of os) o.reply before more ∙ ap (λ rs. told ++ replies_text listing_text rs) (sym (replies-more os o))
 
-front_next : (told told1 told2 : List ℕ) (os : List Outcome) (o : Outcome) → told1 ≡ told ++ replies_text (replies_of os) → TellsFront (reply_text o.reply) told1 told2
-    → TellsFront (replies_text (replies_of (os ++ o ∷ []))) told told2
+front_next : (told told1 told2 : List ℕ) (os : List Outcome) (o : Outcome) → told1 ≡ told ++ replies_text listing_text (replies_of os) → TellsFront (reply_text listing_text o.reply) told1 told2
+    → TellsFront (replies_text listing_text (replies_of (os ++ o ∷ []))) told told2
 front_next told told1 told2 os o before more =
-    subst (λ rs. TellsFront (replies_text rs) told told2) (sym (replies-more os o)) (front_more told told1 told2 (replies_of os) o.reply before more)
+    subst (λ rs. TellsFront (replies_text listing_text rs) told told2) (sym (replies-more os o)) (front_more told told1 told2 (replies_of os) o.reply before more)
 
 module _ (laws : CrashLaws) (stop : Bool) (old mid : Kept) (script ss : List ScriptEntry) (s : ScriptEntry) (ct : Type 0) (before middle after : ℕ → ℕ) (dt : Type 0) (disk disk1 disk2 : Disk)
     (so_far : AnsweredFront stop old mid ss ct before middle dt disk disk1) (front : take (length ss) script ≡ ss) (more : take (length ss + 1) script ≡ ss ++ s ∷ []) where

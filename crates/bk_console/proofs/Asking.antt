@@ -19,6 +19,7 @@ use Rattle.bk_restarts.specs.Crashes.{CutIn}
 use Rattle.bk_stores.specs.Standing.{AreStanding}
 use Rattle.bk_stores.specs.Stores.{IsOurs as IsOfStores}
 use Rattle.bk_volume.specs.Names.{medium_file}
+use Rattle.bk_report.specs.Listing.{listing_text}
 use Rattle.bk_world.specs.Text.{reply_text}
 use Rattle.bk_console.specs.declared.answers.AnswerError.TheVariants.{Console, Broken}
 use Rattle.bk_console.specs.Answers.{Asked, NotOurs, CutBefore, CutWithin, HoldsNow, executed_error}
@@ -122,7 +123,7 @@ executed-broken execute.NoMemory h = absurd cc
 executed-broken execute.Broken h = refl
 
 -- executing it, and telling some of its reply: the files hold its world meanwhile, but for what waits
-pub telling-cut : (w : World) (outcome : Outcome) (bytes : List ℕ) (a b c : Disk) → HoldsNow b (behind w outcome) → b.told ≡ a.told → bytes ≡ reply_text outcome.reply → Effect IsOurs (CutIn w outcome.acts) a b → TellsBytes bytes b c
+pub telling-cut : (w : World) (outcome : Outcome) (bytes : List ℕ) (a b c : Disk) → HoldsNow b (behind w outcome) → b.told ≡ a.told → bytes ≡ reply_text listing_text outcome.reply → Effect IsOurs (CutIn w outcome.acts) a b → TellsBytes bytes b c
     → Elapses a c (CutWithin w outcome a.told)
 telling-cut w outcome bytes a b c holds told text effect tells =
     elapses-then _ _ _ a b c (λ image heard here. inl here)

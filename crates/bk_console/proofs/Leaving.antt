@@ -22,6 +22,7 @@ use Rattle.bk_machine.specs.World.{Database, World, ended, held_by, held_in, ope
 use Rattle.bk_machine.specs.statements.Rollback.{rolls_back}
 use Rattle.bk_restarts.specs.Crashes.{CrashLaws, CutIn, LeavesFrom}
 use Rattle.bk_restarts.specs.CutLaws.{cut-first}
+use Rattle.bk_report.specs.Listing.{listing_text}
 use Rattle.bk_world.specs.declared.reply.Reply.{Reply}
 use Rattle.bk_world.specs.Text.{reply_text, replies_text}
 use Rattle.bk_console.specs.Answers.{told_whole, LeavesOf}
@@ -93,20 +94,20 @@ LeavesOf-none laws number w outcomes told image heard stands same =
 
 -- within the last one, or behind it, once the texts of the replies to those before it were told
 LeavesOf-last : (number : ℕ) (first : World) (outcomes : List Outcome) (o : Outcome) (told : List ℕ) (image : Files) (heard : List ℕ)
-    → ((least : ℕ) → least ≤ length outcomes → (left : World) × Leaves first (outcomes ++ o ∷ []) least left × Stands number image left) → heard ≡ told ++ replies_text (replies_of outcomes)
+    → ((least : ℕ) → least ≤ length outcomes → (left : World) × Leaves first (outcomes ++ o ∷ []) least left × Stands number image left) → heard ≡ told ++ replies_text listing_text (replies_of outcomes)
     → LeavesOf number first (outcomes ++ o ∷ []) told image heard
 LeavesOf-last number first outcomes o told image heard leads same =
     let all : List Outcome = outcomes ++ o ∷ [] in
-    let count : ℕ = length (replies_text (replies_of outcomes)) in
+    let count : ℕ = length (replies_text listing_text (replies_of outcomes)) in
     let whole : told_whole (replies_of all) count ≡ told_whole (replies_of outcomes) count =
     ap (λ rs. told_whole rs count) (replies-more outcomes o) ∙ told-front (replies_of outcomes) (o.reply ∷ []) count (omega arith) in
     let to = leads (told_whole (replies_of all) count) (omega (arith, whole, told-all (replies_of outcomes) count, replies-length outcomes)) in
-    let texts : replies_text (replies_of all) ≡ replies_text (replies_of outcomes) ++ replies_text (o.reply ∷ []) =
-    ap replies_text (replies-more outcomes o) ∙ flat_map-append reply_text (replies_of outcomes) (o.reply ∷ []) in
+    let texts : replies_text listing_text (replies_of all) ≡ replies_text listing_text (replies_of outcomes) ++ replies_text listing_text (o.reply ∷ []) =
+    ap (replies_text listing_text) (replies-more outcomes o) ∙ flat_map-append (reply_text listing_text) (replies_of outcomes) (o.reply ∷ []) in
     record {
       count = count;
-      bytes = same ∙ ap (λ b. told ++ b) (sym (ap (take count) texts ∙ take-append_seam (replies_text (replies_of outcomes)) (replies_text (o.reply ∷ []))));
-      within = omega (arith, ap (λ (b : List ℕ). length b) texts, length-append (replies_text (replies_of outcomes)) (replies_text (o.reply ∷ [])));
+      bytes = same ∙ ap (λ b. told ++ b) (sym (ap (take count) texts ∙ take-append_seam (replies_text listing_text (replies_of outcomes)) (replies_text listing_text (o.reply ∷ []))));
+      within = omega (arith, ap (λ (b : List ℕ). length b) texts, length-append (replies_text listing_text (replies_of outcomes)) (replies_text listing_text (o.reply ∷ [])));
       begun = length all;
       few = omega arith;
       left = to.0;
@@ -126,10 +127,10 @@ cut-last number first outcomes o image from cut least few =
 
 module _ (laws : CrashLaws) (number : ℕ) (first : World) (sound : IsSound first) (statements : List ScriptEntry) (moments : List ℕ) (outcomes : List Outcome) (run : IsRun first statements moments outcomes) where
   -- behind all of them, of whose replies' texts a front was told
-  pub LeavesOf-done : (told : List ℕ) (image : Files) (heard : List ℕ) → Covers (behind_all first outcomes) image → TellsFront (replies_text (replies_of outcomes)) told heard
+  pub LeavesOf-done : (told : List ℕ) (image : Files) (heard : List ℕ) → Covers (behind_all first outcomes) image → TellsFront (replies_text listing_text (replies_of outcomes)) told heard
       → LeavesOf number first outcomes told image heard
   LeavesOf-done told image heard covers front =
-      let texts = front-within (replies_text (replies_of outcomes)) told heard front in
+      let texts = front-within (replies_text listing_text (replies_of outcomes)) told heard front in
       let n : ℕ = length outcomes in
       let there : CutIn (behind_all first (take n outcomes)) (next_acts (drop n outcomes)) image =
       cut-first (behind_all first (take n outcomes)) (next_acts (drop n outcomes)) image (subst (λ os. Covers (behind_all first os) image) (sym (take-length outcomes)) covers) in
@@ -148,21 +149,21 @@ module _ (laws : CrashLaws) (number : ℕ) (first : World) (sound : IsSound firs
 
   -- within the next one
   pub LeavesOf-within : (s : ScriptEntry) (now : ℕ) (o : Outcome) → May (behind_all first outcomes) s now o → (told : List ℕ) (image : Files) (heard : List ℕ)
-      → CutIn (behind_all first outcomes) o.acts image → heard ≡ told ++ replies_text (replies_of outcomes)
+      → CutIn (behind_all first outcomes) o.acts image → heard ≡ told ++ replies_text listing_text (replies_of outcomes)
       → LeavesOf number first (outcomes ++ o ∷ []) told image heard
   LeavesOf-within s now o may told image heard cut = LeavesOf-last number first outcomes o told image heard
       (cut-last number first outcomes o image (laws.runs number first (statements ++ s ∷ []) (moments ++ now ∷ []) (outcomes ++ o ∷ []) sound (run-more first statements moments outcomes s now o run may)) cut)
 
   -- within its closing
   pub LeavesOf-closing : (acts : List Act) → AreClosing (behind_all first outcomes) acts → (told : List ℕ) (image : Files) (heard : List ℕ)
-      → CutIn (behind_all first outcomes) acts image → heard ≡ told ++ replies_text (replies_of outcomes)
+      → CutIn (behind_all first outcomes) acts image → heard ≡ told ++ replies_text listing_text (replies_of outcomes)
       → LeavesOf number first (outcomes ++ closed_by acts ∷ []) told image heard
   LeavesOf-closing acts closing told image heard cut = LeavesOf-last number first outcomes (closed_by acts) told image heard
       (cut-last number first outcomes (closed_by acts) image (laws.closings number first statements moments outcomes acts sound run closing) cut)
 
   -- behind that
   pub LeavesOf-ended : (acts : List Act) → AreClosing (behind_all first outcomes) acts → (told : List ℕ) (image : Files) (heard : List ℕ)
-      → Stands number image (ended (done_all (behind_all first outcomes) acts)) → heard ≡ told ++ replies_text (replies_of outcomes)
+      → Stands number image (ended (done_all (behind_all first outcomes) acts)) → heard ≡ told ++ replies_text listing_text (replies_of outcomes)
       → LeavesOf number first (outcomes ++ closed_by acts ∷ []) told image heard
   LeavesOf-ended acts closing told image heard stands = LeavesOf-last number first outcomes (closed_by acts) told image heard
       (λ least few. laws.ends number first statements moments outcomes acts sound run closing least image (omega (arith, few, length-append outcomes (closed_by acts ∷ []))) stands)
@@ -172,14 +173,14 @@ pub LeavesOf-more : (number : ℕ) (first : World) (outcomes : List Outcome) (o 
     → LeavesOf number first outcomes told image heard → LeavesOf number first (outcomes ++ o ∷ []) told image heard
 LeavesOf-more number first outcomes o told image heard leaves =
     let replies : List Reply = replies_of outcomes in
-    let texts : replies_text (replies_of (outcomes ++ o ∷ [])) ≡ replies_text replies ++ replies_text (o.reply ∷ []) =
-    ap replies_text (replies-more outcomes o) ∙ flat_map-append reply_text replies (o.reply ∷ []) in
+    let texts : replies_text listing_text (replies_of (outcomes ++ o ∷ [])) ≡ replies_text listing_text replies ++ replies_text listing_text (o.reply ∷ []) =
+    ap (replies_text listing_text) (replies-more outcomes o) ∙ flat_map-append (reply_text listing_text) replies (o.reply ∷ []) in
     let whole : told_whole (replies_of (outcomes ++ o ∷ [])) leaves.count ≡ told_whole replies leaves.count =
     ap (λ rs. told_whole rs leaves.count) (replies-more outcomes o) ∙ told-front replies (o.reply ∷ []) leaves.count leaves.within in
     record {
       count = leaves.count;
-      bytes = leaves.bytes ∙ ap (λ b. told ++ b) (sym (ap (take leaves.count) texts ∙ take-append-le leaves.count (replies_text replies) (replies_text (o.reply ∷ [])) leaves.within));
-      within = omega (arith, leaves.within, ap (λ (b : List ℕ). length b) texts, length-append (replies_text replies) (replies_text (o.reply ∷ [])));
+      bytes = leaves.bytes ∙ ap (λ b. told ++ b) (sym (ap (take leaves.count) texts ∙ take-append-le leaves.count (replies_text listing_text replies) (replies_text listing_text (o.reply ∷ [])) leaves.within));
+      within = omega (arith, leaves.within, ap (λ (b : List ℕ). length b) texts, length-append (replies_text listing_text replies) (replies_text listing_text (o.reply ∷ [])));
       begun = leaves.begun;
       few = omega (arith, leaves.few, length-append outcomes (o ∷ []));
       left = leaves.left;

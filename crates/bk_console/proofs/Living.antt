@@ -23,6 +23,7 @@ use Rattle.bk_master.specs.Laws.{record_is_instance}
 use Rattle.bk_master.specs.Master.{IsNotMade, IsNoInstance, fresh_own}
 use Rattle.bk_restarts.specs.Events.{HappenOn, StandsAtRest}
 use Rattle.bk_volume.specs.Names.{medium_file}
+use Rattle.bk_report.specs.Listing.{listing_text}
 use Rattle.bk_world.specs.Text.{replies_text}
 use Rattle.bk_console.specs.Answers.{LeavesOf, told_whole}
 use Rattle.bk_console.specs.Life.{SameFiles, IsEmpty, MayAsk, Live, Called, Lasts}
@@ -100,7 +101,7 @@ reached-cut w ss ms os acts {number} {told} {image} {heard} reached run closing 
         let is : take leaves.begun xs ≡ os ++ closed_by acts ∷ [] = ap (λ n. take n xs) (omega (arith, all, leaves.few)) ∙ take-length xs ∙ same in
         crashed_closing w leaves.left ss ms os acts _ reached run closing (subst (λ ys. Leaves (opened w) ys (told_whole (replies_of xs) leaves.count) leaves.left) is leaves.leaves)
 
-    by : (xs : List Outcome) (leaves : LeavesOf number (opened w) xs told image heard) → (xs ≡ os) ⊎ ((xs ≡ os ++ closed_by acts ∷ []) × (heard ≡ told ++ replies_text (replies_of os))) → IsReached leaves.left
+    by : (xs : List Outcome) (leaves : LeavesOf number (opened w) xs told image heard) → (xs ≡ os) ⊎ ((xs ≡ os ++ closed_by acts ∷ []) × (heard ≡ told ++ replies_text listing_text (replies_of os))) → IsReached leaves.left
     by xs leaves (inl same) =
         crashed w leaves.left _ _ _ _ reached (run-front (opened w) leaves.begun ss ms os run)
         (subst (λ ys. Leaves (opened w) (take leaves.begun ys) (told_whole (replies_of xs) leaves.count) leaves.left) same leaves.leaves)

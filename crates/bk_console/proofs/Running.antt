@@ -27,6 +27,7 @@ use Rattle.bk_stores.specs.Quiet.{AreQuiet}
 use Rattle.bk_stores.specs.declared.error.StoresError.{StoresError}
 use Rattle.bk_stores.specs.declared.error.StoresError.TheVariants as load
 use Rattle.bk_syntax.specs.Items.{AreItems}
+use Rattle.bk_report.specs.Listing.{listing_text}
 use Rattle.bk_world.specs.Text.{replies_text}
 use Rattle.bk_console.specs.declared.reading.ReadError.{ReadError}
 use Rattle.bk_console.specs.declared.reading.ReadError.TheVariants.{TooLong, Fault, NoMemory}
@@ -146,7 +147,7 @@ pub record Came (stop : Bool) (old new : Kept) (ss : List ScriptEntry) (clock_te
   pub asked : Asked clock_tells before after moments
   pub runs : device_tells → Runs old disk (take (length outcomes) ss) moments outcomes new disk_after
   pub crashes : device_tells → (w : World) → StandsFor disk old w → Elapses disk disk_after (CrashLeaves w outcomes disk.told)
-  pub text : device_tells → disk_after.told ≡ disk.told ++ replies_text (replies_of outcomes)
+  pub text : device_tells → disk_after.told ≡ disk.told ++ replies_text listing_text (replies_of outcomes)
   pub accepted : stop ≡ true → GoesOnAccepted (length moments) (replies_of outcomes)
   pub still : device_tells → (w : World) → StandsFor disk old w → AreStill outcomes → LeavesAlone old disk new disk_after
   pub spares : device_tells → (w : World) → StandsFor disk old w → Spares (IsTouched (OutcomesWrite outcomes)) disk disk_after
@@ -279,7 +280,7 @@ module _ (laws : Laws) (options : WordOptions) (statements : List ScriptEntry) (
       made = λ t h. absurd (not_ended _ (above e) h);
       spares = λ t settled w may. spares-then (spares-load t settled w may cut.outcomes) (spares-more (λ path writes. inr writes) (cut.spares t (opened w) (begins.stands t settled w may)));
       still = λ t settled w may h. absurd (not_ended _ (above e) h);
-      front = λ t. let some = cut.front t in (some.0, some.1 ∙ ap (λ told. told ++ take some.0 (replies_text (replies_of cut.outcomes))) (loads.touches t).told);
+      front = λ t. let some = cut.front t in (some.0, some.1 ∙ ap (λ told. told ++ take some.0 (replies_text listing_text (replies_of cut.outcomes))) (loads.touches t).told);
       accepted = cut.accepted;
       done = λ h. absurd (not_ended _ (above e) (inl h));
       stopped = λ h. absurd (not_ended _ (above e) (inr h));
@@ -299,10 +300,10 @@ module _ (laws : Laws) (options : WordOptions) (statements : List ScriptEntry) (
         is_console answer.Broken h = absurd (omega (arith, h))
 
     module _ (disk3 : Disk) (finish : Kept) (there : Came options.stop start finish statements ct coming coming_after dt disk1 disk2) (ends : Ends dt finish disk2 disk3) where
-      told-answers : dt → disk2.told ≡ disk.told ++ replies_text (replies_of there.outcomes)
-      told-answers t = there.text t ∙ ap (λ told. told ++ replies_text (replies_of there.outcomes)) (loads.touches t).told
+      told-answers : dt → disk2.told ≡ disk.told ++ replies_text listing_text (replies_of there.outcomes)
+      told-answers t = there.text t ∙ ap (λ told. told ++ replies_text listing_text (replies_of there.outcomes)) (loads.touches t).told
 
-      told-then : dt → disk3.told ≡ disk.told ++ replies_text (replies_of there.outcomes)
+      told-then : dt → disk3.told ≡ disk.told ++ replies_text listing_text (replies_of there.outcomes)
       told-then t = (ends.touches t).told ∙ told-answers t
 
       moments-are : take (length there.outcomes) there.moments ≡ there.moments
@@ -376,7 +377,7 @@ module _ (laws : Laws) (options : WordOptions) (statements : List ScriptEntry) (
         made = made;
         spares = spares-close;
         still = λ t settled w may h quiet all. still-close t settled w may quiet all;
-        front = λ t. let texts = replies_text (replies_of there.outcomes) in (length texts, told-then t ∙ ap (λ all. disk.told ++ all) (sym (take-length texts)));
+        front = λ t. let texts = replies_text listing_text (replies_of there.outcomes) in (length texts, told-then t ∙ ap (λ all. disk.told ++ all) (sym (take-length texts)));
         accepted = there.accepted;
         done = λ h. ((all h).0, there.each, told-then, (all h).1);
         stopped = λ h. ((refused h).0, (refused h).1, there.each, told-then);

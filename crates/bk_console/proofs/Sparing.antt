@@ -10,7 +10,7 @@ use Rattle.bk_engine.specs.Stands.{Kept, StandsFor}
 use Rattle.bk_engine.specs.Touched.{IsTouched, TouchesOnly}
 use Rattle.bk_executing.specs.Executing.{Failed, Rests}
 use Rattle.bk_items.specs.declared.item.ScriptEntry.{ScriptEntry}
-use Rattle.bk_machine.specs.Acts.{Act, done, done_all, turned, seated, created, dropped, logged, medium_made, set_sealed, based, replaced, restored, recovered}
+use Rattle.bk_machine.specs.Acts.{Act, done, done_all, turned, seated, created, dropped, logged, medium_made, set_drawn, set_sealed, based, replaced, restored, recovered}
 use Rattle.bk_machine.specs.Machine.{May}
 use Rattle.bk_machine.specs.Outcome.{Outcome}
 use Rattle.bk_machine.specs.Run.{behind_all}
@@ -18,6 +18,7 @@ use Rattle.bk_machine.specs.Sound.{AreIdle}
 use Rattle.bk_machine.specs.World.{World}
 use Rattle.bk_machine.specs.Writes.{ActsWrite, IsStill, IsTurn}
 use Rattle.bk_master.specs.declared.record.Own.{Own}
+use Rattle.bk_report.specs.Listing.{listing_text}
 use Rattle.bk_world.specs.Text.{reply_text}
 use Rattle.bk_console.specs.Answers.{Asked, CutShort, CutWithin, HoldsNow, IsNotDone}
 use Rattle.bk_console.specs.Spares.{AreStill, OutcomesWrite, ReservesNone, Spares}
@@ -97,6 +98,7 @@ turns-idle w (created c ∷ acts) all idle = absurd all.0
 turns-idle w (dropped name ∷ acts) all idle = absurd all.0
 turns-idle w (logged name said transactions ∷ acts) all idle = absurd all.0
 turns-idle w (medium_made path ∷ acts) all idle = absurd all.0
+turns-idle w (set_drawn ∷ acts) all idle = absurd all.0
 turns-idle w (set_sealed path header ∷ acts) all idle = absurd all.0
 turns-idle w (based name header ∷ acts) all idle = absurd all.0
 turns-idle w (replaced name header ∷ acts) all idle = absurd all.0
@@ -112,7 +114,7 @@ still-idle w (o ∷ os) all idle = still-idle (done_all w o.acts) os all.1 (turn
 -- an answer that comes to something, and was told in part
 pub cut-in_reply : (old : Kept) (s : ScriptEntry) (ct : Type 0) (before after : ℕ → ℕ) (dt : Type 0) (disk disk_after : Disk) (has_reply : Type 0) (now : ℕ)
     → Asked ct before after (now ∷ []) → (outcome : Outcome) → (dt → (w : World) → StandsFor disk old w → May w s now outcome) → (dt → (w : World) → StandsFor disk old w → Elapses disk disk_after (CutWithin w outcome disk.told))
-    → (dt → TellsFront (reply_text outcome.reply) disk.told disk_after.told) → (dt → (w : World) → StandsFor disk old w → Spares (IsTouched (ActsWrite outcome.acts)) disk disk_after) → CutShort old s ct before after dt disk disk_after has_reply
+    → (dt → TellsFront (reply_text listing_text outcome.reply) disk.told disk_after.told) → (dt → (w : World) → StandsFor disk old w → Spares (IsTouched (ActsWrite outcome.acts)) disk disk_after) → CutShort old s ct before after dt disk disk_after has_reply
 cut-in_reply old s ct before after dt disk disk_after has_reply now asked outcome may crashes front spares =
     record { now = now; asked = asked; front = inl (record { outcome = outcome; may = may; crashes = crashes; front = front; spares = spares }) }
 
@@ -136,7 +138,7 @@ cut-before_reply old s ct before after dt disk disk_after has_reply now asked no
     }
     by (inr off) =
         cut-in_reply old s ct before after dt disk disk_after has_reply now asked off.outcome off.may (λ t w stands. silent-cut w off.outcome disk disk_after (off.crash t w stands))
-        (λ t. silent-front (reply_text off.outcome.reply) disk disk_after (silent t)) (λ t w stands. spares-effect (off.spares t w stands))
+        (λ t. silent-front (reply_text listing_text off.outcome.reply) disk disk_after (silent t)) (λ t w stands. spares-effect (off.spares t w stands))
 
 -- where the device was left as it was, no GUID was reserved
 pub reserves-none : {old new : Kept} {disk disk_after : Disk} → Rests old disk new disk_after → ReservesNone old → ReservesNone new

@@ -17,6 +17,7 @@ use Rattle.bk_machine.specs.Run.{IsRun, behind_all, replies_of}
 use Rattle.bk_machine.specs.World.{World}
 use Rattle.bk_machine.specs.Writes.{ActsWrite, IsStill}
 use Rattle.bk_restarts.specs.Crashes.{CutIn}
+use Rattle.bk_report.specs.Listing.{listing_text}
 use Rattle.bk_world.specs.declared.reply.Reply.{Reply}
 use Rattle.bk_world.specs.declared.reply.Reply.TheVariants.{Refused}
 use Rattle.bk_world.specs.declared.rule.Rule.{Rule}
@@ -65,15 +66,15 @@ told_before (byte ∷ text) n = suc n
 unfoldable pub told_whole : List Reply → ℕ → ℕ
 told_whole [] m = 0
 told_whole (reply ∷ replies) m =
-    if nat_le (length (reply_text reply)) m then told_before (reply_text reply) (told_whole replies (m - length (reply_text reply))) else 0
+    if nat_le (length (reply_text listing_text reply)) m then told_before (reply_text listing_text reply) (told_whole replies (m - length (reply_text listing_text reply))) else 0
 
 -- These files, with these bytes told, are left by a crash of a run from this world that came to these outcomes: it did at least the statements up to the last
 -- one of whose reply a text was told whole.
 pub record LeavesOf (number : ℕ) (first : World) (outcomes : List Outcome) (told : List ℕ) (image : Files) (heard : List ℕ) : Type 0 where
   -- how many bytes were told
   pub count : ℕ
-  pub bytes : heard ≡ told ++ take count (replies_text (replies_of outcomes))
-  pub within : count ≤ length (replies_text (replies_of outcomes))
+  pub bytes : heard ≡ told ++ take count (replies_text listing_text (replies_of outcomes))
+  pub within : count ≤ length (replies_text listing_text (replies_of outcomes))
   -- how many statements were begun
   pub begun : ℕ
   pub few : begun ≤ length outcomes
@@ -92,7 +93,7 @@ CutBefore w outcome told image heard = CutIn w outcome.acts image × (heard ≡ 
 
 -- and what it leaves while a reply is told, or behind that
 abbrev pub CutWithin : World → Outcome → List ℕ → Files → List ℕ → Type 0
-CutWithin w outcome told image heard = CutBefore w outcome told image heard ⊎ (Covers (behind w outcome) image × TellsFront (reply_text outcome.reply) told heard)
+CutWithin w outcome told image heard = CutBefore w outcome told image heard ⊎ (Covers (behind w outcome) image × TellsFront (reply_text listing_text outcome.reply) told heard)
 
 -- what a crash leaves before anything is done
 abbrev pub CutNowhere : World → List ℕ → Files → List ℕ → Type 0
@@ -122,7 +123,7 @@ pub record Answered (old new : Kept) (s : ScriptEntry) (clock_tells : Type 0) (b
   pub may : device_tells → (w : World) → StandsFor disk old w → May w s now outcome
   pub does : device_tells → (w : World) → StandsFor disk old w → StandsFor disk_after new (behind w outcome)
   pub crashes : device_tells → (w : World) → StandsFor disk old w → Elapses disk disk_after (CutWithin w outcome disk.told)
-  pub text : device_tells → disk_after.told ≡ disk.told ++ reply_text outcome.reply
+  pub text : device_tells → disk_after.told ≡ disk.told ++ reply_text listing_text outcome.reply
   pub which : refused ≡ is_refusal outcome.reply
   -- where the instance stood for a world: an outcome that stores nothing left all files as they were
   pub still : device_tells → (w : World) → StandsFor disk old w → IsStill outcome → LeavesAlone old disk new disk_after
@@ -134,7 +135,7 @@ pub record CutTelling (old : Kept) (s : ScriptEntry) (now : ℕ) (device_tells :
   pub outcome : Outcome
   pub may : device_tells → (w : World) → StandsFor disk old w → May w s now outcome
   pub crashes : device_tells → (w : World) → StandsFor disk old w → Elapses disk disk_after (CutWithin w outcome disk.told)
-  pub front : device_tells → TellsFront (reply_text outcome.reply) disk.told disk_after.told
+  pub front : device_tells → TellsFront (reply_text listing_text outcome.reply) disk.told disk_after.told
   pub spares : device_tells → (w : World) → StandsFor disk old w → Spares (IsTouched (ActsWrite outcome.acts)) disk disk_after
 
 -- Nothing was done yet, and nothing was told.
@@ -168,7 +169,7 @@ pub record AnsweredFront (stop : Bool) (old new : Kept) (front : List ScriptEntr
   pub asked : Asked clock_tells before after moments
   pub runs : device_tells → Runs old disk front moments outcomes new disk_after
   pub crashes : device_tells → (w : World) → StandsFor disk old w → Elapses disk disk_after (CrashLeaves w outcomes disk.told)
-  pub text : device_tells → disk_after.told ≡ disk.told ++ replies_text (replies_of outcomes)
+  pub text : device_tells → disk_after.told ≡ disk.told ++ replies_text listing_text (replies_of outcomes)
   pub accepted : stop ≡ true → NoneRefused (replies_of outcomes)
   -- where the instance stood for a world: outcomes that store nothing left all files as they were
   pub still : device_tells → (w : World) → StandsFor disk old w → AreStill outcomes → LeavesAlone old disk new disk_after
@@ -188,7 +189,7 @@ pub record Stopped (stop : Bool) (old new : Kept) (ss : List ScriptEntry) (clock
   pub asked : Asked clock_tells before after moments
   pub runs : device_tells → Runs old disk (take (length outcomes) ss) moments outcomes new disk_after
   pub crashes : device_tells → (w : World) → StandsFor disk old w → Elapses disk disk_after (CrashLeaves w outcomes disk.told)
-  pub text : device_tells → disk_after.told ≡ disk.told ++ replies_text (replies_of outcomes)
+  pub text : device_tells → disk_after.told ≡ disk.told ++ replies_text listing_text (replies_of outcomes)
   pub stops : stop ≡ true
   pub accepted : GoesOnAccepted (length outcomes) (replies_of outcomes)
   pub refused : EndsRefused (replies_of outcomes)
@@ -209,7 +210,7 @@ pub record CutAll (stop : Bool) (old : Kept) (ss : List ScriptEntry) (clock_tell
   pub asked : Asked clock_tells before after moments
   pub runs : device_tells → MayRun old disk (take (length outcomes) ss) (take (length outcomes) moments) outcomes
   pub crashes : device_tells → (w : World) → StandsFor disk old w → Elapses disk disk_after (CrashLeaves w outcomes disk.told)
-  pub front : device_tells → TellsFront (replies_text (replies_of outcomes)) disk.told disk_after.told
+  pub front : device_tells → TellsFront (replies_text listing_text (replies_of outcomes)) disk.told disk_after.told
   pub some : has_reply → 0 < length outcomes
   pub accepted : stop ≡ true → GoesOnAccepted (length moments) (replies_of outcomes)
   -- no medium was touched but those to which acts of the outcomes write

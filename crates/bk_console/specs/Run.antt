@@ -20,6 +20,7 @@ use Rattle.bk_machine.specs.Outcome.{Outcome}
 use Rattle.bk_machine.specs.Run.{IsRun, behind_all, replies_of}
 use Rattle.bk_machine.specs.World.{World, opened, ended}
 use Rattle.bk_syntax.specs.Items.{AreItems}
+use Rattle.bk_report.specs.Listing.{listing_text}
 use Rattle.bk_world.specs.Text.{replies_text}
 use Rattle.bk_console.specs.declared.status.Status.{Status}
 use Rattle.bk_console.specs.declared.status.Status.TheVariants.{Done, StoppedAtRefusal, Usage, SourceFault, ConsoleFault, DeviceFault, NoMemory, Broken, NotAnInstance, ScriptTooLong}
@@ -118,7 +119,7 @@ pub record IsWhole (tells : Type 0) (bytes rest_after : List ℕ) (statements : 
 pub record LeavesRun (number : ℕ) (first : World) (outcomes : List Outcome) (acts : List Act) (told : List ℕ) (image : Files) (heard : List ℕ) : Type 0 where
   -- what was cut
   pub cut : List Outcome
-  pub which : (cut ≡ outcomes) ⊎ ((cut ≡ outcomes ++ closed_by acts ∷ []) × (heard ≡ told ++ replies_text (replies_of outcomes)))
+  pub which : (cut ≡ outcomes) ⊎ ((cut ≡ outcomes ++ closed_by acts ∷ []) × (heard ≡ told ++ replies_text listing_text (replies_of outcomes)))
   pub leaves : LeavesOf number first cut told image heard
 
 -- A run from this world that came to these outcomes is closed: what is open is rolled back.
@@ -156,15 +157,15 @@ pub record Executed (asks : Option WordOptions) (statements : List ScriptEntry) 
   pub still : device_tells → IsSettled disk → (w : World) → MayBegin asks disk.files w → (status ≡ 0) ⊎ (status ≡ 1) → AreQuiet disk.files → AreStill outcomes
       → Spares NoName disk disk_after
   -- whole texts of replies, and then perhaps a front of the next
-  pub front : device_tells → TellsFront (replies_text (replies_of outcomes)) disk.told disk_after.told
+  pub front : device_tells → TellsFront (replies_text listing_text (replies_of outcomes)) disk.told disk_after.told
   -- where a refusal stops the run, no statement is begun behind one
   pub accepted : AsksStop asks → GoesOnAccepted (length moments) (replies_of outcomes)
   -- at the end every statement has its reply, and all are told whole
   pub done : status ≡ 0 → (length outcomes ≡ length statements) × (length moments ≡ length outcomes)
-      × (device_tells → disk_after.told ≡ disk.told ++ replies_text (replies_of outcomes)) × (AsksStop asks → NoneRefused (replies_of outcomes))
+      × (device_tells → disk_after.told ≡ disk.told ++ replies_text listing_text (replies_of outcomes)) × (AsksStop asks → NoneRefused (replies_of outcomes))
   -- it was asked to stop at a refusal, and the last reply is one; all replies are told whole
   pub stopped : status ≡ 1 → AsksStop asks × EndsRefused (replies_of outcomes) × (length moments ≡ length outcomes)
-      × (device_tells → disk_after.told ≡ disk.told ++ replies_text (replies_of outcomes))
+      × (device_tells → disk_after.told ≡ disk.told ++ replies_text listing_text (replies_of outcomes))
   -- a fault of the console comes where a reply is told
   pub cut : status ≡ 4 → 0 < length outcomes
 

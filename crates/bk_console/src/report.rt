@@ -1,16 +1,18 @@
 // The text of a reply.
 ghost use Rattle.std.specs.Prelude.{◌≡◌, ◌++◌, IfOk, OnOk, flat_map};
 ghost use Rattle.std.specs.String.{string_bytes};
-ghost use Rattle.bk_world.specs.declared.reply.Reply.TheVariants.{Selected, SetMade, Refused};
+ghost use Rattle.bk_report.specs.Listing.{listing_text};
+ghost use Rattle.bk_world.specs.declared.reply.Reply.TheVariants.{Selected, SetMade, Listed, Refused};
 ghost use Rattle.bk_world.specs.Text.{reply_text, row_text};
 
 use bk_ids::{Lsn, Value};
-use bk_world::{Reply, Rule};
+use bk_report::push_listing;
+use bk_world::{Listing, Reply, Rule};
 use std::alloc::{AllocError, Global};
 
 /// The bytes of a reply, each line ended by a line feed; none where nothing is answered.
 pub fn text(alloc: Global, reply: &Reply) -> Result<String, AllocError>
-    ensures { IfOk result (λ text. string_bytes text ≡ reply_text reply.now) }
+    ensures { IfOk result (λ text. string_bytes text ≡ reply_text listing_text reply.now) }
 {
     match reply {
         Reply::Done => String::from_str(alloc, "Done.\n"),
@@ -23,6 +25,9 @@ pub fn text(alloc: Global, reply: &Reply) -> Result<String, AllocError>
             checkpoint,
             last,
         } => set_text(alloc, *position, *first, *checkpoint, *last),
+        Reply::JobStarted => String::from_str(alloc, "Job started.\n"),
+        Reply::Valid { position } => format!(in alloc; "Set {position} is valid.\n"),
+        Reply::Listed { listing } => listed_text(alloc, listing),
         Reply::Recovered { at } => format!(in alloc; "Recovered at {at}.\n"),
         Reply::Refused { rule } => refusal_text(alloc, rule),
     }
@@ -36,14 +41,23 @@ fn set_text(
     checkpoint: Lsn,
     last: Lsn,
 ) -> Result<String, AllocError>
-    ensures { IfOk result (λ text. string_bytes text ≡ reply_text (SetMade position first checkpoint last)) }
+    ensures { IfOk result (λ text. string_bytes text ≡ reply_text listing_text (SetMade position first checkpoint last)) }
 {
     format!(in alloc; "Set {position}: first {first}, checkpoint {checkpoint}, last {last}.\n")
 }
 
+// What was asked for.
+fn listed_text(alloc: Global, listing: &Listing) -> Result<String, AllocError>
+    ensures { IfOk result (λ text. string_bytes text ≡ reply_text listing_text (Listed listing.now)) }
+{
+    let mut text = String::new(alloc);
+    push_listing(alloc, &mut text, listing)?;
+    Ok(text)
+}
+
 // The first rule that was broken.
 fn refusal_text(alloc: Global, rule: &Rule) -> Result<String, AllocError>
-    ensures { IfOk result (λ text. string_bytes text ≡ reply_text (Refused rule.now)) }
+    ensures { IfOk result (λ text. string_bytes text ≡ reply_text listing_text (Refused rule.now)) }
 {
     let rule = rule.text(alloc)?;
     format!(in alloc; "Refused {rule}\n")
@@ -51,7 +65,7 @@ fn refusal_text(alloc: Global, rule: &Rule) -> Result<String, AllocError>
 
 // Each row, and how many they are.
 fn table_text(alloc: Global, rows: &[(u64, Value)]) -> Result<String, AllocError>
-    ensures { IfOk result (λ text. string_bytes text ≡ reply_text (Selected rows.now)) }
+    ensures { IfOk result (λ text. string_bytes text ≡ reply_text listing_text (Selected rows.now)) }
 {
     let mut text = rows_text(alloc, rows)?;
     let count = rows.len();

@@ -2,6 +2,7 @@ use Rattle.std.proofs.Common.{◌≡◌, ◌++◌, ◌∙◌, ap, subst, sym, Er
 use Rattle.std.proofs.lemmas.Result.{err_from_is_err_and}
 use Rattle.bk_device.specs.Calls.{TellsFront}
 use Rattle.bk_device.specs.Compose.{keeps_by_telling, keeps_then}
+use Rattle.bk_report.specs.Listing.{listing_text}
 use Rattle.bk_world.specs.Text.{reply_text}
 use Rattle.bk_console.specs.Answers.{is_refusal, executed_error}
 use Rattle.bk_console.specs.declared.answers.AnswerError.TheVariants.{Console, Broken}
@@ -29,11 +30,11 @@ pub returns-in_err-tell-clause-cut_short : goal.returns-in_err-tell-clause-cut_s
 returns-in_err-tell-clause-cut_short g c =
     let done = c.in_ok-reply.ensures.done in
     let one = done.executed in
-    let text = c.as_bytes.ensures.value ∙ c.in_ok-text.ensures ∙ ap reply_text (sym one.replies) in
+    let text = c.as_bytes.ensures.value ∙ c.in_ok-text.ensures ∙ ap (reply_text listing_text) (sym one.replies) in
     OnErr-from _ (cut-in_reply _ _ _ _ _ _ _ _ _ c.now-now.result
     (asked_once _ _ _ c.now-now.result c.now-now.ensures.value c.now-now.ensures.coming) one.outcome one.may
     (λ t w stands. telling-cut w one.outcome _ _ _ _ (done.holds t w stands) (c.in_ok-reply.ensures.touches t).told text (one.crash t w stands) (c.in_err-tell.ensures.effect t))
-    (λ t. subst (λ told. TellsFront (reply_text one.outcome.reply) told (g.D.Device.disk c.tell.new.self).told) (c.in_ok-reply.ensures.touches t).told
+    (λ t. subst (λ told. TellsFront (reply_text listing_text one.outcome.reply) told (g.D.Device.disk c.tell.new.self).told) (c.in_ok-reply.ensures.touches t).told
     (subst (λ bytes. TellsFront bytes (g.D.Device.disk c.execute_one.new.device).told (g.D.Device.disk c.tell.new.self).told) text (c.in_err-tell.ensures.effect t).front))
     (λ t w stands. spares-then (spares-effect (one.spares t w stands)) (spares-telling (c.in_err-tell.ensures.effect t))))
 
@@ -41,7 +42,7 @@ pub returns-clause-answered : goal.returns-clause-answered
 returns-clause-answered g c =
     let done = c.in_ok-reply.ensures.done in
     let one = done.executed in
-    let text = c.as_bytes.ensures.value ∙ c.in_ok-text.ensures ∙ ap reply_text (sym one.replies) in
+    let text = c.as_bytes.ensures.value ∙ c.in_ok-text.ensures ∙ ap (reply_text listing_text) (sym one.replies) in
     record {
       now = c.now-now.result;
       outcome = one.outcome;
@@ -49,7 +50,7 @@ returns-clause-answered g c =
       may = one.may;
       does = λ t w stands. told-stands _ _ _ _ _ (c.in_ok-tell.ensures.effect t) (one.does t w stands);
       crashes = λ t w stands. telling-cut w one.outcome _ _ _ _ (done.holds t w stands) (c.in_ok-reply.ensures.touches t).told text (one.crash t w stands) (c.in_ok-tell.ensures.effect t);
-      text = λ t. c.in_ok-tell.ensures.told t ∙ ap (λ bytes. (g.D.Device.disk c.execute_one.new.device).told ++ bytes) text ∙ ap (λ told. told ++ reply_text one.outcome.reply) (c.in_ok-reply.ensures.touches t).told;
+      text = λ t. c.in_ok-tell.ensures.told t ∙ ap (λ bytes. (g.D.Device.disk c.execute_one.new.device).told ++ bytes) text ∙ ap (λ told. told ++ reply_text listing_text one.outcome.reply) (c.in_ok-reply.ensures.touches t).told;
       which = c.is_refusal-refused.ensures ∙ ap is_refusal (sym one.replies);
       still = λ t w stands still.
           let rests = one.still t w stands still in
