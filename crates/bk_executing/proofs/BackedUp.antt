@@ -1,12 +1,12 @@
 -- The set that a backup seals is one of its database as it is then.
 use Rattle.std.proofs.Common.{◌≡◌, ◌||◌, ℕ, ◌+◌, List, [], ◌∷◌, length, Option, Some, Ok, Err, refl, sym, ◌∙◌, ap, subst, arith}
-use Rattle.std.specs.Prelude.{◌&&◌, is_some, not}
+use Rattle.std.specs.Prelude.{◌&&◌, None, not}
 use Rattle.bk_carried.specs.Copied.{IsHeaderOf, backed_up}
 use Rattle.bk_ids.specs.declared.guid.Guid.{Guid}
 use Rattle.bk_items.specs.declared.item.UnitName.{UnitName}
 use Rattle.bk_items.specs.declared.options.BackupOptions.{BackupOptions}
 use Rattle.bk_items.specs.declared.item.ScriptItem.TheVariants as script
-use Rattle.bk_machine.specs.Acts.{Act, done, drawn, gone_on, logged, medium_made, said_time, says, set_sealed, where_found}
+use Rattle.bk_machine.specs.Acts.{Act, done, drawn, gone_on, logged, said_time, says, set_sealed, where_found}
 use Rattle.bk_machine.specs.CheckLaws.{Up, passed, was-found, was-online}
 use Rattle.bk_machine.specs.Checks.{Checked, ◌>>=◌, is_path, limit, online, or_refuse, outside, refuse_if, used_up}
 use Rattle.bk_machine.specs.Machine.{May}
@@ -15,9 +15,9 @@ use Rattle.bk_machine.specs.NamedLaws.{named-own, of-named}
 use Rattle.bk_machine.specs.Outcome.{ComesTo, Outcome}
 use Rattle.bk_machine.specs.Sound.{IsSound, IsWhole, IsWholeDatabase}
 use Rattle.bk_machine.specs.World.{Database, World, database_named, log_of}
-use Rattle.bk_machine.specs.statements.Backup.{DoesBackup, check_backup, full_backup, full_header, is_whole_backup}
+use Rattle.bk_machine.specs.statements.Backup.{DoesBackup, check_backup, check_medium, draws_set, full_backup, full_header, is_whole_backup}
 use Rattle.bk_plans.specs.declared.parts.Part.{Part}
-use Rattle.bk_plans.specs.declared.parts.Part.TheVariants.{MediumMade, SetSealed, Stored}
+use Rattle.bk_plans.specs.declared.parts.Part.TheVariants.{MediumMade, SetDrawn, SetSealed, Stored}
 use Rattle.bk_plans.specs.declared.parts.Plan.{Plan}
 use Rattle.bk_plans.specs.declared.parts.Plan.TheVariants.{Answered, Parts, Refused, Seated, Turned}
 use Rattle.bk_plans.specs.Planning.{AreActsOf, AreParts, IsPart}
@@ -28,7 +28,7 @@ use Rattle.bk_world.specs.declared.database.Status.TheVariants.{Online}
 use Rattle.bk_world.specs.declared.header.Header.{Header}
 use Rattle.bk_world.specs.declared.rule.Rule.TheVariants.{NoSuchDatabase, NotBuilt}
 use Rattle.bk_world.specs.declared.transaction.Open.{Open}
-use Rattle.bk_world.specs.Medium.{medium_at}
+use Rattle.bk_world.specs.Medium.{Reading, medium_at}
 use Rattle.bk_world.specs.Records.{Counts, Logged, Said, checkpointed, more, stamped}
 use Rattle.bk_world.specs.Says.{alone}
 use Rattle.bk_world.specs.Telling.{model}
@@ -43,8 +43,8 @@ pub record Laws : Type 0 where
       → database_named (says w db said transactions).databases name ≡ Some (gone_on (model (log_of w.history db)) said transactions db)
   pub log : (w : World) (name : List ℕ) (db : Database) (said : List Said) (transactions : List Open) → IsWhole w → database_named w.databases name ≡ Some db → MaySay w db said
       → log_of (says w db said transactions).history (gone_on (model (log_of w.history db)) said transactions db) ≡ more (log_of w.history db) db.end said
-  pub header : (w : World) (db : Database) (set : Guid) (time : ℕ) (told : Told) → IsSound w → database_named w.databases db.name ≡ Some db → db.status ≡ Online → files_of told ≡ db.files
-      → told.records ≡ backed_up (log_of w.history db) (full_header w db set time) → IsHeaderOf told (full_header w db set time)
+  pub header : (w : World) (db : Database) (options : BackupOptions) (set : Guid) (time : ℕ) (told : Told) → IsSound w → database_named w.databases db.name ≡ Some db → db.status ≡ Online → files_of told ≡ db.files
+      → told.records ≡ backed_up (log_of w.history db) (full_header w db options set time) → IsHeaderOf told (full_header w db options set time)
 
 -- ---- a database says something
 
@@ -73,33 +73,34 @@ end-of w name db sound there = let ends = counts-end (log_of w.history db) 1 db.
 
 -- ---- the set of a backup
 
--- the world in which it is sealed
-abbrev sealing : World → Database → List ℕ → Guid → ℕ → World
-sealing w db path set time = done (done (done w (medium_made path)) (logged db.name (alone (checkpointed time)) db.transactions)) (logged db.name (alone (stamped time set)) db.transactions)
+-- the world in which it is sealed, behind the act that draws its GUID
+abbrev sealing : World → Database → Act → Guid → ℕ → World
+sealing w db act set time = done (done (done w act) (logged db.name (alone (checkpointed time)) db.transactions)) (logged db.name (alone (stamped time set)) db.transactions)
 
-made-there : (w : World) (path : List ℕ) → ((done w (medium_made path)).databases ≡ w.databases) × ((done w (medium_made path)).history ≡ w.history)
+drawn-there : (w : World) (before : Option Reading) (path : List ℕ) → ((done w (draws_set before path)).databases ≡ w.databases) × ((done w (draws_set before path)).history ≡ w.history)
 unfolding done
-made-there w path = (refl, refl)
+drawn-there w None path = (refl, refl)
+drawn-there w (Some reading) path = (refl, refl)
 
-pub set-now : Laws → (w : World) (db : Database) (path : List ℕ) (set : Guid) (time : ℕ) → IsSound w → database_named w.databases db.name ≡ Some db → db.status ≡ Online → MayDoAll w (full_backup db path (full_header w db set time))
-    → IsSetNow (sealing w db path set time) (full_header w db set time)
+pub set-now : Laws → (w : World) (db : Database) (before : Option Reading) (path : List ℕ) (options : BackupOptions) (set : Guid) (time : ℕ) → IsSound w → database_named w.databases db.name ≡ Some db → db.status ≡ Online → MayDoAll w (full_backup before db path (full_header w db options set time))
+    → IsSetNow (sealing w db (draws_set before path) set time) (full_header w db options set time)
 unfolding full_header
-set-now laws w db path set time sound there online may =
-    let w1 : World = done w (medium_made path) in
-    let s1 : IsSound w1 = laws.sound w (medium_made path) sound may.0 in
-    let there1 : database_named w1.databases db.name ≡ Some db = ap (λ (dbs : List Database). database_named dbs db.name) (made-there w path).0 ∙ there in
+set-now laws w db before path options set time sound there online may =
+    let w1 : World = done w (draws_set before path) in
+    let s1 : IsSound w1 = laws.sound w (draws_set before path) sound may.0 in
+    let there1 : database_named w1.databases db.name ≡ Some db = ap (λ (dbs : List Database). database_named dbs db.name) (drawn-there w before path).0 ∙ there in
     let said2 = said-in laws w1 db.name db (alone (checkpointed time)) db.transactions s1 there1 may.1.0 in
     let w2 : World = done w1 (logged db.name (alone (checkpointed time)) db.transactions) in
     let db2 : Database = gone_on (model (log_of w1.history db)) (alone (checkpointed time)) db.transactions db in
     let said3 = said-in laws w2 db.name db2 (alone (stamped time set)) db.transactions said2.sound said2.found may.1.1.0 in
-    let w3 : World = sealing w db path set time in
+    let w3 : World = sealing w db (draws_set before path) set time in
     let db3 : Database = gone_on (model (log_of w2.history db2)) (alone (stamped time set)) db.transactions db2 in
     let end1 = end-of w db.name db sound there in
     let end2 = end-of w2 db.name db2 said2.sound said2.found in
-    let logs : log_of w3.history db3 ≡ backed_up (log_of w.history db) (full_header w db set time) =
+    let logs : log_of w3.history db3 ≡ backed_up (log_of w.history db) (full_header w db options set time) =
     said3.log ∙ ap (λ (n : ℕ). more (log_of w2.history db2) n (alone (stamped time set))) (sym end2)
     ∙ ap (λ (rs : List Logged). more rs (end_behind rs) (alone (stamped time set))) said2.log
-    ∙ ap (λ h. more (more (log_of h db) db.end (alone (checkpointed time))) (end_behind (more (log_of h db) db.end (alone (checkpointed time)))) (alone (stamped time set))) (made-there w path).1
+    ∙ ap (λ h. more (more (log_of h db) db.end (alone (checkpointed time))) (end_behind (more (log_of h db) db.end (alone (checkpointed time)))) (alone (stamped time set))) (drawn-there w before path).1
     ∙ ap (λ (n : ℕ). more (more (log_of w.history db) n (alone (checkpointed time))) (end_behind (more (log_of w.history db) n (alone (checkpointed time)))) (alone (stamped time set))) (sym end1) in
     record {
       db = db3;
@@ -108,7 +109,7 @@ set-now laws w db path set time sound there online may =
       path = refl;
       ends = omega arith;
       files = refl;
-      of_it = λ told files records. laws.header w db set time told sound there online files (records ∙ logs);
+      of_it = λ told files records. laws.header w db options set time told sound there online files (records ∙ logs);
       sound = may.1.1.1.0;
     }
 
@@ -117,6 +118,7 @@ set-now laws w db path set time sound there online may =
 seals-by : (w : World) (part : Part) (act : Act) → IsPart w part act → ((path : List ℕ) (header : Header) → act ≡ set_sealed path header → IsSetNow w header) → SealsNow w part
 seals-by w (Stored stored) act is now = tt
 seals-by w (MediumMade path) act is now = tt
+seals-by w SetDrawn act is now = tt
 seals-by w (SetSealed path header) act is now = now path header is.is
 
 abbrev header_sealed : Act → Header → Type 0
@@ -128,17 +130,21 @@ abbrev Seals : Act → Type 0
 Seals (set_sealed path header) = Unit {0}
 Seals _ = ⊥
 
-backup-sets : Laws → (w : World) (db : Database) (path : List ℕ) (set : Guid) (time : ℕ) (parts : List Part) → IsSound w → database_named w.databases db.name ≡ Some db → db.status ≡ Online
-    → MayDoAll w (full_backup db path (full_header w db set time)) → AreParts w parts (full_backup db path (full_header w db set time)) → SetsNow w parts (full_backup db path (full_header w db set time))
+draws-alone : (before : Option Reading) (path : List ℕ) → Seals (draws_set before path) → ⊥
+draws-alone None path seals = seals
+draws-alone (Some reading) path seals = seals
+
+backup-sets : Laws → (w : World) (db : Database) (before : Option Reading) (path : List ℕ) (options : BackupOptions) (set : Guid) (time : ℕ) (parts : List Part) → IsSound w → database_named w.databases db.name ≡ Some db → db.status ≡ Online
+    → MayDoAll w (full_backup before db path (full_header w db options set time)) → AreParts w parts (full_backup before db path (full_header w db options set time)) → SetsNow w parts (full_backup before db path (full_header w db options set time))
 unfolding full_header
-backup-sets laws w db path set time (a ∷ b ∷ c ∷ d ∷ e ∷ []) sound there online may are = (
-  seals-by _ a _ are.0 (λ p h is. absurd (subst Seals (sym is) tt)),
+backup-sets laws w db before path options set time (a ∷ b ∷ c ∷ d ∷ e ∷ []) sound there online may are = (
+  seals-by _ a _ are.0 (λ p h is. absurd (draws-alone before path (subst Seals (sym is) tt))),
   (
     seals-by _ b _ are.1.0 (λ p h is. absurd (subst Seals (sym is) tt)),
     (
       seals-by _ c _ are.1.1.0 (λ p h is. absurd (subst Seals (sym is) tt)),
       (
-        seals-by _ d _ are.1.1.1.0 (λ p h is. subst (λ (x : Header). IsSetNow (sealing w db path set time) x) (sym (subst (λ act. header_sealed act h) (sym is) refl)) (set-now laws w db path set time sound there online may)),
+        seals-by _ d _ are.1.1.1.0 (λ p h is. subst (λ (x : Header). IsSetNow (sealing w db (draws_set before path) set time) x) (sym (subst (λ act. header_sealed act h) (sym is) refl)) (set-now laws w db before path options set time sound there online may)),
         (
           seals-by _ e _ are.1.1.1.1.0 (λ p h is. absurd (subst Seals (sym is) tt)),
           tt,
@@ -147,12 +153,12 @@ backup-sets laws w db path set time (a ∷ b ∷ c ∷ d ∷ e ∷ []) sound the
     ),
   ),
 )
-backup-sets laws w db path set time [] sound there online may are = absurd are
-backup-sets laws w db path set time (a ∷ []) sound there online may are = absurd are.1
-backup-sets laws w db path set time (a ∷ b ∷ []) sound there online may are = absurd are.1.1
-backup-sets laws w db path set time (a ∷ b ∷ c ∷ []) sound there online may are = absurd are.1.1.1
-backup-sets laws w db path set time (a ∷ b ∷ c ∷ d ∷ []) sound there online may are = absurd are.1.1.1.1
-backup-sets laws w db path set time (a ∷ b ∷ c ∷ d ∷ e ∷ f ∷ rest) sound there online may are = absurd are.1.1.1.1.1
+backup-sets laws w db before path options set time [] sound there online may are = absurd are
+backup-sets laws w db before path options set time (a ∷ []) sound there online may are = absurd are.1
+backup-sets laws w db before path options set time (a ∷ b ∷ []) sound there online may are = absurd are.1.1
+backup-sets laws w db before path options set time (a ∷ b ∷ c ∷ []) sound there online may are = absurd are.1.1.1
+backup-sets laws w db before path options set time (a ∷ b ∷ c ∷ d ∷ []) sound there online may are = absurd are.1.1.1.1
+backup-sets laws w db before path options set time (a ∷ b ∷ c ∷ d ∷ e ∷ f ∷ rest) sound there online may are = absurd are.1.1.1.1.1
 
 -- ---- the statement
 
@@ -174,28 +180,32 @@ abbrev some_db : Database → Option Database
 some_db d = Some d
 
 -- the checks behind each other
-abbrev last : World → Database → Checked Database
-last w db = limit (used_up db.end || used_up w.counter) >>= (λ (u : Unit {0}). Ok db)
+abbrev last : World → Database → Unit {0} → Checked Database
+last w db u = limit (used_up db.end || used_up w.counter) >>= (λ (u : Unit {0}). Ok db)
 
-abbrev then_online : World → Database → Checked Database
-then_online w named = online named >>= last w
+abbrev then_medium : World → List ℕ → Database → Checked Database
+then_medium w path db = check_medium (medium_at w.media path) >>= last w db
 
-abbrev then_named : World → List ℕ → Unit {0} → Checked Database
-then_named w name u = or_refuse (database_named w.databases name) NoSuchDatabase >>= then_online w
+abbrev then_online : World → List ℕ → Database → Checked Database
+then_online w path named = online named >>= then_medium w path
 
-abbrev then_outside : World → List ℕ → Unit {0} → Checked Database
-then_outside w name u = outside w >>= then_named w name
+abbrev then_named : World → List ℕ → List ℕ → Unit {0} → Checked Database
+then_named w name path u = or_refuse (database_named w.databases name) NoSuchDatabase >>= then_online w path
+
+abbrev then_outside : World → List ℕ → List ℕ → Unit {0} → Checked Database
+then_outside w name path u = outside w >>= then_named w name path
 
 checked-there : (w : World) (line : ℕ) (name : List ℕ) (units : List UnitName) (path : List ℕ) (options : BackupOptions) (db : Database) → check_backup w line name units path options ≡ Ok db
     → (database_named w.databases db.name ≡ Some db) × (db.status ≡ Online)
 unfolding check_backup
 checked-there w line name units path options db is =
-    let one = passed (refuse_if (not (is_whole_backup units options && is_path path) || is_some (medium_at w.media path)) (NotBuilt line)) (then_outside w name) db is in
-    let two = passed (outside w) (then_named w name) db one.then in
-    let three = passed (or_refuse (database_named w.databases name) NoSuchDatabase) (then_online w) db two.then in
-    let four = passed (online three.found) (last w) db three.then in
-    let five = passed (limit (used_up four.found.end || used_up w.counter)) (λ (u : Unit {0}). Ok four.found) db four.then in
-    let same : four.found ≡ db = ok-same four.found db (Ok four.found) refl five.then in
+    let one = passed (refuse_if (not (is_whole_backup units options && is_path path)) (NotBuilt line)) (then_outside w name path) db is in
+    let two = passed (outside w) (then_named w name path) db one.then in
+    let three = passed (or_refuse (database_named w.databases name) NoSuchDatabase) (then_online w path) db two.then in
+    let four = passed (online three.found) (then_medium w path) db three.then in
+    let five = passed (check_medium (medium_at w.media path)) (last w four.found) db four.then in
+    let six = passed (limit (used_up four.found.end || used_up w.counter)) (λ (u : Unit {0}). Ok four.found) db five.then in
+    let same : four.found ≡ db = ok-same four.found db (Ok four.found) refl six.then in
     let found : database_named w.databases name ≡ Some three.found = was-found (database_named w.databases name) NoSuchDatabase three.found three.is in
     let up : Up three.found four.found = was-online three.found four.found four.is in
     (named-own w.databases name db (found ∙ ap some_db (up.is ∙ same)), subst (λ (d : Database). d.status ≡ Online) same up.up)
@@ -205,20 +215,20 @@ pub plan-sets : Laws → (w : World) (line : ℕ) (name : List ℕ) (units : Lis
 unfolding May
 plan-sets laws w line name units path options now outcome plan sound may all are = by (check_backup w line name units path options) refl
   where
-    of-plan : (db : Database) (p : Plan) → database_named w.databases db.name ≡ Some db → db.status ≡ Online → MayDoAll w (full_backup db path (full_header w db (drawn w w.counter) (said_time w db now)))
-        → AreActsOf w p (full_backup db path (full_header w db (drawn w w.counter) (said_time w db now))) → PlanSets w p (full_backup db path (full_header w db (drawn w w.counter) (said_time w db now)))
-    of-plan db (Refused rule) there online may are = tt
-    of-plan db (Answered answer) there online may are = tt
-    of-plan db (Turned other) there online may are = tt
-    of-plan db (Seated session) there online may are = tt
-    of-plan db (Parts parts answer) there online may are = backup-sets laws w db path (drawn w w.counter) (said_time w db now) parts.items sound there online may are
+    of-plan : (db : Database) (before : Option Reading) (p : Plan) → database_named w.databases db.name ≡ Some db → db.status ≡ Online → MayDoAll w (full_backup before db path (full_header w db options (drawn w w.counter) (said_time w db now)))
+        → AreActsOf w p (full_backup before db path (full_header w db options (drawn w w.counter) (said_time w db now))) → PlanSets w p (full_backup before db path (full_header w db options (drawn w w.counter) (said_time w db now)))
+    of-plan db before (Refused rule) there online may are = tt
+    of-plan db before (Answered answer) there online may are = tt
+    of-plan db before (Turned other) there online may are = tt
+    of-plan db before (Seated session) there online may are = tt
+    of-plan db before (Parts parts answer) there online may are = backup-sets laws w db before path options (drawn w w.counter) (said_time w db now) parts.items sound there online may are
 
     by : (checked : Checked Database) → check_backup w line name units path options ≡ checked → PlanSets w plan outcome.acts
     by (Err rule) is =
-        let refused = subst (λ c. ComesTo c (DoesBackup w path now) outcome) is may in
+        let refused = subst (λ c. ComesTo c (DoesBackup w path options now) outcome) is may in
         subst (λ (o : Outcome). PlanSets w plan o.acts) (sym refused) (none-sets w plan)
     by (Ok db) is =
-        let does = subst (λ c. ComesTo c (DoesBackup w path now) outcome) is may in
+        let does = subst (λ c. ComesTo c (DoesBackup w path options now) outcome) is may in
         let there = checked-there w line name units path options db is in
         subst (λ (o : Outcome). PlanSets w plan o.acts) (sym does)
-        (of-plan db plan there.0 there.1 (subst (λ (o : Outcome). MayDoAll w o.acts) does all) (subst (λ (o : Outcome). AreActsOf w plan o.acts) does are))
+        (of-plan db (medium_at w.media path) plan there.0 there.1 (subst (λ (o : Outcome). MayDoAll w o.acts) does all) (subst (λ (o : Outcome). AreActsOf w plan o.acts) does are))

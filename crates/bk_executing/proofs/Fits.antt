@@ -67,13 +67,16 @@ may-describe c fits = record {
   files = record { few = omega (arith, fits.files.few); numbers = numbers-from 1 c.storage.files fits.files.numbered; sizes = each-small 4096 c.storage.files fits.files.small };
 }
 
+-- what a set's database is made with is the same by both its readings
+pub storage-same : (header : Header) → storage_in header ≡ set_storage header
+storage-same header = ap (λ (files : List FileSpec). record { groups = header.groups; files = files; log_name = header.log_name; log_path = header.log_path }) (specs-are header)
+
 -- and what is known of a set has room in a note
 pub keeps-known : (known : Known) (header : Header) → FitsStorage (storage_in header) → length header.path ≤ most_branches → length known.as_of.tables ≤ most_tables → known.spec.path ≡ header.path
     → known.spec.storage ≡ set_storage header → KeepsKnown known
 keeps-known known header fits branches few path-is storage-is =
-    let same : storage_in header ≡ set_storage header = ap (λ (files : List FileSpec). record { groups = header.groups; files = files; log_name = header.log_name; log_path = header.log_path }) (specs-are header) in
     record {
       path = subst (λ (p : List Branch). length p ≤ 64) (sym path-is) branches;
-      storage = subst FitsNote (sym storage-is) (subst FitsNote same (fits-note (storage_in header) fits));
+      storage = subst FitsNote (sym storage-is) (subst FitsNote (storage-same header) (fits-note (storage_in header) fits));
       tables = few;
     }

@@ -5,7 +5,7 @@ use Rattle.bk_device.specs.Disk.{Disk}
 use Rattle.bk_device.specs.Effects.{Effect}
 use Rattle.bk_engine.specs.Acts.{CutsAct}
 use Rattle.bk_engine.specs.Stands.{IsOurs, Kept, StandsFor}
-use Rattle.bk_machine.specs.Acts.{Act, done, done_all, medium_made, seated, set_sealed, turned}
+use Rattle.bk_machine.specs.Acts.{Act, done, done_all, medium_made, seated, set_drawn, set_sealed, turned}
 use Rattle.bk_machine.specs.MayDo.{MayDo}
 use Rattle.bk_machine.specs.World.{World}
 use Rattle.bk_plans.specs.declared.parts.Part.TheVariants as part
@@ -29,6 +29,14 @@ medium-does old new a b path does w act stands is = subst (λ (x : Act). StandsF
 
 pub medium-cuts : (old : Kept) (a b : Disk) (path : List ℕ) → ((w : World) → StandsFor a old w → medium_at w.media path ≡ None → Effect IsOurs (CutsAct w (medium_made path)) a b) → CutsPart old a (part.MediumMade path) b
 medium-cuts old a b path cuts w act acts stands is = whole-cut w (medium_made path) act acts is.0.is (cuts w stands is.0.absent)
+
+-- ---- the GUID of a set is drawn
+
+pub drawn-does : (old new : Kept) (a b : Disk) → ((w : World) → StandsFor a old w → StandsFor b new (done w set_drawn)) → DoesPart old a part.SetDrawn new b
+drawn-does old new a b does w act stands is = subst (λ (x : Act). StandsFor b new (done w x)) (sym is.0.is) (does w stands)
+
+pub drawn-cuts : (old : Kept) (a b : Disk) → ((w : World) → StandsFor a old w → Effect IsOurs (CutsAct w set_drawn) a b) → CutsPart old a part.SetDrawn b
+drawn-cuts old a b cuts w act acts stands is = whole-cut w set_drawn act acts is.0.is (cuts w stands)
 
 -- ---- a set is sealed
 

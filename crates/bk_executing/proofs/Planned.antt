@@ -26,10 +26,10 @@ use Rattle.bk_machine.specs.Sound.{IsSound}
 use Rattle.bk_machine.specs.World.{World}
 use Rattle.bk_machine.specs.Writes.{ActWrites, ActsWrite, IsStill}
 use Rattle.bk_media_plans.specs.declared.restore_plan.RestorePlan.{RestorePlan}
-use Rattle.bk_media_plans.specs.Firsts.{First}
+use Rattle.bk_media_plans.specs.Found.{Found}
 use Rattle.bk_media_plans.specs.RestorePlans.{PlansRestore}
 use Rattle.bk_plans.specs.declared.parts.Part.{Part}
-use Rattle.bk_plans.specs.declared.parts.Part.TheVariants.{MediumMade, SetSealed, Stored}
+use Rattle.bk_plans.specs.declared.parts.Part.TheVariants.{MediumMade, SetDrawn, SetSealed, Stored}
 use Rattle.bk_plans.specs.declared.parts.Plan.{Plan}
 use Rattle.bk_plans.specs.declared.parts.Plan.TheVariants.{Answered, Parts, Refused, Seated, Turned}
 use Rattle.bk_plans.specs.Planning.{AreActsOf, AreParts, Plans, reply_of}
@@ -81,7 +81,7 @@ pub planned-all : {E : Type 0} (k : KeptOf) (e : Kept) (Known : World → Type 0
 planned-all k e Known s now (Ok plan) sees plans = planned k e Known s now plan sees plans
 planned-all k e Known s now (Err error) sees plans = tt
 
-pub restore-planned : {E : Type 0} (k : KeptOf) (e : Kept) (Known : World → Type 0) (found : Result First Rule) (s : ScriptEntry) (now : ℕ) (result : Result RestorePlan E) → ((w : World) → Remembers e w → Sees w k) → IfOk result (PlansRestore k Known found s now)
+pub restore-planned : {E : Type 0} (k : KeptOf) (e : Kept) (Known : World → Type 0) (found : Result Found Rule) (s : ScriptEntry) (now : ℕ) (result : Result RestorePlan E) → ((w : World) → Remembers e w → Sees w k) → IfOk result (PlansRestore k Known found s now)
     → IfOk result (IsRestorePlanned e Known found s now)
 restore-planned k e Known found s now (Ok plan) sees plans = record {
   outcome = plans.outcome;
@@ -121,6 +121,7 @@ none-sealed w [] acts are none = tt
 none-sealed w (part ∷ parts) [] are none = tt
 none-sealed w (Stored stored ∷ parts) (act ∷ acts) are none = (tt, none-sealed (done w act) parts acts are.1 (λ path writes. none path (inr writes)))
 none-sealed w (MediumMade path ∷ parts) (act ∷ acts) are none = (tt, none-sealed (done w act) parts acts are.1 (λ other writes. none other (inr writes)))
+none-sealed w (SetDrawn ∷ parts) (act ∷ acts) are none = (tt, none-sealed (done w act) parts acts are.1 (λ other writes. none other (inr writes)))
 none-sealed w (SetSealed path header ∷ parts) (act ∷ acts) are none = absurd (none path (inl (subst (λ (a : Act). ActWrites a path) (sym are.0.is) refl)))
 
 pub none-planned : (w : World) (plan : Plan) (acts : List Act) → AreActsOf w plan acts → ((path : List ℕ) → ActsWrite acts path → ⊥) → PlanSets w plan acts

@@ -1,8 +1,8 @@
--- A whole restore that was planned by the first set of its medium.
+-- A whole restore that was planned by a set of its medium.
 use Rattle.std.proofs.Common.{◌≡◌, inl, inr, ℕ, List, Option, Ok, Err, None, Some, refl, sym, ◌∙◌, ap, subst}
 use Rattle.std.specs.Prelude.{Result, IfOk, IsErrOf, OnErr}
 use Rattle.std.specs.List.{AllByRecursion}
-use Rattle.bk_archive.specs.First.{IsFirstSet}
+use Rattle.bk_archive.specs.Opened.{IsOpened}
 use Rattle.bk_archive.specs.Media.{KeepsMedia}
 use Rattle.bk_archive.specs.MediaLaws.{media-in}
 use Rattle.bk_body.specs.Body.{Body}
@@ -28,10 +28,10 @@ use Rattle.bk_machine.specs.Outcome.{Outcome, refused}
 use Rattle.bk_machine.specs.Sound.{IsSound}
 use Rattle.bk_machine.specs.World.{World}
 use Rattle.bk_machine.specs.Writes.{ActsWrite, IsStill, IsTurn}
-use Rattle.bk_machine.specs.statements.Restore.{disk_path, first_set}
+use Rattle.bk_machine.specs.statements.Restore.{disk_path, set_at}
 use Rattle.bk_media_plans.specs.declared.restore_plan.RestorePlan.{RestorePlan}
 use Rattle.bk_media_plans.specs.declared.restore_plan.RestorePlan.TheVariants as restore
-use Rattle.bk_media_plans.specs.Firsts.{FindsFirst, First}
+use Rattle.bk_media_plans.specs.Found.{FindsSet, Found}
 use Rattle.bk_media_plans.specs.RestorePlans.{AreOfRestore}
 use Rattle.bk_plans.specs.declared.parts.Plan.TheVariants as plan
 use Rattle.bk_record.specs.Log.{IsLog}
@@ -52,7 +52,7 @@ use Rattle.bk_executing.specs.declared.error.ExecuteError.TheVariants.{Broken}
 use Rattle.bk_executing.specs.Errors.{taken_error}
 use Rattle.bk_executing.specs.Executing.{CutOff, Executed, Failed, Rests}
 use Rattle.bk_executing.specs.Planned.{IsPlanned, IsRestorePlanned}
-use Rattle.bk_executing.specs.Restoring.{first_of}
+use Rattle.bk_executing.specs.Restoring.{found_of}
 use Rattle.bk_executing.proofs.Planned.{Knows, stands-nothing, touches-nothing}
 
 -- ---- one that is refused
@@ -62,17 +62,17 @@ pub refused-always : (e : Kept) (s : ScriptEntry) (now : ℕ) (rule : Rule) → 
 refused-always e s now rule may = record { outcome = refused rule; replies = refl; may = λ w sound has known. may w; acts = λ w sound has known. refl }
 
 -- its plan is to refuse it
-pub refused-plan : (e : Kept) (Known : World → Type 0) (found : Result First Rule) (s : ScriptEntry) (now : ℕ) (rule : Rule) → IsRestorePlanned e Known found s now (restore.Refused rule) → IsPlanned e Known s now (plan.Refused rule)
+pub refused-plan : (e : Kept) (Known : World → Type 0) (found : Result Found Rule) (s : ScriptEntry) (now : ℕ) (rule : Rule) → IsRestorePlanned e Known found s now (restore.Refused rule) → IsPlanned e Known s now (plan.Refused rule)
 refused-plan e Known found s now rule plans = record { outcome = plans.outcome; replies = plans.replies; may = plans.may; acts = plans.acts }
 
 pub refused-knows : {tells : Type 0} (e : Kept) (a b : Disk) (Known : World → Type 0) (s : ScriptEntry) (now : ℕ) (rule : Rule) (outcome : Outcome) → (tells → IsLawful a) → (tells → ChangesNothing a b) → (tells → (w : World) → StandsFor a e w → Known w)
     → ((w : World) → IsSound w → May w s now outcome → MayDoAll w outcome.acts) → Knows tells e a b Known (plan.Refused rule) s now outcome
 refused-knows e a b Known s now rule outcome lawful call known may = record { lawful = lawful; call = call; known = known; may = may; sets = λ w sound is are. tt }
 
--- ---- the set that was found first
+-- ---- the set that was found
 
-pub finds-first : (disk : Option (List ℕ)) (file : Option (List ℕ)) (set : Stored) (log : List ℕ) (w : World) → IsFirstSet w (disk_path disk) file set → ((body : Body) → IsOf (contents file) body set → log ≡ body.log) → FindsFirst disk (Ok (first_of set log)) w
-finds-first disk file set log w is logs =
+pub finds-set : (at : ℕ) (disk : Option (List ℕ)) (file : Option (List ℕ)) (set : Stored) (log : List ℕ) (w : World) → IsOpened w (disk_path disk) at file set → ((body : Body) → IsOf (contents file) body set → log ≡ body.log) → FindsSet at disk (Ok (found_of set log)) w
+finds-set at disk file set log w is logs =
     let found : Header → Checked Header = λ header. Ok header in
     record {
       is = is.is ∙ ap found (sym is.opened.header);
@@ -86,31 +86,31 @@ finds-first disk file set log w is logs =
       };
     }
 
-pub set-there : (path : List ℕ) (files : Files) (medium : List ℕ) (set : Stored) (w : World) → IsFirstSet w path (files medium) set → IsSetOn files medium set
-set-there path files medium set w is = record { body = is.body; position = 1; there = is.there; is = is.opened }
+pub set-there : (path : List ℕ) (at : ℕ) (files : Files) (medium : List ℕ) (set : Stored) (w : World) → IsOpened w path at (files medium) set → IsSetOn files medium set
+set-there path at files medium set w is = record { body = is.body; position = at; there = is.there; is = is.opened }
 
 -- there is none to be found
-pub finds-none : (disk : Option (List ℕ)) (rule : Rule) (w : World) → first_set (medium_at w.media (disk_path disk)) ≡ Err rule → FindsFirst disk (Err rule) w
-finds-none disk rule w is = record { is = is; carries = tt }
+pub finds-none : (at : ℕ) (disk : Option (List ℕ)) (rule : Rule) (w : World) → set_at at (medium_at w.media (disk_path disk)) ≡ Err rule → FindsSet at disk (Err rule) w
+finds-none at disk rule w is = record { is = is; carries = tt }
 
 -- what is read of it for a plan
-abbrev pub parts : Header → List TableSpec → List ℕ → First
+abbrev pub parts : Header → List TableSpec → List ℕ → Found
 parts header made log = record { header = header; tables = made; log = log }
 
 -- what is planned by its parts as they are read is planned by the set
-pub of-set : (e : Kept) (disk : Option (List ℕ)) (s : ScriptEntry) (now : ℕ) (plan : RestorePlan) (header : Header) (made : List TableSpec) (log : List ℕ) (set : Stored) → header ≡ set.header → made ≡ set.tables
-    → IsRestorePlanned e (FindsFirst disk (Ok (parts header made log))) (Ok (parts header made log)) s now plan
-    → IsRestorePlanned e (FindsFirst disk (Ok (first_of set log))) (Ok (first_of set log)) s now plan
-of-set e disk s now plan header made log set same_header same_made plans =
-    let same : parts header made log ≡ first_of set log = λ i. record { header = same_header i; tables = same_made i; log = log } in
-    subst (λ (first : First). IsRestorePlanned e (FindsFirst disk (Ok first)) (Ok first) s now plan) same plans
+pub of-set : (e : Kept) (at : ℕ) (disk : Option (List ℕ)) (s : ScriptEntry) (now : ℕ) (plan : RestorePlan) (header : Header) (made : List TableSpec) (log : List ℕ) (set : Stored) → header ≡ set.header → made ≡ set.tables
+    → IsRestorePlanned e (FindsSet at disk (Ok (parts header made log))) (Ok (parts header made log)) s now plan
+    → IsRestorePlanned e (FindsSet at disk (Ok (found_of set log))) (Ok (found_of set log)) s now plan
+of-set e at disk s now plan header made log set same_header same_made plans =
+    let same : parts header made log ≡ found_of set log = λ i. record { header = same_header i; tables = same_made i; log = log } in
+    subst (λ (one : Found). IsRestorePlanned e (FindsSet at disk (Ok one)) (Ok one) s now plan) same plans
 
 -- and what it finds is found in its parts
-pub finds-parts : (disk : Option (List ℕ)) (w : World) (header : Header) (made : List TableSpec) (log : List ℕ) (set : Stored) → header ≡ set.header → made ≡ set.tables → FindsFirst disk (Ok (first_of set log)) w
-    → FindsFirst disk (Ok (parts header made log)) w
-finds-parts disk w header made log set same_header same_made finds =
-    let same : parts header made log ≡ first_of set log = λ i. record { header = same_header i; tables = same_made i; log = log } in
-    subst (λ (first : First). FindsFirst disk (Ok first) w) (sym same) finds
+pub finds-parts : (at : ℕ) (disk : Option (List ℕ)) (w : World) (header : Header) (made : List TableSpec) (log : List ℕ) (set : Stored) → header ≡ set.header → made ≡ set.tables → FindsSet at disk (Ok (found_of set log)) w
+    → FindsSet at disk (Ok (parts header made log)) w
+finds-parts at disk w header made log set same_header same_made finds =
+    let same : parts header made log ≡ found_of set log = λ i. record { header = same_header i; tables = same_made i; log = log } in
+    subst (λ (one : Found). FindsSet at disk (Ok one) w) (sym same) finds
 
 -- an error is the same one of results of another type
 pub other-error : {A B E : Type 0} (e x : E) → IsErrOf {T = A} {E = E} (Err e) x → IsErrOf {T = B} {E = E} (Err e) x
@@ -121,17 +121,19 @@ other-error {B = B} {E = E} e x is =
 
 -- ---- what was found on the medium, once it was read
 
-pub first-there : (a b : Disk) (w : World) (path asked medium : List ℕ) (set : Stored) → ChangesNothing a b → path ≡ asked → medium ≡ medium_file path
-    → (KeepsMedia w None a.files → IsFirstSet w path (a.files (medium_file path)) set) → KeepsMedia w None b.files → IsFirstSet w asked (b.files medium) set
-first-there a b w path asked medium set call same named first media =
-    let then : IsFirstSet w path (a.files (medium_file path)) set = first (media-in w None b.files a.files (λ other are. sym (call.files (medium_file other))) media) in
+pub opened-there : (a b : Disk) (w : World) (path asked medium : List ℕ) (at chosen : ℕ) (set : Stored) → ChangesNothing a b → path ≡ asked → at ≡ chosen → medium ≡ medium_file path
+    → (KeepsMedia w None a.files → IsOpened w path at (a.files (medium_file path)) set) → KeepsMedia w None b.files → IsOpened w asked chosen (b.files medium) set
+opened-there a b w path asked medium at chosen set call same same_at named opened media =
+    let then : IsOpened w path at (a.files (medium_file path)) set = opened (media-in w None b.files a.files (λ other are. sym (call.files (medium_file other))) media) in
     let there : b.files medium ≡ a.files (medium_file path) = call.files medium ∙ ap a.files named in
-    subst (λ (p : List ℕ). IsFirstSet w p (b.files medium) set) same (subst (λ (file : Option (List ℕ)). IsFirstSet w path file set) (sym there) then)
+    let here : IsOpened w path at (b.files medium) set = subst (λ (file : Option (List ℕ)). IsOpened w path at file set) (sym there) then in
+    subst (λ (n : ℕ). IsOpened w asked n (b.files medium) set) same_at (subst (λ (p : List ℕ). IsOpened w p at (b.files medium) set) same here)
 
-pub none-there : (a b : Disk) (w : World) (path asked : List ℕ) (rule : Rule) → ChangesNothing a b → path ≡ asked
-    → (KeepsMedia w None a.files → first_set (medium_at w.media path) ≡ Err rule) → KeepsMedia w None b.files → first_set (medium_at w.media asked) ≡ Err rule
-none-there a b w path asked rule call same none media =
-    subst (λ (p : List ℕ). first_set (medium_at w.media p) ≡ Err rule) same (none (media-in w None b.files a.files (λ other are. sym (call.files (medium_file other))) media))
+pub none-there : (a b : Disk) (w : World) (path asked : List ℕ) (at chosen : ℕ) (rule : Rule) → ChangesNothing a b → path ≡ asked → at ≡ chosen
+    → (KeepsMedia w None a.files → set_at at (medium_at w.media path) ≡ Err rule) → KeepsMedia w None b.files → set_at chosen (medium_at w.media asked) ≡ Err rule
+none-there a b w path asked at chosen rule call same same_at none media =
+    let here : set_at at (medium_at w.media path) ≡ Err rule = none (media-in w None b.files a.files (λ other are. sym (call.files (medium_file other))) media) in
+    subst (λ (n : ℕ). set_at n (medium_at w.media asked) ≡ Err rule) same_at (subst (λ (p : List ℕ). set_at at (medium_at w.media p) ≡ Err rule) same here)
 
 -- bytes that are whole records break off nowhere
 pub never-bad : ((bytes : List ℕ) (records others : List Rec) (bad other : Option ℕ) → IsLog bytes records bad → IsLog bytes others other → (records ≡ others) × (bad ≡ other)) → (items log : List ℕ) (records others : List Rec) (place : ℕ) → items ≡ log
@@ -186,39 +188,39 @@ module _ {tells : Type 0} (e : Kept) (a b c : Disk) (s : ScriptEntry) (now : ℕ
 
 -- ---- it brings a database up
 
--- A restore by the set that was opened first on a medium, whose device was read alone till then.
-module _ (tells : Type 0) (e new : Kept) (a b c : Disk) (disk : Option (List ℕ)) (medium : List ℕ) (set : Stored) (log : List ℕ) (s : ScriptEntry) (now : ℕ) (name : List ℕ) (branch : Guid) (last : ℕ) where
-  abbrev pub found : Result First Rule
-  found = Ok (first_of set log)
+-- A restore by a set that was opened on a medium, whose device was read alone till then.
+module _ (tells : Type 0) (e new : Kept) (a b c : Disk) (at : ℕ) (disk : Option (List ℕ)) (medium : List ℕ) (set : Stored) (log : List ℕ) (s : ScriptEntry) (now : ℕ) (name : List ℕ) (branch : Guid) (last : ℕ) where
+  abbrev pub found : Result Found Rule
+  found = Ok (found_of set log)
 
   abbrev pub Brings : (World → List Act → Type 0) → Type 0
-  Brings Does = (w : World) (its : List ℕ) (acts : List Act) → StandsFor b e w → IsSetOn b.files medium set → AreOfRestore w (first_of set its) name branch last acts → Does w acts
+  Brings Does = (w : World) (its : List ℕ) (acts : List Act) → StandsFor b e w → IsSetOn b.files medium set → AreOfRestore w (found_of set its) name branch last acts → Does w acts
 
   -- what is known where it was read
   pub record Reads : Type 0 where
     pub lawful : tells → IsLawful a
     pub call : tells → ChangesNothing a b
-    pub first : tells → (w : World) → StandsFor a e w → IsFirstSet w (disk_path disk) (a.files medium) set
+    pub opened : tells → (w : World) → StandsFor a e w → IsOpened w (disk_path disk) at (a.files medium) set
     pub logs : tells → (body : Body) → IsOf (contents (a.files medium)) body set → log ≡ body.log
 
-  module _ (reads : Reads) (plans : IsRestorePlanned e (FindsFirst disk found) found s now (restore.BringsUp name branch last)) where
-    knows-first : tells → (w : World) → StandsFor a e w → FindsFirst disk found w
-    knows-first told w stands = finds-first disk (a.files medium) set log w (reads.first told w stands) (reads.logs told)
+  module _ (reads : Reads) (plans : IsRestorePlanned e (FindsSet at disk found) found s now (restore.BringsUp name branch last)) where
+    knows-set : tells → (w : World) → StandsFor a e w → FindsSet at disk found w
+    knows-set told w stands = finds-set at disk (a.files medium) set log w (reads.opened told w stands) (reads.logs told)
 
     then-may : tells → (w : World) → StandsFor a e w → May w s now plans.outcome
-    then-may told w stands = plans.may w stands.sound (remembers a e w stands) (knows-first told w stands)
+    then-may told w stands = plans.may w stands.sound (remembers a e w stands) (knows-set told w stands)
 
-    then-acts : tells → (w : World) → StandsFor a e w → AreOfRestore w (first_of set log) name branch last plans.outcome.acts
-    then-acts told w stands = plans.acts w stands.sound (remembers a e w stands) (knows-first told w stands)
+    then-acts : tells → (w : World) → StandsFor a e w → AreOfRestore w (found_of set log) name branch last plans.outcome.acts
+    then-acts told w stands = plans.acts w stands.sound (remembers a e w stands) (knows-set told w stands)
 
     then-there : tells → (w : World) → StandsFor a e w → IsSetOn b.files medium set
     then-there told w stands =
-        let is = reads.first told w stands in
+        let is = reads.opened told w stands in
         let same : b.files medium ≡ a.files medium = (reads.call told).files medium in
         record {
           body = is.body;
-          position = 1;
-          there = subst (λ f. slot_at f 1 ≡ Some (holds is.body)) (sym same) is.there;
+          position = at;
+          there = subst (λ f. slot_at f at ≡ Some (holds is.body)) (sym same) is.there;
           is = subst (λ f. IsOf (contents f) is.body set) (sym same) is.opened;
         }
 

@@ -40,7 +40,7 @@ use Rattle.bk_world.specs.Telling.{tables}
 use Rattle.bk_executing.specs.Errors.{stores_error}
 use Rattle.bk_executing.specs.declared.error.ExecuteError.{ExecuteError}
 use Rattle.bk_executing.specs.declared.error.ExecuteError.TheVariants.{Broken}
-use Rattle.bk_executing.specs.Restoring.{first_of, known_in, spec_in}
+use Rattle.bk_executing.specs.Restoring.{found_of, known_in, spec_in}
 use Rattle.bk_executing.proofs.Files.{NameLaw, none-of-set, specs-bytes}
 
 -- ---- the set stays on its medium
@@ -108,7 +108,7 @@ module _ (law : NameLaw) (e : Kept) (a b : Disk) (name : List ℕ) (set : Stored
   parked w = done w (replaced name set.header)
 
   abbrev Restores : World → List ℕ → List Act → Type 0
-  Restores w log acts = AreOfRestore w (first_of set log) name branch last acts
+  Restores w log acts = AreOfRestore w (found_of set log) name branch last acts
 
   abbrev all_acts : World → List Act
   all_acts w = replaced name set.header ∷ coming_up (parked w) name set.header branch

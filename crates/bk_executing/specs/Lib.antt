@@ -3,4 +3,5 @@ pub mod Errors
 pub mod Executing
 pub mod Parts
 pub mod Planned
+pub mod Querying
 pub mod Restoring

@@ -9,7 +9,7 @@ use Rattle.bk_machine.specs.Acts.{Act, done, done_all, seated}
 use Rattle.bk_machine.specs.MayDo.{MayDo}
 use Rattle.bk_machine.specs.World.{World}
 use Rattle.bk_plans.specs.declared.parts.Part.{Part}
-use Rattle.bk_plans.specs.declared.parts.Part.TheVariants.{Stored, MediumMade, SetSealed}
+use Rattle.bk_plans.specs.declared.parts.Part.TheVariants.{Stored, MediumMade, SetDrawn, SetSealed}
 use Rattle.bk_plans.specs.declared.parts.Plan.{Plan}
 use Rattle.bk_plans.specs.declared.parts.Plan.TheVariants.{Parts, Seated}
 use Rattle.bk_plans.specs.Planning.{AreActsOf, IsPart}
@@ -33,6 +33,7 @@ abbrev pub SealsNow : World → Part → Type 0
 SealsNow w (SetSealed path header) = IsSetNow w header
 SealsNow w (Stored stored) = Unit {0}
 SealsNow w (MediumMade path) = Unit {0}
+SealsNow w SetDrawn = Unit {0}
 
 -- a part is this act, which may be done so
 abbrev pub MayDoPart : World → Part → Act → Type 0
@@ -80,6 +81,7 @@ HasNoParts _ = Unit {0}
 abbrev pub PartWrites : Part → List ℕ → Type 0
 PartWrites (Stored stored) path = ⊥
 PartWrites (MediumMade at) path = path ≡ at
+PartWrites SetDrawn path = ⊥
 PartWrites (SetSealed at header) path = path ≡ at
 
 abbrev pub PartsWrite : List Part → List ℕ → Type 0

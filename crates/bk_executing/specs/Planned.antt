@@ -8,7 +8,7 @@ use Rattle.bk_machine.specs.Outcome.{Outcome}
 use Rattle.bk_machine.specs.Sound.{IsSound}
 use Rattle.bk_machine.specs.World.{World}
 use Rattle.bk_media_plans.specs.declared.restore_plan.RestorePlan.{RestorePlan}
-use Rattle.bk_media_plans.specs.Firsts.{First}
+use Rattle.bk_media_plans.specs.Found.{Found}
 use Rattle.bk_media_plans.specs.RestorePlans.{AreRestoreActs, restore_reply}
 use Rattle.bk_plans.specs.declared.parts.Plan.{Plan}
 use Rattle.bk_plans.specs.Planning.{AreActsOf, reply_of}
@@ -21,8 +21,8 @@ pub record IsPlanned (e : Kept) (Known : World → Type 0) (s : ScriptEntry) (no
   pub may : (w : World) → IsSound w → Remembers e w → Known w → May w s now outcome
   pub acts : (w : World) → IsSound w → Remembers e w → Known w → AreActsOf w plan outcome.acts
 
--- So it is with a restore, by the set that was found first.
-pub record IsRestorePlanned (e : Kept) (Known : World → Type 0) (found : Result First Rule) (s : ScriptEntry) (now : ℕ) (plan : RestorePlan) : Type 0 where
+-- So it is with a restore, by the set that was found.
+pub record IsRestorePlanned (e : Kept) (Known : World → Type 0) (found : Result Found Rule) (s : ScriptEntry) (now : ℕ) (plan : RestorePlan) : Type 0 where
   pub outcome : Outcome
   pub replies : outcome.reply ≡ restore_reply found plan
   pub may : (w : World) → IsSound w → Remembers e w → Known w → May w s now outcome

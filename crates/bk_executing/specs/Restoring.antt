@@ -4,7 +4,7 @@ use Rattle.std.specs.Prelude.{ℕ, List}
 use Rattle.bk_hosted.specs.Hosted.{set_storage}
 use Rattle.bk_known.specs.declared.known.DatabaseSpec.{DatabaseSpec}
 use Rattle.bk_known.specs.declared.known.Known.{Known}
-use Rattle.bk_media_plans.specs.Firsts.{First}
+use Rattle.bk_media_plans.specs.Found.{Found}
 use Rattle.bk_volume.specs.Stored.{Stored}
 use Rattle.bk_world.specs.declared.header.Header.{Header}
 
@@ -17,5 +17,5 @@ abbrev pub known_in : List ℕ → Stored → Known
 known_in name stored = record { spec = spec_in name stored.header; as_of = record { from = stored.header.last; tables = stored.tables; model = stored.header.model; time = stored.header.finish } }
 
 -- the set that was opened, with its log
-abbrev pub first_of : Stored → List ℕ → First
-first_of stored log = record { header = stored.header; tables = stored.tables; log = log }
+abbrev pub found_of : Stored → List ℕ → Found
+found_of stored log = record { header = stored.header; tables = stored.tables; log = log }

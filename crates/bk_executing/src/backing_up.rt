@@ -12,7 +12,7 @@ ghost use Rattle.bk_stores.specs.Standing.{AreStanding};
 use crate::error::ExecuteError;
 use crate::following::follow;
 use crate::planning::plan_kept_backup;
-use bk_archive::is_taken;
+use bk_archive::room_at;
 use bk_carried::full_headers_are_of_databases;
 use bk_device::Device;
 use bk_engine::Engine;
@@ -48,7 +48,7 @@ pub(crate) fn backup<D: Device>(
     full_headers_are_of_databases();
     statements_do_what_they_may();
     what_is_said_comes_last();
-    let is_there = is_taken(engine.alloc(), dev, disk.as_str())?;
-    let plan = plan_kept_backup(engine, line, database, units, disk, options, is_there, now)?;
+    let room = room_at(engine.alloc(), dev, disk.as_str())?;
+    let plan = plan_kept_backup(engine, line, database, units, disk, options, room, now)?;
     follow(engine, dev, plan)
 }

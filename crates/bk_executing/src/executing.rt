@@ -13,11 +13,13 @@ use crate::backing_up::backup;
 use crate::error::ExecuteError;
 use crate::following::follow;
 use crate::planning::plan_kept;
+use crate::querying::answer;
 use crate::restoring::restore;
 use bk_device::Device;
 use bk_engine::Engine;
 use bk_items::{ScriptEntry, ScriptItem};
 use bk_machine::{statements_do_what_they_may, what_statements_write_to};
+use bk_plans::Plan;
 use bk_world::Reply;
 use std::thread::Threads;
 
@@ -58,6 +60,10 @@ pub fn execute<R: Threads + Sync, D: Device>(
             disk,
             options,
         } => restore(engine, rt, dev, line, database, units, disk, options, now),
+        ScriptItem::QueryMedium { query, disk, file } => {
+            let reply = answer(engine.alloc(), dev, line, *query, disk, *file)?;
+            follow(engine, dev, Plan::Answered { reply })
+        }
         _ => execute_other(engine, dev, statement, now),
     }
 }

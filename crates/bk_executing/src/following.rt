@@ -64,6 +64,24 @@ fn make_medium<D: Device>(engine: &mut Engine, dev: &mut D, path: &Text) -> Resu
     Ok(())
 }
 
+// Draws the GUID of a set that comes behind those on a medium.
+fn draw_set<D: Device>(engine: &mut Engine, dev: &mut D) -> Result<(), ExecuteError>
+    requires ready { IsReady engine.old }
+    requires none { (own_in engine.old).staging ≡ None }
+    requires standing { D.tells → AreStanding (D.disk dev.old) engine.old.hosting.stores }
+    ensures ready { OnOk result (IsReady engine.new) }
+    ensures own { OnOk result (NamesSet None engine.old engine.new) }
+    ensures standing { D.tells → OnOk result (AreStanding (D.disk dev.new) engine.new.hosting.stores) }
+    ensures does { D.tells → OnOk result (DoesPart engine.old (D.disk dev.old) part.SetDrawn engine.new (D.disk dev.new)) }
+    ensures crash { D.tells → CutsPart engine.old (D.disk dev.old) part.SetDrawn (D.disk dev.new) }
+    ensures touches { D.tells → TouchesOnly (PartWrites part.SetDrawn) (D.disk dev.old) (D.disk dev.new) }
+    ensures sound { IsErrOf result Broken → ⊥ }
+    ensures cause { HasCause D.disk_faults D.tell_faults dev.old dev.new (IsErrOf result Fault) }
+{
+    engine.draw_set(dev)?;
+    Ok(())
+}
+
 // Seals the set with this header on the medium at a path.
 fn seal_set<D: Device>(
     engine: &mut Engine,
@@ -106,6 +124,7 @@ fn do_part<D: Device>(engine: &mut Engine, dev: &mut D, part: &Part) -> Result<(
     match part {
         Part::Stored(act) => do_stored(engine, dev, act),
         Part::MediumMade { path } => make_medium(engine, dev, path),
+        Part::SetDrawn => draw_set(engine, dev),
         Part::SetSealed { path, header } => seal_set(engine, dev, path, header),
     }
 }

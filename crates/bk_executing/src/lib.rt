@@ -10,6 +10,7 @@ mod executing;
 mod following;
 mod parking;
 mod planning;
+mod querying;
 mod restoring;
 
 pub use closing::close;

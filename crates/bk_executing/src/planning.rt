@@ -1,12 +1,14 @@
 // What statements come to over what an engine has in memory.
-ghost use Rattle.std.specs.Prelude.{◌≡◌, true, is_some, IfOk, IsErrOf};
+ghost use Rattle.std.specs.Prelude.{◌≡◌, true, IfOk, IsErrOf};
 ghost use Rattle.bk_engine.specs.Stands.{IsReady};
 ghost use Rattle.bk_engine.specs.Viewing.{Remembers};
 ghost use Rattle.bk_executing.specs.Planned.{IsPlanned, IsRestorePlanned};
 ghost use Rattle.bk_items.specs.declared.item.ScriptItem.TheVariants as script;
 ghost use Rattle.bk_machine.specs.Sound.{IsSound};
 ghost use Rattle.bk_machine.specs.World.{World};
-ghost use Rattle.bk_media_plans.specs.Firsts.{FindsFirst};
+ghost use Rattle.bk_machine.specs.statements.Backup.{ShowsRoom};
+ghost use Rattle.bk_machine.specs.statements.Restore.{position_of};
+ghost use Rattle.bk_media_plans.specs.Found.{FindsSet};
 ghost use Rattle.bk_media_plans.specs.Restoring as request;
 ghost use Rattle.bk_media_plans.specs.RestorePlans.{KeepsRestore};
 ghost use Rattle.bk_plans.specs.Planning.{KeepsPlan, Plans, ReadsNoMedium};
@@ -17,7 +19,7 @@ use bk_engine::Engine;
 use bk_ids::{Sequence, Text};
 use bk_items::{BackupOptions, RestoreOptions, RestoredUnits, ScriptEntry, UnitName};
 use bk_kept::{InstanceView, leave_numbers};
-use bk_media_plans::{FirstView, RestorePlan, plan_backup, plan_restore};
+use bk_media_plans::{RestorePlan, SetView, plan_backup, plan_restore};
 use bk_planning::plan;
 use bk_plans::Plan;
 use bk_shown::TakeError;
@@ -56,7 +58,7 @@ pub(crate) fn plan_kept(
     Ok(plan)
 }
 
-/// What `BACKUP DATABASE` on this line comes to at `now`, where a file is there at the path of its medium or not. `Unfit` comes only where the database fits no set: the engine stands for no world.
+/// What `BACKUP DATABASE` on this line comes to at `now`, where its medium has this room. `Unfit` comes only where the database fits no set: the engine stands for no world.
 pub(crate) fn plan_kept_backup(
     engine: &Engine,
     line: u32,
@@ -64,25 +66,25 @@ pub(crate) fn plan_kept_backup(
     units: &Sequence<UnitName>,
     disk: &Text,
     options: &BackupOptions,
-    is_there: bool,
+    room: Result<Option<u64>, Rule>,
     now: u64,
 ) -> Result<Plan, TakeError>
     requires ready { IsReady engine.now }
-    ensures plans { IfOk result (IsPlanned engine.now (λ w. is_some (medium_at w.media disk.now) ≡ is_there)
+    ensures plans { IfOk result (IsPlanned engine.now (λ w. ShowsRoom (medium_at w.media disk.now) room)
         (record { item = script.BackupDatabase database.now units.now disk.now options.now; line = line }) now) }
     ensures keeps { IfOk result KeepsPlan }
-    ensures unfit { IsErrOf result Unfit → (w : World) → IsSound w → Remembers engine.now w → is_some (medium_at w.media disk.now) ≡ is_there → ⊥ }
+    ensures unfit { IsErrOf result Unfit → (w : World) → IsSound w → Remembers engine.now w → ShowsRoom (medium_at w.media disk.now) room → ⊥ }
 {
     let alloc = engine.alloc();
     let ends = engine.ends(alloc)?;
     let seen = engine.view(alloc, &ends)?;
     plan_backup(
-        &seen, alloc, line, database, units, disk, options, is_there, now,
+        &seen, alloc, line, database, units, disk, options, room, now,
     )
 }
 
-/// What `RESTORE DATABASE` on this line comes to, which is built, by the first set of its medium, or the rule by which that is refused. `Unfit` comes only where the set keeps not what every set keeps, its log
-/// isn't what its path shows, or leaves no numbers for what its recovery says: in no world that finds the set first.
+/// What `RESTORE DATABASE` on this line comes to, which is built, by the set of its medium that it chooses, or the rule by which that is refused. `Unfit` comes only where the set keeps not what every set keeps, its log
+/// isn't what its path shows, or leaves no numbers for what its recovery says: in no world that finds this set there.
 pub(crate) fn plan_kept_restore(
     engine: &Engine,
     line: u32,
@@ -90,20 +92,18 @@ pub(crate) fn plan_kept_restore(
     units: &RestoredUnits,
     disk: &Option<Text>,
     options: &RestoreOptions,
-    first: Result<FirstView<'_>, Rule>,
+    set: Result<SetView<'_>, Rule>,
     now: u64,
 ) -> Result<RestorePlan, TakeError>
     requires ready { IsReady engine.now }
     requires built { request.is_built database.now units.now disk.now options.now ≡ true }
-    ensures plans { IfOk result (IsRestorePlanned engine.now (FindsFirst disk.now first.entry) first.entry
+    ensures plans { IfOk result (IsRestorePlanned engine.now (FindsSet (position_of options.now.file) disk.now set.entry) set.entry
         (record { item = script.RestoreDatabase database.now units.now disk.now options.now; line = line }) now) }
-    ensures keeps { IfOk result (KeepsRestore first.entry) }
-    ensures unfit { IsErrOf result Unfit → (w : World) → IsSound w → Remembers engine.now w → FindsFirst disk.now first.entry w → ⊥ }
+    ensures keeps { IfOk result (KeepsRestore set.entry) }
+    ensures unfit { IsErrOf result Unfit → (w : World) → IsSound w → Remembers engine.now w → FindsSet (position_of options.now.file) disk.now set.entry w → ⊥ }
 {
     let alloc = engine.alloc();
     let ends = engine.ends(alloc)?;
     let seen = engine.view(alloc, &ends)?;
-    plan_restore(
-        &seen, alloc, line, database, units, disk, options, first, now,
-    )
+    plan_restore(&seen, alloc, line, database, units, disk, options, set, now)
 }

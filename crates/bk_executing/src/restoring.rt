@@ -1,6 +1,6 @@
 // RESTORE DATABASE.
 ghost use Rattle.std.specs.Prelude.{◌≡◌, ℕ, List, None, Ok, Err, true, IfOk, OnOk, OnErr, IsErrOf};
-ghost use Rattle.bk_archive.specs.First.{IsFirstSet};
+ghost use Rattle.bk_archive.specs.Opened.{IsOpened};
 ghost use Rattle.bk_archive.specs.Media.{IsMediumFile};
 ghost use Rattle.bk_body.specs.Body.{Body};
 ghost use Rattle.bk_device.specs.Calls.{ChangesNothing, contents};
@@ -10,7 +10,7 @@ ghost use Rattle.bk_engine.specs.Bringing.{IsSetOn};
 ghost use Rattle.bk_engine.specs.Stands.{IsOurs, IsReady, NamesSet, StandsFor, own_in};
 ghost use Rattle.bk_engine.specs.Touched.{IsPath, NoMedium, TouchesOnly};
 ghost use Rattle.bk_executing.specs.Executing.{Executed, Failed};
-ghost use Rattle.bk_executing.specs.Restoring.{first_of};
+ghost use Rattle.bk_executing.specs.Restoring.{found_of};
 ghost use Rattle.bk_executing.specs.declared.error.ExecuteError.TheVariants.{Broken, Fault};
 ghost use Rattle.bk_items.specs.declared.item.ScriptItem.TheVariants as script;
 ghost use Rattle.bk_machine.specs.Acts.{Act, done_all};
@@ -27,13 +27,13 @@ use crate::error::ExecuteError;
 use crate::following::follow;
 use crate::parking::known_set;
 use crate::planning::plan_kept_restore;
-use bk_archive::{FirstSet, first_set};
+use bk_archive::{OpenedSet, open_set};
 use bk_device::Device;
 use bk_engine::Engine;
 use bk_ids::{Guid, Lsn, Name, Text};
 use bk_items::{RestoreOptions, RestoredUnits};
 use bk_machine::statements_do_what_they_may;
-use bk_media_plans::{FirstView, RestorePlan, unbuilt_restore};
+use bk_media_plans::{RestorePlan, SetView, position_of, unbuilt_restore};
 use bk_plans::Plan;
 use bk_record::{Records, log_law};
 use bk_side::name_law;
@@ -54,15 +54,15 @@ fn path_of(disk: &Option<Text>) -> &str
 fn read_log<D: Device>(
     engine: &Engine,
     dev: &mut D,
-    first: &FirstSet,
+    opened: &OpenedSet,
 ) -> Result<Records, ExecuteError>
-    ensures log { D.tells → (body : Body) → IsOf (contents ((D.disk dev.old).files first.now.medium.name)) body first.now.set → IfOk result (λ log. log ≡ body.log) }
-    ensures broken { D.tells → IsErrOf result Broken → (body : Body) → IsOf (contents ((D.disk dev.old).files first.now.medium.name)) body first.now.set → ⊥ }
+    ensures log { D.tells → (body : Body) → IsOf (contents ((D.disk dev.old).files opened.now.medium.name)) body opened.now.set → IfOk result (λ log. log ≡ body.log) }
+    ensures broken { D.tells → IsErrOf result Broken → (body : Body) → IsOf (contents ((D.disk dev.old).files opened.now.medium.name)) body opened.now.set → ⊥ }
     ensures effect { D.tells → ChangesNothing (D.disk dev.old) (D.disk dev.new) }
     ensures cause { HasCause D.disk_faults D.tell_faults dev.old dev.new (IsErrOf result Fault) }
 {
     log_law();
-    let bytes = first.medium.log_of(engine.alloc(), dev, &first.set)?;
+    let bytes = opened.medium.log_of(engine.alloc(), dev, &opened.set)?;
     match Records::new(bytes) {
         Ok(log) => Ok(log),
         Err(_) => Err(ExecuteError::Broken),
@@ -74,45 +74,45 @@ fn bring_up<R: Threads + Sync, D: Device>(
     engine: &mut Engine,
     rt: &R,
     dev: &mut D,
-    first: &FirstSet,
+    opened: &OpenedSet,
     name: &Name,
     branch: Guid,
     last: Lsn,
 ) -> Result<(), ExecuteError>
     requires ready { IsReady engine.old }
     requires none { (own_in engine.old).staging ≡ None }
-    requires medium { IsMediumFile first.now.medium.name }
-    requires keeps { KeepsSet first.now.set.header first.now.set.tables }
+    requires medium { IsMediumFile opened.now.medium.name }
+    requires keeps { KeepsSet opened.now.set.header opened.now.set.tables }
     requires standing { D.tells → AreStanding (D.disk dev.old) engine.old.hosting.stores }
     ensures ready { OnOk result (IsReady engine.new) }
     ensures own { OnOk result (NamesSet None engine.old engine.new) }
     ensures standing { D.tells → OnOk result (AreStanding (D.disk dev.new) engine.new.hosting.stores) }
-    ensures does { D.tells → (w : World) (log : List ℕ) (acts : List Act) → StandsFor (D.disk dev.old) engine.old w → IsSetOn (D.disk dev.old).files first.now.medium.name first.now.set
-        → AreOfRestore w (first_of first.now.set log) name.now branch last acts → OnOk result (StandsFor (D.disk dev.new) engine.new (done_all w acts)) }
-    ensures crash { D.tells → (w : World) (log : List ℕ) (acts : List Act) → StandsFor (D.disk dev.old) engine.old w → IsSetOn (D.disk dev.old).files first.now.medium.name first.now.set
-        → AreOfRestore w (first_of first.now.set log) name.now branch last acts → Effect IsOurs (CutIn w acts) (D.disk dev.old) (D.disk dev.new) }
+    ensures does { D.tells → (w : World) (log : List ℕ) (acts : List Act) → StandsFor (D.disk dev.old) engine.old w → IsSetOn (D.disk dev.old).files opened.now.medium.name opened.now.set
+        → AreOfRestore w (found_of opened.now.set log) name.now branch last acts → OnOk result (StandsFor (D.disk dev.new) engine.new (done_all w acts)) }
+    ensures crash { D.tells → (w : World) (log : List ℕ) (acts : List Act) → StandsFor (D.disk dev.old) engine.old w → IsSetOn (D.disk dev.old).files opened.now.medium.name opened.now.set
+        → AreOfRestore w (found_of opened.now.set log) name.now branch last acts → Effect IsOurs (CutIn w acts) (D.disk dev.old) (D.disk dev.new) }
     ensures touches { D.tells → TouchesOnly NoMedium (D.disk dev.old) (D.disk dev.new) }
-    ensures broken { D.tells → IsErrOf result Broken → (w : World) (log : List ℕ) (acts : List Act) → StandsFor (D.disk dev.old) engine.old w → IsSetOn (D.disk dev.old).files first.now.medium.name first.now.set
-        → AreOfRestore w (first_of first.now.set log) name.now branch last acts → ⊥ }
+    ensures broken { D.tells → IsErrOf result Broken → (w : World) (log : List ℕ) (acts : List Act) → StandsFor (D.disk dev.old) engine.old w → IsSetOn (D.disk dev.old).files opened.now.medium.name opened.now.set
+        → AreOfRestore w (found_of opened.now.set log) name.now branch last acts → ⊥ }
     ensures cause { HasCause D.disk_faults D.tell_faults dev.old dev.new (IsErrOf result Fault) }
 {
     name_law();
     engine.at_rest(dev);
-    let known = known_set(engine.alloc(), name, &first.set)?;
-    engine.park(dev, known, first.set.header())?;
+    let known = known_set(engine.alloc(), name, &opened.set)?;
+    engine.park(dev, known, opened.set.header())?;
     engine.bring_up(
         rt,
         dev,
         name.as_str(),
-        &first.medium,
-        &first.set,
+        &opened.medium,
+        &opened.set,
         branch,
         last,
     )?;
     Ok(())
 }
 
-// Restores by the set that was opened first on the medium.
+// Restores by the set that was opened on the medium.
 fn restore_set<R: Threads + Sync, D: Device>(
     engine: &mut Engine,
     rt: &R,
@@ -122,14 +122,14 @@ fn restore_set<R: Threads + Sync, D: Device>(
     units: &RestoredUnits,
     disk: &Option<Text>,
     options: &RestoreOptions,
-    first: &FirstSet,
+    opened: &OpenedSet,
     now: u64,
 ) -> Result<Reply, ExecuteError>
     requires ready { IsReady engine.old }
     requires none { (own_in engine.old).staging ≡ None }
     requires built { request.is_built database.now units.now disk.now options.now ≡ true }
-    requires medium { IsMediumFile first.now.medium.name }
-    requires first { D.tells → (w : World) → StandsFor (D.disk dev.old) engine.old w → IsFirstSet w (restore.disk_path disk.now) ((D.disk dev.old).files first.now.medium.name) first.now.set }
+    requires medium { IsMediumFile opened.now.medium.name }
+    requires opened { D.tells → (w : World) → StandsFor (D.disk dev.old) engine.old w → IsOpened w (restore.disk_path disk.now) (restore.position_of options.now.file) ((D.disk dev.old).files opened.now.medium.name) opened.now.set }
     requires standing { D.tells → AreStanding (D.disk dev.old) engine.old.hosting.stores }
     ensures ready { OnOk result (IsReady engine.new) }
     ensures own { OnOk result (NamesSet None engine.old engine.new) }
@@ -141,25 +141,25 @@ fn restore_set<R: Threads + Sync, D: Device>(
     ensures cause { HasCause D.disk_faults D.tell_faults dev.old dev.new (IsErrOf result Fault) }
 {
     statements_do_what_they_may();
-    let log = read_log(engine, dev, first)?;
-    let view = FirstView {
-        header: first.set.header(),
-        tables: first.set.tables(),
+    let log = read_log(engine, dev, opened)?;
+    let view = SetView {
+        header: opened.set.header(),
+        tables: opened.set.tables(),
         log: &log,
     };
     let plan = plan_kept_restore(engine, line, database, units, disk, options, Ok(view), now)?;
     match plan {
         RestorePlan::Refused { rule } => follow(engine, dev, Plan::Refused { rule }),
         RestorePlan::BringsUp { name, branch, last } => {
-            bring_up(engine, rt, dev, first, &name, branch, last)?;
+            bring_up(engine, rt, dev, opened, &name, branch, last)?;
             Ok(Reply::Recovered {
-                at: first.set.header().last,
+                at: opened.set.header().last,
             })
         }
     }
 }
 
-// Refuses by the rule by which the first set of the medium is refused, or by one that comes before it.
+// Refuses by the rule by which the set of the medium is refused that is chosen, or by one that comes before it.
 fn refuse<D: Device>(
     engine: &mut Engine,
     dev: &mut D,
@@ -174,7 +174,7 @@ fn refuse<D: Device>(
     requires ready { IsReady engine.old }
     requires none { (own_in engine.old).staging ≡ None }
     requires built { request.is_built database.now units.now disk.now options.now ≡ true }
-    requires first { D.tells → (w : World) → StandsFor (D.disk dev.old) engine.old w → restore.first_set (medium_at w.media (restore.disk_path disk.now)) ≡ Err rule }
+    requires refused { D.tells → (w : World) → StandsFor (D.disk dev.old) engine.old w → restore.set_at (restore.position_of options.now.file) (medium_at w.media (restore.disk_path disk.now)) ≡ Err rule }
     requires standing { D.tells → AreStanding (D.disk dev.old) engine.old.hosting.stores }
     ensures ready { OnOk result (IsReady engine.new) }
     ensures own { OnOk result (NamesSet None engine.old engine.new) }
@@ -221,9 +221,14 @@ pub(crate) fn restore<R: Threads + Sync, D: Device>(
     if let Some(rule) = unbuilt_restore(line, database, units, disk, options) {
         return follow(engine, dev, Plan::Refused { rule });
     }
-    match first_set(engine.alloc(), dev, path_of(disk))? {
-        Ok(first) => restore_set(
-            engine, rt, dev, line, database, units, disk, options, &first, now,
+    match open_set(
+        engine.alloc(),
+        dev,
+        path_of(disk),
+        position_of(options.file),
+    )? {
+        Ok(opened) => restore_set(
+            engine, rt, dev, line, database, units, disk, options, &opened, now,
         ),
         Err(rule) => refuse(engine, dev, line, database, units, disk, options, rule, now),
     }

@@ -1,4 +1,5 @@
-use Rattle.bk_executing.proofs.Planned.{executed-by, failed-by}
+use Rattle.bk_executing.proofs.Planned.{executed-by, failed-by, plan-executed, plan-failed, plan-touches, standing-nothing}
+use Rattle.bk_executing.proofs.Queried.{asking, knows-query, query-planned}
 use Rattle.bk_executing.proofs.executing.execute.Goals as goal
 
 pub returns-in-BackupDatabase-clause-executed : goal.returns-in-BackupDatabase-clause-executed
@@ -16,3 +17,23 @@ returns-in-RestoreDatabase-clause-executed g c =
 pub returns-in-RestoreDatabase-clause-failed : goal.returns-in-RestoreDatabase-clause-failed
 returns-in-RestoreDatabase-clause-failed g c =
     failed-by g.D.Device.tells c.args.engine.now (g.D.Device.disk c.args.dev.now) (g.D.Device.disk c.restore.new.dev) c.args.statement.now _ c.args.now c.restore.result c.in-RestoreDatabase.is c.restore.ensures.failed
+
+pub follow-requires-clause-standing : goal.follow-requires-clause-standing
+follow-requires-clause-standing g c = λ tells. standing-nothing (g.D.Device.disk c.args.dev.now) (g.D.Device.disk c.answer.new.dev) c.args.engine.now.hosting.stores (c.answer.ensures.effect tells) (c.requires.standing tells)
+
+pub returns-in_ok-reply-in-QueryMedium-clause-executed : goal.returns-in_ok-reply-in-QueryMedium-clause-executed
+returns-in_ok-reply-in-QueryMedium-clause-executed g c =
+    executed-by g.D.Device.tells c.args.engine.now c.follow.new.engine (g.D.Device.disk c.args.dev.now) (g.D.Device.disk c.follow.new.dev) c.args.statement.now _ c.args.now c.follow.result c.in-QueryMedium.is
+    (plan-executed c.args.engine.now c.follow.new.engine (g.D.Device.disk c.args.dev.now) (g.D.Device.disk c.answer.new.dev) (g.D.Device.disk c.follow.new.dev) (asking c.args.statement.now.line c.in-QueryMedium.query c.in-QueryMedium.disk c.in-QueryMedium.file) c.args.now _ (query-planned c.args.engine.now c.args.statement.now.line c.in-QueryMedium.query c.in-QueryMedium.disk c.in-QueryMedium.file c.args.now c.in_ok-reply-in-QueryMedium.reply)
+    (knows-query c.args.engine.now (g.D.Device.disk c.args.dev.now) (g.D.Device.disk c.answer.new.dev) c.args.statement.now.line c.in-QueryMedium.query c.in-QueryMedium.disk c.in-QueryMedium.file c.args.now c.in_ok-reply-in-QueryMedium.reply (λ t. g.met.D.Device.lawful t c.args.dev.now) c.answer.ensures.effect (λ t w stands. c.in_ok-reply-in-QueryMedium.ensures.replies t w stands.media))
+    c.follow.result (record { replies = c.follow.ensures.replies; does = c.follow.ensures.does; crash = c.follow.ensures.crash; still = c.follow.ensures.still; touches = c.follow.ensures.touches }))
+
+pub returns-in_ok-reply-in-QueryMedium-clause-failed : goal.returns-in_ok-reply-in-QueryMedium-clause-failed
+returns-in_ok-reply-in-QueryMedium-clause-failed g c =
+    failed-by g.D.Device.tells c.args.engine.now (g.D.Device.disk c.args.dev.now) (g.D.Device.disk c.follow.new.dev) c.args.statement.now _ c.args.now c.follow.result c.in-QueryMedium.is
+    (plan-failed c.args.engine.now c.follow.new.engine (g.D.Device.disk c.args.dev.now) (g.D.Device.disk c.answer.new.dev) (g.D.Device.disk c.follow.new.dev) (asking c.args.statement.now.line c.in-QueryMedium.query c.in-QueryMedium.disk c.in-QueryMedium.file) c.args.now _ (query-planned c.args.engine.now c.args.statement.now.line c.in-QueryMedium.query c.in-QueryMedium.disk c.in-QueryMedium.file c.args.now c.in_ok-reply-in-QueryMedium.reply)
+    (knows-query c.args.engine.now (g.D.Device.disk c.args.dev.now) (g.D.Device.disk c.answer.new.dev) c.args.statement.now.line c.in-QueryMedium.query c.in-QueryMedium.disk c.in-QueryMedium.file c.args.now c.in_ok-reply-in-QueryMedium.reply (λ t. g.met.D.Device.lawful t c.args.dev.now) c.answer.ensures.effect (λ t w stands. c.in_ok-reply-in-QueryMedium.ensures.replies t w stands.media))
+    c.follow.result (record { replies = c.follow.ensures.replies; does = c.follow.ensures.does; crash = c.follow.ensures.crash; still = c.follow.ensures.still; touches = c.follow.ensures.touches }))
+
+pub returns-in_ok-reply-in-QueryMedium-clause-touches : goal.returns-in_ok-reply-in-QueryMedium-clause-touches
+returns-in_ok-reply-in-QueryMedium-clause-touches g c tells = plan-touches (g.D.Device.disk c.args.dev.now) (g.D.Device.disk c.answer.new.dev) (g.D.Device.disk c.follow.new.dev) (c.answer.ensures.effect tells) (c.follow.ensures.touches tells)

@@ -24,6 +24,16 @@ returns-in-MediumMade-clause-crash g c tells = subst (λ (p : Part). CutsPart c.
 pub returns-in-MediumMade-clause-touches : goal.returns-in-MediumMade-clause-touches
 returns-in-MediumMade-clause-touches g c tells = subst (λ (p : Part). TouchesOnly (PartWrites p) (g.D.Device.disk c.args.dev.now) (g.D.Device.disk c.make_medium.new.dev)) (sym c.in-MediumMade.is) (c.make_medium.ensures.touches tells)
 
+pub returns-in-SetDrawn-clause-does : goal.returns-in-SetDrawn-clause-does
+returns-in-SetDrawn-clause-does g c tells =
+    subst (λ (p : Part). OnOk c.draw_set.result (DoesPart c.args.engine.now (g.D.Device.disk c.args.dev.now) p c.draw_set.new.engine (g.D.Device.disk c.draw_set.new.dev))) (sym c.in-SetDrawn.is) (c.draw_set.ensures.does tells)
+
+pub returns-in-SetDrawn-clause-crash : goal.returns-in-SetDrawn-clause-crash
+returns-in-SetDrawn-clause-crash g c tells = subst (λ (p : Part). CutsPart c.args.engine.now (g.D.Device.disk c.args.dev.now) p (g.D.Device.disk c.draw_set.new.dev)) (sym c.in-SetDrawn.is) (c.draw_set.ensures.crash tells)
+
+pub returns-in-SetDrawn-clause-touches : goal.returns-in-SetDrawn-clause-touches
+returns-in-SetDrawn-clause-touches g c tells = subst (λ (p : Part). TouchesOnly (PartWrites p) (g.D.Device.disk c.args.dev.now) (g.D.Device.disk c.draw_set.new.dev)) (sym c.in-SetDrawn.is) (c.draw_set.ensures.touches tells)
+
 pub returns-in-SetSealed-clause-does : goal.returns-in-SetSealed-clause-does
 returns-in-SetSealed-clause-does g c tells =
     subst (λ (p : Part). OnOk c.seal_set.result (DoesPart c.args.engine.now (g.D.Device.disk c.args.dev.now) p c.seal_set.new.engine (g.D.Device.disk c.seal_set.new.dev))) (sym c.in-SetSealed.is) (c.seal_set.ensures.does tells)
