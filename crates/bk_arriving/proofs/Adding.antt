@@ -7,7 +7,7 @@ use Rattle.bk_facts.specs.declared.facts.DataFile.{DataFile}
 use Rattle.bk_filling.specs.Filling.{Kept as KeptData, one_more, place_of}
 use Rattle.bk_filling.specs.Records.{Kept as KeptLog}
 use Rattle.bk_ids.specs.declared.record.Rec.{Rec}
-use Rattle.bk_paged.specs.Names.{IsOwn}
+use Rattle.bk_restoring.specs.PagedNames.{IsOwn}
 use Rattle.bk_restoring.specs.Arriving.{IsArriving, IsBegun, Kept}
 use Rattle.bk_segments.specs.Files.{AreDurable as LogsAreDurable}
 use Rattle.bk_arriving.specs.Steps.{Advances, AreAt, Brings, IsEven, Stays, ahead, pages_here}

@@ -7,8 +7,8 @@ use Rattle.bk_facts.specs.declared.facts.DataFile.{DataFile}
 use Rattle.bk_filling.specs.Records.{Spell}
 use Rattle.bk_ids.specs.declared.record.Rec.{Rec}
 use Rattle.bk_known.specs.declared.known.Known.{Known}
-use Rattle.bk_paged.specs.Holds.{Recovers}
-use Rattle.bk_paths.specs.Paths.{kept_from}
+use Rattle.bk_restoring.specs.PagedHolds.{Recovers}
+use Rattle.bk_restored.specs.Paths.{kept_from}
 use Rattle.bk_record.specs.Laws.{one_record}
 use Rattle.bk_record.specs.Log.{IsLog}
 use Rattle.bk_record.specs.RecordsLaws.{some_bytes, whole_is}
@@ -16,7 +16,7 @@ use Rattle.bk_record.specs.Spelling.{spelling, IsRecord}
 use Rattle.bk_restored.specs.Restored.{SufficesTold}
 use Rattle.bk_restoring.specs.Arriving.{Kept}
 use Rattle.bk_segments.specs.Records.{Numbered}
-use Rattle.bk_store.specs.Told.{Told, stood_of}
+use Rattle.bk_restored.specs.StoreTold.{Told, stood_of}
 use Rattle.bk_volume.specs.Stored.{IsOf, Stored}
 use Rattle.bk_world.specs.declared.header.Header.{Header}
 use Rattle.bk_arriving.specs.Sets.{arriving_of}

@@ -11,7 +11,7 @@ use Rattle.bk_filling.specs.Filling.{begun}
 use Rattle.bk_filling.specs.Records.{Spell}
 use Rattle.bk_ids.specs.declared.record.Rec.{Rec}
 use Rattle.bk_lemmas.specs.Lists.{all_at}
-use Rattle.bk_paged.specs.Names.{IsOwn}
+use Rattle.bk_restoring.specs.PagedNames.{IsOwn}
 use Rattle.bk_restoring.specs.Arriving.{Kept}
 use Rattle.bk_segments.specs.Files.{AreDurable as LogsAreDurable}
 use Rattle.bk_arriving.specs.Extents.{HasExtents}

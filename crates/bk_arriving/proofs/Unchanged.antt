@@ -9,7 +9,7 @@ use Rattle.bk_device.specs.Laws.{durable_by_nothing}
 use Rattle.bk_facts.specs.declared.facts.DataFile.{DataFile}
 use Rattle.bk_filling.specs.Laws.{filling_kept, log_kept, records_kept, shows_kept}
 use Rattle.bk_filling.specs.Records.{Kept as KeptLog}
-use Rattle.bk_paged.specs.Names.{IsOwn}
+use Rattle.bk_restoring.specs.PagedNames.{IsOwn}
 use Rattle.bk_restoring.specs.Arriving.{IsBegun, Kept}
 use Rattle.bk_volume.specs.Stored.{IsOf, Stored}
 use Rattle.bk_arriving.specs.Steps.{Advances, Brings, Stays}

@@ -10,13 +10,13 @@ ghost use Rattle.bk_device.specs.Effects.{Effect, IsName, KeepsFiles};
 ghost use Rattle.bk_filling.specs.Filling.{MayFill, begun};
 ghost use Rattle.bk_ids.specs.declared.record.Rec.{Rec};
 ghost use Rattle.bk_known.specs.Known.{KeepsKnown};
-ghost use Rattle.bk_paged.specs.Names.{IsOwn};
+ghost use Rattle.bk_restoring.specs.PagedNames.{IsOwn};
 ghost use Rattle.bk_record.specs.Log.{IsLog};
-ghost use Rattle.bk_reopening.specs.Reopening.{IsClosed};
+ghost use Rattle.bk_restored.specs.Reopening.{IsClosed};
 ghost use Rattle.bk_restored.specs.Restored.{SufficesTold};
 ghost use Rattle.bk_restoring.specs.Arriving.{IsArriving, IsBegun};
 ghost use Rattle.bk_segments.specs.Files.{AreDurable as LogsAreDurable};
-ghost use Rattle.bk_store.specs.Told.{Told};
+ghost use Rattle.bk_restored.specs.StoreTold.{Told};
 ghost use Rattle.bk_volume.specs.Stored.{IsOf};
 
 use crate::error::ArriveError;

@@ -3,7 +3,7 @@ ghost use Rattle.std.specs.Prelude.{◌≡◌, ◌≤◌, ◌+◌, ℕ, List, fa
 ghost use Rattle.bk_arriving.specs.Steps.{Advances, Brings, HasHeaders, HasTurned, IsDue, IsEven, IsPast, Stays, rest_of};
 ghost use Rattle.bk_device.specs.Counts.{HasCause};
 ghost use Rattle.bk_device.specs.Effects.{Effect};
-ghost use Rattle.bk_paged.specs.Names.{IsOwn};
+ghost use Rattle.bk_restoring.specs.PagedNames.{IsOwn};
 ghost use Rattle.bk_restoring.specs.Arriving.{IsBegun};
 
 use crate::pages::push_fresh_extent;

@@ -9,4 +9,5 @@ mod pages;
 mod sets;
 
 pub use arriving::arrive;
+pub use bk_volume::{Medium, StoredSet};
 pub use error::ArriveError;

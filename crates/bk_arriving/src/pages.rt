@@ -5,7 +5,7 @@ ghost use Rattle.bk_device.specs.Counts.{HasCause};
 ghost use Rattle.bk_device.specs.Effects.{Effect};
 ghost use Rattle.bk_filling.specs.Filling.{place_of};
 ghost use Rattle.bk_page.specs.Page.{fresh_page, part};
-ghost use Rattle.bk_paged.specs.Names.{IsOwn};
+ghost use Rattle.bk_restoring.specs.PagedNames.{IsOwn};
 ghost use Rattle.bk_restoring.specs.Arriving.{IsBegun};
 
 use crate::extents::EXTENT_PAGES;

@@ -6,7 +6,7 @@ ghost use Rattle.bk_body.specs.Body.{Body};
 ghost use Rattle.bk_device.specs.Calls.{contents};
 ghost use Rattle.bk_device.specs.Counts.{HasCause};
 ghost use Rattle.bk_device.specs.Effects.{Effect};
-ghost use Rattle.bk_paged.specs.Names.{IsOwn};
+ghost use Rattle.bk_restoring.specs.PagedNames.{IsOwn};
 ghost use Rattle.bk_restoring.specs.Arriving.{IsBegun};
 ghost use Rattle.bk_volume.specs.Stored.{IsOf};
 

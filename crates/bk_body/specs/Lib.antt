@@ -7,3 +7,5 @@ pub mod TestLaws
 pub mod FormLaws
 pub mod Laws
 pub mod SlotLaws
+pub use Rattle.bk_set.specs.Conditions as SetConditions
+pub use Rattle.bk_set.specs.Spelling as SetSpelling

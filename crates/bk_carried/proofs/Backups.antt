@@ -9,7 +9,7 @@ use Rattle.bk_machine.specs.Sound.{IsSound, has_begin}
 use Rattle.bk_machine.specs.UpLaws.{IsUp, is-up}
 use Rattle.bk_machine.specs.World.{Database, World, database_named, least_begin, log_of}
 use Rattle.bk_machine.specs.statements.Backup.{full_header}
-use Rattle.bk_store.specs.Told.{Told, files_of}
+use Rattle.bk_restored.specs.StoreTold.{Told, files_of}
 use Rattle.bk_world.specs.CrashLaws.{counts-length}
 use Rattle.bk_world.specs.Cut.{end_behind}
 use Rattle.bk_world.specs.Pending.{Pending, pending}

@@ -6,8 +6,8 @@ use Rattle.std.proofs.lemmas.List.{length-drop, length-map, map-append, take_all
 use Rattle.bk_body.specs.Body.{Body, Extent}
 use Rattle.bk_ids.specs.declared.record.Rec.{Rec}
 use Rattle.bk_lemmas.specs.Lists.{all_mapped}
-use Rattle.bk_paged.specs.Holds.{IsStored}
-use Rattle.bk_paged.specs.Paged.{from_to}
+use Rattle.bk_restored.specs.PagedHolds.{IsStored}
+use Rattle.bk_restored.specs.Paged.{from_to}
 use Rattle.bk_paths.specs.Laws.{IsPlain}
 use Rattle.bk_paths.specs.PageLaws.{page_more, page_since}
 use Rattle.bk_paths.specs.Paths.{IsPath, end_of, kept_from}
@@ -16,8 +16,8 @@ use Rattle.bk_redo.specs.declared.place.PageAt.{PageAt}
 use Rattle.bk_redo.specs.Effects.{fills}
 use Rattle.bk_redo.specs.PageStates.{page_of}
 use Rattle.bk_shown.specs.Shown.{ArePlaced, IsPlaced}
-use Rattle.bk_store.specs.Copying.{page_of_extent}
-use Rattle.bk_store.specs.Told.{Told, files_of}
+use Rattle.bk_restored.specs.StoreCopying.{page_of_extent}
+use Rattle.bk_restored.specs.StoreTold.{Told, files_of}
 use Rattle.bk_undo.specs.Spelled.{spelled}
 use Rattle.bk_world.specs.Lines.{RecordLines, log_below}
 use Rattle.bk_world.specs.Records.{Deed, Logged, loaded}

@@ -18,8 +18,8 @@ use Rattle.bk_lemmas.specs.Lists.{all_mapped}
 use Rattle.bk_machine.specs.Acts.{Recovery}
 use Rattle.bk_machine.specs.Sound.{IsSoundSet}
 use Rattle.bk_machine.specs.World.{World}
-use Rattle.bk_paged.specs.Holds.{IsStored, Recovers}
-use Rattle.bk_paged.specs.Names.{IsThere}
+use Rattle.bk_restored.specs.PagedHolds.{IsStored, Recovers}
+use Rattle.bk_restored.specs.PagedNames.{IsThere}
 use Rattle.bk_paths.specs.Laws.{IsPlain, KeepsOpenAsTheMachine, SettlesAsTheMachine}
 use Rattle.bk_paths.specs.PathLaws.{kept_numbers}
 use Rattle.bk_paths.specs.Paths.{end_of, kept_from, settled}
@@ -27,14 +27,14 @@ use Rattle.bk_record.specs.Log.{IsLog}
 use Rattle.bk_record.specs.Spelling.{spelling}
 use Rattle.bk_redo.specs.declared.place.PageAt.{PageAt}
 use Rattle.bk_restored.specs.Restored.{SufficesTold}
-use Rattle.bk_restoring.specs.Arriving.{Kept}
+use Rattle.bk_restored.specs.RestoringArriving.{Kept}
 use Rattle.bk_segments.specs.Records.{Numbered}
-use Rattle.bk_set.specs.Conditions.{IsTable}
+use Rattle.bk_body.specs.SetConditions.{IsTable}
 use Rattle.bk_shown.specs.Shown.{ArePlaced}
 use Rattle.bk_side.specs.Names.{AreDifferent}
 use Rattle.bk_storage.specs.Laws.{storage-keeps}
 use Rattle.bk_storage.specs.Storage.{IsSpec, IsStorage}
-use Rattle.bk_store.specs.Told.{IsAsOf, IsLogIn, IsNoted, Told, below, data_file, files_of}
+use Rattle.bk_restored.specs.StoreTold.{IsAsOf, IsLogIn, IsNoted, Told, below, data_file, files_of}
 use Rattle.bk_undo.specs.Spelled.{spelled}
 use Rattle.bk_world.specs.CrashLaws.{counts-length}
 use Rattle.bk_world.specs.Cut.{end_behind, settled as settled_log}

@@ -10,7 +10,7 @@ use Rattle.bk_lemmas.specs.Tests.{test_false}
 use Rattle.bk_page.specs.Changes.{IsFresh}
 use Rattle.bk_page.specs.Laws.{fresh_page-fresh}
 use Rattle.bk_page.specs.Page.{fresh_page}
-use Rattle.bk_paged.specs.Holds.{IsStored}
+use Rattle.bk_restored.specs.PagedHolds.{IsStored}
 use Rattle.bk_paths.specs.PageLaws.{page_last}
 use Rattle.bk_paths.specs.Pages.{IsPage, last_page}
 use Rattle.bk_paths.specs.Paths.{end_of}

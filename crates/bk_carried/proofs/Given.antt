@@ -12,11 +12,11 @@ use Rattle.bk_ids.specs.declared.record.Rec.{Rec}
 use Rattle.bk_lemmas.specs.Lists.{all_mapped}
 use Rattle.bk_lemmas.specs.Tests.{test_false}
 use Rattle.bk_page.specs.Page.{fresh_page}
-use Rattle.bk_paged.specs.Holds.{IsStored}
-use Rattle.bk_paged.specs.Names.{IsThere, pages_in}
+use Rattle.bk_restored.specs.PagedHolds.{IsStored}
+use Rattle.bk_restored.specs.PagedNames.{IsThere, pages_in}
 use Rattle.bk_redo.specs.declared.place.PageAt.{PageAt}
-use Rattle.bk_store.specs.Copying.{page_of_extent}
-use Rattle.bk_store.specs.Told.{data_file}
+use Rattle.bk_restored.specs.StoreCopying.{page_of_extent}
+use Rattle.bk_restored.specs.StoreTold.{data_file}
 use Rattle.bk_undo.specs.Spelled.{spelled}
 use Rattle.bk_facts.specs.declared.facts.DataFile.{DataFile}
 use Rattle.bk_world.specs.declared.header.HeaderFile.{HeaderFile}

@@ -10,8 +10,8 @@ use Rattle.bk_known.specs.declared.known.Known.{Known}
 use Rattle.bk_machine.specs.Acts.{Recovery}
 use Rattle.bk_machine.specs.Checks.{most_branches}
 use Rattle.bk_machine.specs.World.{World}
-use Rattle.bk_restoring.specs.Arriving.{Kept}
-use Rattle.bk_store.specs.Told.{Told, data_file, files_of}
+use Rattle.bk_restored.specs.RestoringArriving.{Kept}
+use Rattle.bk_restored.specs.StoreTold.{Told, data_file, files_of}
 use Rattle.bk_world.specs.declared.header.Header.{Header}
 
 -- the description of the database behind the restore, with the set's log

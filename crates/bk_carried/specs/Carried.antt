@@ -9,11 +9,11 @@ use Rattle.bk_ids.specs.declared.record.ExtentId.{ExtentId}
 use Rattle.bk_ids.specs.declared.record.Rec.{Rec}
 use Rattle.bk_machine.specs.Sound.{files_of_set}
 use Rattle.bk_page.specs.Page.{fresh_page, part}
-use Rattle.bk_paged.specs.Holds.{IsStored}
+use Rattle.bk_restored.specs.PagedHolds.{IsStored}
 use Rattle.bk_paths.specs.Paths.{IsPath, kept_from}
 use Rattle.bk_record.specs.Log.{IsLog}
 use Rattle.bk_shown.specs.Shown.{ArePlaced}
-use Rattle.bk_store.specs.Copying.{page_of_extent}
+use Rattle.bk_restored.specs.StoreCopying.{page_of_extent}
 use Rattle.bk_undo.specs.Spelled.{spelled}
 use Rattle.bk_world.specs.Lines.{RecordLines, log_below}
 use Rattle.bk_world.specs.Pending.{Pending, pending}

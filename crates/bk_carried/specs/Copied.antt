@@ -5,12 +5,12 @@ use Rattle.std.specs.List.{AllByRecursion}
 use Rattle.bk_body.specs.Body.{Body, Extent}
 use Rattle.bk_body.specs.Conditions.{has_extent}
 use Rattle.bk_machine.specs.Sound.{files_of_set}
-use Rattle.bk_paged.specs.Paged.{from_to}
+use Rattle.bk_restored.specs.Paged.{from_to}
 use Rattle.bk_paths.specs.Paths.{IsPath}
 use Rattle.bk_record.specs.Log.{IsLog}
 use Rattle.bk_shown.specs.Shown.{ArePlaced}
-use Rattle.bk_store.specs.Copying.{ArePages}
-use Rattle.bk_store.specs.Told.{Told, files_of}
+use Rattle.bk_restored.specs.StoreCopying.{ArePages}
+use Rattle.bk_restored.specs.StoreTold.{Told, files_of}
 use Rattle.bk_undo.specs.Spelled.{spelled}
 use Rattle.bk_world.specs.Cut.{end_behind}
 use Rattle.bk_world.specs.Pending.{Pending, pending}

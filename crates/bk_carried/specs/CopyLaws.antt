@@ -3,10 +3,10 @@ use Rattle.std.proofs.Common.{ℕ, ◌+◌, List, length, map, subst, arith}
 use Rattle.std.proofs.lemmas.List.{take_all}
 use Rattle.bk_device.specs.Disk.{Disk}
 use Rattle.bk_ids.specs.declared.record.Rec.{Rec}
-use Rattle.bk_paged.specs.Paged.{sealed_count}
+use Rattle.bk_restored.specs.Paged.{sealed_count}
 use Rattle.bk_paths.specs.Paths.{IsPath}
-use Rattle.bk_store.specs.Store.{IsStore, Kept}
-use Rattle.bk_store.specs.Told.{Told}
+use Rattle.bk_restored.specs.Store.{IsStore, Kept}
+use Rattle.bk_restored.specs.StoreTold.{Told}
 use Rattle.bk_undo.specs.Spelled.{spelled}
 
 -- they are a path

@@ -9,8 +9,8 @@ use Rattle.std.proofs.lemmas.Grind.{flat_map-append}
 use Rattle.std.proofs.Math.Seq.{get_or-append_seam, take-append-add, take-append_seam, take-length}
 use Rattle.bk_device.specs.Calls.{Elapses, TellsFront}
 use Rattle.bk_device.specs.Disk.{Files, Disk}
-use Rattle.bk_engine.specs.Stands.{Covers, Kept, StandsFor}
-use Rattle.bk_engine.specs.Touched.{IsTouched}
+use Rattle.bk_executing.specs.EngineStands.{Covers, Kept, StandsFor}
+use Rattle.bk_executing.specs.EngineTouched.{IsTouched}
 use Rattle.bk_items.specs.declared.item.ScriptEntry.{ScriptEntry}
 use Rattle.bk_machine.specs.Machine.{May}
 use Rattle.bk_machine.specs.Outcome.{Outcome}

@@ -2,14 +2,14 @@
 use Rattle.std.proofs.Common.{◌≡◌, ◌<◌, inl, inr, ℕ, zero, suc, ◌+◌, List, [], ◌∷◌, length, get_or, None, Result, Ok, Err, refl, sym, ◌∙◌, ap, subst, arith, add_comm}
 use Rattle.std.specs.Result.{OnErr}
 use Rattle.std.proofs.lemmas.List.{append-nil}
-use Rattle.bk_archive.specs.MediaLaws.{media-in}
+use Rattle.bk_executing.specs.ArchiveMediaLaws.{media-in}
 use Rattle.bk_device.specs.Calls.{Elapses, TellsFront, TellsBytes}
 use Rattle.bk_device.specs.Compose.{durable_kept, keeps_by_telling, keeps_by_effect}
 use Rattle.bk_device.specs.Disk.{Files, Disk, MayLeave}
 use Rattle.bk_device.specs.Effects.{Effect, KeepsFiles, LeavesSince}
-use Rattle.bk_engine.specs.BesideLaws.{hosting-stays, stores-stand}
-use Rattle.bk_engine.specs.Stands.{IsOurs, Kept, StandsFor}
-use Rattle.bk_engine.specs.Touched.{IsPath, TouchesOnly}
+use Rattle.bk_executing.specs.EngineBesideLaws.{hosting-stays, stores-stand}
+use Rattle.bk_executing.specs.EngineStands.{IsOurs, Kept, StandsFor}
+use Rattle.bk_executing.specs.EngineTouched.{IsPath, TouchesOnly}
 use Rattle.bk_executing.specs.declared.error.ExecuteError.{ExecuteError}
 use Rattle.bk_executing.specs.declared.error.ExecuteError.TheVariants as execute
 use Rattle.bk_machine.specs.Machine.{behind}

@@ -2,7 +2,7 @@
 use Rattle.std.proofs.Common.{◌≡◌, ℕ, sym, subst}
 use Rattle.bk_device.specs.Disk.{Disk}
 use Rattle.bk_device.specs.Effects.{Effect}
-use Rattle.bk_engine.specs.Stands.{Covers, IsOurs, Kept, StandsFor}
+use Rattle.bk_executing.specs.EngineStands.{Covers, IsOurs, Kept, StandsFor}
 use Rattle.bk_executing.specs.Executing.{Executed, Failed}
 use Rattle.bk_items.specs.declared.item.ScriptEntry.{ScriptEntry}
 use Rattle.bk_machine.specs.Machine.{behind}

@@ -7,8 +7,8 @@ use Rattle.std.proofs.lemmas.Grind.{flat_map-append}
 use Rattle.std.proofs.Math.Seq.{take-append_seam, take-length, drop-append_seam}
 use Rattle.bk_device.specs.Calls.{TellsFront}
 use Rattle.bk_device.specs.Disk.{Files}
-use Rattle.bk_engine.specs.Loading.{Stands}
-use Rattle.bk_engine.specs.Stands.{Covers}
+use Rattle.bk_executing.specs.EngineLoading.{Stands}
+use Rattle.bk_executing.specs.EngineStands.{Covers}
 use Rattle.bk_items.specs.declared.item.ScriptEntry.{ScriptEntry}
 use Rattle.bk_machine.specs.Acts.{Act, done, done_all}
 use Rattle.bk_machine.specs.Closing.{AreClosing, closed_by}

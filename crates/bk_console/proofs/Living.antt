@@ -5,9 +5,9 @@ use Rattle.std.proofs.lemmas.List.{take-append-le}
 use Rattle.std.proofs.Math.Seq.{take-length}
 use Rattle.bk_bytes.specs.Field.{AreBytes}
 use Rattle.bk_device.specs.Disk.{Files, Disk, IsLawful, MayLeave}
-use Rattle.bk_engine.specs.Loading.{Stands}
-use Rattle.bk_engine.specs.Stands.{IsOurs}
-use Rattle.bk_hosting.specs.Loading.{HoldsHosting}
+use Rattle.bk_executing.specs.EngineLoading.{Stands}
+use Rattle.bk_executing.specs.EngineStands.{IsOurs}
+use Rattle.bk_executing.specs.HostingLoading.{HoldsHosting}
 use Rattle.bk_items.specs.declared.item.ScriptEntry.{ScriptEntry}
 use Rattle.bk_machine.specs.Acts.{Act, done_all}
 use Rattle.bk_machine.specs.Closing.{AreClosing, closed_by}

@@ -2,7 +2,7 @@
 use Rattle.std.proofs.Common.{◌≡◌, ◌<◌, ℕ, ◌+◌, ◌-◌, Bool, true, false, List, [], ◌∷◌, ◌++◌, length, take, Some, None, refl, sym, ◌∙◌, ap, subst, arith, length-append, append-nil, append_assoc}
 use Rattle.std.proofs.Math.Seq.{take-append-add, take-append_seam, take-length}
 use Rattle.bk_device.specs.Disk.{Disk}
-use Rattle.bk_engine.specs.Stands.{Kept}
+use Rattle.bk_executing.specs.EngineStands.{Kept}
 use Rattle.bk_items.specs.declared.item.ScriptEntry.{ScriptEntry}
 use Rattle.bk_syntax.specs.Items.{AreItems}
 use Rattle.bk_syntax.specs.Reader.{HasItems, GivesItem}

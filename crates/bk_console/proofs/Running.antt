@@ -7,9 +7,9 @@ use Rattle.bk_device.specs.Calls.{ChangesNothing, Elapses}
 use Rattle.bk_device.specs.Compose.{left_begins, left_effect, left_weaken}
 use Rattle.bk_device.specs.Disk.{Files, Disk, MayLeave, IsSettled, IsLawful}
 use Rattle.bk_device.specs.Effects.{Effect, LeavesSince}
-use Rattle.bk_engine.specs.Loading.{Leaves, Stands}
-use Rattle.bk_engine.specs.Stands.{IsOurs, Kept, StandsFor}
-use Rattle.bk_engine.specs.Touched.{IsMadeAt, IsPath, IsTouched, NoMedium, TouchesOnly}
+use Rattle.bk_executing.specs.EngineLoading.{Leaves, Stands}
+use Rattle.bk_executing.specs.EngineStands.{IsOurs, Kept, StandsFor}
+use Rattle.bk_executing.specs.EngineTouched.{IsMadeAt, IsPath, IsTouched, NoMedium, TouchesOnly}
 use Rattle.bk_executing.specs.Closing.{CutsEnd}
 use Rattle.bk_executing.specs.declared.error.ExecuteError.{ExecuteError}
 use Rattle.bk_executing.specs.declared.error.ExecuteError.TheVariants as execute

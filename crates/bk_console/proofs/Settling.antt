@@ -3,7 +3,7 @@ use Rattle.std.proofs.Common.{◌≡◌, ◌⊎◌, ◌<◌, ℕ, List, [], ◌�
 use Rattle.bk_device.specs.Compose.{keeps_by_effect, keeps_then}
 use Rattle.bk_device.specs.Disk.{Files, Disk, IsLawful, IsSettled, MayLeave}
 use Rattle.bk_device.specs.Effects.{Effect, KeepsFiles, LeavesSince, MayLeaveOthers}
-use Rattle.bk_engine.specs.Touched.{IsPath, IsTouched}
+use Rattle.bk_executing.specs.EngineTouched.{IsPath, IsTouched}
 use Rattle.bk_items.specs.declared.item.ScriptEntry.{ScriptEntry}
 use Rattle.bk_master.specs.Master.{made_file}
 use Rattle.bk_names.specs.Names.{IsOfInstance}

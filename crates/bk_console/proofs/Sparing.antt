@@ -6,8 +6,8 @@ use Rattle.bk_device.specs.Compose.{keeps_by_effect, keeps_by_nothing, keeps_by_
 use Rattle.bk_device.specs.Disk.{Files, Disk, MayLeave}
 use Rattle.bk_device.specs.Effects.{Effect, MayLeaveOthers}
 use Rattle.bk_device.specs.Laws.{nothing_yet}
-use Rattle.bk_engine.specs.Stands.{Kept, StandsFor}
-use Rattle.bk_engine.specs.Touched.{IsTouched, TouchesOnly}
+use Rattle.bk_executing.specs.EngineStands.{Kept, StandsFor}
+use Rattle.bk_executing.specs.EngineTouched.{IsTouched, TouchesOnly}
 use Rattle.bk_executing.specs.Executing.{Failed, Rests}
 use Rattle.bk_items.specs.declared.item.ScriptEntry.{ScriptEntry}
 use Rattle.bk_machine.specs.Acts.{Act, done, done_all, turned, seated, created, dropped, logged, medium_made, set_drawn, set_sealed, based, replaced, restored, recovered}

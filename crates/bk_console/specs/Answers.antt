@@ -6,9 +6,9 @@ use Rattle.bk_device.specs.Disk.{Files, Disk, MayLeave}
 use Rattle.bk_executing.specs.declared.error.ExecuteError.{ExecuteError}
 use Rattle.bk_executing.specs.declared.error.ExecuteError.TheVariants as execute
 use Rattle.bk_executing.specs.Executing.{Executed, Failed}
-use Rattle.bk_engine.specs.Loading.{Stands}
-use Rattle.bk_engine.specs.Stands.{Covers, Kept, StandsFor}
-use Rattle.bk_engine.specs.Touched.{IsPath, IsTouched}
+use Rattle.bk_executing.specs.EngineLoading.{Stands}
+use Rattle.bk_executing.specs.EngineStands.{Covers, Kept, StandsFor}
+use Rattle.bk_executing.specs.EngineTouched.{IsPath, IsTouched}
 use Rattle.bk_items.specs.declared.item.ScriptEntry.{ScriptEntry}
 use Rattle.bk_machine.specs.Crash.{Leaves}
 use Rattle.bk_machine.specs.Machine.{May, behind}

@@ -2,7 +2,7 @@
 use Rattle.std.specs.Prelude.{◌≡◌, ◌⊎◌, ℕ, zero, suc, true, List, Option, None, Some}
 use Rattle.bk_bytes.specs.Field.{AreBytes}
 use Rattle.bk_device.specs.Disk.{Files, Disk, IsSettled, MayLeave}
-use Rattle.bk_engine.specs.Loading.{Stands}
+use Rattle.bk_executing.specs.EngineLoading.{Stands}
 use Rattle.bk_master.specs.Master.{IsNoInstance, IsNotMade}
 use Rattle.bk_restarts.specs.Events.{HappenOn}
 use Rattle.bk_machine.specs.Acts.{Act, done_all}

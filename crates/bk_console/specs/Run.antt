@@ -3,8 +3,8 @@ use Rattle.std.specs.Prelude.{◌≡◌, ◌≢◌, ◌⊎◌, ◌<◌, ◌≤�
 use Rattle.bk_device.specs.Calls.{ChangesNothing, TellsFront}
 use Rattle.bk_device.specs.Disk.{Files, Disk, IsSettled, MayLeave}
 use Rattle.bk_device.specs.Effects.{KeepsFiles, LeavesSince}
-use Rattle.bk_engine.specs.Loading.{Stands}
-use Rattle.bk_engine.specs.Touched.{IsTouched}
+use Rattle.bk_executing.specs.EngineLoading.{Stands}
+use Rattle.bk_executing.specs.EngineTouched.{IsTouched}
 use Rattle.bk_executing.specs.declared.error.ExecuteError.{ExecuteError}
 use Rattle.bk_executing.specs.declared.error.ExecuteError.TheVariants as execute
 use Rattle.bk_master.specs.Master.{IsMade, IsNoInstance}

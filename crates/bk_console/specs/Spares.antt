@@ -4,7 +4,7 @@ use Rattle.std.specs.List.{AllByRecursion}
 use Rattle.bk_device.specs.Calls.{Elapses}
 use Rattle.bk_device.specs.Disk.{Files, Disk}
 use Rattle.bk_device.specs.Effects.{KeepsFiles, MayLeaveOthers}
-use Rattle.bk_engine.specs.Stands.{Kept, own_in}
+use Rattle.bk_executing.specs.EngineStands.{Kept, own_in}
 use Rattle.bk_master.specs.Master.{record_of}
 use Rattle.bk_master.specs.declared.record.Record.{Record}
 use Rattle.bk_machine.specs.Outcome.{Outcome}

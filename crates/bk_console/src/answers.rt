@@ -2,8 +2,8 @@
 ghost use Rattle.std.specs.Prelude.{◌≡◌, List, None, IfOk, OnOk, OnErr, IsErrOf};
 ghost use Rattle.bk_device.specs.Counts.{HasCause};
 ghost use Rattle.bk_device.specs.Effects.{KeepsFiles};
-ghost use Rattle.bk_engine.specs.Stands.{IsReady, NamesSet, StandsFor, own_in};
-ghost use Rattle.bk_engine.specs.Touched.{IsPath, TouchesOnly};
+ghost use Rattle.bk_executing.specs.EngineStands.{IsReady, NamesSet, StandsFor, own_in};
+ghost use Rattle.bk_executing.specs.EngineTouched.{IsPath, TouchesOnly};
 ghost use Rattle.bk_executing.specs.declared.error.ExecuteError.TheVariants as execute_error;
 ghost use Rattle.bk_items.specs.declared.item.ScriptEntry.{ScriptEntry as EntryOf};
 ghost use Rattle.bk_machine.specs.World.{World};
@@ -16,8 +16,7 @@ ghost use Rattle.bk_console.specs.declared.answers.AnswerError.TheVariants as an
 
 use crate::report;
 use bk_device::{Clock, Device, Failed};
-use bk_engine::Engine;
-use bk_executing::{ExecuteError, execute};
+use bk_executing::{Engine, ExecuteError, execute};
 use bk_items::ScriptEntry;
 use bk_restarts::crashes_leave_worlds;
 use bk_syntax::Reader;

@@ -4,7 +4,7 @@ use Rattle.bk_device.specs.Disk.{Disk, Files}
 use Rattle.bk_device.specs.Effects.{KeepsFiles, MayLeaveOwn}
 use Rattle.bk_facts.specs.declared.facts.DataFile.{DataFile}
 use Rattle.bk_ids.specs.declared.record.Rec.{Rec}
-use Rattle.bk_log.specs.Laws.{log_kept, value_kept}
+use Rattle.bk_paged.specs.LogLaws.{log_kept, value_kept}
 use Rattle.bk_paged.specs.Holds.{IsStored, Recovers, Stood, point_of}
 use Rattle.bk_paged.specs.Leaving.{still_holds}
 use Rattle.bk_paged.specs.Names.{IsOwn, names_of, shown_at}

@@ -5,7 +5,7 @@ use Rattle.std.specs.List.{AllByRecursion, position}
 use Rattle.std.proofs.lemmas.List.{length-append}
 use Rattle.bk_archive.specs.Media.{IsMediumFile, KeepsMedia}
 use Rattle.bk_archive.specs.MediaLaws.{SameFiles, media-in, set-in}
-use Rattle.bk_arriving.specs.Sets.{arriving_of, pages_of}
+use Rattle.bk_hosting.specs.ArrivingSets.{arriving_of, pages_of}
 use Rattle.bk_body.specs.Body.{Body}
 use Rattle.bk_body.specs.Slots.{holds}
 use Rattle.bk_bytes.specs.Codec.{IsString}
@@ -33,9 +33,9 @@ use Rattle.bk_machine.specs.statements.Restore.{is_online}
 use Rattle.bk_paths.specs.Paths.{kept_from}
 use Rattle.bk_points.specs.declared.points.Points.{Points}
 use Rattle.bk_points.specs.Points.{points_bytes}
-use Rattle.bk_recovering.specs.Recovering.{EndsWith, Makes}
-use Rattle.bk_restored.specs.Restored.{SufficesTold}
-use Rattle.bk_restoring.specs.Arriving.{Kept as KeptArriving}
+use Rattle.bk_stores.specs.Recovering.{EndsWith, Makes}
+use Rattle.bk_carried.specs.Restored.{SufficesTold}
+use Rattle.bk_hosting.specs.RestoringArriving.{Kept as KeptArriving}
 use Rattle.bk_shown.specs.Shown.{IsNext}
 use Rattle.bk_store.specs.Told.{Told, data_file, files_of}
 use Rattle.bk_stores.specs.Beside.{ShareNoFile}

@@ -24,8 +24,8 @@ use Rattle.bk_machine.specs.Writes.{ActsWrite}
 use Rattle.bk_machine.specs.statements.Restore.{base_of, is_online}
 use Rattle.bk_points.specs.declared.points.Points.{Points}
 use Rattle.bk_record.specs.Log.{IsLog}
-use Rattle.bk_restored.specs.Restored.{SufficesTold}
-use Rattle.bk_restoring.specs.Arriving.{Kept as KeptArriving}
+use Rattle.bk_carried.specs.Restored.{SufficesTold}
+use Rattle.bk_hosting.specs.RestoringArriving.{Kept as KeptArriving}
 use Rattle.bk_store.specs.Told.{data_file}
 use Rattle.bk_stores.specs.Beside.{ShareNoFile}
 use Rattle.bk_volume.specs.Media.{slot_at}

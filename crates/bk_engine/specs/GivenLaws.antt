@@ -3,8 +3,8 @@ use Rattle.std.proofs.Common.{◌≡◌, ℕ, zero, suc, ◌+◌, ◌-◌, ◌*�
 use Rattle.std.specs.Prelude.{nat_lt, if◌then◌else◌}
 use Rattle.std.specs.List.{AllByRecursion, range_with_len}
 use Rattle.std.proofs.lemmas.List.{map-append}
-use Rattle.bk_arriving.specs.Extents.{HasExtents, extents_of, extents_on}
-use Rattle.bk_arriving.specs.Sets.{AreWhole, pages_of, places, bytes_in as bytes_arriving}
+use Rattle.bk_hosting.specs.ArrivingExtents.{HasExtents, extents_of, extents_on}
+use Rattle.bk_hosting.specs.ArrivingSets.{AreWhole, pages_of, places, bytes_in as bytes_arriving}
 use Rattle.bk_body.specs.Body.{Body, Extent}
 use Rattle.bk_carried.specs.Carried.{bytes_in, data_extents, given, id_of, is_extent, page_part}
 use Rattle.bk_facts.specs.declared.facts.DataFile.{DataFile}

@@ -21,3 +21,13 @@ pub mod GivenLaws
 pub mod BringingLaws
 pub mod Viewing
 pub mod ViewLaws
+pub use Rattle.bk_hosting.specs.AskLaws as HostingAskLaws
+pub use Rattle.bk_hosting.specs.Copying as HostingCopying
+pub use Rattle.bk_hosting.specs.Hosting
+pub use Rattle.bk_hosting.specs.Loading as HostingLoading
+pub use Rattle.bk_store.specs.Told as StoreTold
+pub use Rattle.bk_stores.specs.ListLaws as StoresListLaws
+pub use Rattle.bk_stores.specs.SlotLaws as StoresSlotLaws
+pub use Rattle.bk_stores.specs.Standing as StoresStanding
+pub use Rattle.bk_stores.specs.Stores
+pub use Rattle.bk_stores.specs.declared.error.StoresError

@@ -13,7 +13,7 @@ use Rattle.bk_engine.specs.Acts.{HaveNoFileOf}
 use Rattle.bk_engine.specs.Bringing.{HaveNoneOf, files_on}
 use Rattle.bk_engine.specs.Stands.{Kept, StandsFor}
 use Rattle.bk_hosted.specs.Hosted.{Hosted, database_of, set_storage}
-use Rattle.bk_hosting.specs.Hosting.{Tells, WaitsBehind}
+use Rattle.bk_engine.specs.Hosting.{Tells, WaitsBehind}
 use Rattle.bk_known.specs.declared.known.DatabaseSpec.{DatabaseSpec}
 use Rattle.bk_known.specs.declared.known.Known.{Known}
 use Rattle.bk_lemmas.specs.Lists.{all_mapped, filter_every}

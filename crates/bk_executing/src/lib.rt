@@ -13,6 +13,7 @@ mod planning;
 mod querying;
 mod restoring;
 
+pub use bk_engine::Engine;
 pub use closing::close;
 pub use error::ExecuteError;
 pub use executing::execute;

@@ -5,7 +5,7 @@ use Rattle.std.specs.List.{AllByRecursion, flat_map}
 use Rattle.bk_device.specs.Disk.{Files, Disk, IsDurable}
 use Rattle.bk_gate.specs.Gate.{IsGate, Kept as KeptGate}
 use Rattle.bk_ids.specs.declared.record.Rec.{Rec}
-use Rattle.bk_record.specs.Spelling.{spelling, IsRecord}
+use Rattle.bk_segments.specs.RecordSpelling.{spelling, IsRecord}
 use Rattle.bk_segments.specs.Files.{control_file, segment_file, blobs_at, blobs_from}
 use Rattle.bk_segments.specs.Records.{records_of, IsRun, Numbered}
 

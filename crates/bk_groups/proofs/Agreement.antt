@@ -5,7 +5,7 @@ use Rattle.std.specs.BTreeMap.{is_at}
 use Rattle.std.proofs.lemmas.Bool.{cases_eq, cases_Bool, cond-true, cond-false}
 use Rattle.std.proofs.lemmas.Map.Lookups.{exact_pairs, exact_unsigned}
 use Rattle.bk_ids.specs.declared.record.Place.{Place}
-use Rattle.bk_lemmas.specs.Tests.{equal_from_is_eq}
+use Rattle.bk_world.specs.LemmasTests.{equal_from_is_eq}
 use Rattle.bk_groups.specs.Groups.{Room, IsCell, row_cmp, place_among}
 use Rattle.bk_groups.specs.Sound.{Agrees}
 

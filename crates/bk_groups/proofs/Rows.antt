@@ -9,7 +9,7 @@ use Rattle.std.proofs.lemmas.Bool.{cases_Bool, and_from, and_parts, eq-eqb, eqb-
 use Rattle.std.proofs.lemmas.List.{length-map}
 use Rattle.bk_ids.specs.declared.record.Place.{Place}
 use Rattle.bk_world.specs.declared.database.FileSpec.{FileSpec}
-use Rattle.bk_lemmas.specs.Tests.{nat_cmp-same}
+use Rattle.bk_world.specs.LemmasTests.{nat_cmp-same}
 use Rattle.bk_groups.specs.FileSpace.{FileSpace}
 use Rattle.bk_groups.specs.Groups.{Space, IsCell, IsFreeCell, LiesIn, row_cmp, place_among, group_of, untouched_room}
 use Rattle.bk_groups.specs.Sound.{IsSound, AreFree, bit_at_place, room_of, rooms_of}

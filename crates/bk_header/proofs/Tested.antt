@@ -7,7 +7,7 @@ use Rattle.std.proofs.lemmas.List.Elements.{All-from_recursion, recursion_from_A
 use Rattle.bk_ids.specs.declared.path.Branch.{Branch}
 use Rattle.bk_world.specs.declared.header.Header.{Header}
 use Rattle.bk_world.specs.declared.header.HeaderFile.{HeaderFile}
-use Rattle.bk_lemmas.specs.Lists.{all_tested}
+use Rattle.bk_world.specs.LemmasLists.{all_tested}
 use Rattle.bk_header.specs.Conditions.{HasPath, IsExpiry, KeepFiles, KeepsConditions, KeepsPath, total_extents}
 use Rattle.bk_header.specs.Keeping.{has_path, is_expiry, keeps_all, keeps_lists, keeps_texts, keeps_times, keeps_what}
 use Rattle.bk_header.specs.Laws.{has_base_from, has_base_true, numbered_from, numbered_true, range_from, range_true, rise_from, rise_true}

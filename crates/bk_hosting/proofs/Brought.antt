@@ -13,7 +13,7 @@ use Rattle.bk_ids.specs.declared.record.Rec.{Rec}
 use Rattle.bk_known.specs.declared.known.Known.{Known}
 use Rattle.bk_points.specs.declared.points.Points.{Points}
 use Rattle.bk_points.specs.Points.{IsPoints, points_bytes}
-use Rattle.bk_reopening.specs.Reopening.{settled}
+use Rattle.bk_stores.specs.Reopening.{settled}
 use Rattle.bk_store.specs.FrontLaws.{shown-log}
 use Rattle.bk_store.specs.Store.{IsStore, sealed_in, Kept as KeptStore}
 use Rattle.bk_store.specs.Told.{Told, files_of, said}

@@ -15,7 +15,7 @@ use Rattle.bk_master.specs.declared.record.Entry.{Entry}
 use Rattle.bk_master.specs.Laws.{master_kept}
 use Rattle.bk_paged.specs.Paged.{Standing}
 use Rattle.bk_paged.specs.StandLaws.{standing-kept as paged-kept}
-use Rattle.bk_reopening.specs.Reopening.{settled as settled_told}
+use Rattle.bk_stores.specs.Reopening.{settled as settled_told}
 use Rattle.bk_store.specs.Store.{Kept as KeptStore}
 use Rattle.bk_store.specs.Told.{Told, front_of}
 use Rattle.bk_stores.specs.ListLaws.{got, got-inside, got-one, got-other, got-set, same-place}

@@ -9,8 +9,8 @@ use Rattle.bk_ids.specs.declared.record.Rec.{Rec}
 use Rattle.bk_known.specs.declared.known.Known.{Known}
 use Rattle.bk_points.specs.declared.points.Points.{Points}
 use Rattle.bk_points.specs.Points.{points_bytes}
-use Rattle.bk_recovering.specs.Recovering.{EndsWith}
-use Rattle.bk_reopening.specs.Reopening.{settled}
+use Rattle.bk_stores.specs.Recovering.{EndsWith}
+use Rattle.bk_stores.specs.Reopening.{settled}
 use Rattle.bk_store.specs.Told.{Told, said}
 use Rattle.bk_stores.specs.Beside.{ShareNoFile}
 use Rattle.bk_stores.specs.Bringing.{MakesNext}

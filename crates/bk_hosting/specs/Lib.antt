@@ -8,3 +8,6 @@ pub mod Loading
 pub mod Asking
 pub mod Copying
 pub mod AskLaws
+pub use Rattle.bk_stores.specs.ArrivingExtents
+pub use Rattle.bk_stores.specs.ArrivingSets
+pub use Rattle.bk_stores.specs.RestoringArriving

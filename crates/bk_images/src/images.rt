@@ -3,7 +3,7 @@
 ghost use Rattle.std.specs.Prelude.{◌≡◌, ◌≤◌, ℕ, Some, None, length};
 ghost use Rattle.bk_bytes.specs.Cell.{IsCell};
 ghost use Rattle.bk_shown.specs.Values.{IsValue};
-ghost use Rattle.bk_undo.specs.Spelled as spelled;
+ghost use Rattle.bk_shown.specs.UndoSpelled as spelled;
 
 use bk_bytes::Cell;
 use bk_ids::{CellImage, Value};

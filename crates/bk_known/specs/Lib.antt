@@ -1,2 +1,3 @@
 pub mod Known
 pub mod KnownLaws
+pub use Rattle.bk_storage.specs.Storage

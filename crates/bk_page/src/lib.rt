@@ -8,7 +8,7 @@ mod header;
 mod law;
 
 pub use bk_bytes::Cell;
-pub use bk_frames::Page;
+pub use bk_frames::{Frames, Page};
 pub use cells::{read_cell, write_cell};
 pub use digest::{Mismatch, check, seal_digest};
 pub use digests::page_digests;

@@ -4,13 +4,13 @@ use Rattle.std.specs.Option.{option_map_or}
 use Rattle.std.proofs.lemmas.Bool.{cases_lt}
 use Rattle.std.proofs.lemmas.List.{take_all}
 use Rattle.std.proofs.lemmas.Option.{slice_get_past, slice_get-get_or}
-use Rattle.bk_control.specs.Slots.{control_of}
+use Rattle.bk_log.specs.ControlSlots.{control_of}
 use Rattle.bk_device.specs.Compose.{durable_kept, effect_none, effect_then, effect_widen, keeps_by_effect}
 use Rattle.bk_device.specs.Disk.{Files, Disk, IsDurable}
 use Rattle.bk_device.specs.Effects.{Effect, IsName, KeepsFiles}
 use Rattle.bk_facts.specs.declared.facts.DataFile.{DataFile}
 use Rattle.bk_facts.specs.Facts.{Notes}
-use Rattle.bk_gate.specs.Gate.{Kept as KeptGate}
+use Rattle.bk_log.specs.Gate.{Kept as KeptGate}
 use Rattle.bk_ids.specs.declared.record.Rec.{Rec}
 use Rattle.bk_lemmas.specs.Tests.{equal_or_not}
 use Rattle.bk_log.specs.Log.{IsLog, value_of, Kept as KeptLog}

@@ -3,7 +3,7 @@ use Rattle.std.proofs.Common.{◌≡◌, ◌≢◌, ◌<◌, ℕ, zero, suc, ◌
 use Rattle.std.specs.Prelude.{IsSomeAnd, slice_get}
 use Rattle.std.proofs.lemmas.Option.{same_Some, slice_get_within}
 use Rattle.bk_bytes.specs.Codec.{◌>>=◌}
-use Rattle.bk_control.specs.Slots.{control_of}
+use Rattle.bk_log.specs.ControlSlots.{control_of}
 use Rattle.bk_device.specs.Calls.{ChangesNothing}
 use Rattle.bk_device.specs.Compose.{durable_kept, effect_then, effect_weaken, effect_widen, keeps_by_effect}
 use Rattle.bk_device.specs.Disk.{Files, Disk, IsDurable, IsLawful}

@@ -1,6 +1,6 @@
 // Making a database without a record.
 ghost use Rattle.std.specs.Prelude.{◌≡◌, ◌≤◌, ◌<◌, ◌⊎◌, ◌^◌, ◌+◌, [], ℕ, None, false, length, IfOk, IsErr, IsErrOf, OnOk};
-ghost use Rattle.bk_control.specs.Slots.{control_of};
+ghost use Rattle.bk_log.specs.ControlSlots.{control_of};
 ghost use Rattle.bk_device.specs.Counts.{HasCause};
 ghost use Rattle.bk_device.specs.Disk.{IsDurable};
 ghost use Rattle.bk_device.specs.Effects.{Effect};

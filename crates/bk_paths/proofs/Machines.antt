@@ -9,11 +9,11 @@ use Rattle.bk_ids.specs.declared.record.Rec.{Rec}
 use Rattle.bk_undo.specs.declared.pending.Pending.{Pending}
 use Rattle.bk_undo.specs.Losers.{closes, compensation_of, is_open, pending, records_below, writes}
 use Rattle.bk_undo.specs.Spelled.{image, spelled}
-use Rattle.bk_world.specs.Cut.{end_behind, settled as settled_log}
+use Rattle.bk_undo.specs.WorldCut.{end_behind, settled as settled_log}
 use Rattle.bk_lemmas.specs.Lists.{filter_every}
-use Rattle.bk_world.specs.Pending.{pending_after, pending_from, Pending as Open, pending as open_in}
-use Rattle.bk_world.specs.Records.{Counts, Deed, Logged, database_made, table_made, begun, written, committed, rolled_back, undone, checkpointed, stamped, model_set, loaded, recovered, numbered as numbered_said}
-use Rattle.bk_world.specs.Says.{settle_said, undoing as undoing_said}
+use Rattle.bk_undo.specs.WorldPending.{pending_after, pending_from, Pending as Open, pending as open_in}
+use Rattle.bk_undo.specs.WorldRecords.{Counts, Deed, Logged, database_made, table_made, begun, written, committed, rolled_back, undone, checkpointed, stamped, model_set, loaded, recovered, numbered as numbered_said}
+use Rattle.bk_undo.specs.WorldSays.{settle_said, undoing as undoing_said}
 use Rattle.bk_paths.specs.Paths.{end_of, numbered, settled}
 use Rattle.bk_paths.specs.Laws.{IsPlain}
 

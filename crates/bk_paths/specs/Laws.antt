@@ -3,16 +3,16 @@ use Rattle.std.specs.Prelude.{◌≡◌, ◌≤◌, ℕ, ◌^◌, false, List, [
 use Rattle.std.specs.List.{AllByRecursion, list_any}
 use Rattle.bk_ids.specs.declared.record.Rec.{Rec}
 use Rattle.bk_segments.specs.Records.{Numbered}
-use Rattle.bk_record.specs.Spelling.{IsRecord}
+use Rattle.bk_redo.specs.RecordSpelling.{IsRecord}
 use Rattle.bk_redo.specs.declared.place.PageAt.{PageAt}
 use Rattle.bk_redo.specs.PageStates.{PageState}
 use Rattle.bk_redo.specs.Effects.{fills, changed}
 use Rattle.bk_redo.specs.Redo.{records_between, redone_by}
 use Rattle.bk_undo.specs.Losers.{pending, compensation}
 use Rattle.bk_undo.specs.Spelled.{spelled}
-use Rattle.bk_world.specs.Cut.{end_behind, settled as settled_log}
-use Rattle.bk_world.specs.Pending.{pending as open_in}
-use Rattle.bk_world.specs.Records.{Counts, Deed, Logged, loaded}
+use Rattle.bk_undo.specs.WorldCut.{end_behind, settled as settled_log}
+use Rattle.bk_undo.specs.WorldPending.{pending as open_in}
+use Rattle.bk_undo.specs.WorldRecords.{Counts, Deed, Logged, loaded}
 use Rattle.bk_paths.specs.Pages.{IsPage, last_page}
 use Rattle.bk_paths.specs.Paths.{IsPath, KeepsOpen, end_of, kept_from, settled, undoing}
 

@@ -5,7 +5,7 @@ use Rattle.std.proofs.lemmas.List.{take-append-drop, length-take-le}
 use Rattle.bk_ids.specs.declared.record.Rec.{Rec}
 use Rattle.bk_segments.specs.BatchLaws.{numbered_append, numbered_split}
 use Rattle.bk_segments.specs.Records.{Numbered}
-use Rattle.bk_record.specs.Spelling.{IsRecord}
+use Rattle.bk_redo.specs.RecordSpelling.{IsRecord}
 use Rattle.bk_redo.specs.Redo.{RiseFrom}
 use Rattle.bk_undo.specs.Losers.{Rises}
 use Rattle.bk_lemmas.specs.Lists.{all_joined, all_front}

@@ -4,7 +4,7 @@ use Rattle.std.specs.Prelude.{◌≤◌, ℕ, ◌+◌, ◌-◌, List, [], ◌∷
 use Rattle.std.specs.List.{AllByRecursion}
 use Rattle.bk_ids.specs.declared.record.Rec.{Rec}
 use Rattle.bk_segments.specs.Records.{Numbered}
-use Rattle.bk_record.specs.Spelling.{IsRecord}
+use Rattle.bk_redo.specs.RecordSpelling.{IsRecord}
 use Rattle.bk_undo.specs.Losers.{compensation, pending}
 
 -- the number that the next record of a path gets

@@ -10,3 +10,4 @@ pub mod WalkLaws
 pub mod Records
 pub mod RecordsLaws
 pub mod Skims
+pub use Rattle.bk_ids.specs.declared.record.Rec

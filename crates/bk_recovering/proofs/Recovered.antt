@@ -5,12 +5,12 @@ use Rattle.bk_device.specs.Disk.{Disk}
 use Rattle.bk_device.specs.Effects.{Effect}
 use Rattle.bk_facts.specs.declared.facts.DataFile.{DataFile}
 use Rattle.bk_known.specs.declared.known.Known.{Known}
-use Rattle.bk_paged.specs.Names.{IsOwn}
-use Rattle.bk_paged.specs.Paged.{Touches}
+use Rattle.bk_reopening.specs.PagedNames.{IsOwn}
+use Rattle.bk_reopening.specs.Paged.{Touches}
 use Rattle.bk_reopening.specs.Reopening.{Recovers, settled}
 use Rattle.bk_store.specs.Store.{IsStore, Kept as KeptStore}
 use Rattle.bk_store.specs.Told.{Told, data_files}
-use Rattle.bk_volume.specs.Stored.{Stored}
+use Rattle.bk_arriving.specs.VolumeStored.{Stored}
 use Rattle.bk_recovering.specs.Recovering.{Makes, TouchesWith}
 
 -- they are those that were asked for

@@ -2,21 +2,21 @@
 -- SQL Server: "Complete Database Restores (Full Recovery Model)"; "Restore and Recovery Overview", undo.
 use Rattle.std.specs.Prelude.{◌≡◌, ◌⊎◌, ℕ, List, None}
 use Rattle.bk_arriving.specs.Sets.{AreWhole, arriving_of, pages_of}
-use Rattle.bk_body.specs.Body.{Body}
+use Rattle.bk_arriving.specs.Body.{Body}
 use Rattle.bk_device.specs.Disk.{Disk}
 use Rattle.bk_device.specs.Effects.{Effect}
 use Rattle.bk_facts.specs.declared.facts.DataFile.{DataFile}
 use Rattle.bk_ids.specs.declared.record.Rec.{Rec}
 use Rattle.bk_known.specs.declared.known.Known.{Known}
-use Rattle.bk_paged.specs.Names.{IsOwn}
+use Rattle.bk_reopening.specs.PagedNames.{IsOwn}
 use Rattle.bk_record.specs.Log.{IsLog}
 use Rattle.bk_reopening.specs.Reopening.{settled}
-use Rattle.bk_restored.specs.Restored.{SufficesTold}
-use Rattle.bk_shown.specs.Shown.{IsNext}
+use Rattle.bk_arriving.specs.Restored.{SufficesTold}
+use Rattle.bk_reopening.specs.Shown.{IsNext}
 use Rattle.bk_store.specs.Store.{Kept as KeptStore}
 use Rattle.bk_store.specs.Told.{Told, files_of}
 use Rattle.bk_undo.specs.Spelled.{spelled}
-use Rattle.bk_volume.specs.Stored.{IsOf, Stored}
+use Rattle.bk_arriving.specs.VolumeStored.{IsOf, Stored}
 use Rattle.bk_world.specs.Records.{Logged}
 
 -- These bytes of a medium have a set that makes a database with these data files: it has their extents, and with its log they are enough.

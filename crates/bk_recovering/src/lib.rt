@@ -4,5 +4,6 @@
 mod error;
 mod recovering;
 
+pub use bk_arriving::{Medium, StoredSet};
 pub use error::RecoverError;
 pub use recovering::recover;

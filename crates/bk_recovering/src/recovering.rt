@@ -3,11 +3,11 @@ ghost use Rattle.std.specs.Prelude.{◌≡◌, ◌≤◌, ◌<◌, false, List, 
 ghost use Rattle.bk_device.specs.Calls.{contents};
 ghost use Rattle.bk_device.specs.Counts.{HasCause};
 ghost use Rattle.bk_device.specs.Effects.{Effect};
-ghost use Rattle.bk_filling.specs.Filling.{MayFill};
+ghost use Rattle.bk_arriving.specs.Filling.{MayFill};
 ghost use Rattle.bk_known.specs.Known.{KeepsKnown};
-ghost use Rattle.bk_opening.specs.Opening.{TouchesDatabase};
-ghost use Rattle.bk_paged.specs.Names.{IsOwn};
-ghost use Rattle.bk_paged.specs.Paged.{Standing, Touches};
+ghost use Rattle.bk_reopening.specs.Opening.{TouchesDatabase};
+ghost use Rattle.bk_reopening.specs.PagedNames.{IsOwn};
+ghost use Rattle.bk_reopening.specs.Paged.{Standing, Touches};
 ghost use Rattle.bk_record.specs.Spelling.{KeepsLimits};
 ghost use Rattle.bk_reopening.specs.Reopening.{settled};
 ghost use Rattle.bk_segments.specs.Files.{AreDurable as LogsAreDurable};
@@ -17,14 +17,13 @@ ghost use Rattle.bk_world.specs.Records.{Logged};
 ghost use Rattle.bk_recovering.specs.Recovering.{EndsWith, Makes, TouchesWith};
 
 use crate::error::RecoverError;
-use bk_arriving::arrive;
+use bk_arriving::{Medium, StoredSet, arrive};
 use bk_device::Device;
 use bk_facts::DataFile;
 use bk_ids::{Lsn, Rec};
 use bk_known::Known;
 use bk_reopening::load;
 use bk_store::{Store, StoreError};
-use bk_volume::{Medium, StoredSet};
 use std::alloc::Global;
 use std::thread::Threads;
 

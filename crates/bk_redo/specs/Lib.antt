@@ -9,3 +9,4 @@ pub mod Chains
 pub mod Tasks
 pub mod Laws
 pub mod CellLaws
+pub use Rattle.bk_record.specs.Spelling as RecordSpelling

@@ -13,8 +13,8 @@ use crate::place::PageAt;
 use crate::share::Share;
 use crate::turn::{Turn, Untold};
 use crate::worker::{Task, redo_share};
-use bk_frames::Frames;
 use bk_ids::Lsn;
+use bk_page::Frames;
 use std::alloc::Global;
 use std::thread::Threads;
 

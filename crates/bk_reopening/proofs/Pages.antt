@@ -17,8 +17,8 @@ use Rattle.bk_paged.specs.Holds.{Stood}
 use Rattle.bk_paged.specs.Paged.{IsLast, IsPaged, sealed_count, Kept as KeptPaged}
 use Rattle.bk_paths.specs.Laws.{IsPlain}
 use Rattle.bk_paths.specs.Paths.{IsPath}
-use Rattle.bk_redo.specs.declared.place.PageAt.{PageAt}
-use Rattle.bk_redo.specs.PageStates.{PageState, cells_of}
+use Rattle.bk_opening.specs.PageAt.{PageAt}
+use Rattle.bk_opening.specs.RedoPageStates.{PageState, cells_of}
 use Rattle.bk_undo.specs.Spelled.{spelled}
 use Rattle.bk_world.specs.Records.{Logged}
 use Rattle.bk_reopening.specs.Cells.{AreInPool, HoldsCells, IsTextCell}

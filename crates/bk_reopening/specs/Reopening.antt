@@ -12,7 +12,7 @@ use Rattle.bk_known.specs.Known.{IsKnown, KeepsKnown, known_bytes}
 use Rattle.bk_opening.specs.Opening.{AreHeld, AreIn}
 use Rattle.bk_paged.specs.Names.{AreDurable, IsOwn}
 use Rattle.bk_paged.specs.Paged.{Kept as KeptPaged}
-use Rattle.bk_storage.specs.Storage.{HasPath}
+use Rattle.bk_known.specs.Storage.{HasPath}
 use Rattle.bk_store.specs.Recent.{Says}
 use Rattle.bk_store.specs.Told.{HoldsRecords, IsLogIn, IsNoted, LeavesRecords, Told, data_file, data_files, files_of, stood_of}
 use Rattle.bk_store.specs.declared.recent.Recent.{Recent}

@@ -7,8 +7,8 @@ use Rattle.bk_engine.specs.Loading.{Stands}
 use Rattle.bk_engine.specs.Stands.{IsOurs}
 use Rattle.bk_hosted.specs.Fronts.{settling}
 use Rattle.bk_hosted.specs.Hosted.{Hosted, database_of}
-use Rattle.bk_hosting.specs.Hosting.{HoldsHosted}
-use Rattle.bk_hosting.specs.Loading.{HoldsHosting}
+use Rattle.bk_engine.specs.Hosting.{HoldsHosted}
+use Rattle.bk_engine.specs.HostingLoading.{HoldsHosting}
 use Rattle.bk_items.specs.declared.item.ScriptEntry.{ScriptEntry}
 use Rattle.bk_machine.specs.Acts.{Act, done_all}
 use Rattle.bk_machine.specs.Closing.{closed_by}
@@ -22,9 +22,9 @@ use Rattle.bk_master.specs.declared.record.Record.{Record}
 use Rattle.bk_master.specs.Laws.{holds_same, own_made}
 use Rattle.bk_restarts.proofs.Runs.{ended-there}
 use Rattle.bk_restarts.specs.Crashes.{LeavesEnded}
-use Rattle.bk_store.specs.Told.{Told}
-use Rattle.bk_stores.specs.SlotLaws.{entry-same}
-use Rattle.bk_stores.specs.Stores.{HoldsStores, IsOurs as IsOfStores, its_files}
+use Rattle.bk_engine.specs.StoreTold.{Told}
+use Rattle.bk_engine.specs.StoresSlotLaws.{entry-same}
+use Rattle.bk_engine.specs.Stores.{HoldsStores, IsOurs as IsOfStores, its_files}
 use Rattle.bk_volume.specs.Names.{medium_file}
 
 -- ---- the same files

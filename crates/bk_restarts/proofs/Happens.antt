@@ -18,7 +18,7 @@ use Rattle.bk_master.specs.Laws.{own_made}
 use Rattle.bk_master.specs.Master.{IsNotMade, fresh_own}
 use Rattle.bk_restarts.proofs.Beginnings.{hosting-same}
 use Rattle.bk_restarts.specs.Events.{AddsMedium, ChangesMedium, HappenOn, HappensOn, OnlyMedium, RemovesMedium, RemovesStandby, StandsAtRest, nothing_more, one_more}
-use Rattle.bk_stores.specs.Stores.{IsOurs as IsOfStores}
+use Rattle.bk_engine.specs.Stores.{IsOurs as IsOfStores}
 use Rattle.bk_volume.specs.Names.{medium_file}
 use Rattle.bk_world.specs.Lines.{RecordLines}
 

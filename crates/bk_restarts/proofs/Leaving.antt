@@ -8,7 +8,7 @@ use Rattle.bk_engine.specs.Loading.{PendsInOrder, Stands}
 use Rattle.bk_engine.specs.Stands.{Covers}
 use Rattle.bk_hosted.specs.Fronts.{AreFronts, IsFrontOf, Waits, settling}
 use Rattle.bk_hosted.specs.Hosted.{Hosted, Hosts, database_of, is_up}
-use Rattle.bk_hosting.specs.Hosting.{LosesWaiting}
+use Rattle.bk_engine.specs.Hosting.{LosesWaiting}
 use Rattle.bk_lemmas.specs.Lists.{all_mapped}
 use Rattle.bk_machine.specs.Crash.{open_begins}
 use Rattle.bk_machine.specs.Outcome.{Outcome}

@@ -3,13 +3,13 @@ use Rattle.std.proofs.Common.{◌≡◌, ℕ, zero, suc, Bool, true, List, [], �
 use Rattle.std.specs.List.{AllByRecursion, AllZip}
 use Rattle.bk_device.specs.Disk.{Files}
 use Rattle.bk_hosted.specs.Hosted.{Hosted, is_up}
-use Rattle.bk_hosting.specs.Hosting.{HoldsHosted, Tells}
+use Rattle.bk_engine.specs.Hosting.{HoldsHosted, Tells}
 use Rattle.bk_lemmas.specs.Lists.{all_filter, all_joined}
 use Rattle.bk_master.specs.declared.record.Entry.{Entry}
 use Rattle.bk_master.specs.declared.record.Own.{Own}
 use Rattle.bk_shown.specs.Shown.{ArePlaced, IsPlaced}
-use Rattle.bk_store.specs.Told.{IsLogIn, Told, files_of}
-use Rattle.bk_stores.specs.Stores.{HoldsBy, HoldsEntry, IsAt}
+use Rattle.bk_engine.specs.StoreTold.{IsLogIn, Told, files_of}
+use Rattle.bk_engine.specs.Stores.{HoldsBy, HoldsEntry, IsAt}
 use Rattle.bk_world.specs.declared.database.FileSpec.{FileSpec}
 use Rattle.bk_world.specs.declared.database.TableSpec.{TableSpec}
 use Rattle.bk_world.specs.Pending.{Pending, PendingRise, pending, pending_after, pending_from}

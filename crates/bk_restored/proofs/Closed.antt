@@ -5,12 +5,12 @@ use Rattle.bk_facts.specs.declared.facts.DataFile.{DataFile}
 use Rattle.bk_ids.specs.declared.record.Rec.{Rec}
 use Rattle.bk_known.specs.declared.known.Known.{Known}
 use Rattle.bk_known.specs.Known.{known_bytes}
-use Rattle.bk_paged.specs.Holds.{Holds}
-use Rattle.bk_paged.specs.Names.{AreDurable}
+use Rattle.bk_reopening.specs.PagedHolds.{Holds}
+use Rattle.bk_reopening.specs.PagedNames.{AreDurable}
 use Rattle.bk_reopening.specs.Reopening.{IsClosed}
 use Rattle.bk_restored.specs.Restored.{SufficesTold}
 use Rattle.bk_restoring.specs.Arriving.{Kept, Suffices}
-use Rattle.bk_store.specs.Told.{Told, stood_of}
+use Rattle.bk_reopening.specs.StoreTold.{Told, stood_of}
 
 -- the bytes that are put are the note that the store keeps
 pub suffices-bytes : (a : Kept) (checkpoint : ℕ) (note bytes : List ℕ) (given : ℕ × ℕ → List ℕ) (records : List Rec) (known : Known) (told : Told) → bytes ≡ known_bytes known ++ note → SufficesTold a checkpoint note given records known told → Suffices a checkpoint bytes given records (stood_of known told)

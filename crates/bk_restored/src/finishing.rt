@@ -4,12 +4,12 @@ ghost use Rattle.bk_device.specs.Counts.{HasCause};
 ghost use Rattle.bk_device.specs.Effects.{Effect};
 ghost use Rattle.bk_ids.specs.declared.record.Rec.{Rec};
 ghost use Rattle.bk_known.specs.Known.{KeepsKnown};
-ghost use Rattle.bk_paged.specs.Names.{IsOwn};
+ghost use Rattle.bk_reopening.specs.PagedNames.{IsOwn};
 ghost use Rattle.bk_reopening.specs.Reopening.{IsClosed};
 ghost use Rattle.bk_restored.specs.Restored.{SufficesTold};
 ghost use Rattle.bk_restoring.specs.Arriving.{IsArriving, IsBegun};
-ghost use Rattle.bk_segments.specs.Files.{AreDurable as LogsAreDurable};
-ghost use Rattle.bk_store.specs.Told.{Told};
+ghost use Rattle.bk_restoring.specs.SegmentsFiles.{AreDurable as LogsAreDurable};
+ghost use Rattle.bk_reopening.specs.StoreTold.{Told};
 
 use bk_device::Device;
 use bk_ids::Lsn;

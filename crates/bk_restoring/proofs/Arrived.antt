@@ -22,8 +22,8 @@ use Rattle.bk_ids.specs.declared.record.Rec.{Rec}
 use Rattle.bk_paged.specs.Holds.{HaveRoom, Holds, IsStored, Recovers, Stood}
 use Rattle.bk_paged.specs.Laws.{apart}
 use Rattle.bk_paged.specs.Names.{AreDurable, IsOwn, IsThere, names_of, pages_in, shown_at}
-use Rattle.bk_paths.specs.Paths.{end_of, kept_from, settled, undoing}
-use Rattle.bk_redo.specs.declared.place.PageAt.{PageAt}
+use Rattle.bk_paged.specs.Paths.{end_of, kept_from, settled, undoing}
+use Rattle.bk_paged.specs.PageAt.{PageAt}
 use Rattle.bk_segments.specs.Files.{IsOwn as IsOfLog, LogIs, AreDurable as LogsAreDurable}
 use Rattle.bk_side.specs.BatchLaws.{content_at}
 use Rattle.bk_side.specs.Laws.{plain}

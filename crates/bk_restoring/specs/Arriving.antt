@@ -8,7 +8,7 @@ use Rattle.bk_filling.specs.Records.{HasRecords, IsBegun as IsBegunLog, Kept as 
 use Rattle.bk_filling.specs.Removing.{AreGone}
 use Rattle.bk_ids.specs.declared.record.Rec.{Rec}
 use Rattle.bk_paged.specs.Holds.{Recovers, Stood}
-use Rattle.bk_paths.specs.Paths.{kept_from}
+use Rattle.bk_paged.specs.Paths.{kept_from}
 use Rattle.bk_side.specs.Names.{side_file}
 
 -- what contracts see of it

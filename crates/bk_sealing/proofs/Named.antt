@@ -9,7 +9,7 @@ use Rattle.bk_device.specs.Disk.{Disk}
 use Rattle.bk_engine.specs.Stands.{Kept, StandsFor}
 use Rattle.bk_hosted.specs.Hosted.{Hosted, IsHosted, database_of, names}
 use Rattle.bk_hosted.specs.PlaceLaws.{named-there}
-use Rattle.bk_hosting.specs.Hosting.{Tells, WaitsBehind}
+use Rattle.bk_engine.specs.Hosting.{Tells, WaitsBehind}
 use Rattle.bk_ids.specs.Name.{same_name}
 use Rattle.bk_machine.specs.statements.Restore.{is_online}
 use Rattle.bk_machine.specs.World.{Database, World, database_named, log_of}
@@ -18,8 +18,8 @@ use Rattle.bk_carried.specs.CopyLaws.{store_path}
 use Rattle.bk_shown.specs.Shown.{ArePlaced}
 use Rattle.bk_store.specs.Store.{Kept as KeptStore}
 use Rattle.bk_store.specs.Told.{Told, files_of}
-use Rattle.bk_stores.specs.ListLaws.{got, got-inside, got-none}
-use Rattle.bk_stores.specs.Stores.{IsOpen}
+use Rattle.bk_engine.specs.StoresListLaws.{got, got-inside, got-none}
+use Rattle.bk_engine.specs.Stores.{IsOpen}
 use Rattle.bk_undo.specs.Spelled.{spelled}
 use Rattle.bk_world.specs.declared.database.FileSpec.{FileSpec}
 use Rattle.bk_world.specs.declared.database.Status.TheVariants.{Online}

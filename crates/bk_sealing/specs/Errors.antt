@@ -1,8 +1,8 @@
 -- What the errors of the layers below come to.
 use Rattle.bk_copying.specs.declared.error.CopyError.{CopyError}
 use Rattle.bk_copying.specs.declared.error.CopyError.TheVariants as copy
-use Rattle.bk_stores.specs.declared.error.StoresError.{StoresError}
-use Rattle.bk_stores.specs.declared.error.StoresError.TheVariants as stores
+use Rattle.bk_engine.specs.StoresError.{StoresError}
+use Rattle.bk_engine.specs.StoresError.TheVariants as stores
 use Rattle.bk_sealing.specs.declared.error.SealError.{SealError}
 use Rattle.bk_sealing.specs.declared.error.SealError.TheVariants.{Fault, NoMemory}
 

@@ -5,7 +5,7 @@ ghost use Rattle.bk_device.specs.Effects.{Effect};
 ghost use Rattle.bk_engine.specs.Stands.{Covers, IsOurs, IsReady, IsStagingFile, NamesSet, StandsFor, own_in};
 ghost use Rattle.bk_engine.specs.Touched.{NoMedium, TouchesOnly};
 ghost use Rattle.bk_machine.specs.World.{World};
-ghost use Rattle.bk_stores.specs.Standing.{AreStanding};
+ghost use Rattle.bk_engine.specs.StoresStanding.{AreStanding};
 ghost use Rattle.bk_volume.specs.Staging.{HoldsParts, IsStaged};
 ghost use Rattle.bk_sealing.specs.Copied.{HoldsCopy};
 ghost use Rattle.bk_sealing.specs.Sealing.{IsSetNow};

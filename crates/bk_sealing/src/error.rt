@@ -5,7 +5,7 @@ ghost use Rattle.bk_sealing.specs.declared.error.SealError.TheVariants as seal;
 
 use bk_copying::CopyError;
 use bk_device::Failed;
-use bk_stores::StoresError;
+use bk_engine::StoresError;
 use std::alloc::AllocError;
 use thiserror::Error;
 

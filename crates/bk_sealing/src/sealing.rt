@@ -10,7 +10,7 @@ ghost use Rattle.bk_header.specs.Conditions.{KeepsConditions};
 ghost use Rattle.bk_kept.specs.Keeps.{Sees};
 ghost use Rattle.bk_machine.specs.Acts.{done, set_sealed};
 ghost use Rattle.bk_machine.specs.World.{World, log_of};
-ghost use Rattle.bk_stores.specs.Standing.{AreStanding};
+ghost use Rattle.bk_engine.specs.StoresStanding.{AreStanding};
 ghost use Rattle.bk_volume.specs.Staging.{IsStaged};
 ghost use Rattle.bk_world.specs.Telling as telling;
 ghost use Rattle.bk_sealing.specs.Copied.{HoldsCopy};

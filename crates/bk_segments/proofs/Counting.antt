@@ -1,6 +1,6 @@
 -- Counting the segments below a number.
 use Rattle.std.proofs.Common.{◌≡◌, ◌⊎◌, ◌≤◌, ◌<◌, ℕ, ◌+◌, List, length, Some, refl, inl, inr, sym, ap, subst, ◌∙◌, arith}
-use Rattle.bk_lemmas.specs.Tests.{equal_or_not}
+use Rattle.bk_control.specs.LemmasTests.{equal_or_not}
 use Rattle.bk_segments.specs.declared.segments.Segment.{Segment}
 use Rattle.bk_segments.specs.Files.{BeginsAt}
 use Rattle.bk_segments.specs.SegmentLaws.{Below}

@@ -6,7 +6,7 @@ use Rattle.std.proofs.lemmas.List.{append-nil}
 use Rattle.std.proofs.lemmas.List.Concat.{flat_map-append}
 use Rattle.bk_bytes.specs.Field.{bytes_of}
 use Rattle.bk_bytes.specs.FieldLaws.{length-bytes_of}
-use Rattle.bk_ids.specs.declared.record.Rec.{Rec}
+use Rattle.bk_record.specs.Rec.{Rec}
 use Rattle.bk_record.specs.declared.walk.BadRecord.{BadRecord}
 use Rattle.bk_record.specs.Laws.{record_read, record_again}
 use Rattle.bk_record.specs.Log.{Left, Reads, BreaksOff, IsLog}

@@ -11,7 +11,7 @@ use Rattle.bk_device.specs.Disk.{Files, Disk, IsDurable}
 use Rattle.bk_device.specs.Effects.{MayLeaveOwn}
 use Rattle.bk_device.specs.Laws.{durable_by_nothing}
 use Rattle.bk_gate.specs.Blobs.{sealed}
-use Rattle.bk_ids.specs.declared.record.Rec.{Rec}
+use Rattle.bk_record.specs.Rec.{Rec}
 use Rattle.bk_segments.specs.declared.head.Head.{Head}
 use Rattle.bk_segments.specs.Control.{read_control, IsSound}
 use Rattle.bk_segments.specs.Records.{records_in, records_of, IsRun}

@@ -5,7 +5,7 @@ use Rattle.bk_bytes.specs.Codec.{◌>>=◌}
 use Rattle.bk_control.specs.Slots.{control_of}
 use Rattle.bk_device.specs.Disk.{Files, Disk, IsDurable}
 use Rattle.bk_gate.specs.Blobs.{sealed}
-use Rattle.bk_ids.specs.declared.record.Rec.{Rec}
+use Rattle.bk_record.specs.Rec.{Rec}
 use Rattle.bk_segments.specs.declared.head.Head.{Head}
 use Rattle.bk_segments.specs.declared.segments.Segment.{Segment}
 use Rattle.bk_segments.specs.Control.{read_control, IsSound}

@@ -6,3 +6,4 @@ pub mod BatchLaws
 pub mod RunLaws
 pub mod FileLaws
 pub mod SegmentLaws
+pub use Rattle.bk_record.specs.Spelling as RecordSpelling

@@ -2,7 +2,7 @@
 use Rattle.std.specs.Prelude.{◌≡◌, ℕ, zero, suc, ◌+◌, List, [], ◌∷◌, length}
 use Rattle.std.specs.List.{flat_map, AllByRecursion}
 use Rattle.std.specs.Option.{option_map_or}
-use Rattle.bk_ids.specs.declared.record.Rec.{Rec}
+use Rattle.bk_record.specs.Rec.{Rec}
 use Rattle.bk_record.specs.Reading.{record_form}
 use Rattle.bk_record.specs.Spelling.{spelling, IsRecord}
 

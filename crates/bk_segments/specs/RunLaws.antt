@@ -3,7 +3,7 @@ use Rattle.std.proofs.Common.{◌≡◌, ◌≤◌, ◌<◌, ◌^◌, ℕ, zero,
 use Rattle.std.specs.List.{AllByRecursion}
 use Rattle.std.proofs.lemmas.List.{append-nil, drop_all}
 use Rattle.std.proofs.lemmas.List.Concat.{flat_map-append}
-use Rattle.bk_ids.specs.declared.record.Rec.{Rec}
+use Rattle.bk_record.specs.Rec.{Rec}
 use Rattle.bk_segments.specs.Files.{blobs_from}
 use Rattle.bk_segments.specs.Records.{records_in, records_of, IsBatch, Numbered, IsPart, IsRun}
 use Rattle.bk_segments.specs.BatchLaws.{numbered_append, numbered_split, part_none, records_none}

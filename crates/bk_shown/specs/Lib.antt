@@ -6,3 +6,4 @@ pub mod ReadLaws
 pub mod Shown
 pub mod Steps
 pub mod Readings
+pub use Rattle.bk_undo.specs.Spelled as UndoSpelled

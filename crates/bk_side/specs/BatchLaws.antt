@@ -9,7 +9,7 @@ use Rattle.bk_device.specs.Disk.{Files}
 use Rattle.bk_device.specs.Laws.{torn-contents, length-read_at}
 use Rattle.bk_device.specs.Torn.{length-torn, read_at-torn, drop-torn}
 use Rattle.std.proofs.Math.Bool.{and-false}
-use Rattle.bk_lemmas.specs.Tests.{equal_or_not}
+use Rattle.bk_gate.specs.LemmasTests.{equal_or_not}
 use Rattle.bk_side.specs.Names.{name_of, AreDifferent}
 use Rattle.bk_side.specs.Pages.{Entry, page_eq, page_in, content_of, page_of, batched}
 

@@ -13,8 +13,8 @@ use Rattle.bk_paged.specs.Holds.{Holds, Stood, unwritten}
 use Rattle.bk_paged.specs.Making.{HoldsNone}
 use Rattle.bk_paged.specs.Names.{IsOwn}
 use Rattle.bk_paged.specs.Paged.{IsPaged, Kept as KeptPaged}
-use Rattle.bk_segments.specs.Files.{control_file}
-use Rattle.bk_segments.specs.Control.{read_control}
+use Rattle.bk_paged.specs.SegmentsFiles.{control_file}
+use Rattle.bk_paged.specs.SegmentsControl.{read_control}
 use Rattle.bk_shown.specs.Shown.{IsNext, Shows}
 use Rattle.bk_shown.specs.declared.shown.Shown.{Shown}
 use Rattle.bk_world.specs.Records.{Logged, database_made}

@@ -5,7 +5,7 @@ use Rattle.bk_device.specs.Calls.{read_at}
 use Rattle.bk_ids.specs.declared.record.Rec.{Rec}
 use Rattle.bk_paged.specs.Holds.{IsStored}
 use Rattle.bk_paths.specs.Paths.{end_of}
-use Rattle.bk_redo.specs.declared.place.PageAt.{PageAt}
+use Rattle.bk_paged.specs.PageAt.{PageAt}
 use Rattle.bk_undo.specs.Spelled.{spelled}
 use Rattle.bk_store.specs.Told.{Told}
 

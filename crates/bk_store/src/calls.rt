@@ -1,7 +1,7 @@
 // What statements say: one record each.
 ghost use Rattle.std.specs.Prelude.{◌≡◌, ◌+◌, false, IfOk, None, OnOk, IsErrOf};
 ghost use Rattle.bk_device.specs.Counts.{HasCause};
-ghost use Rattle.bk_log.specs.Log.{KeepsSpare};
+ghost use Rattle.bk_paged.specs.Log.{KeepsSpare};
 ghost use Rattle.bk_paged.specs.Paged.{Standing, Touches};
 ghost use Rattle.bk_record.specs.Spelling.{KeepsLimits};
 ghost use Rattle.bk_shown.specs.Shown.{IsNext};

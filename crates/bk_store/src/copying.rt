@@ -2,7 +2,7 @@
 ghost use Rattle.std.specs.Prelude.{◌≡◌, ◌≤◌, ◌<◌, ◌+◌, ◌*◌, None, false, map, IfOk, OnOk, IsErrOf};
 ghost use Rattle.bk_device.specs.Calls.{ChangesNothing};
 ghost use Rattle.bk_device.specs.Counts.{HasCause};
-ghost use Rattle.bk_log.specs.Log.{KeepsSpare};
+ghost use Rattle.bk_paged.specs.Log.{KeepsSpare};
 ghost use Rattle.bk_paged.specs.Holds.{IsStored};
 ghost use Rattle.bk_paged.specs.Names.{IsThere, pages_in};
 ghost use Rattle.bk_paged.specs.Paged.{Standing, Touches, from_to};

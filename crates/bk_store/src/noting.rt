@@ -1,7 +1,7 @@
 // What a store's note says.
 ghost use Rattle.std.specs.Prelude.{◌≡◌, ◌≤◌, ◌^◌, ◌<◌, ◌+◌, ◌⊎◌, List, false, true, length, IfOk, OnOk, IsErrOf};
 ghost use Rattle.bk_device.specs.Counts.{HasCause};
-ghost use Rattle.bk_log.specs.Log.{KeepsSpare};
+ghost use Rattle.bk_paged.specs.Log.{KeepsSpare};
 ghost use Rattle.bk_paged.specs.Paged.{Standing, Touches};
 ghost use Rattle.bk_shown.specs.Shown.{Shows};
 ghost use Rattle.std.specs.List.{AllByRecursion};

@@ -1,7 +1,7 @@
 // Rolling a transaction back.
 ghost use Rattle.std.specs.Prelude.{◌≡◌, ◌≤◌, false, OnOk, IsErrOf};
 ghost use Rattle.bk_device.specs.Counts.{HasCause};
-ghost use Rattle.bk_log.specs.Log.{KeepsSpare};
+ghost use Rattle.bk_paged.specs.Log.{KeepsSpare};
 ghost use Rattle.bk_paged.specs.Paged.{Standing, Touches};
 ghost use Rattle.bk_store.specs.Rolling.{IsUndone, rolled};
 ghost use Rattle.bk_store.specs.Store.{Crashes, IsStore};

@@ -1,7 +1,7 @@
 // Saying a record behind the others.
 ghost use Rattle.std.specs.Prelude.{◌≡◌, ◌≤◌, ◌+◌, true, false, OnOk, IsErrOf};
 ghost use Rattle.bk_device.specs.Counts.{HasCause};
-ghost use Rattle.bk_log.specs.Log.{KeepsSpare};
+ghost use Rattle.bk_paged.specs.Log.{KeepsSpare};
 ghost use Rattle.bk_paged.specs.Appends.{MayAppend, MaySay, page_at};
 ghost use Rattle.bk_paged.specs.Names.{IsThere};
 ghost use Rattle.bk_paged.specs.Paged.{Standing, Touches};

@@ -1,7 +1,7 @@
 // Undoing the writes of a transaction, the last one first.
 ghost use Rattle.std.specs.Prelude.{◌≡◌, ◌≤◌, ◌<◌, ◌+◌, ◌^◌, None, false, option_map, IfOk, IfSome, OnOk, IsErrOf};
 ghost use Rattle.bk_device.specs.Counts.{HasCause};
-ghost use Rattle.bk_log.specs.Log.{KeepsSpare};
+ghost use Rattle.bk_paged.specs.Log.{KeepsSpare};
 ghost use Rattle.bk_paged.specs.Paged.{Standing, Touches};
 ghost use Rattle.bk_record.specs.Spelling.{KeepsLimits};
 ghost use Rattle.bk_store.specs.Store.{Crashes, IsStore};

@@ -2,7 +2,7 @@
 ghost use Rattle.std.specs.Prelude.{◌≡◌, ◌+◌, None, Some, List, false, option_map, IfOk, IfSome, OnOk, IsErrOf};
 ghost use Rattle.bk_bytes.specs.Cell.{IsCell};
 ghost use Rattle.bk_device.specs.Counts.{HasCause};
-ghost use Rattle.bk_log.specs.Log.{KeepsSpare};
+ghost use Rattle.bk_paged.specs.Log.{KeepsSpare};
 ghost use Rattle.bk_paged.specs.Paged.{Standing, Touches};
 ghost use Rattle.bk_record.specs.Spelling.{KeepsLimits};
 ghost use Rattle.bk_shown.specs.Shown.{Shows};

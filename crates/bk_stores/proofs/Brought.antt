@@ -30,7 +30,7 @@ use Rattle.bk_stores.specs.Standing.{AreNumbered, AreStanding, AreUnused, IsStan
 use Rattle.bk_stores.specs.StandingLaws.{both-standing, unused-without}
 use Rattle.bk_stores.specs.Stores.{AreEntries, AreStores, IsOurs, Kept, LeavesStores, at_paths, files_by, fixed_of, its_files, sealed_at}
 use Rattle.bk_undo.specs.Spelled.{spelled}
-use Rattle.bk_volume.specs.Stored.{Stored}
+use Rattle.bk_recovering.specs.VolumeStored.{Stored}
 use Rattle.bk_stores.proofs.Created.{begun-apart, begun-below, beside-crash, beside-stands}
 use Rattle.bk_stores.proofs.Parked.{swaps-as}
 

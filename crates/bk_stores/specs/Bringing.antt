@@ -10,7 +10,7 @@ use Rattle.bk_recovering.specs.Recovering.{Makes}
 use Rattle.bk_store.specs.Told.{Told}
 use Rattle.bk_stores.specs.Records.{begun}
 use Rattle.bk_stores.specs.Stores.{Kept}
-use Rattle.bk_volume.specs.Stored.{Stored}
+use Rattle.bk_recovering.specs.VolumeStored.{Stored}
 
 -- The set of the medium in the file of this name makes this database with these data files, as a store of the next number.
 abbrev pub MakesNext : Disk → Kept → List ℕ → Stored → List DataFile → ℕ → List ℕ → Known → Told → Type 0

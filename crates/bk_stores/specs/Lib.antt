@@ -21,3 +21,8 @@ pub mod TouchLaws
 pub mod Loading
 pub mod Quiet
 pub mod QuietLaws
+pub use Rattle.bk_recovering.specs.ArrivingExtents
+pub use Rattle.bk_recovering.specs.ArrivingSets
+pub use Rattle.bk_recovering.specs.Recovering
+pub use Rattle.bk_recovering.specs.RestoringArriving
+pub use Rattle.bk_reopening.specs.Reopening

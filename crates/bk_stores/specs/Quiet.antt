@@ -4,7 +4,7 @@ use Rattle.bk_device.specs.Disk.{Files}
 use Rattle.bk_master.specs.declared.record.Entry.{Entry}
 use Rattle.bk_master.specs.declared.record.Record.{Record}
 use Rattle.bk_master.specs.Master.{HoldsRecord}
-use Rattle.bk_opening.specs.Quiet.{IsQuiet}
+use Rattle.bk_reopening.specs.OpeningQuiet.{IsQuiet}
 
 -- The instance is made. Its record names no medium, no set, and no store as one that is being made or removed, and in each store that it names nothing is to be finished or undone.
 pub record AreQuiet (files : Files) : Type 0 where

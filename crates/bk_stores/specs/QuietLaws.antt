@@ -7,8 +7,8 @@ use Rattle.bk_master.specs.declared.record.Entry.{Entry}
 use Rattle.bk_master.specs.declared.record.Record.{Record}
 use Rattle.bk_master.specs.Laws.{holds_same, master_files, one_record}
 use Rattle.bk_master.specs.Master.{IsMaster, Kept as KeptMaster}
-use Rattle.bk_opening.specs.Quiet.{IsQuiet}
-use Rattle.bk_opening.specs.QuietLaws.{quiet_same}
+use Rattle.bk_reopening.specs.OpeningQuiet.{IsQuiet}
+use Rattle.bk_reopening.specs.OpeningQuietLaws.{quiet_same}
 use Rattle.bk_stores.specs.Quiet.{AreQuiet}
 
 -- files that read the same are such files too

@@ -8,7 +8,7 @@ use Rattle.bk_device.specs.Effects.{Effect}
 use Rattle.bk_gate.specs.Blobs.{sealed}
 use Rattle.bk_facts.specs.declared.facts.DataFile.{DataFile}
 use Rattle.bk_ids.specs.declared.record.Rec.{Rec}
-use Rattle.bk_log.specs.Laws.{log_kept, value_kept}
+use Rattle.bk_reopening.specs.LogLaws.{log_kept, value_kept}
 use Rattle.bk_redo.specs.PageStates.{page_of}
 use Rattle.bk_paged.specs.Holds.{Holds, IsStored, Recovers, Stood, point_of}
 use Rattle.bk_paged.specs.Names.{IsOwn, names_of, shown_at}

@@ -7,7 +7,7 @@ use Rattle.bk_device.specs.Effects.{Effect}
 use Rattle.bk_facts.specs.declared.facts.DataFile.{DataFile}
 use Rattle.bk_filling.specs.Removing.{IsPart}
 use Rattle.bk_master.specs.Master.{IsOwn as IsOfMaster}
-use Rattle.bk_opening.specs.Opening.{TouchesDatabase}
+use Rattle.bk_reopening.specs.Opening.{TouchesDatabase}
 use Rattle.bk_paged.specs.Names.{IsOwn}
 use Rattle.bk_segments.specs.Files.{IsOwn as IsOfLog}
 use Rattle.bk_side.specs.Names.{data_file, side_file, IsOwn as IsOfSide}

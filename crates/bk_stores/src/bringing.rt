@@ -28,9 +28,8 @@ use bk_facts::DataFile;
 use bk_ids::{Lsn, Rec};
 use bk_known::Known;
 use bk_master::Entry;
-use bk_recovering::recover;
+use bk_recovering::{Medium, StoredSet, recover};
 use bk_store::Store;
-use bk_volume::{Medium, StoredSet};
 use std::alloc::Global;
 use std::thread::Threads;
 

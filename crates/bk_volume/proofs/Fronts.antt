@@ -11,8 +11,8 @@ use Rattle.bk_bytes.specs.Field.{AreBytes, bytes_of}
 use Rattle.bk_bytes.specs.FieldLaws.{length-bytes_of}
 use Rattle.bk_header.specs.Conditions.{IsHeader, IsHeaderFile}
 use Rattle.bk_header.specs.Spelling.{text_bytes, branch_bytes, file_bytes, fixed_bytes, lists_bytes, spelling}
-use Rattle.bk_set.specs.Conditions.{IsTable}
-use Rattle.bk_set.specs.Spelling.{table_bytes, log_bytes}
+use Rattle.bk_body.specs.SetConditions.{IsTable}
+use Rattle.bk_body.specs.SetSpelling.{table_bytes, log_bytes}
 use Rattle.bk_world.specs.declared.database.TableSpec.{TableSpec}
 use Rattle.bk_world.specs.declared.header.Header.{Header}
 use Rattle.bk_world.specs.declared.header.HeaderFile.{HeaderFile}

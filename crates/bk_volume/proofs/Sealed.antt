@@ -15,7 +15,7 @@ use Rattle.bk_device.specs.Disk.{Disk}
 use Rattle.bk_device.specs.Effects.{Effect, IsName}
 use Rattle.bk_gate.specs.Gate.{Kept, IsGate}
 use Rattle.bk_header.specs.Conditions.{IsHeader}
-use Rattle.bk_set.specs.Conditions.{IsTable}
+use Rattle.bk_body.specs.SetConditions.{IsTable}
 use Rattle.bk_world.specs.declared.database.TableSpec.{TableSpec}
 use Rattle.bk_world.specs.declared.header.Header.{Header}
 use Rattle.bk_world.specs.declared.header.HeaderFile.{HeaderFile}

@@ -8,7 +8,7 @@ ghost use Rattle.bk_device.specs.Disk.{IsDurable};
 ghost use Rattle.bk_device.specs.Effects.{Effect, IsName};
 ghost use Rattle.bk_gate.specs.Gate.{IsGate};
 ghost use Rattle.bk_header.specs.Conditions.{IsHeader, KeepsConditions};
-ghost use Rattle.bk_set.specs.Conditions.{IsTable};
+ghost use Rattle.bk_body.specs.SetConditions.{IsTable};
 ghost use Rattle.bk_volume.specs.Staging.{IsStaged, staged};
 ghost use Rattle.bk_volume.specs.Writing.{parts_of, with_digest, HasSealed, LeavesGrown};
 

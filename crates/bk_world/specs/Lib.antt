@@ -28,3 +28,5 @@ pub mod GrowthLaws
 pub mod SettledLaws
 pub mod SoundLaws
 pub mod CrashLaws
+pub use Rattle.bk_lemmas.specs.Lists as LemmasLists
+pub use Rattle.bk_lemmas.specs.Tests as LemmasTests

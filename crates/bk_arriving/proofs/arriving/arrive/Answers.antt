@@ -1,5 +1,5 @@
 use Rattle.std.proofs.Common.{ℕ, sym, subst}
-use Rattle.bk_reopening.specs.Reopening.{IsClosed}
+use Rattle.bk_restored.specs.Reopening.{IsClosed}
 use Rattle.bk_segments.specs.Files.{AreDurable as LogsAreDurable}
 use Rattle.bk_arriving.specs.Sets.{pages_of}
 use Rattle.bk_arriving.proofs.Logs.{suffices_as}

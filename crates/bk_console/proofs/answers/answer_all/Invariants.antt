@@ -1,6 +1,6 @@
 use Rattle.std.proofs.Common.{◌≡◌, List, None}
 use Rattle.bk_device.specs.Effects.{KeepsFiles}
-use Rattle.bk_engine.specs.Stands.{IsReady, StandsFor, own_in}
+use Rattle.bk_executing.specs.EngineStands.{IsReady, StandsFor, own_in}
 use Rattle.bk_items.specs.declared.item.ScriptEntry.{ScriptEntry}
 use Rattle.bk_machine.specs.World.{World}
 use Rattle.bk_stores.specs.Standing.{AreStanding}

@@ -1,6 +1,6 @@
 use Rattle.std.proofs.Common.{◌≡◌, ap, subst, sym, Err}
 use Rattle.std.proofs.lemmas.Result.{err_from_is_err_and}
-use Rattle.bk_engine.specs.Stands.{StandsFor}
+use Rattle.bk_executing.specs.EngineStands.{StandsFor}
 use Rattle.bk_executing.specs.declared.error.ExecuteError.TheVariants.{Broken}
 use Rattle.bk_console.proofs.Asking.{OnErr-from}
 use Rattle.bk_console.proofs.Executing.{was-done, was-not_done}

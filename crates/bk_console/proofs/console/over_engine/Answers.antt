@@ -1,7 +1,7 @@
 use Rattle.std.proofs.Common.{◌≡◌, ◌∙◌, ap, sym, Err}
 use Rattle.std.proofs.lemmas.Result.{err_from_is_err_and}
 use Rattle.bk_device.specs.Compose.{keeps_then}
-use Rattle.bk_engine.specs.TouchLaws.{wider-touch}
+use Rattle.bk_executing.specs.EngineTouchLaws.{wider-touch}
 use Rattle.bk_machine.specs.World.{opened}
 use Rattle.bk_console.specs.Run.{answer_status, close_status, load_status}
 use Rattle.bk_console.specs.declared.status.Status.TheVariants.{Broken}

@@ -4,7 +4,7 @@ use Rattle.bk_device.specs.Laws.{nothing_yet}
 use Rattle.bk_device.specs.Effects.{Effect}
 use Rattle.bk_engine.specs.Stands.{Covers, IsOurs, StandsFor}
 use Rattle.bk_engine.specs.TouchLaws.{rest-touch}
-use Rattle.bk_hosting.specs.Hosting.{Kept as KeptHosting, own_of}
+use Rattle.bk_engine.specs.Hosting.{Kept as KeptHosting, own_of}
 use Rattle.bk_restarts.specs.CutLaws.{cut-first}
 use Rattle.bk_stores.specs.Standing.{AreStanding}
 use Rattle.bk_executing.specs.Executing.{Rests}

@@ -1,5 +1,5 @@
 use Rattle.std.proofs.Common.{◌∙◌, ap, sym}
-use Rattle.bk_undo.specs.Spelled.{image}
+use Rattle.bk_shown.specs.UndoSpelled.{image}
 use Rattle.bk_images.proofs.images.image_of.Goals as goal
 
 pub returns-in-None-clause-image : goal.returns-in-None-clause-image

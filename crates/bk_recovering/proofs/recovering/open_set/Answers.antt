@@ -1,7 +1,7 @@
 use Rattle.std.proofs.Common.{rules}
 use Rattle.std.specs.Prelude.{IsErrOf}
 use Rattle.bk_device.specs.Compose.{effect_then}
-use Rattle.bk_opening.specs.TouchLaws.{files-touched}
+use Rattle.bk_reopening.specs.OpeningTouchLaws.{files-touched}
 use Rattle.bk_reopening.specs.declared.error.OpenError.TheVariants.{Foreign}
 use Rattle.bk_reopening.specs.Reopening.{IsClosed}
 use Rattle.bk_recovering.proofs.Recovered.{opened-both, opened-touches}

@@ -1,7 +1,7 @@
 use Rattle.std.proofs.Common.{rules}
 use Rattle.std.specs.Prelude.{IsErrOf}
 use Rattle.bk_device.specs.Compose.{effect_then}
-use Rattle.bk_opening.specs.TouchLaws.{own-touched}
+use Rattle.bk_reopening.specs.OpeningTouchLaws.{own-touched}
 use Rattle.bk_recovering.specs.declared.error.RecoverError.TheVariants.{Unfit}
 use Rattle.bk_recovering.proofs.Recovered.{said-both, said-touches}
 use Rattle.bk_recovering.proofs.recovering.recover.Goals as goal

@@ -1,6 +1,6 @@
 use Rattle.std.proofs.Common.{◌≡◌, ◌≤◌, ◌<◌, ◌+◌, ℕ}
 use Rattle.std.specs.Prelude.{slice_index_or}
-use Rattle.bk_storage.specs.Storage.{HasPath}
+use Rattle.bk_known.specs.Storage.{HasPath}
 use Rattle.bk_world.specs.declared.database.FileSpec.{FileSpec}
 use Rattle.bk_reopening.proofs.noting.are_files.Given as goal
 

@@ -1,6 +1,6 @@
 use Rattle.std.proofs.Common.{◌≡◌, ◌++◌, ◌∙◌}
 use Rattle.bk_known.specs.Known.{known_bytes}
-use Rattle.bk_store.specs.Told.{stood_of}
+use Rattle.bk_reopening.specs.StoreTold.{stood_of}
 use Rattle.bk_restored.proofs.Closed.{arrived-closed, suffices-bytes}
 use Rattle.bk_restored.proofs.finishing.finish.Goals as goal
 

@@ -6,8 +6,8 @@ use Rattle.bk_device.specs.Compose.{effect_then}
 use Rattle.bk_device.specs.Effects.{Effect}
 use Rattle.bk_engine.specs.Stands.{Covers, IsOurs, StandsFor}
 use Rattle.bk_hosted.specs.Hosted.{names}
-use Rattle.bk_hosting.specs.AskLaws.{described}
-use Rattle.bk_hosting.specs.Copying.{HaveExtents}
+use Rattle.bk_engine.specs.HostingAskLaws.{described}
+use Rattle.bk_engine.specs.HostingCopying.{HaveExtents}
 use Rattle.bk_ids.specs.declared.record.ExtentId.{ExtentId}
 use Rattle.bk_machine.specs.World.{database_named}
 use Rattle.bk_volume.specs.Staging.{HoldsParts}

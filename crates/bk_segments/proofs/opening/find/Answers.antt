@@ -3,7 +3,7 @@ use Rattle.std.proofs.lemmas.Result.{err_from_is_err_and}
 use Rattle.bk_control.specs.Control.{control_kept}
 use Rattle.bk_device.specs.Compose.{keeps_by_nothing}
 use Rattle.bk_device.specs.Laws.{nothing_then}
-use Rattle.bk_lemmas.specs.Tests.{same_error}
+use Rattle.bk_control.specs.LemmasTests.{same_error}
 use Rattle.bk_segments.specs.declared.error.LogError.TheVariants.{Foreign}
 use Rattle.bk_segments.specs.FileLaws.{foreign_record, foreign_run, all_moved, blobs_moved, begun_same, one_end}
 use Rattle.bk_segments.specs.Files.{segment_file, blobs_at, blobs_of}

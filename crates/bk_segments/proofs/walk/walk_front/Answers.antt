@@ -1,7 +1,7 @@
 use Rattle.std.proofs.Common.{◌≡◌, ◌<◌, ◌-◌, ◌+◌, ◌++◌, List, ℕ, length, refl, inl, inr, sym, ap, subst, ◌∙◌, arith}
 use Rattle.std.proofs.lemmas.Result.{err_from_is_err_and}
 use Rattle.bk_device.specs.Laws.{nothing_yet, nothing_then, cause_then}
-use Rattle.bk_lemmas.specs.Tests.{equal_or_not, same_error}
+use Rattle.bk_control.specs.LemmasTests.{equal_or_not, same_error}
 use Rattle.bk_segments.specs.declared.error.LogError.TheVariants.{Foreign}
 use Rattle.bk_segments.specs.FileLaws.{blobs_moved}
 use Rattle.bk_segments.specs.Files.{blobs_at, blobs_from, AreSegments}

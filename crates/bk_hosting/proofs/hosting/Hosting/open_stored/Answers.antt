@@ -6,7 +6,7 @@ use Rattle.bk_device.specs.Laws.{nothing_then}
 use Rattle.bk_hosted.specs.Fronts.{settling}
 use Rattle.bk_hosted.specs.Hosted.{folded, is_up}
 use Rattle.bk_master.specs.declared.record.Entry.{Entry}
-use Rattle.bk_reopening.specs.Reopening.{settled as settled_told}
+use Rattle.bk_stores.specs.Reopening.{settled as settled_told}
 use Rattle.bk_machine.specs.statements.Restore.{is_online}
 use Rattle.bk_stores.specs.TouchLaws.{nothing-touched}
 use Rattle.bk_stores.specs.declared.error.StoresError.TheVariants.{Broken}

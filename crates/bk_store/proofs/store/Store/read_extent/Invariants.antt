@@ -1,6 +1,6 @@
 use Rattle.std.specs.Prelude.{◌≤◌}
 use Rattle.bk_device.specs.Counts.{HasCause}
-use Rattle.bk_log.specs.Log.{KeepsSpare}
+use Rattle.bk_paged.specs.Log.{KeepsSpare}
 use Rattle.bk_paged.specs.Paged.{Standing, Touches}
 use Rattle.bk_store.proofs.Copied.{Copying}
 use Rattle.bk_store.proofs.store.Store.read_extent.Given as goal

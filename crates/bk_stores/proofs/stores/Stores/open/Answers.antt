@@ -6,7 +6,7 @@ use Rattle.bk_reopening.specs.Reopening.{IsClosed, Recovers, settled}
 use Rattle.bk_store.specs.Store.{Kept as KeptStore}
 use Rattle.bk_store.specs.Told.{Told}
 use Rattle.bk_stores.specs.ListLaws.{got, got-inside, got-one}
-use Rattle.bk_opening.specs.Quiet.{IsQuiet}
+use Rattle.bk_reopening.specs.OpeningQuiet.{IsQuiet}
 use Rattle.bk_stores.specs.Making.{IsSealed}
 use Rattle.bk_stores.specs.QuietLaws.{quiet-entry}
 use Rattle.bk_stores.specs.Standing.{AreStanding, AreUnused, IsStanding}
