@@ -4,13 +4,13 @@ use Rattle.bk_ids.specs.declared.path.Branch.{Branch}
 use Rattle.bk_world.specs.Lines.{log_below}
 use Rattle.bk_world.specs.Records.{Counts, Said}
 use Rattle.bk_world.specs.GrowthLaws.{records-grown}
-use Rattle.bk_machine.specs.Acts.{Act, Recovery, turned, seated, created, dropped, logged, medium_made, set_drawn, set_sealed, based, replaced, restored, recovered, done, done_all, goes_online, says, where_found}
+use Rattle.bk_machine.specs.Acts.{Act, Recovery, turned, seated, created, dropped, logged, medium_made, set_drawn, noted, set_sealed, based, replaced, restored, recovered, done, done_all, goes_online, says, where_found}
 use Rattle.bk_machine.specs.MayDo.{HoldsOf, MayDo, MayDoAll, MayLog, MayRecover}
 use Rattle.bk_machine.specs.Sound.{IsSound}
 use Rattle.bk_world.specs.declared.transaction.Open.{Open}
 use Rattle.bk_machine.specs.World.{World, Database, database_named}
 use Rattle.bk_machine.proofs.ActsBegin.{created-follows, created-sound, recovered-follows, recovered-sound}
-use Rattle.bk_machine.proofs.ActsPlain.{based-follows, based-sound, dropped-follows, dropped-sound, medium_made-follows, set_drawn-follows, medium_made-sound, set_drawn-sound, replaced-follows, replaced-sound, restored-follows, restored-sound, sealed-follows, sealed-sound, seated-follows, seated-sound, turned-follows, turned-sound}
+use Rattle.bk_machine.proofs.ActsPlain.{based-follows, based-sound, dropped-follows, dropped-sound, medium_made-follows, set_drawn-follows, noted-follows, medium_made-sound, set_drawn-sound, noted-sound, replaced-follows, replaced-sound, restored-follows, restored-sound, sealed-follows, sealed-sound, seated-follows, seated-sound, turned-follows, turned-sound}
 use Rattle.bk_machine.proofs.ActsSays.{says-follows, says-opens, says-whole}
 use Rattle.bk_machine.proofs.ActsStay.{Follows}
 use Rattle.bk_machine.specs.NamedLaws.{named-own}
@@ -51,6 +51,7 @@ act-keeps w (logged name said transactions) is may = logged-keeps w name said tr
 act-keeps w (medium_made path) is may = record { follows = medium_made-follows w is path; sound = medium_made-sound w is path }
 act-keeps w set_drawn is may = record { follows = set_drawn-follows w is; sound = set_drawn-sound w is }
 act-keeps w (set_sealed path header) is may = record { follows = sealed-follows w is path header may; sound = sealed-sound w is path header may }
+act-keeps w (noted row) is may = record { follows = noted-follows w is row; sound = noted-sound w is row }
 act-keeps w (based name header) is may = record { follows = based-follows w is name header; sound = based-sound w is name header }
 act-keeps w (replaced name header) is may = record { follows = replaced-follows w is name header may; sound = replaced-sound w is name header may }
 act-keeps w (restored name base redo) is may = record { follows = restored-follows w is name base redo; sound = restored-sound w is name base redo }

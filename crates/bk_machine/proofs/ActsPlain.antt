@@ -10,7 +10,8 @@ use Rattle.bk_world.specs.declared.header.Header.{Header}
 use Rattle.bk_world.specs.Lines.{Grew, MayGoOn}
 use Rattle.bk_lemmas.specs.Lists.{all_filter, all_joined}
 use Rattle.bk_world.specs.Medium.{Reading, readable, not_media, medium, medium_at, without_medium}
-use Rattle.bk_machine.specs.Acts.{based, based_on, done, dropped, medium_made, set_drawn, replaced, restored, seated, set_sealed, taken_over, turned, units_in, with_slot}
+use Rattle.bk_machine.specs.declared.history_row.HistoryRow.{HistoryRow}
+use Rattle.bk_machine.specs.Acts.{based, based_on, done, dropped, medium_made, set_drawn, noted, replaced, restored, seated, set_sealed, taken_over, turned, units_in, with_slot}
 use Rattle.bk_machine.specs.Sound.{AreDifferent, IsOnce, IsSound, IsSoundLine, IsSoundReading, IsSoundSet, IsSoundSlot, IsWhole, IsWholeDatabase, OpenBy}
 use Rattle.bk_machine.specs.World.{World, Database, log_of, most_sessions}
 use Rattle.bk_machine.proofs.ActsStay.{Follows, database-stays, lines-stay, media-stay, open-retouched, whole-retouched}
@@ -140,6 +141,27 @@ module _ (w : World) (is : IsSound w) where
 
   pub set_drawn-follows : Follows w (done w set_drawn)
   set_drawn-follows = plain-follows w (done w set_drawn) set_drawn-plain
+
+  -- rows of msdb
+
+  noted-plain : (row : HistoryRow) → Plain w (done w (noted row))
+  unfolding done
+  noted-plain row = record {
+    instance = refl;
+    counter = omega arith;
+    history = refl;
+    databases = is.whole.databases;
+    different = is.whole.different;
+    opens = is.opens;
+    media = is.whole.media;
+    seat = is.seat;
+  }
+
+  pub noted-sound : (row : HistoryRow) → IsSound (done w (noted row))
+  noted-sound row = plain-sound w (done w (noted row)) (noted-plain row) is.whole
+
+  pub noted-follows : (row : HistoryRow) → Follows w (done w (noted row))
+  noted-follows row = plain-follows w (done w (noted row)) (noted-plain row)
 
   -- the reading at a path with one slot more
   slotted : (header : Header) → IsSoundSet w header → (path : List ℕ) (media : List (List ℕ × Reading)) → AllByRecursion (λ (m : List ℕ × Reading). IsSoundReading w m.1) media

@@ -1,12 +1,15 @@
 -- Where a run is cut that begins in a sound world.
-use Rattle.std.proofs.Common.{◌≡◌, ◌≤◌, inl, inr, ℕ, zero, suc, ◌+◌, List, [], ◌∷◌, ◌++◌, take, drop, refl, sym, ◌∙◌, ap, subst}
+use Rattle.std.proofs.Common.{◌≡◌, ◌≤◌, inl, inr, ℕ, zero, suc, ◌+◌, List, [], ◌∷◌, ◌++◌, take, drop, refl, sym, ◌∙◌, ap, subst, Option}
 use Rattle.std.specs.List.{AllByRecursion, AllZip}
 use Rattle.std.proofs.lemmas.List.{take-append-drop}
 use Rattle.bk_world.specs.Cut.{settled}
 use Rattle.bk_lemmas.specs.Lists.{all_both}
 use Rattle.bk_world.specs.Records.{Logged}
 use Rattle.bk_world.specs.declared.database.Status.TheVariants.{Online}
-use Rattle.bk_machine.specs.Acts.{Act, turned, seated, created, dropped, logged, medium_made, set_drawn, set_sealed, based, replaced, restored, recovered, done, done_all}
+use Rattle.bk_world.specs.declared.header.Header.{Header}
+use Rattle.bk_world.specs.declared.database.Base.{Base}
+use Rattle.bk_machine.specs.declared.history_row.HistoryRow.{HistoryRow}
+use Rattle.bk_machine.specs.Acts.{Act, turned, seated, created, dropped, logged, medium_made, set_drawn, noted, set_sealed, based, replaced, restored, recovered, done, done_all, Recovery}
 use Rattle.bk_machine.specs.Crash.{CutsRun, IsQuiet, Leaves, WorldLeft, front_of, next_acts}
 use Rattle.bk_machine.specs.MayDo.{MayDoAll}
 use Rattle.bk_machine.specs.Outcome.{Outcome}
@@ -61,10 +64,20 @@ none-said (dropped name) acts (suc n) not_logged = refl
 none-said (medium_made path) acts (suc n) not_logged = refl
 none-said set_drawn acts (suc n) not_logged = refl
 none-said (set_sealed path header) acts (suc n) not_logged = refl
+none-said (noted row) acts (suc n) not_logged = refl
 none-said (based name header) acts (suc n) not_logged = refl
 none-said (replaced name header) acts (suc n) not_logged = refl
 none-said (restored name base redo) acts (suc n) not_logged = refl
 none-said (recovered name r) acts (suc n) not_logged = refl
+
+-- the acts of a restore
+abbrev restoring : List ℕ → Header → Option Base → ℕ → Recovery → HistoryRow → List Act
+restoring name header base redo r row = replaced name header ∷ restored name base redo ∷ recovered name r ∷ noted row ∷ []
+
+-- a row of msdb leaves the databases
+noted-leaves : (w : World) (row : HistoryRow) → (done w (noted row)).databases ≡ w.databases
+unfolding done
+noted-leaves w row = refl
 
 -- the world where acts are cut
 abbrev cut_at : World → List Act → ℕ → ℕ → World
@@ -90,37 +103,39 @@ module _ (before : World) (sound : IsSound before) where
           let taken : take k [] ≡ [] = take-none k in
           subst (λ rest. AllByRecursion (IsWithin before (done before one.0)) (done_all (done_all (done before one.0) (take k [])) rest).databases) (sym nothing)
           (subst (λ rest. AllByRecursion (IsWithin before (done before one.0)) (done_all (done before one.0) rest).databases) (sym taken) (within-whole before (done before one.0) (acts-sound before (one.0 ∷ []) sound may).whole.different))
-  within-cut acts k n may (inr (inr (name, header, base, redo, r, is))) =
+  within-cut acts k n may (inr (inr (name, header, base, redo, r, row, is))) =
       subst (λ rest. AllByRecursion (IsWithin before (done_all before rest)) (cut_at before rest k n).databases) (sym is) (by k (subst (MayDoAll before) is may))
     where
-      steps : List Act
-      steps = replaced name header ∷ restored name base redo ∷ recovered name r ∷ []
+      first : AllByRecursion (IsWithin before (done_all before (restoring name header base redo r row))) before.databases
+      first = within-before before (done_all before (restoring name header base redo r row)) sound.whole.different
 
-      first : AllByRecursion (IsWithin before (done_all before (replaced name header ∷ restored name base redo ∷ recovered name r ∷ []))) before.databases
-      first = within-before before (done_all before (replaced name header ∷ restored name base redo ∷ recovered name r ∷ [])) sound.whole.different
+      second : AllByRecursion (IsWithin before (done_all before (restoring name header base redo r row))) (done before (replaced name header)).databases
+      second = within-replaced before (done_all before (restoring name header base redo r row)) before name header first
 
-      second : AllByRecursion (IsWithin before (done_all before (replaced name header ∷ restored name base redo ∷ recovered name r ∷ []))) (done before (replaced name header)).databases
-      second = within-replaced before (done_all before (replaced name header ∷ restored name base redo ∷ recovered name r ∷ [])) before name header first
+      third : AllByRecursion (IsWithin before (done_all before (restoring name header base redo r row))) (done (done before (replaced name header)) (restored name base redo)).databases
+      third = within-restored before (done_all before (restoring name header base redo r row)) (done before (replaced name header)) name base redo second
+
+      last : MayDoAll before (restoring name header base redo r row) → AllByRecursion (IsWithin before (done_all before (restoring name header base redo r row))) (done_all before (restoring name header base redo r row)).databases
+      last may = within-whole before (done_all before (restoring name header base redo r row)) (acts-sound before (restoring name header base redo r row) sound may).whole.different
 
       -- nothing is said where one of these acts is cut
-      unsaid : (w : World) (act : Act) (acts : List Act) → NotLogged act → AllByRecursion (IsWithin before (done_all before (replaced name header ∷ restored name base redo ∷ recovered name r ∷ []))) w.databases
-          → AllByRecursion (IsWithin before (done_all before (replaced name header ∷ restored name base redo ∷ recovered name r ∷ []))) (done_all w (front_of n (act ∷ acts))).databases
-      unsaid w act acts not_logged all =
-          subst (λ front. AllByRecursion (IsWithin before (done_all before (replaced name header ∷ restored name base redo ∷ recovered name r ∷ []))) (done_all w front).databases) (sym (none-said act acts n not_logged)) all
+      unsaid : (w : World) (act : Act) (acts : List Act) → NotLogged act → AllByRecursion (IsWithin before (done_all before (restoring name header base redo r row))) w.databases
+          → AllByRecursion (IsWithin before (done_all before (restoring name header base redo r row))) (done_all w (front_of n (act ∷ acts))).databases
+      unsaid w act acts not_logged all = subst (λ front. AllByRecursion (IsWithin before (done_all before (restoring name header base redo r row))) (done_all w front).databases) (sym (none-said act acts n not_logged)) all
 
-      by : (k : ℕ) → MayDoAll before (replaced name header ∷ restored name base redo ∷ recovered name r ∷ [])
-          → AllByRecursion (IsWithin before (done_all before (replaced name header ∷ restored name base redo ∷ recovered name r ∷ []))) (cut_at before (replaced name header ∷ restored name base redo ∷ recovered name r ∷ []) k n).databases
-      by zero may = unsaid before (replaced name header) (restored name base redo ∷ recovered name r ∷ []) tt first
-      by (suc zero) may = unsaid (done before (replaced name header)) (restored name base redo) (recovered name r ∷ []) tt second
-      by (suc (suc zero)) may =
-          unsaid (done (done before (replaced name header)) (restored name base redo)) (recovered name r) [] tt
-          (within-restored before (done_all before (replaced name header ∷ restored name base redo ∷ recovered name r ∷ [])) (done before (replaced name header)) name base redo second)
-      by (suc (suc (suc k))) may =
-          let last : World = done_all before (replaced name header ∷ restored name base redo ∷ recovered name r ∷ []) in
+      by : (k : ℕ) → MayDoAll before (restoring name header base redo r row) → AllByRecursion (IsWithin before (done_all before (restoring name header base redo r row))) (cut_at before (restoring name header base redo r row) k n).databases
+      by zero may = unsaid before (replaced name header) (restored name base redo ∷ recovered name r ∷ noted row ∷ []) tt first
+      by (suc zero) may = unsaid (done before (replaced name header)) (restored name base redo) (recovered name r ∷ noted row ∷ []) tt second
+      by (suc (suc zero)) may = unsaid (done (done before (replaced name header)) (restored name base redo)) (recovered name r) (noted row ∷ []) tt third
+      by (suc (suc (suc zero))) may =
+          let online : World = done (done (done before (replaced name header)) (restored name base redo)) (recovered name r) in
+          unsaid online (noted row) [] tt (subst (λ (ds : List Database). AllByRecursion (IsWithin before (done_all before (restoring name header base redo r row))) ds) (noted-leaves online row) (last may))
+      by (suc (suc (suc (suc k)))) may =
+          let whole : World = done_all before (restoring name header base redo r row) in
           let nothing : front_of n (drop k []) ≡ [] = ap (front_of n) (drop-none k) ∙ front-none n in
           let taken : take k [] ≡ [] = take-none k in
-          subst (λ rest. AllByRecursion (IsWithin before last) (done_all (done_all last (take k [])) rest).databases) (sym nothing)
-          (subst (λ rest. AllByRecursion (IsWithin before last) (done_all last rest).databases) (sym taken) (within-whole before last (acts-sound before (replaced name header ∷ restored name base redo ∷ recovered name r ∷ []) sound may).whole.different))
+          subst (λ rest. AllByRecursion (IsWithin before whole) (done_all (done_all whole (take k [])) rest).databases) (sym nothing)
+          (subst (λ rest. AllByRecursion (IsWithin before whole) (done_all whole rest).databases) (sym taken) (last may))
 
 -- acts of a statement that are cut, in a sound world
 module _ (before : World) (sound : IsSound before) (acts : List Act) (may : MayDoAll before acts) (well : CutWell before acts) (k n : ℕ) (quiet : AllByRecursion IsQuiet (front_of n (drop k acts))) where

@@ -10,7 +10,7 @@ use Rattle.bk_world.specs.ReadingLaws.{pending-more}
 use Rattle.bk_world.specs.Records.{Deed, Load, Logged, Said, more, numbered, database_made, table_made, begun, written, committed, rolled_back, undone, checkpointed, stamped, model_set, loaded, recovered as recovery}
 use Rattle.bk_world.specs.Telling.{model}
 use Rattle.bk_world.specs.declared.database.Status.TheVariants.{Online}
-use Rattle.bk_machine.specs.Acts.{Act, turned, seated, created, dropped, logged, medium_made, set_drawn, set_sealed, based, replaced, restored, recovered, done, done_all, gone_on, gone_online, goes_online, new_database, says, taken_over, where_found}
+use Rattle.bk_machine.specs.Acts.{Act, turned, seated, created, dropped, logged, medium_made, set_drawn, noted, set_sealed, based, replaced, restored, recovered, done, done_all, gone_on, gone_online, goes_online, new_database, says, taken_over, where_found}
 use Rattle.bk_machine.specs.Checks.{last_number}
 use Rattle.bk_machine.specs.Crash.{AreQuiet, IsQuiet, begins_in, begins_of, front_of, open_begins}
 use Rattle.bk_machine.specs.MayDo.{HoldsOf, MayDoAll, MayLog, MaySay}
@@ -139,6 +139,7 @@ module _ (before : World) where
   open-done w (medium_made path) different own all = all
   open-done w set_drawn different own all = all
   open-done w (set_sealed path header) different own all = all
+  open-done w (noted row) different own all = all
   open-done w (based name header) different own all = all-with OpenOwn OpenOwn w.databases name _ all (λ d was. was) (λ d was. was)
   open-done w (replaced name header) different own all = all-placed OpenOwn OpenOwn w.databases (taken_over name header) all tt (λ d was. was)
   open-done w (restored name base redo) different own all = all-with OpenOwn OpenOwn w.databases name _ all (λ d was. was) (λ d was. was)
@@ -229,6 +230,7 @@ module _ (before : World) where
     cut-pends (medium_made path ∷ acts) (suc n) may own left quiet = nothing-said
     cut-pends (set_drawn ∷ acts) (suc n) may own left quiet = nothing-said
     cut-pends (set_sealed path header ∷ acts) (suc n) may own left quiet = nothing-said
+    cut-pends (noted row ∷ acts) (suc n) may own left quiet = nothing-said
     cut-pends (based name header ∷ acts) (suc n) may own left quiet = nothing-said
     cut-pends (replaced name header ∷ acts) (suc n) may own left quiet = nothing-said
     cut-pends (restored name base redo ∷ acts) (suc n) may own left quiet = nothing-said

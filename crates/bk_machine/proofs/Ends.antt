@@ -9,7 +9,7 @@ use Rattle.bk_world.specs.Records.{Said}
 use Rattle.bk_world.specs.Telling.{model}
 use Rattle.bk_world.specs.declared.database.Status.TheVariants.{Online, Down}
 use Rattle.bk_world.specs.declared.header.Header.{Header}
-use Rattle.bk_machine.specs.Acts.{Act, turned, seated, created, dropped, logged, medium_made, set_drawn, set_sealed, based, replaced, restored, recovered, done, done_all, gone_on, says, taken_over, where_found}
+use Rattle.bk_machine.specs.Acts.{Act, turned, seated, created, dropped, logged, medium_made, set_drawn, noted, set_sealed, based, replaced, restored, recovered, done, done_all, gone_on, says, taken_over, where_found}
 use Rattle.bk_machine.specs.Crash.{end_in, front_of, greatest_end}
 use Rattle.bk_machine.specs.Sound.{AreDifferent}
 use Rattle.bk_world.specs.declared.transaction.Open.{Open}
@@ -64,6 +64,7 @@ IsSteady (logged name said transactions) = Unit {0}
 IsSteady (medium_made path) = Unit {0}
 IsSteady set_drawn = Unit {0}
 IsSteady (set_sealed path header) = Unit {0}
+IsSteady (noted row) = Unit {0}
 IsSteady (based name header) = Unit {0}
 IsSteady (replaced name header) = ⊥
 IsSteady (restored name base redo) = ⊥
@@ -93,6 +94,7 @@ rose-done w (logged name said transactions) steady = by (database_named w.databa
 rose-done w (medium_made path) steady = rose-itself w.databases
 rose-done w set_drawn steady = rose-itself w.databases
 rose-done w (set_sealed path header) steady = rose-itself w.databases
+rose-done w (noted row) steady = rose-itself w.databases
 rose-done w (based name header) steady = rose-changed w.databases name _ (λ d. record { name = refl; end = omega arith })
 rose-done w (replaced name header) steady = absurd steady
 rose-done w (restored name base redo) steady = absurd steady
@@ -131,6 +133,7 @@ rose-cut w (dropped name ∷ acts) (suc n) steady = absurd steady.0
 rose-cut w (medium_made path ∷ acts) (suc n) steady = rose-all w (medium_made path ∷ acts) steady
 rose-cut w (set_drawn ∷ acts) (suc n) steady = rose-all w (set_drawn ∷ acts) steady
 rose-cut w (set_sealed path header ∷ acts) (suc n) steady = rose-all w (set_sealed path header ∷ acts) steady
+rose-cut w (noted row ∷ acts) (suc n) steady = rose-all w (noted row ∷ acts) steady
 rose-cut w (based name header ∷ acts) (suc n) steady = rose-all w (based name header ∷ acts) steady
 rose-cut w (replaced name header ∷ acts) (suc n) steady = absurd steady.0
 rose-cut w (restored name base redo ∷ acts) (suc n) steady = absurd steady.0

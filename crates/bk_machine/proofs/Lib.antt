@@ -37,7 +37,6 @@ mod Cells
 mod Lying
 mod Room
 mod CellCount
-mod Moved
 mod Recovering
 mod Loads
 mod Reaching

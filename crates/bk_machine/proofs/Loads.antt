@@ -13,7 +13,8 @@ use Rattle.bk_world.specs.declared.database.FileSpec.{FileSpec}
 use Rattle.bk_world.specs.declared.header.Header.{Header}
 use Rattle.bk_world.specs.GrowthLaws.{records-grown}
 use Rattle.bk_machine.specs.NewFileLaws.{apart-from}
-use Rattle.bk_machine.specs.Acts.{Act, Recovery, based, based_on, created, creation_said, done, done_all, dropped, gone_on, gone_online, goes_online, logged, medium_made, set_drawn, new_database, recovered, replaced, restored, says, seated, set_sealed, taken_over, turned, where_found, with_slot}
+use Rattle.bk_machine.specs.declared.history_row.HistoryRow.{HistoryRow}
+use Rattle.bk_machine.specs.Acts.{Act, Recovery, based, based_on, created, creation_said, done, done_all, dropped, gone_on, gone_online, goes_online, logged, medium_made, set_drawn, noted, new_database, recovered, replaced, restored, says, seated, set_sealed, taken_over, turned, where_found, with_slot}
 use Rattle.bk_machine.specs.Built.{IsBuilt, IsBuiltLog, IsBuiltReading, IsBuiltSlot, IsNoLoad, SayNoLoad, SaysNoLoad}
 use Rattle.bk_machine.specs.MayDo.{HoldsOf, MayDo, MayDoAll, MayLog, MayRecover}
 use Rattle.bk_machine.specs.Sound.{IsSound, IsSoundReading, IsSoundSlot, IsWholeDatabase, files_of_set}
@@ -138,6 +139,10 @@ module _ (w : World) (sound : IsSound w) (built : IsBuilt w) where
   set_drawn-built : IsBuilt (done w set_drawn)
   unfolding done
   set_drawn-built = record { databases = built.databases; media = media-as-they-were (done w set_drawn) refl }
+
+  noted-built : (row : HistoryRow) → IsBuilt (done w (noted row))
+  unfolding done
+  noted-built row = record { databases = built.databases; media = media-as-they-were (done w (noted row)) refl }
 
   sealed-built : (path : List ℕ) (header : Header) → IsBuiltLog (files_of_set header) (log_below w.history header.path header.last) → IsBuilt (done w (set_sealed path header))
   unfolding done
@@ -265,6 +270,7 @@ module _ (w : World) (sound : IsSound w) (built : IsBuilt w) where
   act-built (medium_made path) may none = medium_made-built path
   act-built set_drawn may none = set_drawn-built
   act-built (set_sealed path header) may none = sealed-built path header none
+  act-built (noted row) may none = noted-built row
   act-built (based name header) may none = based-built name header
   act-built (replaced name header) may none = replaced-built name header none
   act-built (restored name base redo) may none = restored-built name base redo

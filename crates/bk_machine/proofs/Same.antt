@@ -5,7 +5,8 @@ use Rattle.bk_world.specs.Lines.{Grew}
 use Rattle.bk_lemmas.specs.Lists.{all_mapped}
 use Rattle.bk_world.specs.declared.header.Header.{Header}
 use Rattle.bk_world.specs.GrowthLaws.{records-grown}
-use Rattle.bk_machine.specs.Acts.{done, medium_made, set_drawn, seated, set_sealed, turned}
+use Rattle.bk_machine.specs.declared.history_row.HistoryRow.{HistoryRow}
+use Rattle.bk_machine.specs.Acts.{done, medium_made, set_drawn, noted, seated, set_sealed, turned}
 use Rattle.bk_machine.specs.Events.{MediumAdded, MediumChanged, MediumRemoved, StandbyRemoved}
 use Rattle.bk_machine.specs.Same.{SameLogs}
 use Rattle.bk_machine.specs.SettledLaws.{logs-same}
@@ -44,6 +45,10 @@ same-medium_made w path = logs-same w (done w (medium_made path)) refl refl
 pub same-set_drawn : (w : World) → SameLogs w (done w set_drawn)
 unfolding done
 same-set_drawn w = logs-same w (done w set_drawn) refl refl
+
+pub same-noted : (w : World) (row : HistoryRow) → SameLogs w (done w (noted row))
+unfolding done
+same-noted w row = logs-same w (done w (noted row)) refl refl
 
 pub same-sealed : (w : World) (path : List ℕ) (header : Header) → SameLogs w (done w (set_sealed path header))
 unfolding done

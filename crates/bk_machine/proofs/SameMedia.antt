@@ -1,6 +1,7 @@
 -- Worlds with the same media, whose sets read the same.
 use Rattle.std.proofs.Common.{◌≡◌, ℕ, List, Option, None, Some, refl}
-use Rattle.bk_machine.specs.Acts.{done, logged, seated, set_drawn, says, turned, where_found}
+use Rattle.bk_machine.specs.declared.history_row.HistoryRow.{HistoryRow}
+use Rattle.bk_machine.specs.Acts.{done, logged, seated, set_drawn, noted, says, turned, where_found}
 use Rattle.bk_machine.specs.MayDo.{MayDo}
 use Rattle.bk_machine.specs.Same.{SameMedia}
 use Rattle.bk_machine.specs.SettledLaws.{media-same}
@@ -21,6 +22,10 @@ media-seated w session = media-same w (done w (seated session)) refl refl refl
 pub media-set_drawn : (w : World) → SameMedia w (done w set_drawn)
 unfolding done
 media-set_drawn w = media-same w (done w set_drawn) refl refl refl
+
+pub media-noted : (w : World) (row : HistoryRow) → SameMedia w (done w (noted row))
+unfolding done
+media-noted w row = media-same w (done w (noted row)) refl refl refl
 
 pub media-opened : (w : World) → SameMedia w (opened w)
 unfolding opened

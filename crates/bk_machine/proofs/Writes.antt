@@ -2,8 +2,9 @@
 use Rattle.std.proofs.Common.{◌≡◌, inl, inr, ℕ, List, [], ◌∷◌, Option, sym, subst}
 use Rattle.std.specs.List.{AllByRecursion}
 use Rattle.bk_items.specs.declared.item.ScriptEntry.{ScriptEntry}
+use Rattle.bk_items.specs.declared.item.Catalog.{Catalog}
 use Rattle.bk_items.specs.declared.item.MediumQuery.{MediumQuery}
-use Rattle.bk_items.specs.declared.item.ScriptItem.TheVariants.{QueryMedium, Rows, Use, Session}
+use Rattle.bk_items.specs.declared.item.ScriptItem.TheVariants.{QueryMedium, Rows, SelectCatalog, Use, Session}
 use Rattle.bk_items.specs.declared.rows.RowStatement.TheVariants.{Select}
 use Rattle.bk_world.specs.declared.reply.Reply.{Reply}
 use Rattle.bk_world.specs.declared.reply.Reply.TheVariants.{Done, Refused}
@@ -14,6 +15,7 @@ use Rattle.bk_machine.specs.Machine.{May}
 use Rattle.bk_machine.specs.Outcome.{Outcome, answered, in_one}
 use Rattle.bk_machine.specs.World.{World}
 use Rattle.bk_machine.specs.Writes.{ActWrites, ActsWrite, IsStill, IsTurn, StatementWrites}
+use Rattle.bk_machine.specs.statements.Catalog.{check_catalog, DoesSelectCatalog}
 use Rattle.bk_machine.specs.statements.Query.{check_query, DoesQuery}
 use Rattle.bk_machine.specs.statements.Session.{check_session, DoesSession}
 use Rattle.bk_machine.specs.statements.Select.{check_select, DoesSelect}
@@ -58,6 +60,11 @@ session-still w line n now = comes-to IsStill (check_session line n) DoesSession
 pub query-still : (w : World) (line : ℕ) (query : MediumQuery) (disk : List ℕ) (file : Option ℕ) (now : ℕ) (outcome : Outcome) → May w (record { item = QueryMedium query disk file; line = line }) now outcome → IsStill outcome
 unfolding May
 query-still w line query disk file now = comes-to IsStill (check_query w line query disk file) DoesQuery (λ rule. tt) (λ reply e outcome is. subst IsStill (sym is) tt)
+
+-- nor the tables of msdb
+pub catalog-still : (w : World) (line : ℕ) (catalog : Catalog) (now : ℕ) (outcome : Outcome) → May w (record { item = SelectCatalog catalog; line = line }) now outcome → IsStill outcome
+unfolding May
+catalog-still w line catalog now = comes-to IsStill (check_catalog w line catalog) DoesSelectCatalog (λ rule. tt) (λ listing e outcome is. subst IsStill (sym is) tt)
 
 answered-still : (answer : Reply) (outcome : Outcome) → outcome ≡ answered answer → IsStill outcome
 answered-still answer outcome is = subst IsStill (sym is) tt

@@ -18,6 +18,11 @@ use Rattle.bk_world.specs.declared.database.Status.TheVariants as status
 use Rattle.bk_world.specs.declared.database.Unit.{Unit as RestoreUnit}
 use Rattle.bk_world.specs.declared.header.Header.{Header}
 use Rattle.bk_world.specs.declared.header.HeaderFile.{HeaderFile}
+use Rattle.bk_world.specs.declared.msdb.BackupRow.{BackupRow}
+use Rattle.bk_world.specs.declared.msdb.MarkRow.{MarkRow}
+use Rattle.bk_world.specs.declared.msdb.RestoreRow.{RestoreRow}
+use Rattle.bk_machine.specs.declared.history_row.HistoryRow.{HistoryRow}
+use Rattle.bk_machine.specs.declared.history_row.HistoryRow.TheVariants.{Backup, Restore, Mark}
 use Rattle.bk_world.specs.History.{is_guid}
 use Rattle.bk_world.specs.Lines.{RecordLine, said_on_last}
 use Rattle.bk_world.specs.Medium.{Slot, Reading, readable, not_media, medium, medium_at, with_medium}
@@ -50,6 +55,8 @@ pub data Act : Type 0 where
   set_drawn : Act
   -- a set is sealed behind those on a medium
   set_sealed : List ℕ → Header → Act
+  -- a row is added to its table of msdb
+  noted : HistoryRow → Act
   -- a database is based on a set
   based : List ℕ → Header → Act
   -- a set takes the place of the database of a name, or comes behind the others; its files are Bad
@@ -256,6 +263,24 @@ goes_online w db r = record w {
   databases = with_database w.databases db.name (gone_online (model (log_to w.history db r.at)) r);
 }
 
+-- Rows of msdb.
+
+-- what a row is in backupset, restorehistory and logmarkhistory
+abbrev pub backups_in : HistoryRow → List BackupRow
+backups_in (Backup row) = row ∷ []
+backups_in (Restore row) = []
+backups_in (Mark row) = []
+
+abbrev pub restores_in : HistoryRow → List RestoreRow
+restores_in (Backup row) = []
+restores_in (Restore row) = row ∷ []
+restores_in (Mark row) = []
+
+abbrev pub marks_in : HistoryRow → List MarkRow
+marks_in (Backup row) = []
+marks_in (Restore row) = []
+marks_in (Mark row) = row ∷ []
+
 -- What acts make of a world.
 
 -- the standby files without that of a database, if it has one
@@ -290,6 +315,7 @@ done w (logged name records transactions) = where_found w (database_named w.data
 done w (medium_made path) = record w { counter = w.counter + 1; media = with_medium w.media path (medium []) }
 done w set_drawn = record w { counter = w.counter + 1 }
 done w (set_sealed path header) = record w { media = with_medium w.media path (with_slot (medium_at w.media path) (readable header)) }
+done w (noted row) = record w { backups = w.backups ++ backups_in row; restores = w.restores ++ restores_in row; marks = w.marks ++ marks_in row }
 done w (based name header) = record w { databases = with_database w.databases name (based_on header) }
 done w (replaced name header) = record w {
   databases = with_new_database w.databases (taken_over name header);

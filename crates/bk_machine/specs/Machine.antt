@@ -2,7 +2,7 @@
 use Rattle.std.specs.Prelude.{◌≡◌, ℕ}
 use Rattle.bk_items.specs.declared.item.ScriptEntry.{ScriptEntry}
 use Rattle.bk_items.specs.declared.item.ScriptItem.{ScriptItem}
-use Rattle.bk_items.specs.declared.item.ScriptItem.TheVariants.{CreateDatabase, DropDatabase, Use, CreateTable, Rows, BackupDatabase, RestoreDatabase, QueryMedium, Begin, Commit, Rollback, Checkpoint, Session, Syntax, TooLong}
+use Rattle.bk_items.specs.declared.item.ScriptItem.TheVariants.{CreateDatabase, DropDatabase, Use, CreateTable, Rows, BackupDatabase, RestoreDatabase, QueryMedium, Begin, Commit, Rollback, Checkpoint, SelectCatalog, Session, Syntax, TooLong}
 use Rattle.bk_world.specs.declared.rule.Rule.TheVariants as rule
 use Rattle.bk_world.specs.declared.rule.Rule.TheVariants.{NotBuilt}
 use Rattle.bk_machine.specs.Acts.{done_all}
@@ -20,6 +20,7 @@ use Rattle.bk_machine.specs.statements.Session.{check_session, DoesSession}
 use Rattle.bk_machine.specs.statements.Checkpoint.{check_checkpoint, DoesCheckpoint}
 use Rattle.bk_machine.specs.statements.Backup.{check_backup, DoesBackup}
 use Rattle.bk_machine.specs.statements.Restore.{check_restore, DoesRestore}
+use Rattle.bk_machine.specs.statements.Catalog.{check_catalog, DoesSelectCatalog}
 use Rattle.bk_machine.specs.statements.Query.{check_query, DoesQuery}
 
 -- what an item on this line may come to at a moment
@@ -30,12 +31,13 @@ ItemMay w line (Use name) now = ComesTo (check_use w name) DoesUse
 ItemMay w line (CreateTable name group) now = ComesTo (check_create_table w line name group) (DoesCreateTable w name now)
 ItemMay w line (Rows table statement) now = RowsMay w line table statement now
 ItemMay w line (BackupDatabase name units disk options) now = ComesTo (check_backup w line name units disk options) (DoesBackup w disk options now)
-ItemMay w line (RestoreDatabase name units disk options) now = ComesTo (check_restore w line name units disk options) (DoesRestore w name)
+ItemMay w line (RestoreDatabase name units disk options) now = ComesTo (check_restore w line name units disk options) (DoesRestore w name options now)
 ItemMay w line (QueryMedium query disk file) now = ComesTo (check_query w line query disk file) DoesQuery
 ItemMay w line (Begin transaction) now = ComesTo (check_begin w line transaction) (DoesBegin w (mark_of transaction))
 ItemMay w line Commit now = ComesTo (check_commit w) (DoesCommit w now)
 ItemMay w line Rollback now = ComesTo (check_rollback w) (DoesRollback w)
 ItemMay w line Checkpoint now = ComesTo (check_checkpoint w) (DoesCheckpoint w now)
+ItemMay w line (SelectCatalog catalog) now = ComesTo (check_catalog w line catalog) DoesSelectCatalog
 ItemMay w line (Session number) now = ComesTo (check_session line number) DoesSession
 ItemMay w line (Syntax there) now = λ outcome. outcome ≡ refused (rule.Syntax there)
 ItemMay w line TooLong now = λ outcome. outcome ≡ refused rule.TooLong

@@ -6,7 +6,7 @@ use Rattle.bk_world.specs.declared.database.Status.TheVariants.{Online, Down}
 use Rattle.bk_world.specs.Records.{Said, more, numbered}
 use Rattle.bk_world.specs.SoundLogs.{MayFollow}
 use Rattle.bk_world.specs.Telling.{tables}
-use Rattle.bk_machine.specs.Acts.{latest, Act, Recovery, turned, seated, created, dropped, logged, medium_made, set_drawn, set_sealed, based, replaced, restored, recovered, done, drawn}
+use Rattle.bk_machine.specs.Acts.{latest, Act, Recovery, turned, seated, created, dropped, logged, medium_made, set_drawn, noted, set_sealed, based, replaced, restored, recovered, done, drawn}
 use Rattle.bk_machine.specs.Checks.{last_number, most_branches}
 use Rattle.bk_machine.specs.Fits.{FitsLog, FitsStorage}
 use Rattle.bk_machine.specs.Sound.{AreNumbered, AreOpen, ArePlaced, IsSoundSet, has_begin}
@@ -65,6 +65,7 @@ MayDo w (logged name said transactions) = HoldsOf (database_named w.databases na
 MayDo w (medium_made path) = Unit {0}
 MayDo w set_drawn = Unit {0}
 MayDo w (set_sealed path header) = IsSoundSet w header
+MayDo w (noted row) = Unit {0}
 MayDo w (based name header) = Unit {0}
 MayDo w (replaced name header) = IsSoundSet w header
 MayDo w (restored name base redo) = Unit {0}

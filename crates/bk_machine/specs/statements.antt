@@ -17,3 +17,4 @@ pub mod Checkpoint
 pub mod Backup
 pub mod Restore
 pub mod Query
+pub mod Catalog

@@ -8,6 +8,7 @@ mod built_laws;
 mod closing_laws;
 mod crash_laws;
 mod event_laws;
+mod history_row;
 mod laws;
 mod number_laws;
 mod progress_laws;
@@ -34,6 +35,7 @@ pub use crash_laws::{
     runs_are_cut_between_acts, runs_are_cut_in_whole_worlds,
 };
 pub use event_laws::events_keep_worlds_sound;
+pub use history_row::HistoryRow;
 pub use laws::{
     empty_worlds_are_sound, restarts_keep_worlds_sound, runs_begin_and_end_in_sound_worlds,
 };

@@ -1,4 +1,5 @@
 ghost use Rattle.std.specs.Prelude.{◌≡◌, ℕ, List, Option, take};
+ghost use Rattle.bk_items.specs.declared.item.Catalog.{Catalog};
 ghost use Rattle.bk_items.specs.declared.item.MediumQuery.{MediumQuery};
 ghost use Rattle.bk_items.specs.declared.item.ScriptEntry.{ScriptEntry};
 ghost use Rattle.bk_items.specs.declared.item.ScriptItem.TheVariants as script;
@@ -38,6 +39,8 @@ pub fn what_statements_write_to()
         → May w (record { item = script.Rows table (row.Select key); line = line }) now outcome → IsStill outcome }
     ensures asks { (w : World) (line : ℕ) (query : MediumQuery) (disk : List ℕ) (file : Option ℕ) (now : ℕ) (outcome : Outcome)
         → May w (record { item = script.QueryMedium query disk file; line = line }) now outcome → IsStill outcome }
+    ensures lists { (w : World) (line : ℕ) (catalog : Catalog) (now : ℕ) (outcome : Outcome)
+        → May w (record { item = script.SelectCatalog catalog; line = line }) now outcome → IsStill outcome }
     ensures media { (w : World) (s : ScriptEntry) (now : ℕ) (outcome : Outcome) (path : List ℕ) → May w s now outcome → ActsWrite outcome.acts path → StatementWrites s.item path }
 {}
 

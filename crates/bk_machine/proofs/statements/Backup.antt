@@ -20,7 +20,9 @@ use Rattle.bk_world.specs.Records.{Logged, Said, checkpointed, more, numbered, s
 use Rattle.bk_world.specs.Says.{alone}
 use Rattle.bk_world.specs.Telling.{model, telling, time}
 use Rattle.bk_lemmas.specs.Tests.{first_false}
-use Rattle.bk_machine.specs.Acts.{Act, latest, based, done, drawn, gone_on, logged, said_time, says, set_sealed}
+use Rattle.bk_machine.specs.declared.history_row.HistoryRow.{HistoryRow}
+use Rattle.bk_machine.specs.declared.history_row.HistoryRow.TheVariants as kind
+use Rattle.bk_machine.specs.Acts.{Act, latest, based, done, drawn, gone_on, logged, noted, said_time, says, set_sealed}
 use Rattle.bk_machine.specs.Built.{IsBuilt, IsBuiltLog, SayNoLoad, SaysNoLoad}
 use Rattle.bk_machine.specs.Checks.{is_path, kept_numbers, last_number, limit, online, or_refuse, outside, refuse_if, used_up}
 use Rattle.bk_machine.specs.FitLaws.{said-time}
@@ -28,7 +30,7 @@ use Rattle.bk_machine.specs.Fits.{FitsLog, FitsSet}
 use Rattle.bk_machine.specs.MayDo.{MayDo, MayDoAll}
 use Rattle.bk_machine.specs.Sound.{AreNumbered, IsHeld, IsLog, IsPassed, IsReached, IsSound, IsSoundSet, files_of_set, storage_of}
 use Rattle.bk_machine.specs.World.{World, Database, database_named, log_of}
-use Rattle.bk_machine.specs.statements.Backup.{check_backup, check_medium, draws_set, full_header, full_parts, is_whole_backup, DoesBackup}
+use Rattle.bk_machine.specs.statements.Backup.{check_backup, check_medium, draws_set, full_header, full_parts, is_whole_backup, next_position, DoesBackup}
 use Rattle.bk_machine.proofs.Acting.{act-sound}
 use Rattle.bk_machine.proofs.Cutting.{HasNumbers, IsOwn, OpensOwn}
 use Rattle.bk_machine.proofs.Ends.{IsSteady}
@@ -125,7 +127,7 @@ draws w path (Some reading) = record { media = w.media; does = refl; may = tt; w
 
 -- ---- the parts
 
-module _ (w : World) (db : Database) (path : List ℕ) (options : BackupOptions) (now : ℕ) (sound : IsSound w) (r : IsUp w db) (low : db.end < kept_numbers) (act : Act) (draw : Draws w path act) where
+module _ (w : World) (db : Database) (path : List ℕ) (options : BackupOptions) (now : ℕ) (sound : IsSound w) (r : IsUp w db) (low : db.end < kept_numbers) (act : Act) (draw : Draws w path act) (position : ℕ) where
   abbrev at : ℕ
   at = said_time w db now
 
@@ -134,6 +136,9 @@ module _ (w : World) (db : Database) (path : List ℕ) (options : BackupOptions)
 
   abbrev header : Header
   header = full_header w db options (drawn w w.counter) (said_time w db now)
+
+  abbrev row : HistoryRow
+  row = kind.Backup (record { position = position; header = full_header w db options (drawn w w.counter) (said_time w db now) })
 
   timely : said_time w db now ≤ latest
   timely = said-time w db now (length db.groups) r.whole.fits.log
@@ -223,19 +228,19 @@ module _ (w : World) (db : Database) (path : List ℕ) (options : BackupOptions)
       }
 
   -- each part may be done
-  backs-up : MayDoAll w (act ∷ full_parts db path (full_header w db options (drawn w w.counter) (said_time w db now)))
+  backs-up : MayDoAll w (act ∷ full_parts position db path (full_header w db options (drawn w w.counter) (said_time w db now)))
   unfolding full_header
   backs-up =
-      let seal : MayDoAll finished (set_sealed path header ∷ based db.name header ∷ []) = (sealed, (tt, tt)) in
-      let stamp : MayDoAll started (logged db.name finish_said db.transactions ∷ set_sealed path header ∷ based db.name header ∷ []) = (
+      let seal : MayDoAll finished (set_sealed path header ∷ noted row ∷ based db.name header ∷ []) = (sealed, (tt, (tt, tt))) in
+      let stamp : MayDoAll started (logged db.name finish_said db.transactions ∷ set_sealed path header ∷ noted row ∷ based db.name header ∷ []) = (
         may-do started started_db finish_said started-sound started-up finish-tells,
-        subst (λ v. MayDoAll v (set_sealed path header ∷ based db.name header ∷ [])) (sym (done-is started started_db finish_said started-sound started-up finish-tells)) seal,
+        subst (λ v. MayDoAll v (set_sealed path header ∷ noted row ∷ based db.name header ∷ [])) (sym (done-is started started_db finish_said started-sound started-up finish-tells)) seal,
       ) in
-      let start : MayDoAll made (full_parts db path header) = (
+      let start : MayDoAll made (full_parts position db path header) = (
         may-do made db start_said made-sound made-up start-tells,
-        subst (λ v. MayDoAll v (logged db.name finish_said db.transactions ∷ set_sealed path header ∷ based db.name header ∷ [])) (sym (done-is made db start_said made-sound made-up start-tells)) stamp,
+        subst (λ v. MayDoAll v (logged db.name finish_said db.transactions ∷ set_sealed path header ∷ noted row ∷ based db.name header ∷ [])) (sym (done-is made db start_said made-sound made-up start-tells)) stamp,
       ) in
-      (draw.may, subst (λ v. MayDoAll v (full_parts db path header)) (sym draw.does) start)
+      (draw.may, subst (λ v. MayDoAll v (full_parts position db path header)) (sym draw.does) start)
 
   -- no part says a load, and the log of the set has none
 
@@ -259,19 +264,19 @@ module _ (w : World) (db : Database) (path : List ℕ) (options : BackupOptions)
       let own : IsBuiltLog finished_db.files (log_of finished.history finished_db) = of-named (BuiltIn finished.history) finished.databases finished_db.name finished_db (finished-built built).databases finished-up.named in
       subst (λ files. IsBuiltLog files (log_below finished.history db.path (db.end + 2))) (sym (files-same header db.files)) (subst (λ n. IsBuiltLog db.files (log_below finished.history db.path n)) end own)
 
-  backs-no-load : IsBuilt w → SayNoLoad w (act ∷ full_parts db path (full_header w db options (drawn w w.counter) (said_time w db now)))
+  backs-no-load : IsBuilt w → SayNoLoad w (act ∷ full_parts position db path (full_header w db options (drawn w w.counter) (said_time w db now)))
   unfolding full_header
   backs-no-load built =
-      let seal : SayNoLoad finished (set_sealed path header ∷ based db.name header ∷ []) = (set-plain built, (tt, tt)) in
-      let stamp : SayNoLoad started (logged db.name finish_said db.transactions ∷ set_sealed path header ∷ based db.name header ∷ []) = (
+      let seal : SayNoLoad finished (set_sealed path header ∷ noted row ∷ based db.name header ∷ []) = (set-plain built, (tt, (tt, tt))) in
+      let stamp : SayNoLoad started (logged db.name finish_said db.transactions ∷ set_sealed path header ∷ noted row ∷ based db.name header ∷ []) = (
         (tt, tt),
-        subst (λ v. SayNoLoad v (set_sealed path header ∷ based db.name header ∷ [])) (sym (done-is started started_db finish_said started-sound started-up finish-tells)) seal,
+        subst (λ v. SayNoLoad v (set_sealed path header ∷ noted row ∷ based db.name header ∷ [])) (sym (done-is started started_db finish_said started-sound started-up finish-tells)) seal,
       ) in
-      let start : SayNoLoad made (full_parts db path header) = (
+      let start : SayNoLoad made (full_parts position db path header) = (
         (tt, tt),
-        subst (λ v. SayNoLoad v (logged db.name finish_said db.transactions ∷ set_sealed path header ∷ based db.name header ∷ [])) (sym (done-is made db start_said made-sound made-up start-tells)) stamp,
+        subst (λ v. SayNoLoad v (logged db.name finish_said db.transactions ∷ set_sealed path header ∷ noted row ∷ based db.name header ∷ [])) (sym (done-is made db start_said made-sound made-up start-tells)) stamp,
       ) in
-      (draw.plain, subst (λ v. SayNoLoad v (full_parts db path header)) (sym draw.does) start)
+      (draw.plain, subst (λ v. SayNoLoad v (full_parts position db path header)) (sym draw.does) start)
 
 its-up : (w : World) (line : ℕ) (name : List ℕ) (units : List UnitName) (path : List ℕ) (options : BackupOptions) (db : Database) → IsSound w → check_backup w line name units path options ≡ Ok db → IsUp w db
 its-up w line name units path options db sound e = let its : IsFound w db = checked w line name units path options db e in is-up w db sound its.named its.up
@@ -284,24 +289,24 @@ facts w line name units path options now db e outcome is =
     let draw : Draws w path act = draws w path (medium_at w.media path) in
     let at : ℕ = said_time w db now in
     let set : Guid = drawn w w.counter in facts-of w _ outcome is (record {
-      writes = (draw.writes, (tt, (tt, (refl, (tt, tt)))));
+      writes = (draw.writes, (tt, (tt, (refl, (tt, (tt, tt))))));
       refused = λ rule no. absurd cc;
       well = λ sound. let r : IsUp w db = its-up w line name units path options db sound e in
           let low : db.end < kept_numbers = below-kept db.end (checked w line name units path options db e).low in record {
-            may = backs-up w db path options now sound r low act draw;
-            opens = (draw.opens, (opens-those w db (alone (checkpointed at)) r.named, (opens-those w db (alone (stamped at set)) r.named, (tt, (tt, tt)))));
-            own = (draw.own, (own-checkpoint w db.name at db.transactions, (own-stamp w db.name at set db.transactions, (tt, (tt, tt)))));
+            may = backs-up w db path options now sound r low act draw (next_position (medium_at w.media path));
+            opens = (draw.opens, (opens-those w db (alone (checkpointed at)) r.named, (opens-those w db (alone (stamped at set)) r.named, (tt, (tt, (tt, tt))))));
+            own = (draw.own, (own-checkpoint w db.name at db.transactions, (own-stamp w db.name at set db.transactions, (tt, (tt, (tt, tt))))));
             numbers = (
               draw.numbers,
               (
                 numbers-loud (done w act) db.name (record { begin = 0; deed = checkpointed at }) db.transactions (λ none. absurd cc),
                 (
                   numbers-loud (done (done w act) (logged db.name (alone (checkpointed at)) db.transactions)) db.name (record { begin = 0; deed = stamped at set }) db.transactions (λ none. absurd cc),
-                  (tt, (tt, tt)),
+                  (tt, (tt, (tt, tt))),
                 ),
               ),
             );
-            ends = inl (draw.steady, (tt, (tt, (tt, (tt, tt)))));
-            plain = λ built. backs-no-load w db path options now sound r low act draw built;
+            ends = inl (draw.steady, (tt, (tt, (tt, (tt, (tt, tt))))));
+            plain = λ built. backs-no-load w db path options now sound r low act draw (next_position (medium_at w.media path)) built;
           };
     })

@@ -3,7 +3,7 @@ use Rattle.std.proofs.Common.{◌≡◌, inl, inr, ℕ, List, Option, refl}
 use Rattle.bk_items.specs.declared.item.ScriptEntry.{ScriptEntry}
 use Rattle.bk_items.specs.declared.item.ScriptItem.{ScriptItem}
 use Rattle.bk_items.specs.declared.item.ScriptItem.TheVariants.{CreateDatabase, BackupDatabase, BackupLog, RestoreDatabase, RestoreLog, QueryMedium, CreateTable, Rows, Begin, Commit, Rollback, Checkpoint, Use, SetRecovery, DropDatabase, SelectCatalog, Session, Start, Step, Wait, Syntax, TooLong}
-use Rattle.bk_world.specs.declared.reply.Reply.TheVariants.{Done}
+use Rattle.bk_world.specs.declared.reply.Reply.TheVariants.{Done, Listed}
 use Rattle.bk_machine.specs.Acts.{dropped, turned}
 use Rattle.bk_machine.specs.Built.{IsBuilt, SayNoLoad}
 use Rattle.bk_machine.specs.CheckLaws.{comes-to}
@@ -24,6 +24,7 @@ use Rattle.bk_machine.specs.statements.Session.{check_session, DoesSession}
 use Rattle.bk_machine.specs.statements.Checkpoint.{check_checkpoint, DoesCheckpoint}
 use Rattle.bk_machine.specs.statements.Backup.{check_backup, DoesBackup}
 use Rattle.bk_machine.specs.statements.Restore.{check_restore, DoesRestore}
+use Rattle.bk_machine.specs.statements.Catalog.{check_catalog, DoesSelectCatalog}
 use Rattle.bk_machine.specs.statements.Query.{check_query, DoesQuery}
 use Rattle.bk_machine.proofs.statements.Backup as backup
 use Rattle.bk_machine.proofs.statements.Checkpoint as checkpoint
@@ -52,8 +53,8 @@ module _ (w : World) where
   item-facts line (Rows table statement) now = rows.facts w line table statement now
   item-facts line (BackupDatabase name units disk options) now = comes-to (Facts w (λ path. path ≡ disk)) (check_backup w line name units disk options) (DoesBackup w disk options now) (facts-refused w)
       (backup.facts w line name units disk options now)
-  item-facts line (RestoreDatabase name units disk options) now = comes-to (Facts w NoMedium) (check_restore w line name units disk options) (DoesRestore w name) (facts-refused w)
-      (restore.facts w line name units disk options)
+  item-facts line (RestoreDatabase name units disk options) now = comes-to (Facts w NoMedium) (check_restore w line name units disk options) (DoesRestore w name options now) (facts-refused w)
+      (λ header e. restore.facts w line name units disk options header e now)
   item-facts line (BackupLog name disk options) now = λ outcome is. facts-of w _ outcome is (facts-refused w _)
   item-facts line (RestoreLog name disk options) now = λ outcome is. facts-of w _ outcome is (facts-refused w _)
   item-facts line (QueryMedium query disk file) now = comes-to (Facts w NoMedium) (check_query w line query disk file) DoesQuery (facts-refused w) (λ reply e o is. facts-of w _ o is (facts-answered w reply))
@@ -62,7 +63,7 @@ module _ (w : World) where
   item-facts line Rollback now = comes-to (Facts w NoMedium) (check_rollback w) (DoesRollback w) (facts-refused w) (rollback-facts w)
   item-facts line Checkpoint now = comes-to (Facts w NoMedium) (check_checkpoint w) (DoesCheckpoint w now) (facts-refused w) (checkpoint.facts w now)
   item-facts line (SetRecovery name model) now = λ outcome is. facts-of w _ outcome is (facts-refused w _)
-  item-facts line (SelectCatalog catalog) now = λ outcome is. facts-of w _ outcome is (facts-refused w _)
+  item-facts line (SelectCatalog catalog) now = comes-to (Facts w NoMedium) (check_catalog w line catalog) DoesSelectCatalog (facts-refused w) (λ listing e o is. facts-of w _ o is (facts-answered w (Listed listing)))
   item-facts line (Session number) now = comes-to (Facts w NoMedium) (check_session line number) DoesSession (facts-refused w) (session-facts w line number)
   item-facts line Start now = λ outcome is. facts-of w _ outcome is (facts-refused w _)
   item-facts line (Step count) now = λ outcome is. facts-of w _ outcome is (facts-refused w _)
@@ -94,8 +95,8 @@ module _ (w : World) (sound : IsSound w) (built : IsBuilt w) where
   item-comes line (CreateTable name group) now = comes-by (check_create_table w line name group) (DoesCreateTable w name now) (λ found e. (_, refl))
   item-comes line (Rows table statement) now = rows.comes w line table statement now sound built
   item-comes line (BackupDatabase name units disk options) now = comes-by (check_backup w line name units disk options) (DoesBackup w disk options now) (λ found e. (_, refl))
-  item-comes line (RestoreDatabase name units disk options) now = comes-by (check_restore w line name units disk options) (DoesRestore w name)
-      (λ header e. restore.comes w line name units disk options header e sound built)
+  item-comes line (RestoreDatabase name units disk options) now = comes-by (check_restore w line name units disk options) (DoesRestore w name options now)
+      (λ header e. restore.comes w line name units disk options header e now sound built)
   item-comes line (BackupLog name disk options) now = (_, refl)
   item-comes line (RestoreLog name disk options) now = (_, refl)
   item-comes line (QueryMedium query disk file) now = comes-by (check_query w line query disk file) DoesQuery (λ found e. (_, refl))
@@ -104,7 +105,7 @@ module _ (w : World) (sound : IsSound w) (built : IsBuilt w) where
   item-comes line Rollback now = comes-by (check_rollback w) (DoesRollback w) (λ found e. (_, refl))
   item-comes line Checkpoint now = comes-by (check_checkpoint w) (DoesCheckpoint w now) (λ found e. (_, refl))
   item-comes line (SetRecovery name model) now = (_, refl)
-  item-comes line (SelectCatalog catalog) now = (_, refl)
+  item-comes line (SelectCatalog catalog) now = comes-by (check_catalog w line catalog) DoesSelectCatalog (λ found e. (_, refl))
   item-comes line (Session number) now = comes-by (check_session line number) DoesSession (λ found e. (_, refl))
   item-comes line Start now = (_, refl)
   item-comes line (Step count) now = (_, refl)

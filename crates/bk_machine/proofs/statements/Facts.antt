@@ -15,7 +15,8 @@ use Rattle.bk_world.specs.declared.database.Base.{Base}
 use Rattle.bk_world.specs.declared.database.TableSpec.{TableSpec}
 use Rattle.bk_world.specs.declared.header.Header.{Header}
 use Rattle.bk_world.specs.declared.rule.Rule.{Rule}
-use Rattle.bk_machine.specs.Acts.{Act, Recovery, logged, medium_made, set_sealed, replaced, restored, recovered}
+use Rattle.bk_machine.specs.declared.history_row.HistoryRow.{HistoryRow}
+use Rattle.bk_machine.specs.Acts.{Act, Recovery, logged, noted, medium_made, set_sealed, replaced, restored, recovered}
 use Rattle.bk_machine.specs.Built.{IsBuilt, SayNoLoad}
 use Rattle.bk_machine.specs.Checks.{Checked}
 use Rattle.bk_machine.specs.Crash.{begins_in, begins_of}
@@ -46,7 +47,7 @@ abbrev pub IsOne : List Act → Type 0
 IsOne acts = (act : Act) × NotLogged act × (acts ≡ act ∷ [])
 
 abbrev pub IsRestore : List Act → Type 0
-IsRestore acts = (name : List ℕ) × (header : Header) × (base : Option Base) × (redo : ℕ) × (r : Recovery) × (acts ≡ replaced name header ∷ restored name base redo ∷ recovered name r ∷ [])
+IsRestore acts = (name : List ℕ) × (header : Header) × (base : Option Base) × (redo : ℕ) × (r : Recovery) × (row : HistoryRow) × (acts ≡ replaced name header ∷ restored name base redo ∷ recovered name r ∷ noted row ∷ [])
 
 abbrev pub EndWell : List Act → Type 0
 EndWell acts = AllByRecursion IsSteady acts ⊎ (IsOne acts ⊎ IsRestore acts)

@@ -8,7 +8,7 @@ use Rattle.bk_world.specs.Rows.{tables_of}
 use Rattle.bk_world.specs.SoundLaws.{follow-front}
 use Rattle.bk_world.specs.SoundLogs.{MayFollow}
 use Rattle.bk_world.specs.Telling.{entries_from, tables}
-use Rattle.bk_machine.specs.Acts.{Act, turned, seated, created, dropped, logged, medium_made, set_drawn, set_sealed, based, replaced, restored, recovered, done, done_all, says, where_found}
+use Rattle.bk_machine.specs.Acts.{Act, turned, seated, created, dropped, logged, medium_made, set_drawn, noted, set_sealed, based, replaced, restored, recovered, done, done_all, says, where_found}
 use Rattle.bk_machine.specs.Crash.{front_of}
 use Rattle.bk_machine.specs.Fits.{FitsLog}
 use Rattle.bk_machine.specs.MayDo.{HoldsOf, MayDoAll, MayLog, MaySay}
@@ -60,6 +60,7 @@ cut-whole w (dropped name ∷ acts) (suc n) whole may = whole
 cut-whole w (medium_made path ∷ acts) (suc n) whole may = whole
 cut-whole w (set_drawn ∷ acts) (suc n) whole may = whole
 cut-whole w (set_sealed path header ∷ acts) (suc n) whole may = whole
+cut-whole w (noted row ∷ acts) (suc n) whole may = whole
 cut-whole w (based name header ∷ acts) (suc n) whole may = whole
 cut-whole w (replaced name header ∷ acts) (suc n) whole may = whole
 cut-whole w (restored name base redo ∷ acts) (suc n) whole may = whole

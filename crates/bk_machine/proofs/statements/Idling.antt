@@ -6,7 +6,7 @@ use Rattle.bk_lemmas.specs.Lists.{all_joined, all_mapped}
 use Rattle.bk_world.specs.Telling.{model}
 use Rattle.bk_world.specs.Records.{Deed, Logged, numbered, database_made, table_made, begun, written, committed, rolled_back, undone, checkpointed, stamped, model_set, loaded, recovered as recovery}
 use Rattle.bk_machine.specs.NamedLaws.{all-placed, all-with, all-without}
-use Rattle.bk_machine.specs.Acts.{Act, turned, seated, created, dropped, logged, medium_made, set_drawn, set_sealed, based, replaced, restored, recovered, done, done_all, pointed, pointed_by, says, gone_on, gone_online, goes_online, new_database, taken_over, where_found}
+use Rattle.bk_machine.specs.Acts.{Act, turned, seated, created, dropped, logged, medium_made, set_drawn, noted, set_sealed, based, replaced, restored, recovered, done, done_all, pointed, pointed_by, says, gone_on, gone_online, goes_online, new_database, taken_over, where_found}
 use Rattle.bk_machine.specs.MayDo.{LeavesIdle}
 use Rattle.bk_machine.specs.Machine.{behind}
 use Rattle.bk_machine.specs.Outcome.{Outcome}
@@ -48,6 +48,7 @@ idle-done w (logged name said transactions) idle none = by (database_named w.dat
 idle-done w (medium_made path) idle none = idle
 idle-done w set_drawn idle none = idle
 idle-done w (set_sealed path header) idle none = idle
+idle-done w (noted row) idle none = idle
 idle-done w (based name header) idle none = all-with IsIdle IsIdle w.databases name _ idle (λ d was. record { job = was.job; transactions = was.transactions }) (λ d was. was)
 idle-done w (replaced name header) idle none = all-placed IsIdle IsIdle w.databases (taken_over name header) idle (record { job = refl; transactions = refl }) (λ d was. was)
 idle-done w (restored name base redo) idle none = all-with IsIdle IsIdle w.databases name _ idle (λ d was. record { job = was.job; transactions = was.transactions }) (λ d was. was)
@@ -86,6 +87,7 @@ no-job-done w (logged name said transactions) none = by (database_named w.databa
 no-job-done w (medium_made path) none = none
 no-job-done w set_drawn none = none
 no-job-done w (set_sealed path header) none = none
+no-job-done w (noted row) none = none
 no-job-done w (based name header) none = all-with HasNoJob HasNoJob w.databases name _ none (λ d was. was) (λ d was. was)
 no-job-done w (replaced name header) none = all-placed HasNoJob HasNoJob w.databases (taken_over name header) none refl (λ d was. was)
 no-job-done w (restored name base redo) none = all-with HasNoJob HasNoJob w.databases name _ none (λ d was. was) (λ d was. was)

@@ -1,5 +1,5 @@
 -- RESTORE DATABASE takes over a set of a medium, and recovers it at its end.
-use Rattle.std.proofs.Common.{◌≡◌, ◌<◌, ◌≤◌, inr, ℕ, min, Bool, true, false, List, [], ◌∷◌, length, Option, None, Some, refl, sym, subst, arith}
+use Rattle.std.proofs.Common.{◌≡◌, ◌<◌, ◌≤◌, inr, ℕ, min, Bool, true, false, List, [], length, Option, None, Some, refl, sym, subst, arith}
 use Rattle.std.specs.Prelude.{◌&&◌, ◌||◌, is_none, nat_le, not, Ok}
 use Rattle.std.specs.List.{list_all}
 use Rattle.std.proofs.Math.Nat.{min-le_right}
@@ -9,6 +9,7 @@ use Rattle.bk_items.specs.declared.options.FileMove.{FileMove}
 use Rattle.bk_items.specs.declared.options.RestoreOptions.{RestoreOptions}
 use Rattle.bk_world.specs.declared.database.State.TheVariants as state
 use Rattle.bk_world.specs.declared.header.Header.{Header}
+use Rattle.bk_world.specs.declared.msdb.RestoreRow.{RestoreRow}
 use Rattle.bk_world.specs.declared.rule.Limit.TheVariants.{Lsn}
 use Rattle.bk_world.specs.declared.rule.Rule.TheVariants.{LimitReached, NotBuilt, PathFull}
 use Rattle.bk_world.specs.Lines.{log_below}
@@ -21,13 +22,13 @@ use Rattle.bk_machine.specs.Checks.{different_paths, free_paths, is_name, is_pat
 use Rattle.bk_machine.specs.MayDo.{MayDoAll}
 use Rattle.bk_machine.specs.Sound.{IsSound, IsSoundSet, SetIn, files_of_set}
 use Rattle.bk_machine.specs.World.{World, Database, database_named, log_to, with_new_database}
-use Rattle.bk_machine.specs.statements.Restore.{DoesRestore, Recovers, base_of, check_family, check_moves, check_number, check_restore, check_room, check_set, check_tail, check_unused, disk_path, has_no_move, is_move, is_plain, is_recovery, is_whole_restore, lists_none, moved, name_known, position_of, restored_whole, set_at, set_paths, whole_restore}
+use Rattle.bk_machine.specs.statements.Restore.{DoesRestore, Recovers, base_of, check_family, check_moves, check_number, check_restore, check_room, check_set, check_tail, check_unused, disk_path, is_move, is_plain, is_recovery, is_whole_restore, lists_none, moved, name_known, position_of, restored_row, restored_whole, set_at, set_paths, whole_restore}
 use Rattle.bk_machine.specs.Built.{IsBuilt, IsBuiltLog, IsBuiltReading, IsBuiltSlot}
 use Rattle.bk_machine.specs.Outcome.{Outcome}
 use Rattle.bk_machine.proofs.Happened.{of-medium}
 use Rattle.bk_machine.proofs.Left.{of-contained}
 use Rattle.bk_machine.proofs.LeftNumbers.{below-kept}
-use Rattle.bk_machine.proofs.Moved.{moved-built, moved-sound}
+use Rattle.bk_machine.specs.MovedLaws.{moved-built, moved-sound}
 use Rattle.bk_machine.proofs.Recovering.{no-load-pends, recovers, recovery}
 use Rattle.bk_machine.proofs.statements.Facts.{Facts, NoMedium, facts-of}
 use Rattle.bk_machine.proofs.Histories.{counts-positive}
@@ -88,16 +89,9 @@ fourth true true false d e = absurd cc
 fourth true false c d e = absurd cc
 fourth false b c d e = absurd cc
 
-none-fit : (moves : List FileMove) → has_no_move moves ≡ true → list_all is_move moves ≡ true
-none-fit [] e = refl
-none-fit (m ∷ moves) e = absurd (false-true e)
-  where
-    false-true : false ≡ true → ⊥
-    false-true is = cc
-
 whole-moves : (units : RestoredUnits) (disk : Option (List ℕ)) (options : RestoreOptions) → is_whole_restore units disk options ≡ true → list_all is_move options.moves ≡ true
 whole-moves units None options e = absurd cc
-whole-moves units (Some disk) options e = none-fit options.moves (fourth (is_recovery options.ending) (is_none options.stop) (not options.partial) (has_no_move options.moves) (both-second (lists_none units) (is_plain options) e))
+whole-moves units (Some disk) options e = fourth (is_recovery options.ending) (is_none options.stop) (not options.partial) (list_all is_move options.moves) (both-second (lists_none units) (is_plain options) e)
 
 -- ---- what was found: a set of the medium, and what it is restored as
 
@@ -133,10 +127,10 @@ taken : List ℕ → Header → Database
 taken name header = record (taken_over name header) { units = units_in (state.Restoring (base_of header) header.last) (taken_over name header).units }
 
 -- a set that is sound may be taken over by any name
-restores : (w : World) (name : List ℕ) (header : Header) (r : Recovery) → IsSoundSet w header → r.at ≡ header.last → r.branch ≡ drawn w w.counter → Recovers (log_below w.history header.path header.last) r → HasRoom header
-    → MayDoAll w (whole_restore name header r)
+restores : (w : World) (name : List ℕ) (header : Header) (r : Recovery) (row : RestoreRow) → IsSoundSet w header → r.at ≡ header.last → r.branch ≡ drawn w w.counter → Recovers (log_below w.history header.path header.last) r → HasRoom header
+    → MayDoAll w (whole_restore name header r row)
 unfolding done taken log_to
-restores w name header r set at branch recovers room =
+restores w name header r row set at branch recovers room =
     let positive : 1 ≤ header.last = counts-positive 1 header.last (log_below w.history header.path header.last) set.log.counts in
     let lower : header.last < kept_numbers = below-kept header.last room.low in
     let few : length r.said ≤ 4194304 = (let most : min r.at 4194304 ≤ 4194304 = min-le_right r.at 4194304 in omega (arith, most, recovers.few)) in (
@@ -155,7 +149,7 @@ restores w name header r set at branch recovers room =
                 numbers = omega (arith, at, lower, few);
                 room = room.branches;
               }),
-          tt,
+          (tt, tt),
         ),
       ),
     )
@@ -178,28 +172,28 @@ module _ (w : World) (line : ℕ) (name : List ℕ) (units : RestoredUnits) (dis
       subst (λ (h : Header). IsBuiltLog (files_of_set h) (log_below w.history h.path h.last)) its.is
       (moved-built options.moves w its.set (set-built w (disk_path disk) its.set built its.there))
 
-  pub facts : (outcome : Outcome) → DoesRestore w name header outcome → Facts w NoMedium outcome
-  facts outcome (r, at, branch, recovers, is) = facts-of w _ outcome is (record {
-    writes = (tt, (tt, (tt, tt)));
+  pub facts : (now : ℕ) (outcome : Outcome) → DoesRestore w name options now header outcome → Facts w NoMedium outcome
+  facts now outcome (r, at, branch, recovers, is) = facts-of w _ outcome is (record {
+    writes = (tt, (tt, (tt, (tt, tt))));
     refused = λ rule no. absurd cc;
     well = λ sound. record {
-      may = restores w (name_known (database_named w.databases name) name) header r (sound-as sound) at branch recovers its.room;
-      opens = (tt, (tt, (tt, tt)));
-      own = (tt, (tt, (tt, tt)));
-      numbers = (tt, (tt, (tt, tt)));
-      ends = inr (inr (name_known (database_named w.databases name) name, header, _, header.last, r, refl));
-      plain = λ built. (built-as built, (tt, (tt, tt)));
+      may = restores w (name_known (database_named w.databases name) name) header r (restored_row w now (name_known (database_named w.databases name) name) options header) (sound-as sound) at branch recovers its.room;
+      opens = (tt, (tt, (tt, (tt, tt))));
+      own = (tt, (tt, (tt, (tt, tt))));
+      numbers = (tt, (tt, (tt, (tt, tt))));
+      ends = inr (inr (name_known (database_named w.databases name) name, header, _, header.last, r, _, refl));
+      plain = λ built. (built-as built, (tt, (tt, (tt, tt))));
     };
   })
 
   -- there is a recovery to which it may come
-  pub comes : IsSound w → IsBuilt w → (outcome : Outcome) × DoesRestore w name header outcome
-  comes sound built =
+  pub comes : (now : ℕ) → IsSound w → IsBuilt w → (outcome : Outcome) × DoesRestore w name options now header outcome
+  comes now sound built =
       let set : IsSoundSet w header = sound-as sound in
       let log : IsBuiltLog (files_of_set header) (log_below w.history header.path header.last) = built-as built in
       let rs : List Logged = log_below w.history header.path header.last in
       let none : NoLoadPends rs = no-load-pends rs log.loads in
       let r : Recovery = recovery rs header.last (drawn w w.counter) set.log.counts set.log.sound none in (
-        restored_whole (name_known (database_named w.databases name) name) header r,
+        restored_whole (name_known (database_named w.databases name) name) header r (restored_row w now (name_known (database_named w.databases name) name) options header),
         (r, refl, refl, recovers rs header.last (drawn w w.counter) set.log.counts set.log.sound none, refl),
       )

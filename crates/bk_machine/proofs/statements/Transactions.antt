@@ -32,10 +32,10 @@ use Rattle.bk_machine.specs.UpLaws.{IsUp, is-up, may-open}
 use Rattle.bk_world.specs.declared.transaction.Open.{Open}
 use Rattle.bk_machine.specs.World.{Database, Held, World, current_database, database_named, held_in, log_of, most_sessions, own_held, transaction_of, without_begin}
 use Rattle.bk_machine.specs.statements.Begin.{check_begin, has_fit_texts, new_open, DoesBegin}
-use Rattle.bk_machine.specs.statements.Commit.{check_commit, commit_of, commits, mark_with, DoesCommit}
+use Rattle.bk_machine.specs.statements.Commit.{check_commit, commit_of, commits, committed, mark_of_commit, mark_with, notes_mark, DoesCommit}
 use Rattle.bk_machine.specs.statements.Rollback.{check_rollback, rolls_back, DoesRollback}
 use Rattle.bk_machine.specs.statements.Session.{check_session, is_session, DoesSession}
-use Rattle.bk_machine.proofs.Cutting.{IsOwn, OpensOwn}
+use Rattle.bk_machine.proofs.Cutting.{HasNumbers, IsOwn, OpensOwn}
 use Rattle.bk_machine.proofs.Fitting.{fits-more, fits-told}
 use Rattle.bk_machine.proofs.Histories.{counts-positive}
 use Rattle.bk_machine.specs.SettledLaws.{counts-end}
@@ -43,7 +43,7 @@ use Rattle.bk_machine.proofs.Left.{of-contained}
 use Rattle.bk_machine.proofs.LeftNumbers.{numbers-before}
 use Rattle.bk_machine.proofs.statements.Begins.{begin-below}
 use Rattle.bk_machine.proofs.statements.Ending.{few-rollback, kept-commit, kept-rollback, may-roll-back, opens-begun, opens-without, placed-rollback, quiet-rollback, said-rollback, tables-commit, tables-rollback}
-use Rattle.bk_machine.proofs.statements.Facts.{Facts, GoWell, NoMedium, all-take, facts-of, itself, opens-those, own-within}
+use Rattle.bk_machine.proofs.statements.Facts.{Facts, GoWell, NoMedium, WritesOnly, all-take, facts-of, itself, opens-those, own-within}
 use Rattle.bk_machine.proofs.statements.Numbering.{numbers-loud, numbers-whole}
 use Rattle.bk_machine.proofs.statements.Telling.{tables-begun}
 use Rattle.bk_machine.specs.HeldLaws.{IsHeldBy, held-none, held-up, open-begin, open-there}
@@ -104,14 +104,25 @@ module _ (w : World) (session : ℕ) (h : Held) (sound : IsSound w) (is : held_i
       }) (each-without db begin) (opens-without rs db.end db.transactions held.up.opens begin (rollback_said begin (pending rs)) (pending-rollback rs db.end begin) (kept-rollback rs db.end db.transactions begin held.up.opens.kept)
       its-begin (few-rollback rs begin))
 
-  commit-well : (now : ℕ) → GoWell w (commits w h now ∷ [])
-  commit-well now = record {
-    may = (commit-may now, tt);
-    opens = (opens-fewer w h.database (commit_of w h now) h.transaction.begin held.up.named, tt);
-    own = (own-within w h.database h.transaction (commit_of w h now) (without_begin h.database.transactions h.transaction.begin) held.up.named there (refl, tt), tt);
-    numbers = (numbers-loud w h.database.name _ (without_begin h.database.transactions h.transaction.begin) (λ none. absurd cc), tt);
-    ends = inl (tt, tt);
-    plain = λ built. ((tt, tt), tt);
+  commit-opens : (now : ℕ) → OpensOwn w (commits w h now)
+  commit-opens now = opens-fewer w h.database (commit_of w h now) h.transaction.begin held.up.named
+
+  commit-own : (now : ℕ) → IsOwn w (commits w h now)
+  commit-own now = own-within w h.database h.transaction (commit_of w h now) (without_begin h.database.transactions h.transaction.begin) held.up.named there (refl, tt)
+
+  commit-numbers : (now : ℕ) → HasNumbers w (commits w h now)
+  commit-numbers now = numbers-loud w h.database.name _ (without_begin h.database.transactions h.transaction.begin) (λ none. absurd cc)
+
+  -- with its row behind it, where it is marked
+  commit-well : (now lsn time : ℕ) (mark : Option Mark) → GoWell w (commits w h now ∷ notes_mark h.database.name lsn time mark)
+  commit-well now lsn time None = record { may = (commit-may now, tt); opens = (commit-opens now, tt); own = (commit-own now, tt); numbers = (commit-numbers now, tt); ends = inl (tt, tt); plain = λ built. ((tt, tt), tt) }
+  commit-well now lsn time (Some mark) = record {
+    may = (commit-may now, (tt, tt));
+    opens = (commit-opens now, (tt, tt));
+    own = (commit-own now, (tt, tt));
+    numbers = (commit-numbers now, (tt, tt));
+    ends = inl (tt, (tt, tt));
+    plain = λ built. ((tt, tt), (tt, tt));
   }
 
   pub rollback-well : GoWell w (rolls_back w h ∷ [])
@@ -125,13 +136,18 @@ module _ (w : World) (session : ℕ) (h : Held) (sound : IsSound w) (is : held_i
         plain = λ built. (rollback-plain w h, tt);
       }
 
+commit-writes : (name : List ℕ) (lsn time : ℕ) (mark : Option Mark) → AllByRecursion (WritesOnly NoMedium) (notes_mark name lsn time mark)
+commit-writes name lsn time None = tt
+commit-writes name lsn time (Some mark) = (tt, tt)
+
 pub commit-facts : (w : World) (now : ℕ) (h : Held) → check_commit w ≡ Ok h → (outcome : Outcome) → DoesCommit w now h outcome → Facts w NoMedium outcome
 unfolding check_commit
-commit-facts w now h e outcome is = facts-of w (in_one (commits w h now) Done) outcome is (record {
-  writes = (tt, tt);
-  refused = λ rule no. absurd cc;
-  well = λ sound. commit-well w w.session h sound (was-found (own_held w) NoTransaction h e) now;
-})
+commit-facts w now h e outcome is =
+    let time : ℕ = said_time w h.database now in facts-of w (committed w h now) outcome is (record {
+      writes = (tt, commit-writes h.database.name h.database.end time (mark_of_commit w h));
+      refused = λ rule no. absurd cc;
+      well = λ sound. commit-well w w.session h sound (was-found (own_held w) NoTransaction h e) now h.database.end time (mark_of_commit w h);
+    })
 
 pub rollback-facts : (w : World) (h : Held) → check_rollback w ≡ Ok h → (outcome : Outcome) → DoesRollback w h outcome → Facts w NoMedium outcome
 unfolding check_rollback

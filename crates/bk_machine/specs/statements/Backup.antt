@@ -15,7 +15,8 @@ use Rattle.bk_world.specs.Medium.{Reading, Slot, medium, medium_at, not_media}
 use Rattle.bk_world.specs.Records.{checkpointed, stamped}
 use Rattle.bk_world.specs.Says.{alone}
 use Rattle.bk_world.specs.Telling.{model}
-use Rattle.bk_machine.specs.Acts.{Act, logged, medium_made, set_drawn, set_sealed, based, drawn, said_time}
+use Rattle.bk_machine.specs.declared.history_row.HistoryRow.TheVariants as row
+use Rattle.bk_machine.specs.Acts.{Act, logged, medium_made, set_drawn, set_sealed, noted, based, drawn, said_time}
 use Rattle.bk_machine.specs.Checks.{Checked, ◌>>=◌, refuse_if, or_refuse, outside, online, limit, used_up, is_path}
 use Rattle.bk_machine.specs.Outcome.{Outcome}
 use Rattle.bk_machine.specs.World.{World, Database, database_named, log_of, least_begin}
@@ -125,18 +126,19 @@ full_header w db options set time = record {
   log_path = db.log_path;
 }
 
--- the checkpoint at its start; the stamp at its finish; the set is sealed; the points move
-abbrev pub full_parts : Database → List ℕ → Header → List Act
-full_parts db path header =
+-- the checkpoint at its start; the stamp at its finish; the set is sealed at a position; its row of backupset; the points move
+abbrev pub full_parts : ℕ → Database → List ℕ → Header → List Act
+full_parts position db path header =
     logged db.name (alone (checkpointed header.start)) db.transactions
     ∷ logged db.name (alone (stamped header.finish header.set)) db.transactions
     ∷ set_sealed path header
+    ∷ noted (row.Backup (record { position = position; header = header }))
     ∷ based db.name header
     ∷ []
 
 -- before all that the set's GUID is drawn
 abbrev pub full_backup : Option Reading → Database → List ℕ → Header → List Act
-full_backup before db path header = draws_set before path ∷ full_parts db path header
+full_backup before db path header = draws_set before path ∷ full_parts (next_position before) db path header
 
 abbrev pub backed_up : Option Reading → Database → List ℕ → Header → Outcome
 backed_up before db path header = record { acts = full_backup before db path header; reply = SetMade (next_position before) header.first header.checkpoint header.last }

@@ -1,7 +1,7 @@
 -- RESTORE DATABASE: a whole restore from a set of a medium, with recovery.
 -- SQL Server: RESTORE (Transact-SQL); "Complete Database Restores"; "Restore a Database to a New Location"; "Tail-Log Backups"; "Recovery Paths".
-use Rattle.std.specs.Prelude.{◌≡◌, ◌≤◌, ℕ, zero, suc, min, Bool, true, false, not, ◌&&◌, ◌||◌, List, [], ◌∷◌, length, map, nat_lt, nat_le, slice_get, Option, Some, None, is_none, Ok, Err, if◌then◌else◌}
-use Rattle.std.specs.List.{AllByRecursion, count_by, list_any}
+use Rattle.std.specs.Prelude.{◌≡◌, ◌≤◌, ℕ, zero, suc, max, min, Bool, true, false, not, ◌&&◌, ◌||◌, List, [], ◌∷◌, length, map, nat_lt, nat_le, slice_get, Option, Some, None, is_none, Ok, Err, if◌then◌else◌}
+use Rattle.std.specs.List.{AllByRecursion, count_by, list_all, list_any}
 use Rattle.bk_ids.specs.declared.guid.Guid.{Guid}
 use Rattle.bk_items.specs.declared.item.RestoredUnits.{RestoredUnits}
 use Rattle.bk_items.specs.declared.item.RestoredUnits.TheVariants.{Named, Pages}
@@ -15,6 +15,8 @@ use Rattle.bk_world.specs.declared.database.Status.TheVariants as status
 use Rattle.bk_ids.specs.Name.{same_name}
 use Rattle.bk_world.specs.declared.header.Header.{Header}
 use Rattle.bk_world.specs.declared.header.HeaderFile.{HeaderFile}
+use Rattle.bk_world.specs.declared.msdb.RestoreKind.TheVariants.{Set}
+use Rattle.bk_world.specs.declared.msdb.RestoreRow.{RestoreRow}
 use Rattle.bk_world.specs.declared.reply.Reply.TheVariants.{Recovered}
 use Rattle.bk_world.specs.declared.rule.Limit.TheVariants.{Databases}
 use Rattle.bk_world.specs.declared.rule.Rule.TheVariants.{MediaMissing, NotMedia, NoSuchSet, SetDamaged, OtherFamily, TailNotBackedUp, UnitNotInSet, PathFull, LimitReached, NotBuilt}
@@ -24,8 +26,9 @@ use Rattle.bk_world.specs.Medium.{Slot, Reading, readable, damaged, no_set, not_
 use Rattle.bk_world.specs.Pending.{pending}
 use Rattle.bk_world.specs.Records.{Deed, Logged, Said, more, numbered, undone, rolled_back, recovered as recovery_deed}
 use Rattle.bk_world.specs.SoundLogs.{MayFollow}
-use Rattle.bk_world.specs.Telling.{model}
-use Rattle.bk_machine.specs.Acts.{Act, Recovery, replaced, restored, recovered, drawn, is_simple}
+use Rattle.bk_world.specs.Telling.{model, time}
+use Rattle.bk_machine.specs.declared.history_row.HistoryRow.TheVariants.{Restore}
+use Rattle.bk_machine.specs.Acts.{Act, Recovery, latest, noted, replaced, restored, recovered, drawn, is_simple}
 use Rattle.bk_machine.specs.Checks.{Checked, ◌>>=◌, refuse_if, or_refuse, outside, unused, limit, used_up, is_name, is_path, most_branches, most_databases, paths_of, others, free_paths, different_paths}
 use Rattle.bk_machine.specs.Outcome.{Outcome}
 use Rattle.bk_machine.specs.World.{World, Database, database_named, log_of}
@@ -41,14 +44,9 @@ is_recovery (Some _) = false
 abbrev pub is_move : FileMove → Bool
 is_move m = is_name m.name && is_path m.path
 
--- files aren't moved yet: each is restored to the path that its set names
-abbrev pub has_no_move : List FileMove → Bool
-has_no_move [] = true
-has_no_move (m ∷ moves) = false
-
--- FILE, RECOVERY and REPLACE may be there, beside CHECKSUM and options without effect
+-- FILE, MOVE, RECOVERY and REPLACE may be there, beside CHECKSUM and options without effect
 abbrev pub is_plain : RestoreOptions → Bool
-is_plain o = is_recovery o.ending && is_none o.stop && not o.partial && has_no_move o.moves
+is_plain o = is_recovery o.ending && is_none o.stop && not o.partial && list_all is_move o.moves
 
 abbrev pub lists_none : RestoredUnits → Bool
 lists_none (Named []) = true
@@ -216,14 +214,26 @@ pub record Recovers (rs : List Logged) (r : Recovery) : Type 0 where
   pub settles : pending (more rs r.at r.said) ≡ []
   pub few : length r.said ≤ min r.at 4194304
 
--- the database is replaced and its files are Bad; they are restored; it is recovered
-abbrev pub whole_restore : List ℕ → Header → Recovery → List Act
-whole_restore name header r = replaced name header ∷ restored name (base_of header) header.last ∷ recovered name r ∷ []
+-- its row of restorehistory, with a time that isn't below the last one in the log of the set
+unfoldable pub restored_row : World → ℕ → List ℕ → RestoreOptions → Header → RestoreRow
+restored_row w now name options header = record {
+  time = max (min now latest) (time (log_below w.history header.path header.last));
+  database = name;
+  set = header.set;
+  kind = Set header.kind;
+  replace = options.replace;
+  recovery = is_recovery options.ending;
+  stop = None;
+}
 
-abbrev pub restored_whole : List ℕ → Header → Recovery → Outcome
-restored_whole name header r = record { acts = whole_restore name header r; reply = Recovered header.last }
+-- the database is replaced and its files are Bad; they are restored; it is recovered; its row of restorehistory
+abbrev pub whole_restore : List ℕ → Header → Recovery → RestoreRow → List Act
+whole_restore name header r row = replaced name header ∷ restored name (base_of header) header.last ∷ recovered name r ∷ noted (Restore row) ∷ []
+
+abbrev pub restored_whole : List ℕ → Header → Recovery → RestoreRow → Outcome
+restored_whole name header r row = record { acts = whole_restore name header r row; reply = Recovered header.last }
 
 -- it is recovered at the end of its set, on a branch that is drawn for it
-abbrev pub DoesRestore : World → List ℕ → Header → Outcome → Type 0
-DoesRestore w name header outcome = (r : Recovery) × (r.at ≡ header.last) × (r.branch ≡ drawn w w.counter) × Recovers (log_below w.history header.path header.last) r
-    × (outcome ≡ restored_whole (name_known (database_named w.databases name) name) header r)
+abbrev pub DoesRestore : World → List ℕ → RestoreOptions → ℕ → Header → Outcome → Type 0
+DoesRestore w name options now header outcome = (r : Recovery) × (r.at ≡ header.last) × (r.branch ≡ drawn w w.counter) × Recovers (log_below w.history header.path header.last) r
+    × (outcome ≡ restored_whole (name_known (database_named w.databases name) name) header r (restored_row w now (name_known (database_named w.databases name) name) options header))

@@ -1,5 +1,5 @@
 use Rattle.bk_machine.specs.SameLaws.{same-ended, same-on, same-opened}
-use Rattle.bk_machine.proofs.Same.{same-idle, same-medium_added, same-medium_changed, same-medium_made, same-medium_removed, same-reflexive, same-restarted, same-sealed, same-seated, same-set_drawn, same-standby_removed, same-turned}
+use Rattle.bk_machine.proofs.Same.{same-idle, same-medium_added, same-medium_changed, same-medium_made, same-medium_removed, same-noted, same-reflexive, same-restarted, same-sealed, same-seated, same-set_drawn, same-standby_removed, same-turned}
 use Rattle.bk_machine.proofs.same_laws.logs_that_stay.Goals as goal
 
 pub returns-clause-reflexive : goal.returns-clause-reflexive
@@ -19,6 +19,9 @@ returns-clause-medium_made c = same-medium_made
 
 pub returns-clause-set_drawn : goal.returns-clause-set_drawn
 returns-clause-set_drawn c = same-set_drawn
+
+pub returns-clause-noted : goal.returns-clause-noted
+returns-clause-noted c = same-noted
 
 pub returns-clause-set_sealed : goal.returns-clause-set_sealed
 returns-clause-set_sealed c = same-sealed

@@ -1,4 +1,4 @@
-use Rattle.bk_machine.proofs.SameMedia.{media-ended, media-opened, media-restarted, media-said, media-seated, media-set_drawn, media-turned}
+use Rattle.bk_machine.proofs.SameMedia.{media-ended, media-noted, media-opened, media-restarted, media-said, media-seated, media-set_drawn, media-turned}
 use Rattle.bk_machine.proofs.same_laws.media_that_stay.Goals as goal
 use Rattle.bk_machine.specs.SettledLaws.{media-reflexive, media-symmetric, media-transitive}
 
@@ -19,6 +19,9 @@ returns-clause-seated c = media-seated
 
 pub returns-clause-set_drawn : goal.returns-clause-set_drawn
 returns-clause-set_drawn c = media-set_drawn
+
+pub returns-clause-noted : goal.returns-clause-noted
+returns-clause-noted c = media-noted
 
 pub returns-clause-said : goal.returns-clause-said
 returns-clause-said c = media-said
