@@ -17,8 +17,8 @@ use Rattle.bk_world.specs.declared.msdb.MarkRow.{MarkRow}
 use Rattle.bk_world.specs.declared.msdb.RestoreKind.{RestoreKind}
 use Rattle.bk_world.specs.declared.msdb.RestoreKind.TheVariants.{Set, Files, Pages}
 use Rattle.bk_world.specs.declared.msdb.RestoreRow.{RestoreRow}
-use Rattle.bk_msdb.specs.declared.row.Row.{Row}
-use Rattle.bk_msdb.specs.declared.row.Row.TheVariants.{Backup, Restore, Mark}
+use Rattle.bk_machine.specs.declared.history_row.HistoryRow.{HistoryRow}
+use Rattle.bk_machine.specs.declared.history_row.HistoryRow.TheVariants.{Backup, Restore, Mark}
 use Rattle.bk_msdb.specs.Spelling.{IsBackup, IsDescription, IsMark, IsRestore, IsRow, IsStop, backup_bytes, backup_form, description_bytes, description_form, description_in, flag, flag_form, flag_in, kind_form, kind_in, kind_worth, mark_bytes, mark_form, read_row, restore_bytes, restore_form, row_behind, row_bytes, row_form, stop_behind, stop_bytes, stop_form}
 
 backup_form-IsCodec : IsCodec BackupRow backup_form
@@ -173,7 +173,7 @@ put_behind table bytes spelled form rest is same =
     ap (λ (b : List ℕ). bytes_of 1 table ++ b) (is ∙ ap (λ (s : List ℕ). s ++ rest) same) ∙ sym (append_assoc (bytes_of 1 table) spelled rest)
 
 -- what is read behind a byte is spelled so with it
-row_takes : (table : ℕ) (bytes : List ℕ) (x : Row) (rest : List ℕ) → AreBytes bytes → row_behind table bytes ≡ Some (x, rest) → (bytes_of 1 table ++ bytes ≡ row_bytes x ++ rest) × IsRow x
+row_takes : (table : ℕ) (bytes : List ℕ) (x : HistoryRow) (rest : List ℕ) → AreBytes bytes → row_behind table bytes ≡ Some (x, rest) → (bytes_of 1 table ++ bytes ≡ row_bytes x ++ rest) × IsRow x
 unfolding row_bytes
 row_takes zero bytes x rest are e = absurd cc
 row_takes (suc zero) bytes x rest are e =
@@ -181,19 +181,19 @@ row_takes (suc zero) bytes x rest are e =
     let t = backup_form-IsCodec.takes bytes b.0.0 b.0.1 are b.1 in
     let is : IsBackup b.0.0 = backup_fits b.0.0 t.1 in
     let whole = put_behind 1 bytes (backup_bytes b.0.0) (backup_form.spelling b.0.0) b.0.1 t.0 (spelled_backup b.0.0 is) in
-    subst (λ (p : Row × List ℕ). (bytes_of 1 1 ++ bytes ≡ row_bytes p.0 ++ p.1) × IsRow p.0) (same_Some (Backup b.0.0, b.0.1) (x, rest) b.2) (whole, is)
+    subst (λ (p : HistoryRow × List ℕ). (bytes_of 1 1 ++ bytes ≡ row_bytes p.0 ++ p.1) × IsRow p.0) (same_Some (Backup b.0.0, b.0.1) (x, rest) b.2) (whole, is)
 row_takes (suc (suc zero)) bytes x rest are e =
     let b = bind_some (restore_form.reading bytes) (λ r. Some (Restore r.0, r.1)) (x, rest) e in
     let t = restore_form-IsCodec.takes bytes b.0.0 b.0.1 are b.1 in
     let is : IsRestore b.0.0 = restore_fits b.0.0 t.1 in
     let whole = put_behind 2 bytes (restore_bytes b.0.0) (restore_form.spelling b.0.0) b.0.1 t.0 (spelled_restore b.0.0) in
-    subst (λ (p : Row × List ℕ). (bytes_of 1 2 ++ bytes ≡ row_bytes p.0 ++ p.1) × IsRow p.0) (same_Some (Restore b.0.0, b.0.1) (x, rest) b.2) (whole, is)
+    subst (λ (p : HistoryRow × List ℕ). (bytes_of 1 2 ++ bytes ≡ row_bytes p.0 ++ p.1) × IsRow p.0) (same_Some (Restore b.0.0, b.0.1) (x, rest) b.2) (whole, is)
 row_takes (suc (suc (suc zero))) bytes x rest are e =
     let b = bind_some (mark_form.reading bytes) (λ r. Some (Mark r.0, r.1)) (x, rest) e in
     let t = mark_form-IsCodec.takes bytes b.0.0 b.0.1 are b.1 in
     let is : IsMark b.0.0 = mark_fits b.0.0 t.1 in
     let whole = put_behind 3 bytes (mark_bytes b.0.0) (mark_form.spelling b.0.0) b.0.1 t.0 (spelled_mark b.0.0) in
-    subst (λ (p : Row × List ℕ). (bytes_of 1 3 ++ bytes ≡ row_bytes p.0 ++ p.1) × IsRow p.0) (same_Some (Mark b.0.0, b.0.1) (x, rest) b.2) (whole, is)
+    subst (λ (p : HistoryRow × List ℕ). (bytes_of 1 3 ++ bytes ≡ row_bytes p.0 ++ p.1) × IsRow p.0) (same_Some (Mark b.0.0, b.0.1) (x, rest) b.2) (whole, is)
 row_takes (suc (suc (suc (suc table)))) bytes x rest are e = absurd cc
 
 -- a row is read where its form is
@@ -209,11 +209,11 @@ mark_again : (row : MarkRow) (rest : List ℕ) → IsMark row → mark_form.read
 unfolding mark_form
 mark_again row rest is = ap (λ (s : List ℕ). mark_form.reading (s ++ rest)) (sym (spelled_mark row)) ∙ mark_form-IsCodec.gives row rest is
 
-pub row_form-IsCodec : IsCodec Row row_form
+pub row_form-IsCodec : IsCodec HistoryRow row_form
 unfolding row_form row_bytes
 row_form-IsCodec = record { takes = takes; gives = gives }
   where
-    takes : (bytes : List ℕ) (x : Row) (rest : List ℕ) → AreBytes bytes → row_form.reading bytes ≡ Some (x, rest) → (bytes ≡ row_bytes x ++ rest) × IsRow x
+    takes : (bytes : List ℕ) (x : HistoryRow) (rest : List ℕ) → AreBytes bytes → row_form.reading bytes ≡ Some (x, rest) → (bytes ≡ row_bytes x ++ rest) × IsRow x
     takes bytes x rest are e =
         let b = bind_some ((number 1).reading bytes) (λ k. row_behind k.0 k.1) (x, rest) e in
         let table = (number-IsCodec 1).takes bytes b.0.0 b.0.1 are b.1 in
@@ -225,7 +225,7 @@ row_form-IsCodec = record { takes = takes; gives = gives }
         let read : row_form.reading (bytes_of 1 table ++ (spelled ++ rest)) ≡ row_behind table (spelled ++ rest) = rw ((number-IsCodec 1).gives table (spelled ++ rest) small) refl in
         ap row_form.reading (append_assoc (bytes_of 1 table) spelled rest) ∙ read
 
-    gives : (x : Row) (rest : List ℕ) → IsRow x → row_form.reading (row_bytes x ++ rest) ≡ Some (x, rest)
+    gives : (x : HistoryRow) (rest : List ℕ) → IsRow x → row_form.reading (row_bytes x ++ rest) ≡ Some (x, rest)
     gives (Backup row) rest is =
         let made : row_behind 1 (backup_bytes row ++ rest) ≡ Some (Backup row, rest) = rw (backup_again row rest is) refl in
         behind 1 (backup_bytes row) rest (lit< tt) ∙ made
@@ -237,7 +237,7 @@ row_form-IsCodec = record { takes = takes; gives = gives }
         behind 3 (mark_bytes row) rest (lit< tt) ∙ made
 
 -- what is spelled is read back
-pub row_read : (row : Row) → IsRow row → read_row (row_bytes row) ≡ Some row
+pub row_read : (row : HistoryRow) → IsRow row → read_row (row_bytes row) ≡ Some row
 unfolding read_row row_form
 row_read row is =
     let again : row_form.reading (row_bytes row) ≡ Some (row, []) = ap row_form.reading (sym (append-nil (row_bytes row))) ∙ row_form-IsCodec.gives row [] is in

@@ -3,19 +3,19 @@ use Rattle.std.proofs.Common.{◌≡◌, ◌⊎◌, ◌≤◌, ◌+◌, ℕ, Boo
 use Rattle.std.specs.Prelude.{slice_get}
 use Rattle.std.proofs.lemmas.List.{length-map, take_all, take_more}
 use Rattle.std.proofs.lemmas.Option.{get_or_from_slice_get, slice_get_within}
-use Rattle.bk_device.specs.Calls.{contents, written, LeavesWrite, ChangesNothing}
-use Rattle.bk_device.specs.Compose.{effect_then, effect_weaken, effect_none, keeps_by_nothing}
-use Rattle.bk_device.specs.Disk.{Files, Disk, IsDurable}
+use Rattle.bk_device.specs.Calls.{contents, written, LeavesSame, LeavesWrite, CallsOn, ChangesNothing}
+use Rattle.bk_device.specs.Compose.{effect_then, effect_weaken, effect_none, effect_of_nothing, effect_of_sync}
+use Rattle.bk_device.specs.Disk.{Files, Disk, IsDurable, IsLawful}
 use Rattle.bk_device.specs.Effects.{Effect, IsName}
-use Rattle.bk_device.specs.Laws.{durable_by_nothing, torn-contents}
+use Rattle.bk_device.specs.Laws.{durable_by_nothing, effect_after_nothing, torn-contents}
 use Rattle.bk_gate.specs.Blobs.{sealed, spans_of, part_of, IsGateFile}
 use Rattle.bk_gate.specs.BlobLaws.{ended_spans, foreign_blobs, no_blobs, short_blob}
 use Rattle.bk_gate.specs.Gate.{IsGate, Kept as KeptGate}
-use Rattle.bk_gate.specs.Laws.{blobs_are, gate_kept, gate_left}
+use Rattle.bk_gate.specs.Laws.{blobs_are, gate_left}
 use Rattle.bk_gate.specs.Opened.{IsOpened, opened_stands}
-use Rattle.bk_msdb.specs.declared.row.Row.{Row}
-use Rattle.bk_msdb.specs.Laws.{foreign_shown, msdb_left, row_shown, shows_same, with_blobs_behind}
-use Rattle.bk_msdb.specs.Msdb.{Adds, IsBegun, IsMsdb, IsReady, IsUnmade, Kept, Shows, empty_file, msdb_file, tables_of, with_blob, with_blobs}
+use Rattle.bk_machine.specs.declared.history_row.HistoryRow.{HistoryRow}
+use Rattle.bk_msdb.specs.Laws.{row_shown, shows_same, with_blobs_behind}
+use Rattle.bk_msdb.specs.Msdb.{Adds, GrowsBy, IsReady, IsUnmade, Shows, empty_file, msdb_file, tables_of, with_blob, with_blobs}
 use Rattle.bk_msdb.specs.Rows.{Tables, no_rows, with_row}
 use Rattle.bk_msdb.specs.Spelling.{read_row}
 
@@ -104,42 +104,69 @@ ready_reserved a gate spare false ready = record { opened = record { stands = re
 
 -- ---- a row that is added
 
--- a crash leaves the tables without the row or with it
-pub added_crash : (name bytes : List ℕ) (row : Row) (tables : Tables) (a c : Disk) → name ≡ msdb_file → Shows a.files tables → read_row bytes ≡ Some row → Effect (IsName name) (Grows name bytes a) a c → Effect (IsName msdb_file) (Adds tables row) a c
-unfolding tables_of
-added_crash name bytes row tables a c is shows reads effect =
-    let At : List ℕ → Type 0 = λ n. Effect (IsName n) (Grows n bytes a) a c in
-    effect_weaken (λ image either. elim either [
-      | inl kept ↦ inl (ap (with_blobs no_rows) kept ∙ shows)
-      | inr grown ↦ inr (row_shown (a.files msdb_file) (image msdb_file) bytes row grown reads ∙ ap (λ (t : Tables). with_row t row) shows)
-    ]) (subst At is effect)
-
--- the tables with the row stand
-pub added_stands : (a c : Disk) (old new : KeptGate) (bytes : List ℕ) (row : Row) (tables after : Tables) → old.name ≡ msdb_file → new.name ≡ old.name → Shows a.files tables → read_row bytes ≡ Some row → after ≡ with_row tables row
-    → sealed (c.files old.name) ≡ sealed (a.files old.name) ++ bytes ∷ [] → IsGate c new → IsMsdb c (record { gate = record new { spare = 0 }; is_made = true; tables = after; failed = false })
-added_stands a c old new bytes row tables after was is shows reads more grown gate =
-    let Grown : List ℕ → Type 0 = λ n. sealed (c.files n) ≡ sealed (a.files n) ++ bytes ∷ [] in
-    record {
-      name = is ∙ was;
-      ready = record { at = gate.at; room = gate.room };
-      shows = row_shown (a.files msdb_file) (c.files msdb_file) bytes row (subst Grown was grown) reads ∙ ap (λ (t : Tables). with_row t row) shows ∙ sym more;
-    }
+-- the spare is no part of what is ready
+pub ready_at : (a : Disk) (gate reserved : KeptGate) (is_made : Bool) → reserved ≡ record gate { spare = reserved.spare } → IsReady a gate is_made → IsReady a reserved is_made
+ready_at a gate reserved is_made same ready = let Ready : KeptGate → Type 0 = λ k. IsReady a k is_made in subst Ready (sym same) (ready_reserved a gate reserved.spare is_made ready)
 
 -- more room leaves the name
 pub same_name : (gate reserved : KeptGate) → reserved ≡ record gate { spare = reserved.spare } → reserved.name ≡ gate.name
 same_name gate reserved same = ap (λ (k : KeptGate). k.name) same
 
--- where nothing was done, each crash leaves the tables
-pub add_none : {a : Disk} {kept : Kept} (row : Row) → IsMsdb a kept → Effect (IsName msdb_file) (Adds kept.tables row) a a
-add_none {a = a} row is = effect_none a (λ image mine. inl (msdb_left image is mine))
-
--- the gate with more room is as ready
-pub ready_at : (a : Disk) (gate reserved : KeptGate) (is_made : Bool) → reserved ≡ record gate { spare = reserved.spare } → IsReady a (record gate { spare = 0 }) is_made → IsReady a reserved is_made
-ready_at a gate reserved is_made same ready = let Ready : KeptGate → Type 0 = λ k. IsReady a k is_made in subst Ready (sym same) (ready_reserved a (record gate { spare = 0 }) reserved.spare is_made ready)
-
 -- the file is under its name
 pub durable_there : (c : Disk) (name : List ℕ) → name ≡ msdb_file → IsDurable c name → IsDurable c msdb_file
 durable_there c name is durable = let Durable : List ℕ → Type 0 = λ n. IsDurable c n in subst Durable is durable
+
+-- a blob was sealed behind what was opened
+pub grown_there : (name bytes : List ℕ) (a b c : Disk) → name ≡ msdb_file → IsLawful a → ChangesNothing a b → Effect (IsName name) (Grows name bytes b) b c → Effect (IsName msdb_file) (GrowsBy bytes a.files) a c
+grown_there name bytes a b c is lawful call effect =
+    let At : List ℕ → Type 0 = λ n. Effect (IsName n) (Grows n bytes b) b c in
+    let same : b.files msdb_file ≡ a.files msdb_file = call.files msdb_file in
+    effect_after_nothing lawful call (effect_weaken (λ image either. elim either [
+      | inl kept ↦ inl (kept ∙ ap sealed same)
+      | inr grown ↦ inr (grown ∙ ap (λ (file : Option (List ℕ)). sealed file ++ bytes ∷ []) same)
+    ]) (subst At is effect))
+
+pub sealed_there : (name bytes : List ℕ) (a b c : Disk) → name ≡ msdb_file → ChangesNothing a b → sealed (c.files name) ≡ sealed (b.files name) ++ bytes ∷ [] → sealed (c.files msdb_file) ≡ sealed (a.files msdb_file) ++ bytes ∷ []
+sealed_there name bytes a b c is call grown =
+    let Grown : List ℕ → Type 0 = λ n. sealed (c.files n) ≡ sealed (b.files n) ++ bytes ∷ [] in
+    subst Grown is grown ∙ ap (λ (file : Option (List ℕ)). sealed file ++ bytes ∷ []) (call.files msdb_file)
+
+-- where nothing was done, the file has the blobs that it had
+pub none_grown : (bytes : List ℕ) (a b : Disk) → IsDurable a msdb_file → ChangesNothing a b → Effect (IsName msdb_file) (GrowsBy bytes a.files) a b
+none_grown bytes a b durable call = effect_of_nothing (λ image mine. inl (ap sealed (durable (image msdb_file) (mine msdb_file refl)))) call
+
+-- what the blob spells is the row: a crash leaves the tables without it or with it
+pub added_crash : (bytes : List ℕ) (row : HistoryRow) (tables : Tables) (a b c : Disk) → IsLawful a → ChangesNothing a b → Shows a.files tables → read_row bytes ≡ Some row → Effect (IsName msdb_file) (GrowsBy bytes b.files) b c → Effect (IsName msdb_file) (Adds tables row) a c
+unfolding tables_of
+added_crash bytes row tables a b c lawful call shows reads effect =
+    let there : Shows b.files tables = shows_same a.files b.files tables (call.files msdb_file) shows in
+    effect_after_nothing lawful call (effect_weaken (λ image either. elim either [
+      | inl kept ↦ inl (ap (with_blobs no_rows) kept ∙ there)
+      | inr grown ↦ inr (row_shown (b.files msdb_file) (image msdb_file) bytes row grown reads ∙ ap (λ (t : Tables). with_row t row) there)
+    ]) effect)
+
+-- and the file shows the tables with it
+pub added_shows : (bytes : List ℕ) (row : HistoryRow) (tables : Tables) (a b c : Disk) → ChangesNothing a b → Shows a.files tables → read_row bytes ≡ Some row → sealed (c.files msdb_file) ≡ sealed (b.files msdb_file) ++ bytes ∷ [] → Shows c.files (with_row tables row)
+added_shows bytes row tables a b c call shows reads grown =
+    row_shown (b.files msdb_file) (c.files msdb_file) bytes row grown reads ∙ ap (λ (t : Tables). with_row t row) (shows_same a.files b.files tables (call.files msdb_file) shows)
+
+-- where nothing was done, each crash leaves the tables
+pub none_added : (row : HistoryRow) (tables : Tables) (a : Disk) → IsDurable a msdb_file → Shows a.files tables → Effect (IsName msdb_file) (Adds tables row) a a
+none_added row tables a durable shows = effect_none a (λ image mine. inl (shows_same a.files image tables (durable (image msdb_file) (mine msdb_file refl)) shows))
+
+-- nor while the file is made durable
+pub synced_added : (row : HistoryRow) (tables : Tables) (a b : Disk) → IsDurable a msdb_file → Shows a.files tables → CallsOn msdb_file LeavesSame a b → Effect (IsName msdb_file) (Adds tables row) a b
+synced_added row tables a b durable shows call = effect_of_sync refl (λ image mine. inl (shows_same a.files image tables (durable (image msdb_file) (mine msdb_file refl)) shows)) call
+
+-- whatever is pending, no other file is touched
+pub spares_none : (a : Disk) → Effect (IsName msdb_file) (λ image. Unit {0}) a a
+spares_none a = effect_none a (λ image mine. tt)
+
+pub spares_synced : (a b : Disk) → CallsOn msdb_file LeavesSame a b → Effect (IsName msdb_file) (λ image. Unit {0}) a b
+spares_synced a b call = effect_of_sync refl (λ image mine. tt) call
+
+pub spares_added : {P : Files → Type 0} (a b c : Disk) → IsLawful a → ChangesNothing a b → Effect (IsName msdb_file) P b c → Effect (IsName msdb_file) (λ image. Unit {0}) a c
+spares_added a b c lawful call effect = effect_after_nothing lawful call (effect_weaken (λ image left. tt) effect)
 
 -- ---- reading the rows
 
@@ -169,37 +196,15 @@ pub gate_there : {a b : Disk} (gate : KeptGate) (name : List ℕ) → gate.name 
 gate_there {b = b} gate name is call at = let Gate : Option (List ℕ) → Type 0 = λ file. IsGateFile (contents file) in subst Gate (sym (ap b.files is ∙ call.files name)) at
 
 -- the rows in the file of a gate
-pub read_shows : (files : Files) (gate : KeptGate) (tables : Tables) → gate.name ≡ msdb_file → tables_of (files gate.name) ≡ tables → Shows files tables
-read_shows files gate tables is are = ap (λ (name : List ℕ). tables_of (files name)) (sym is) ∙ are
+pub read_shows : {a b : Disk} (gate : KeptGate) (tables : Tables) → gate.name ≡ msdb_file → ChangesNothing a b → tables_of (b.files gate.name) ≡ tables → Shows a.files tables
+read_shows {a = a} {b = b} gate tables is call are = ap tables_of (sym (ap b.files is ∙ call.files msdb_file)) ∙ are
 
--- stand where the gate does
-pub read_stands : {a b : Disk} {gate : KeptGate} (tables : Tables) → gate.name ≡ msdb_file → ChangesNothing a b → IsGate a gate → tables_of (a.files gate.name) ≡ tables → IsMsdb b (record { gate = record gate { spare = 0 }; is_made = true; tables = tables; failed = false })
-read_stands {a = a} {b = b} {gate = gate} tables is call stands are = record {
-  name = is;
-  ready = ready_reserved b gate 0 true (gate_kept (keeps_by_nothing call) stands);
-  shows = shows_same a.files b.files tables (call.files msdb_file) (read_shows a.files gate tables is are);
-}
-
--- no row stands where the file is no gate file
-pub begun_stands : {a b : Disk} {kept : Kept} → IsBegun kept → ChangesNothing a b → IsDurable a msdb_file → (IsGateFile (contents (a.files msdb_file)) → ⊥) → IsMsdb b kept
-begun_stands {a = a} {b = b} {kept = kept} is call durable foreign =
+-- where the file is no gate file, its gate is still to be made
+pub begun_ready : {a b : Disk} (gate : KeptGate) → gate.name ≡ msdb_file → IsOpened empty_file gate → ChangesNothing a b → IsDurable a msdb_file → (IsGateFile (contents (a.files msdb_file)) → ⊥) → IsUnmade b gate
+begun_ready {a = a} {b = b} gate is opened call durable foreign =
     let Durable : List ℕ → Type 0 = λ n. IsDurable b n in
-    let Ready : Bool → Type 0 = λ is_made. IsReady b kept.gate is_made in
-    let unmade : IsUnmade b kept.gate = record {
-      opened = is.opened;
-      durable = subst Durable (sym is.name) (durable_by_nothing msdb_file call durable);
-      none = ap sealed (ap b.files is.name ∙ call.files msdb_file) ∙ foreign_blobs (contents (a.files msdb_file)) foreign;
-    } in
     record {
-      name = is.name;
-      ready = subst Ready (sym is.unmade) unmade;
-      shows = ap tables_of (call.files msdb_file) ∙ foreign_shown (a.files msdb_file) foreign ∙ sym is.none;
+      opened = opened;
+      durable = subst Durable (sym is) (durable_by_nothing msdb_file call durable);
+      none = ap sealed (ap b.files is ∙ call.files msdb_file) ∙ foreign_blobs (contents (a.files msdb_file)) foreign;
     }
-
--- and none is shown there
-pub begun_shows : (files : Files) {kept : Kept} → IsBegun kept → (IsGateFile (contents (files msdb_file)) → ⊥) → Shows files kept.tables
-begun_shows files is foreign = foreign_shown (files msdb_file) foreign ∙ sym is.none
-
--- the spare is no part of how it was opened
-pub opened_reserved : {gate : KeptGate} (file : List ℕ) (spare : ℕ) → IsOpened file gate → IsOpened file (record gate { spare = spare })
-opened_reserved file spare is = record { stands = is.stands; shut = is.shut; none = is.none }

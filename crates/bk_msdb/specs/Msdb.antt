@@ -4,7 +4,7 @@ use Rattle.bk_device.specs.Disk.{Files, Disk, IsDurable}
 use Rattle.bk_gate.specs.Blobs.{magic, sealed}
 use Rattle.bk_gate.specs.Gate.{IsGate, Kept as KeptGate}
 use Rattle.bk_gate.specs.Opened.{IsOpened}
-use Rattle.bk_msdb.specs.declared.row.Row.{Row}
+use Rattle.bk_machine.specs.declared.history_row.HistoryRow.{HistoryRow}
 use Rattle.bk_msdb.specs.Rows.{Tables, no_rows, with_row}
 use Rattle.bk_msdb.specs.Spelling.{read_row}
 
@@ -13,7 +13,7 @@ abbrev pub msdb_file : List ℕ
 msdb_file = codes "sqlbak.msdb"
 
 -- the tables with the row that was read, if one was
-abbrev pub with_read : Tables → Option Row → Tables
+abbrev pub with_read : Tables → Option HistoryRow → Tables
 with_read tables None = tables
 with_read tables (Some row) = with_row tables row
 
@@ -35,8 +35,12 @@ abbrev pub Shows : Files → Tables → Type 0
 Shows files tables = tables_of (files msdb_file) ≡ tables
 
 -- a row is added: a crash leaves the tables without it or with it
-abbrev pub Adds : Tables → Row → Files → Type 0
+abbrev pub Adds : Tables → HistoryRow → Files → Type 0
 Adds tables row image = Shows image tables ⊎ Shows image (with_row tables row)
+
+-- the file has the blobs that it had, or this one more
+abbrev pub GrowsBy : List ℕ → Files → Files → Type 0
+GrowsBy bytes before image = (sealed (image msdb_file) ≡ sealed (before msdb_file)) ⊎ (sealed (image msdb_file) ≡ sealed (before msdb_file) ++ bytes ∷ [])
 
 -- a gate file without blobs
 abbrev pub empty_file : List ℕ
@@ -52,23 +56,3 @@ pub record IsUnmade (disk : Disk) (gate : KeptGate) : Type 0 where
 abbrev pub IsReady : Disk → KeptGate → Bool → Type 0
 IsReady disk gate true = IsGate disk gate
 IsReady disk gate false = IsUnmade disk gate
-
--- what contracts see of the tables and their file
-pub record Kept : Type 0 where
-  pub gate : KeptGate
-  pub is_made : Bool
-  pub tables : Tables
-  pub failed : Bool
-
--- no row, in a file that is still to be made
-pub record IsBegun (kept : Kept) : Type 0 where
-  pub name : kept.gate.name ≡ msdb_file
-  pub opened : IsOpened empty_file kept.gate
-  pub unmade : kept.is_made ≡ false
-  pub none : kept.tables ≡ no_rows
-
--- the file shows the tables, and each crash leaves it so
-pub record IsMsdb (disk : Disk) (kept : Kept) : Type 0 where
-  pub name : kept.gate.name ≡ msdb_file
-  pub ready : IsReady disk kept.gate kept.is_made
-  pub shows : Shows disk.files kept.tables

@@ -15,8 +15,8 @@ use Rattle.bk_world.specs.declared.msdb.MarkRow.{MarkRow}
 use Rattle.bk_world.specs.declared.msdb.RestoreKind.{RestoreKind}
 use Rattle.bk_world.specs.declared.msdb.RestoreKind.TheVariants.{Set, Files, Pages}
 use Rattle.bk_world.specs.declared.msdb.RestoreRow.{RestoreRow}
-use Rattle.bk_msdb.specs.declared.row.Row.{Row}
-use Rattle.bk_msdb.specs.declared.row.Row.TheVariants.{Backup, Restore, Mark}
+use Rattle.bk_machine.specs.declared.history_row.HistoryRow.{HistoryRow}
+use Rattle.bk_machine.specs.declared.history_row.HistoryRow.TheVariants.{Backup, Restore, Mark}
 
 -- ---- what a row keeps beside its types
 
@@ -26,7 +26,7 @@ IsShortStop None = Unit {0}
 IsShortStop (Some stop) = length stop ≤ 65535
 
 -- the header of a backup keeps the conditions of one, and the stop of a restore is short
-abbrev pub KeepsRow : Row → Type 0
+abbrev pub KeepsRow : HistoryRow → Type 0
 KeepsRow (Backup row) = KeepsConditions row.header
 KeepsRow (Restore row) = IsShortStop row.stop
 KeepsRow (Mark row) = Unit {0}
@@ -60,7 +60,7 @@ pub record IsMark (row : MarkRow) : Type 0 where
   pub lsn : row.lsn < 2 ^ 64
   pub time : row.time < 2 ^ 64
 
-abbrev pub IsRow : Row → Type 0
+abbrev pub IsRow : HistoryRow → Type 0
 IsRow (Backup row) = IsBackup row
 IsRow (Restore row) = IsRestore row
 IsRow (Mark row) = IsMark row
@@ -99,7 +99,7 @@ mark_bytes row =
     text_bytes row.database ++ (text_bytes row.mark.name ++ (text_bytes (description_bytes row.mark.description) ++ (bytes_of 8 row.lsn ++ bytes_of 8 row.time)))
 
 -- the bytes of a row
-unfoldable pub row_bytes : Row → List ℕ
+unfoldable pub row_bytes : HistoryRow → List ℕ
 row_bytes (Backup row) = bytes_of 1 1 ++ backup_bytes row
 row_bytes (Restore row) = bytes_of 1 2 ++ restore_bytes row
 row_bytes (Mark row) = bytes_of 1 3 ++ mark_bytes row
@@ -173,7 +173,7 @@ mark_form = converted
     IsMark
 
 -- what stands behind the byte that tells the table
-abbrev pub row_behind : ℕ → List ℕ → Option (Row × List ℕ)
+abbrev pub row_behind : ℕ → List ℕ → Option (HistoryRow × List ℕ)
 row_behind zero bytes = None
 row_behind (suc zero) bytes = do
   row ← backup_form.reading bytes
@@ -186,7 +186,7 @@ row_behind (suc (suc (suc zero))) bytes = do
   Some (Mark row.0, row.1)
 row_behind (suc (suc (suc (suc table)))) bytes = None
 
-unfoldable pub row_form : Codec Row
+unfoldable pub row_form : Codec HistoryRow
 row_form = record {
   spelling = row_bytes;
   Fits = IsRow;
@@ -196,7 +196,7 @@ row_form = record {
 }
 
 -- the row that all of these bytes spell
-unfoldable pub read_row : List ℕ → Option Row
+unfoldable pub read_row : List ℕ → Option HistoryRow
 read_row bytes = do
   row ← row_form.reading bytes
   if length row.1 == 0 then Some row.0 else None

@@ -1,18 +1,18 @@
 //! The rows of msdb, in the file `sqlbak.msdb`: finished backups, accepted restores and marked commits, those of each table in order.
 #![tactic(auto)]
 
+mod adding;
 mod error;
 mod law;
+mod listing;
 mod making;
-mod msdb;
 mod opening;
 mod reading;
-mod row;
 mod tables;
 mod writing;
 
+pub use adding::add_row;
 pub use error::MsdbError;
 pub use law::row_law;
-pub use msdb::Msdb;
-pub use row::Row;
-pub use tables::Rows;
+pub use listing::read_rows;
+pub use tables::Tables;

@@ -6,11 +6,11 @@ ghost use Rattle.bk_header.specs.Reading.{header_form};
 ghost use Rattle.bk_msdb.specs.Spelling.{backup_form, description_form, flag_form, kind_form, mark_form, read_row, restore_form, row_form, stop_form};
 ghost use Rattle.bk_reading.specs.Reading.{Reads};
 
-use crate::row::Row;
 use bk_bytes::{split_str, split_u8, split_u32, split_u64};
 use bk_fields::split_guid;
 use bk_header::decode;
 use bk_ids::{Description, Mark, Name, Text};
+use bk_machine::HistoryRow;
 use bk_reading::Unread;
 use bk_world::{BackupRow, Header, MarkRow, RestoreKind, RestoreRow, SetKind};
 use std::alloc::Global;
@@ -170,7 +170,7 @@ fn read_mark(alloc: Global, bytes: &[u8]) -> Result<(MarkRow, &[u8]), Unread>
 }
 
 #[tactic(auto, unfolding(crate::specs::Spelling::row_form))]
-fn read_front(alloc: Global, bytes: &[u8]) -> Result<(Row, &[u8]), Unread>
+fn read_front(alloc: Global, bytes: &[u8]) -> Result<(HistoryRow, &[u8]), Unread>
     ensures { Reads (λ x. (x.0, x.1.now)) result (row_form.reading bytes.now) }
 {
     let Some((table, rest)) = split_u8(bytes) else {
@@ -179,15 +179,15 @@ fn read_front(alloc: Global, bytes: &[u8]) -> Result<(Row, &[u8]), Unread>
     match table {
         1 => {
             let (row, rest) = read_backup(alloc, rest)?;
-            Ok((Row::Backup(row), rest))
+            Ok((HistoryRow::Backup(row), rest))
         }
         2 => {
             let (row, rest) = read_restore(alloc, rest)?;
-            Ok((Row::Restore(row), rest))
+            Ok((HistoryRow::Restore(row), rest))
         }
         3 => {
             let (row, rest) = read_mark(alloc, rest)?;
-            Ok((Row::Mark(row), rest))
+            Ok((HistoryRow::Mark(row), rest))
         }
         _ => Err(Unread::Unspelled),
     }
@@ -195,7 +195,7 @@ fn read_front(alloc: Global, bytes: &[u8]) -> Result<(Row, &[u8]), Unread>
 
 /// The row that all of these bytes spell.
 #[tactic(auto, unfolding(crate::specs::Spelling::read_row))]
-pub fn read_row(alloc: Global, bytes: &[u8]) -> Result<Row, Unread>
+pub fn read_row(alloc: Global, bytes: &[u8]) -> Result<HistoryRow, Unread>
     ensures { Reads (λ r. r) result (read_row bytes.now) }
 {
     let (row, rest) = read_front(alloc, bytes)?;

@@ -6,24 +6,14 @@ ghost use Rattle.bk_msdb.specs.Rows as rows;
 ghost use Rattle.bk_msdb.specs.Rows.{no_rows, with_row};
 
 use crate::reading::read_row;
-use crate::row::Row;
+use bk_ids::Sequence;
+use bk_machine::HistoryRow;
 use bk_reading::Unread;
 use bk_world::{BackupRow, MarkRow, RestoreRow};
 use std::alloc::{AllocError, Global};
 use std::marker::Model;
 
-/// The rows of the three tables, each in order.
-#[derive(Clone, Copy)]
-pub struct Rows<'a> {
-    /// Of backupset.
-    pub backups: &'a [BackupRow],
-    /// Of restorehistory.
-    pub restores: &'a [RestoreRow],
-    /// Of logmarkhistory.
-    pub marks: &'a [MarkRow],
-}
-
-/// The rows of the tables, which contracts see as lists.
+/// The rows of the tables, each in order, which contracts see as lists.
 #[derive(Drop)]
 pub struct Tables {
     backups: Vec<BackupRow>,
@@ -49,28 +39,39 @@ impl Tables {
         }
     }
 
-    /// The rows.
-    pub fn rows(&self) -> Rows<'_>
-        ensures backups { result.backups.now ≡ self.now.backups }
-        ensures restores { result.restores.now ≡ self.now.restores }
-        ensures marks { result.marks.now ≡ self.now.marks }
+    /// The rows of backupset, in order.
+    pub fn into_backups(self) -> Sequence<BackupRow>
+        ensures { result ≡ self.backups }
     {
-        Rows {
-            backups: &self.backups,
-            restores: &self.restores,
-            marks: &self.marks,
-        }
+        let Tables { backups, .. } = self;
+        Sequence::new(backups)
+    }
+
+    /// The rows of restorehistory, in order.
+    pub fn into_restores(self) -> Sequence<RestoreRow>
+        ensures { result ≡ self.restores }
+    {
+        let Tables { restores, .. } = self;
+        Sequence::new(restores)
+    }
+
+    /// The rows of logmarkhistory, in order.
+    pub fn into_marks(self) -> Sequence<MarkRow>
+        ensures { result ≡ self.marks }
+    {
+        let Tables { marks, .. } = self;
+        Sequence::new(marks)
     }
 
     /// Puts a row behind those of its table. `AllocError` leaves the tables as they were.
-    pub fn push(&mut self, row: Row) -> Result<(), AllocError>
+    pub fn push(&mut self, row: HistoryRow) -> Result<(), AllocError>
         ensures ok { OnOk result (self.new ≡ with_row self.old row) }
         ensures err { OnErr result (self.new ≡ self.old) }
     {
         match row {
-            Row::Backup(row) => self.backups.push(row)?,
-            Row::Restore(row) => self.restores.push(row)?,
-            Row::Mark(row) => self.marks.push(row)?,
+            HistoryRow::Backup(row) => self.backups.push(row)?,
+            HistoryRow::Restore(row) => self.restores.push(row)?,
+            HistoryRow::Mark(row) => self.marks.push(row)?,
         }
         Ok(())
     }

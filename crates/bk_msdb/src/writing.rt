@@ -8,11 +8,11 @@ ghost use Rattle.bk_header.specs.Conditions.{KeepsConditions};
 ghost use Rattle.bk_header.specs.Spelling.{kind_number, text_bytes};
 ghost use Rattle.bk_msdb.specs.Spelling.{IsBackup, IsDescription, IsMark, IsRestore, IsRow, IsShortStop, IsStop, KeepsRow, backup_bytes, description_bytes, flag, kind_worth, mark_bytes, read_row, restore_bytes, row_bytes, stop_bytes};
 
-use crate::row::Row;
 use bk_bytes::{append_text, append_u8, append_u32, append_u64};
 use bk_fields::append_guid;
 use bk_header::encode;
 use bk_ids::{Description, Guid, Name, Text};
+use bk_machine::HistoryRow;
 use bk_world::{BackupRow, MarkRow, RestoreKind, RestoreRow, SetKind};
 use std::alloc::{AllocError, Global};
 
@@ -135,21 +135,21 @@ fn append_mark(out: &mut Vec<u8>, row: &MarkRow) -> Result<(), AllocError>
 }
 
 #[tactic(auto, unfolding(crate::specs::Spelling::row_bytes))]
-fn append_row(alloc: Global, out: &mut Vec<u8>, row: &Row) -> Result<(), AllocError>
+fn append_row(alloc: Global, out: &mut Vec<u8>, row: &HistoryRow) -> Result<(), AllocError>
     requires { KeepsRow row.now }
     ensures ok { OnOk result (out.new.items ≡ out.old.items ++ row_bytes row.now) }
     ensures fits { OnOk result (IsRow row.now) }
 {
     match row {
-        Row::Backup(row) => {
+        HistoryRow::Backup(row) => {
             append_u8(out, 1)?;
             append_backup(alloc, out, row)?;
         }
-        Row::Restore(row) => {
+        HistoryRow::Restore(row) => {
             append_u8(out, 2)?;
             append_restore(out, row)?;
         }
-        Row::Mark(row) => {
+        HistoryRow::Mark(row) => {
             append_u8(out, 3)?;
             append_mark(out, row)?;
         }
@@ -158,7 +158,7 @@ fn append_row(alloc: Global, out: &mut Vec<u8>, row: &Row) -> Result<(), AllocEr
 }
 
 /// The bytes of a row.
-pub fn spell_row(alloc: Global, row: &Row) -> Result<Vec<u8>, AllocError>
+pub fn spell_row(alloc: Global, row: &HistoryRow) -> Result<Vec<u8>, AllocError>
     requires { KeepsRow row.now }
     ensures { IfOk result (λ bytes. read_row bytes.items ≡ Some row.now) }
 {
