@@ -6,7 +6,8 @@ use Rattle.std.proofs.lemmas.List.{map-append}
 use Rattle.std.proofs.lemmas.List.Quantifiers.{position-Some}
 use Rattle.bk_ids.specs.declared.path.Branch.{Branch}
 use Rattle.bk_lemmas.specs.Lists.{all_at, all_both, all_mapped}
-use Rattle.bk_machine.specs.Acts.{Act, Recovery, based, based_on, created, done, dropped, goes_online, gone_on, gone_online, logged, medium_made, new_database, says, seated, set_drawn, set_sealed, turned}
+use Rattle.bk_machine.specs.Acts.{Act, Recovery, based, based_on, created, done, dropped, goes_online, gone_on, gone_online, logged, medium_made, new_database, noted, says, seated, set_drawn, set_sealed, turned}
+use Rattle.bk_machine.specs.declared.history_row.HistoryRow.{HistoryRow}
 use Rattle.bk_machine.specs.MayDo.{HoldsOf, MayDo, MayLog, MayRecover, MaySay}
 use Rattle.bk_machine.specs.SaysLaws.{done-says}
 use Rattle.bk_machine.specs.Sound.{IsSound, IsWhole, IsWholeDatabase}
@@ -241,6 +242,10 @@ hosts-medium w path hosted hosts = same-hosts w (done w (medium_made path)) host
 pub hosts-drawn : (w : World) (hosted : List Hosted) → Hosts w hosted → Hosts (done w set_drawn) hosted
 unfolding done
 hosts-drawn w hosted hosts = same-hosts w (done w set_drawn) hosted refl refl hosts
+
+pub hosts-row : (w : World) (row : HistoryRow) (hosted : List Hosted) → Hosts w hosted → Hosts (done w (noted row)) hosted
+unfolding done
+hosts-row w row hosted hosts = same-hosts w (done w (noted row)) hosted refl refl hosts
 
 pub hosts-sealed : (w : World) (path : List ℕ) (header : Header) (hosted : List Hosted) → Hosts w hosted → Hosts (done w (set_sealed path header)) hosted
 unfolding done

@@ -24,7 +24,7 @@ use Rattle.bk_world.specs.Medium.{Reading, Slot, medium, medium_at, readable}
 use Rattle.bk_world.specs.Records.{Logged}
 use Rattle.bk_world.specs.SameLaws.{same_name-refl}
 use Rattle.bk_world.specs.Telling.{telling}
-use Rattle.bk_hosted.specs.Fronts.{AreFronts, IsFrontOf, settled_by, settling}
+use Rattle.bk_hosted.specs.Fronts.{AreFronts, IsFrontOf, SameRows, settled_by, settling}
 use Rattle.bk_hosted.specs.Hosted.{Hosted, Hosts, IsHosted, checkpoint_of, database_of, has_checkpoint, is_checkpoint, is_up}
 use Rattle.bk_hosted.specs.PointLaws.{checkpoint-same, has-behind, has-settled, kept-same, quiet-plain}
 
@@ -217,6 +217,7 @@ pub record Left (before whole cut : World) (counter : ℕ) (fronts : List Hosted
   pub counter_is : world.counter ≡ counter
   pub hosts : Hosts world (map settling fronts)
   pub media : SameMedia cut world
+  pub rows : SameRows cut world
 
 module _ (laws : CrashLaws) (before whole cut : World) (is_whole : IsWhole cut) (at : AllByRecursion (λ (db : Database). db.status ≡ Online → IsCutOf before whole cut db) cut.databases)
     (hosted fronts : List Hosted) (hosts : Hosts cut hosted) (are : AreFronts before hosted fronts) where
@@ -268,15 +269,16 @@ module _ (laws : CrashLaws) (before whole cut : World) (is_whole : IsWhole cut) 
           media = world.media;
           reads = λ path header set. laws.sets before whole cut left is_whole world header.path header.last (set-whole cut path header is_whole set).held;
         };
+        rows = record { backups = world.backups; restores = world.restores; marks = world.marks };
       }
 
 -- ---- runs
 
 -- what a crash may leave of a run that was cut there
 abbrev pub LeavesHosted : World → List Outcome → ℕ → World → ℕ → List Hosted → Type 0
-LeavesHosted old outcomes least cut counter fronts = (left : World) × Leaves old outcomes least left × (left.counter ≡ counter) × Hosts left (map settling fronts) × SameMedia cut left
+LeavesHosted old outcomes least cut counter fronts = (left : World) × Leaves old outcomes least left × (left.counter ≡ counter) × Hosts left (map settling fronts) × SameMedia cut left × SameRows cut left
 
 pub left-of-run : (old : World) (outcomes : List Outcome) (least : ℕ) (before cut whole : World) (counter : ℕ) (fronts : List Hosted) → CutsRun old outcomes least before cut whole → Left before whole cut counter fronts
     → LeavesHosted old outcomes least cut counter fronts
 left-of-run old outcomes least before cut whole counter fronts cuts is =
-    (is.world, record { before = before; cut = cut; whole = whole; cuts = cuts; world = is.left }, is.counter_is, is.hosts, is.media)
+    (is.world, record { before = before; cut = cut; whole = whole; cuts = cuts; world = is.left }, is.counter_is, is.hosts, is.media, is.rows)

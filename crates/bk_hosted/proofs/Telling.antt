@@ -9,6 +9,7 @@ use Rattle.bk_items.specs.declared.item.ScriptItem.TheVariants.{CreateDatabase, 
 use Rattle.bk_items.specs.declared.rows.RowStatement.{RowStatement}
 use Rattle.bk_items.specs.declared.rows.RowStatement.TheVariants.{Insert, Update, Delete, Select, BulkInsert}
 use Rattle.bk_lemmas.specs.Lists.{all_joined}
+use Rattle.bk_ids.specs.declared.record.Mark.{Mark}
 use Rattle.bk_machine.specs.Acts.{Act, done, said_time}
 use Rattle.bk_machine.specs.CheckLaws.{comes-to}
 use Rattle.bk_machine.specs.Closing.{AreClosing}
@@ -19,7 +20,8 @@ use Rattle.bk_machine.specs.World.{Held, World, log_of}
 use Rattle.bk_machine.specs.statements.Backup.{DoesBackup, check_backup, draws_set}
 use Rattle.bk_machine.specs.statements.Begin.{DoesBegin, check_begin, mark_of}
 use Rattle.bk_machine.specs.statements.Checkpoint.{DoesCheckpoint, check_checkpoint}
-use Rattle.bk_machine.specs.statements.Commit.{DoesCommit, check_commit}
+use Rattle.bk_machine.specs.statements.Catalog.{DoesSelectCatalog, check_catalog}
+use Rattle.bk_machine.specs.statements.Commit.{DoesCommit, check_commit, mark_of_commit, notes_mark}
 use Rattle.bk_machine.specs.statements.CreateDatabase.{DoesCreateDatabase, check_create_database}
 use Rattle.bk_machine.specs.statements.CreateTable.{DoesCreateTable, check_create_table}
 use Rattle.bk_machine.specs.statements.Delete.{DoesDelete, check_delete}
@@ -109,6 +111,11 @@ draws-last : (before : Option Reading) (path : List ℕ) → TellsLast (draws_se
 draws-last None path = tt
 draws-last (Some reading) path = tt
 
+-- the row of a commit tells nothing
+marks-tell : (name : List ℕ) (lsn time : ℕ) (mark : Option Mark) → AllByRecursion TellsLast (notes_mark name lsn time mark)
+marks-tell name lsn time None = tt
+marks-tell name lsn time (Some mark) = (tt, tt)
+
 item-tells : (w : World) (line : ℕ) (item : ScriptItem) (now : ℕ) (outcome : Outcome) → ItemMay w line item now outcome → Tell outcome
 item-tells w line (CreateDatabase name primary groups log) now = comes-to Tell (check_create_database w line name primary groups log) (DoesCreateDatabase w name now) refusals-tell (λ found e o does. told _ o does (tt, tt))
 item-tells w line (DropDatabase name) now = comes-to Tell (check_drop_database w name) DoesDropDatabase refusals-tell (λ found e o does. told _ o does (tt, tt))
@@ -116,18 +123,18 @@ item-tells w line (Use name) now = comes-to Tell (check_use w name) DoesUse refu
 item-tells w line (CreateTable name group) now = comes-to Tell (check_create_table w line name group) (DoesCreateTable w name now) refusals-tell (λ found e o does. told _ o does (one-last _, tt))
 item-tells w line (Rows table statement) now = rows-tell w line table statement now
 item-tells w line (BackupDatabase name units disk options) now = comes-to Tell (check_backup w line name units disk options) (DoesBackup w disk options now) refusals-tell
-    (λ found e o does. told _ o does (draws-last (medium_at w.media disk) disk, (one-last _, (one-last _, (tt, (tt, tt))))))
-item-tells w line (RestoreDatabase name units disk options) now = comes-to Tell (check_restore w line name units disk options) (DoesRestore w name) refusals-tell
-    (λ found e o does. told _ o does.4 (tt, (tt, (tt, tt))))
+    (λ found e o does. told _ o does (draws-last (medium_at w.media disk) disk, (one-last _, (one-last _, (tt, (tt, (tt, tt)))))))
+item-tells w line (RestoreDatabase name units disk options) now = comes-to Tell (check_restore w line name units disk options) (DoesRestore w name options now) refusals-tell
+    (λ found e o does. told _ o does.4 (tt, (tt, (tt, (tt, tt)))))
 item-tells w line (BackupLog name disk options) now = λ outcome is. told _ outcome is tt
 item-tells w line (RestoreLog name disk options) now = λ outcome is. told _ outcome is tt
 item-tells w line (QueryMedium query disk file) now = comes-to Tell (check_query w line query disk file) DoesQuery refusals-tell (λ found e o does. told _ o does tt)
 item-tells w line (Begin transaction) now = comes-to Tell (check_begin w line transaction) (DoesBegin w (mark_of transaction)) refusals-tell (λ found e o does. told _ o does (one-last _, tt))
-item-tells w line Commit now = comes-to Tell (check_commit w) (DoesCommit w now) refusals-tell (λ found e o does. told _ o does (one-last _, tt))
+item-tells w line Commit now = comes-to Tell (check_commit w) (DoesCommit w now) refusals-tell (λ found e o does. told _ o does (one-last _, marks-tell found.database.name found.database.end (said_time w found.database now) (mark_of_commit w found)))
 item-tells w line Rollback now = comes-to Tell (check_rollback w) (DoesRollback w) refusals-tell (λ found e o does. told _ o does (rolls-last w found, tt))
 item-tells w line Checkpoint now = comes-to Tell (check_checkpoint w) (DoesCheckpoint w now) refusals-tell (λ found e o does. told _ o does (one-last _, tt))
 item-tells w line (SetRecovery name model) now = λ outcome is. told _ outcome is tt
-item-tells w line (SelectCatalog catalog) now = λ outcome is. told _ outcome is tt
+item-tells w line (SelectCatalog catalog) now = comes-to Tell (check_catalog w line catalog) DoesSelectCatalog refusals-tell (λ found e o does. told _ o does tt)
 item-tells w line (Session number) now = comes-to Tell (check_session line number) DoesSession refusals-tell (λ found e o does. told _ o does (tt, tt))
 item-tells w line Start now = λ outcome is. told _ outcome is tt
 item-tells w line (Step count) now = λ outcome is. told _ outcome is tt

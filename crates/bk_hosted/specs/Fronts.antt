@@ -47,3 +47,9 @@ settling h = record h { records = settled_by (is_up h) h.records; transactions =
 abbrev pub TellsLast : Act → Type 0
 TellsLast (logged name said transactions) = (n : ℕ) → n < length said → AreQuiet (take n said)
 TellsLast _ = Unit {0}
+
+-- worlds with the same rows of msdb
+pub record SameRows (old new : World) : Type 0 where
+  pub backups : new.backups ≡ old.backups
+  pub restores : new.restores ≡ old.restores
+  pub marks : new.marks ≡ old.marks

@@ -1,7 +1,8 @@
 ghost use Rattle.std.specs.Prelude.{◌≡◌, ℕ, true, List, [], ◌∷◌, ◌++◌, Option, None, Some, remove, set, slice_get};
 ghost use Rattle.std.specs.List.{position};
 ghost use Rattle.bk_hosted.specs.Hosted.{Hosted, Hosts, SaysNoCheckpoint, basing, bringing_up, creating, folding, is_up, names, noting, parking, restoring, saying, set_log};
-ghost use Rattle.bk_machine.specs.Acts.{Recovery, based, created, done, done_all, dropped, logged, medium_made, replaced, seated, set_drawn, set_sealed, turned};
+ghost use Rattle.bk_machine.specs.Acts.{Recovery, based, created, done, done_all, dropped, logged, medium_made, noted, replaced, seated, set_drawn, set_sealed, turned};
+ghost use Rattle.bk_machine.specs.declared.history_row.HistoryRow.{HistoryRow};
 ghost use Rattle.bk_machine.specs.MayDo.{MayDo, MayDoAll};
 ghost use Rattle.bk_machine.specs.Sound.{IsSound, IsSoundSet};
 ghost use Rattle.bk_machine.specs.World.{World, ended, opened};
@@ -18,7 +19,7 @@ use bk_machine::{
 };
 
 /// An act of a sound world does to its hosted databases what it does to the world: what one says comes behind its records, also where that is a front of what it may say, a checkpoint once it is noted as the next one. That by itself changes
-/// nothing, nor does taking in what was noted; one is based on a set; one comes or goes. Acts on sessions and media leave them, and so do the beginning and the end of a run.
+/// nothing, nor does taking in what was noted; one is based on a set; one comes or goes. Acts on sessions, media and msdb leave them, and so do the beginning and the end of a run.
 pub fn hosted_databases_follow_acts()
     ensures said { (w : World) (name : List ℕ) (said : List Said) (transactions : List Open) (hosted : List Hosted) (i : ℕ) (h : Hosted) → IsSound w → Hosts w hosted
         → position (names name) hosted ≡ Some i → slice_get hosted i ≡ Some h → MayDo w (logged name said transactions) → SaysNoCheckpoint said
@@ -44,6 +45,7 @@ pub fn hosted_databases_follow_acts()
     ensures seated { (w : World) (session : ℕ) (hosted : List Hosted) → Hosts w hosted → Hosts (done w (seated session)) hosted }
     ensures medium_made { (w : World) (path : List ℕ) (hosted : List Hosted) → Hosts w hosted → Hosts (done w (medium_made path)) hosted }
     ensures set_drawn { (w : World) (hosted : List Hosted) → Hosts w hosted → Hosts (done w set_drawn) hosted }
+    ensures row_noted { (w : World) (row : HistoryRow) (hosted : List Hosted) → Hosts w hosted → Hosts (done w (noted row)) hosted }
     ensures set_sealed { (w : World) (path : List ℕ) (header : Header) (hosted : List Hosted) → Hosts w hosted → Hosts (done w (set_sealed path header)) hosted }
     ensures opened { (w : World) (hosted : List Hosted) → Hosts w hosted → Hosts (opened w) hosted }
     ensures ended { (w : World) (hosted : List Hosted) → Hosts w hosted → Hosts (ended w) hosted }

@@ -1,6 +1,6 @@
 ghost use Rattle.std.specs.Prelude.{◌≡◌, ◌≤◌, ℕ, ◌+◌, true, false, List, [], ◌∷◌, ◌++◌, map};
 ghost use Rattle.std.specs.List.{AllByRecursion};
-ghost use Rattle.bk_hosted.specs.Fronts.{AreFronts, IsFrontOf, TellsLast, Waits, settling};
+ghost use Rattle.bk_hosted.specs.Fronts.{AreFronts, IsFrontOf, SameRows, TellsLast, Waits, settling};
 ghost use Rattle.bk_hosted.specs.Hosted.{Hosted, Hosts, database_of, is_up};
 ghost use Rattle.bk_items.specs.declared.item.ScriptEntry.{ScriptEntry};
 ghost use Rattle.bk_machine.specs.Acts.{Act};
@@ -23,16 +23,16 @@ use bk_machine::{
 };
 
 /// Let a run from a sound world, or its closing, be cut, also inside of what a database says, and let fronts of the hosted databases be left there, behind which only is lost what was open before
-/// the statement or is of the statement. A crash may leave a world that hosts these with all undone that is pending in them, whatever its counter within the bounds; its sets read as they did.
+/// the statement or is of the statement. A crash may leave a world that hosts these with all undone that is pending in them, whatever its counter within the bounds; its sets read as they did, and it has the same rows of msdb.
 pub fn crashes_leave_settled_fronts()
     ensures runs { (old : World) (statements : List ScriptEntry) (moments : List ℕ) (outcomes : List Outcome) (least : ℕ) (before cut whole : World) (hosted fronts : List Hosted) (counter : ℕ)
         → IsSound old → IsRun old statements moments outcomes → CutsRun old outcomes least before cut whole → Hosts cut hosted → AreFronts before hosted fronts
         → cut.counter ≤ counter → counter ≤ cut.counter + 1024
-        → (left : World) × Leaves old outcomes least left × (left.counter ≡ counter) × Hosts left (map settling fronts) × SameMedia cut left }
+        → (left : World) × Leaves old outcomes least left × (left.counter ≡ counter) × Hosts left (map settling fronts) × SameMedia cut left × SameRows cut left }
     ensures closings { (old : World) (statements : List ScriptEntry) (moments : List ℕ) (outcomes : List Outcome) (acts : List Act) (least : ℕ) (before cut whole : World) (hosted fronts : List Hosted) (counter : ℕ)
         → IsSound old → IsRun old statements moments outcomes → AreClosing (behind_all old outcomes) acts → CutsRun old (outcomes ++ closed_by acts ∷ []) least before cut whole
         → Hosts cut hosted → AreFronts before hosted fronts → cut.counter ≤ counter → counter ≤ cut.counter + 1024
-        → (left : World) × Leaves old (outcomes ++ closed_by acts ∷ []) least left × (left.counter ≡ counter) × Hosts left (map settling fronts) × SameMedia cut left }
+        → (left : World) × Leaves old (outcomes ++ closed_by acts ∷ []) least left × (left.counter ≡ counter) × Hosts left (map settling fronts) × SameMedia cut left × SameRows cut left }
 {
     closings_are_cut_in_whole_worlds();
     crashes_keep_worlds_sound();

@@ -1,4 +1,4 @@
-use Rattle.bk_hosted.proofs.Acts.{hosts-based, hosts-checkpoint, hosts-created, hosts-drawn, hosts-dropped, hosts-ended, hosts-folded, hosts-medium, hosts-noted, hosts-opened, hosts-said, hosts-sealed, hosts-seated, hosts-turned}
+use Rattle.bk_hosted.proofs.Acts.{hosts-based, hosts-checkpoint, hosts-created, hosts-drawn, hosts-dropped, hosts-ended, hosts-folded, hosts-medium, hosts-noted, hosts-opened, hosts-row, hosts-said, hosts-sealed, hosts-seated, hosts-turned}
 use Rattle.bk_hosted.proofs.Sayings.{hosts-saying, says-grows}
 use Rattle.bk_hosted.proofs.act_laws.hosted_databases_follow_acts.Goals as goal
 
@@ -40,6 +40,9 @@ returns-clause-medium_made c = hosts-medium
 
 pub returns-clause-set_drawn : goal.returns-clause-set_drawn
 returns-clause-set_drawn c = hosts-drawn
+
+pub returns-clause-row_noted : goal.returns-clause-row_noted
+returns-clause-row_noted c = hosts-row
 
 pub returns-clause-set_sealed : goal.returns-clause-set_sealed
 returns-clause-set_sealed c = hosts-sealed
