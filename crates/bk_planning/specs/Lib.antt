@@ -1,3 +1,4 @@
+pub mod Marking
 pub mod NewTables
 pub mod Opening
 pub mod Undoing

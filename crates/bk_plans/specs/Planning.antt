@@ -1,13 +1,15 @@
 -- Plans of statements, as outcomes of the machine.
-use Rattle.std.specs.Prelude.{◌≡◌, ℕ, true, false, List, [], ◌∷◌, None, Some}
+use Rattle.std.specs.Prelude.{◌≡◌, ◌≤◌, ℕ, Option, length, true, false, List, [], ◌∷◌, None, Some}
 use Rattle.std.specs.List.{AllByRecursion}
 use Rattle.bk_acts.specs.Conditions.{KeepsAct}
 use Rattle.bk_header.specs.Conditions.{KeepsConditions}
 use Rattle.bk_items.specs.declared.item.ScriptEntry.{ScriptEntry}
 use Rattle.bk_items.specs.declared.item.ScriptItem.{ScriptItem}
-use Rattle.bk_items.specs.declared.item.ScriptItem.TheVariants.{BackupDatabase, RestoreDatabase, QueryMedium}
-use Rattle.bk_machine.specs.Acts.{Act, turned, seated, medium_made, set_drawn, set_sealed, done}
+use Rattle.bk_items.specs.declared.item.ScriptItem.TheVariants.{BackupDatabase, RestoreDatabase, QueryMedium, SelectCatalog}
+use Rattle.bk_machine.specs.Acts.{Act, turned, seated, medium_made, set_drawn, set_sealed, noted, done}
 use Rattle.bk_machine.specs.Checks.{used_up, is_path}
+use Rattle.bk_machine.specs.declared.history_row.HistoryRow.{HistoryRow}
+use Rattle.bk_machine.specs.declared.history_row.HistoryRow.TheVariants.{Backup, Restore, Mark}
 use Rattle.bk_machine.specs.Machine.{May}
 use Rattle.bk_machine.specs.MayDo.{MayDo}
 use Rattle.bk_machine.specs.Outcome.{Outcome}
@@ -19,7 +21,7 @@ use Rattle.bk_world.specs.declared.reply.Reply.{Reply}
 use Rattle.bk_world.specs.declared.reply.Reply.TheVariants as reply
 use Rattle.bk_kept.specs.declared.kept.Kept.{Kept}
 use Rattle.bk_plans.specs.declared.parts.Part.{Part}
-use Rattle.bk_plans.specs.declared.parts.Part.TheVariants.{Stored, MediumMade, SetDrawn, SetSealed}
+use Rattle.bk_plans.specs.declared.parts.Part.TheVariants.{Stored, MediumMade, SetDrawn, SetSealed, Noted}
 use Rattle.bk_plans.specs.declared.parts.Plan.{Plan}
 use Rattle.bk_plans.specs.declared.parts.Plan.TheVariants.{Refused, Answered, Turned, Seated, Parts}
 use Rattle.bk_kept.specs.Keeps.{Sees}
@@ -51,6 +53,7 @@ IsPart w (Stored stored) act = IsDone w stored act
 IsPart w (MediumMade path) act = MakesMedium w path act
 IsPart w SetDrawn act = DrawsSet w act
 IsPart w (SetSealed path header) act = SealsSet w path header act
+IsPart w (Noted row) act = act ≡ noted row
 
 -- parts are these acts, each of which may be done behind those before it
 abbrev pub AreParts : World → List Part → List Act → Type 0
@@ -58,12 +61,24 @@ AreParts w [] [] = Unit {0}
 AreParts w (part ∷ parts) (act ∷ acts) = IsPart w part act × AreParts (done w act) parts acts
 AreParts w _ _ = ⊥
 
+-- the text of the stop of a restore has at most 65,535 bytes, if there is one
+abbrev pub IsShortStop : Option (List ℕ) → Type 0
+IsShortStop None = Unit {0}
+IsShortStop (Some stop) = length stop ≤ 65535
+
+-- what a row of msdb keeps beside its types
+abbrev pub KeepsRow : HistoryRow → Type 0
+KeepsRow (Backup row) = KeepsConditions row.header
+KeepsRow (Restore row) = IsShortStop row.stop
+KeepsRow (Mark row) = Unit {0}
+
 -- what a part keeps beside its types
 abbrev pub KeepsPart : Part → Type 0
 KeepsPart (Stored stored) = KeepsAct stored
 KeepsPart (MediumMade path) = is_path path ≡ true
 KeepsPart SetDrawn = Unit {0}
 KeepsPart (SetSealed path header) = (is_path path ≡ true) × KeepsConditions header
+KeepsPart (Noted row) = KeepsRow row
 
 -- Plans.
 
@@ -96,9 +111,10 @@ pub record Plans (k : Kept) (Known : World → Type 0) (s : ScriptEntry) (now : 
   pub may : (w : World) → IsSound w → Sees w k → Known w → May w s now outcome
   pub acts : (w : World) → IsSound w → Sees w k → Known w → AreActsOf w plan outcome.acts
 
--- an item that reads no medium
+-- an item that reads neither a medium nor the tables of msdb
 abbrev pub ReadsNoMedium : ScriptItem → Type 0
 ReadsNoMedium (BackupDatabase name units disk options) = ⊥
 ReadsNoMedium (RestoreDatabase name units disk options) = ⊥
 ReadsNoMedium (QueryMedium query disk file) = ⊥
+ReadsNoMedium (SelectCatalog catalog) = ⊥
 ReadsNoMedium _ = Unit {0}

@@ -2,6 +2,7 @@
 
 use bk_acts::StoredAct;
 use bk_ids::Text;
+use bk_machine::HistoryRow;
 use bk_world::{Header, Reply, Rule};
 
 /// A part of a statement: an act of the machine.
@@ -15,6 +16,8 @@ pub enum Part {
     SetDrawn,
     /// A set with this header is sealed behind those on the medium at a path.
     SetSealed { path: Text, header: Header },
+    /// A row comes to its table of msdb.
+    Noted { row: HistoryRow },
 }
 
 /// What a statement comes to.

@@ -2,12 +2,12 @@ use Rattle.bk_plans.specs.PlanLaws.{if-plan}
 use Rattle.bk_planning.proofs.PlannedEnds.{commit-planned, commit-refused}
 use Rattle.bk_planning.proofs.commit.plan_commit.Goals as goal
 
-pub returns-in_ok-act-in-Ok-clause-plans : goal.returns-in_ok-act-in-Ok-clause-plans
-returns-in_ok-act-in-Ok-clause-plans c =
-    if-plan _ _ c.stored.result
-    (λ plan one line.
-    commit-planned c.args.kept.now line c.args.now c.in-Ok.held c.in-Ok.ensures.check (c.in-Ok.ensures.shows c.requires) c.statements_do_what_they_may.ensures.may c.in_ok-act-in-Ok.act plan one c.in_ok-act-in-Ok.ensures.commits)
-    c.stored.ensures.one
+pub returns-in_ok-row-in-Ok-clause-plans : goal.returns-in_ok-row-in-Ok-clause-plans
+returns-in_ok-row-in-Ok-clause-plans c =
+    if-plan _ _ c.commit_plan.result
+    (λ plan parts line.
+    commit-planned c.args.kept.now line c.args.now c.in-Ok.held c.in-Ok.ensures.check (c.in-Ok.ensures.shows c.requires) c.statements_do_what_they_may.ensures.may c.in_ok-act-in-Ok.act _ c.in_ok-act-in-Ok.ensures.commits c.in_ok-row-in-Ok.ensures plan parts)
+    c.commit_plan.ensures.parts
 
 pub returns-in-Err-clause-plans : goal.returns-in-Err-clause-plans
 returns-in-Err-clause-plans c =

@@ -47,7 +47,7 @@ module _ (w : World) (line now : ℕ) where
   unbuilt (script.Use a) other plain = absurd (other.use_it a refl)
   unbuilt (script.SetRecovery a b) other plain = refl
   unbuilt (script.DropDatabase a) other plain = absurd (other.drop a refl)
-  unbuilt (script.SelectCatalog a) other plain = refl
+  unbuilt (script.SelectCatalog a) other plain = absurd plain
   unbuilt (script.Session a) other plain = absurd (other.session a refl)
   unbuilt (script.Start) other plain = refl
   unbuilt (script.Step a) other plain = refl
