@@ -1,7 +1,7 @@
 -- The media of a world behind acts that write to none.
 use Rattle.std.proofs.Common.{◌≡◌, inl, inr, ℕ, List, [], ◌∷◌, Option, None, Some, refl}
 use Rattle.bk_device.specs.Disk.{Files}
-use Rattle.bk_machine.specs.Acts.{Act, based, created, done, done_all, dropped, goes_online, logged, medium_made, recovered, replaced, restored, says, seated, set_drawn, set_sealed, turned}
+use Rattle.bk_machine.specs.Acts.{Act, based, created, done, done_all, dropped, goes_online, logged, medium_made, noted, recovered, replaced, restored, says, seated, set_drawn, set_sealed, turned}
 use Rattle.bk_machine.specs.MayDo.{MayDo, MayDoAll}
 use Rattle.bk_machine.specs.Sound.{IsSound, SetIn}
 use Rattle.bk_machine.specs.World.{Database, World, database_named}
@@ -25,6 +25,7 @@ same-media w (logged name said transactions) none = by (database_named w.databas
     by (Some db) is = rw is refl
 same-media w (medium_made path) none = absurd (none path refl)
 same-media w set_drawn none = refl
+same-media w (noted row) none = refl
 same-media w (set_sealed path header) none = absurd (none path refl)
 same-media w (based name header) none = refl
 same-media w (replaced name header) none = refl
