@@ -14,7 +14,8 @@ use Rattle.bk_items.specs.declared.item.UnitName.{UnitName}
 use Rattle.bk_items.specs.declared.options.BackupOptions.{BackupOptions}
 use Rattle.bk_machine.specs.FitLaws.{said-time}
 use Rattle.bk_media_plans.specs.Sets.{MayMakeSet}
-use Rattle.bk_machine.specs.Acts.{latest, Act, based, done, drawn, gone_on, logged, medium_made, said_time, says, set_drawn, set_sealed}
+use Rattle.bk_machine.specs.Acts.{latest, Act, based, done, drawn, gone_on, logged, medium_made, noted, said_time, says, set_drawn, set_sealed}
+use Rattle.bk_machine.specs.declared.history_row.HistoryRow.TheVariants.{Backup}
 use Rattle.bk_machine.specs.CheckLaws.{not-refused, passed, second-false, was-found, was-online}
 use Rattle.bk_machine.specs.Checks.{limit, online, or_refuse, outside, refuse_if, used_up, is_path}
 use Rattle.bk_machine.specs.Machine.{May}
@@ -202,7 +203,7 @@ module _ (d : KeptDatabase) (path : List ℕ) (sets : Option ℕ) (options : Bac
   -- what the statement comes to, by the header of its set
   pub outcome_by : Header → Outcome
   outcome_by h = record {
-    acts = draws sets path ∷ logged d.name (alone (checkpointed time)) d.transactions ∷ logged d.name (alone (stamped time set)) d.transactions ∷ set_sealed path h ∷ based d.name h ∷ [];
+    acts = draws sets path ∷ logged d.name (alone (checkpointed time)) d.transactions ∷ logged d.name (alone (stamped time set)) d.transactions ∷ set_sealed path h ∷ noted (Backup (record { position = position_behind sets; header = h })) ∷ based d.name h ∷ [];
     reply = answer;
   }
 
@@ -212,9 +213,9 @@ module _ (d : KeptDatabase) (path : List ℕ) (sets : Option ℕ) (options : Bac
   unfolding full_header outcome_by
   is-outcome w now h is room replies set-is time-is =
       ap outcome_by is
-      ∙ ap (λ (r : Reply). record { acts = draws sets path ∷ full_parts (database_of d) path (full_header w (database_of d) options set time); reply = r }) (replies (has-room sets (medium_at w.media path) room))
-      ∙ ap (λ (a : Act). record { acts = a ∷ full_parts (database_of d) path (full_header w (database_of d) options set time); reply = SetMade (position_behind sets) (least_begin d.transactions d.shown.«end») d.shown.«end» (d.shown.«end» + 2) }) (draws-is path sets (medium_at w.media path) room)
-      ∙ ap (λ (n : ℕ). record { acts = draws_set (medium_at w.media path) path ∷ full_parts (database_of d) path (full_header w (database_of d) options set time); reply = SetMade n (least_begin d.transactions d.shown.«end») d.shown.«end» (d.shown.«end» + 2) }) (position-is sets (medium_at w.media path) room)
+      ∙ ap (λ (r : Reply). record { acts = draws sets path ∷ full_parts (position_behind sets) (database_of d) path (full_header w (database_of d) options set time); reply = r }) (replies (has-room sets (medium_at w.media path) room))
+      ∙ ap (λ (a : Act). record { acts = a ∷ full_parts (position_behind sets) (database_of d) path (full_header w (database_of d) options set time); reply = SetMade (position_behind sets) (least_begin d.transactions d.shown.«end») d.shown.«end» (d.shown.«end» + 2) }) (draws-is path sets (medium_at w.media path) room)
+      ∙ ap (λ (n : ℕ). record { acts = draws_set (medium_at w.media path) path ∷ full_parts n (database_of d) path (full_header w (database_of d) options set time); reply = SetMade n (least_begin d.transactions d.shown.«end») d.shown.«end» (d.shown.«end» + 2) }) (position-is sets (medium_at w.media path) room)
       ∙ ap (λ (s : Guid). backed_up (medium_at w.media path) (database_of d) path (full_header w (database_of d) options s time)) set-is
       ∙ ap (λ (t : ℕ). backed_up (medium_at w.media path) (database_of d) path (full_header w (database_of d) options (drawn w w.counter) t)) time-is
 
@@ -309,6 +310,11 @@ module _ (d : KeptDatabase) (path : List ℕ) (sets : Option ℕ) (options : Bac
       there = ap (λ m. medium_at m path) (finish.media ∙ start.media) ∙ drew.there;
     }
 
+    row-noted : noted (Backup (record { position = position_behind sets; header = b.header })) ≡ noted (Backup (record { position = b.position; header = b.row_header }))
+    row-noted =
+        ap (λ (n : ℕ). noted (Backup (record { position = n; header = b.header }))) (sym (b.position_is (has-room sets (medium_at w.media path) room)))
+        ∙ ap (λ (h : Header). noted (Backup (record { position = b.position; header = h }))) (b.is_header w shows ∙ sym (b.is_row w shows))
+
     base-done : (v : World) → IsDone v (Based d.name b.base) (based d.name b.header)
     base-done v = record { means = ap (based d.name) (b.is_header w shows ∙ sym (b.is_base w shows)); may = tt; draws = tt; unused = tt; from_end = tt; marked = tt; taken = tt }
 
@@ -316,7 +322,7 @@ module _ (d : KeptDatabase) (path : List ℕ) (sets : Option ℕ) (options : Bac
     unfolding outcome_by
     parts-done =
         subst (λ (ps : List Part). AreParts w ps (outcome_by b.header).acts) (sym b.are)
-        (drew.part, (start-done, (finish-done, (sealed, (base-done _, tt)))))
+        (drew.part, (start-done, (finish-done, (sealed, (row-noted, (base-done _, tt))))))
 
 module _ (k : Kept) (line now : ℕ) (name : List ℕ) (units : List UnitName) (path : List ℕ) (options : BackupOptions) (room : Result (Option ℕ) Rule) where
   abbrev Known : World → Type 0

@@ -84,7 +84,7 @@ module _ (w : World) (set : Found) (of : IsSetOf w.history set) where
 
 -- ---- a database has room for what it has
 
-path-is : (path : List ℕ) → 1 ≤ length path → length path ≤ 100 → is_path path ≡ true
+pub path-is : (path : List ℕ) → 1 ≤ length path → length path ≤ 100 → is_path path ≡ true
 path-is path some short = and_from (nat_lt 0 (length path)) (nat_le (length path) 100) (lt-ltb 0 (length path) (omega (arith, some))) (le-leb (length path) 100 short)
 
 paths-are : (files : List HeaderFile) → AllByRecursion HasPath files → AllByRecursion (λ (f : FileSpec). is_path f.path ≡ true) (map spec_of files)

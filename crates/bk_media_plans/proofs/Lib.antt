@@ -3,6 +3,6 @@ pub mod SetFits
 pub mod FoundSets
 pub mod BackupParts
 pub mod Recoveries
-pub mod Unmoved
+pub mod MovedSets
 pub mod Backed
 pub mod PlannedRestore

@@ -7,6 +7,7 @@ use Rattle.bk_acts.specs.Meaning.{Spell}
 use Rattle.bk_ids.specs.declared.guid.Guid.{Guid}
 use Rattle.bk_ids.specs.declared.record.Rec.{Rec}
 use Rattle.bk_items.specs.declared.options.BackupOptions.{BackupOptions}
+use Rattle.bk_machine.specs.declared.history_row.HistoryRow.TheVariants.{Backup}
 use Rattle.bk_machine.specs.World.{World, least_begin}
 use Rattle.bk_machine.specs.statements.Backup.{full_header, most_sets}
 use Rattle.bk_header.specs.Conditions.{KeepsConditions}
@@ -17,7 +18,7 @@ use Rattle.bk_world.specs.declared.reply.Reply.{Reply}
 use Rattle.bk_world.specs.declared.reply.Reply.TheVariants.{SetMade}
 use Rattle.bk_kept.specs.declared.kept.Database.{Database as KeptDatabase}
 use Rattle.bk_plans.specs.declared.parts.Part.{Part}
-use Rattle.bk_plans.specs.declared.parts.Part.TheVariants.{Stored, MediumMade, SetDrawn, SetSealed}
+use Rattle.bk_plans.specs.declared.parts.Part.TheVariants.{Stored, MediumMade, SetDrawn, SetSealed, Noted}
 use Rattle.bk_plans.specs.declared.parts.Plan.{Plan}
 use Rattle.bk_plans.specs.declared.parts.Plan.TheVariants.{Parts}
 use Rattle.bk_kept.specs.Keeps.{ShowsLog, database_of}
@@ -69,25 +70,39 @@ pub record SealsOne (d : KeptDatabase) (path : List ℕ) (options : BackupOption
   pub is : IsFullHeader d options set time header
   pub keeps : KeepsConditions header
 
+-- one part more, by which its row comes to backupset
+pub record NotesOne (d : KeptDatabase) (sets : Option ℕ) (options : BackupOptions) (set : Guid) (time : ℕ) (old new : List Part) : Type 0 where
+  pub position : ℕ
+  pub header : Header
+  pub are : new ≡ old ++ Noted (Backup (record { position = position; header = header })) ∷ []
+  pub position_is : HasRoom sets → position ≡ position_behind sets
+  pub is : IsFullHeader d options set time header
+  pub keeps : KeepsConditions header
+
 -- one part more, by which the database is based on it
 pub record BasesOne (d : KeptDatabase) (options : BackupOptions) (set : Guid) (time : ℕ) (old new : List Part) : Type 0 where
   pub header : Header
   pub are : new ≡ old ++ Stored (Based d.name header) ∷ []
   pub is : IsFullHeader d options set time header
 
--- the five parts of a full backup: the draw of its set, the checkpoint at its start, the stamp at its finish, its set, and what the database is based on
+-- the six parts of a full backup: the draw of its set, the checkpoint at its start, the stamp at its finish, its set, its row, and what the database is based on
 pub record IsBackup (d : KeptDatabase) (path : List ℕ) (sets : Option ℕ) (options : BackupOptions) (set : Guid) (time : ℕ) (parts : List Part) : Type 0 where
   pub kept : ℕ
   pub finish : List Rec
   pub header : Header
+  pub position : ℕ
+  pub row_header : Header
   pub base : Header
-  pub are : parts ≡ draws_part sets path ∷ Stored (Checkpointed d.name time kept) ∷ Stored (LoggedAct d.name d.transactions finish) ∷ SetSealed path header ∷ Stored (Based d.name base) ∷ []
+  pub are : parts ≡ draws_part sets path ∷ Stored (Checkpointed d.name time kept) ∷ Stored (LoggedAct d.name d.transactions finish) ∷ SetSealed path header ∷ Noted (Backup (record { position = position; header = row_header })) ∷ Stored (Based d.name base) ∷ []
   pub kept_is : IsKeptBehind d kept
   pub spell : Spell finish (d.shown.«end» + 1) (alone (stamped time set))
   pub keep : KeepRecords finish
   pub is_header : IsFullHeader d options set time header
+  pub position_is : HasRoom sets → position ≡ position_behind sets
+  pub is_row : IsFullHeader d options set time row_header
   pub is_base : IsFullHeader d options set time base
   pub keeps : KeepsConditions header
+  pub row_keeps : KeepsConditions row_header
 
 -- the reply to them, where the medium has room for the set
 abbrev pub IsBackupReply : KeptDatabase → Option ℕ → Reply → Type 0

@@ -3,11 +3,12 @@ use Rattle.std.specs.Prelude.{◌≡◌, ◌≤◌, ℕ, List, length, Option, R
 use Rattle.bk_body.specs.Body.{Body}
 use Rattle.bk_body.specs.Conditions.{IsBody}
 use Rattle.bk_carried.specs.Carried.{Carries}
-use Rattle.bk_header.specs.Conditions.{KeepsConditions}
+use Rattle.bk_header.specs.Conditions.{IsHeader, KeepsConditions}
+use Rattle.bk_items.specs.declared.options.FileMove.{FileMove}
 use Rattle.bk_machine.specs.Checks.{Checked}
 use Rattle.bk_machine.specs.World.{World}
 use Rattle.bk_machine.specs.statements.CreateTable.{most_tables}
-use Rattle.bk_machine.specs.statements.Restore.{disk_path, set_at}
+use Rattle.bk_machine.specs.statements.Restore.{disk_path, moved, set_at}
 use Rattle.bk_world.specs.declared.database.TableSpec.{TableSpec}
 use Rattle.bk_world.specs.declared.header.Header.{Header}
 use Rattle.bk_world.specs.declared.rule.Rule.{Rule}
@@ -20,10 +21,23 @@ pub record Found : Type 0 where
   pub tables : List TableSpec
   pub log : List ℕ
 
+-- it, under another header
+abbrev pub under : Header → Found → Found
+under header set = record set { header = header }
+
+-- it, as it is restored: with its files at the paths to which they are moved
+abbrev pub moved_set : List FileMove → Found → Found
+moved_set moves set = under (moved moves set.header) set
+
 -- what every set keeps of a header and its tables
 pub record KeepsFound (set : Found) : Type 0 where
   pub header : KeepsConditions set.header
   pub few : length set.tables ≤ most_tables
+
+-- it keeps that, and its header has a spelling
+pub record IsFit (set : Found) : Type 0 where
+  pub header : IsHeader set.header
+  pub keeps : KeepsFound set
 
 -- A set has this header, these tables and this log, and holds what its path shows.
 pub record IsSetOf (lines : RecordLines) (set : Found) : Type 0 where

@@ -2,5 +2,6 @@ pub mod SetPaths
 pub mod Sets
 pub mod Backups
 pub mod Found
+pub mod Moves
 pub mod Restoring
 pub mod RestorePlans

@@ -1,17 +1,21 @@
 -- What a whole restore brings up, and what its plan is told.
-use Rattle.std.specs.Prelude.{◌≡◌, ◌≤◌, ℕ, ◌+◌, Bool, ◌&&◌, List, [], length, Option}
+use Rattle.std.specs.Prelude.{◌≡◌, ◌≤◌, ℕ, ◌+◌, max, min, Bool, ◌&&◌, List, [], length, Option, None}
 use Rattle.bk_ids.specs.declared.guid.Guid.{Guid}
 use Rattle.bk_items.specs.declared.item.RestoredUnits.{RestoredUnits}
 use Rattle.bk_items.specs.declared.options.RestoreOptions.{RestoreOptions}
+use Rattle.bk_machine.specs.Acts.{latest}
 use Rattle.bk_machine.specs.Checks.{is_name, is_path, last_number}
 use Rattle.bk_machine.specs.World.{World, database_named}
-use Rattle.bk_machine.specs.statements.Restore.{disk_path, is_whole_restore, name_known}
+use Rattle.bk_machine.specs.statements.Restore.{disk_path, is_recovery, is_whole_restore, name_known}
 use Rattle.bk_shown.specs.Ends.{HoldsPending}
 use Rattle.bk_shown.specs.Shown.{ArePlaced}
 use Rattle.bk_world.specs.Pending.{Pending, pending}
 use Rattle.bk_world.specs.Records.{Counts, Logged}
 use Rattle.bk_world.specs.SoundLogs.{IsSound}
 use Rattle.bk_world.specs.declared.database.FileSpec.{FileSpec}
+use Rattle.bk_world.specs.declared.header.Header.{Header}
+use Rattle.bk_world.specs.declared.msdb.RestoreKind.TheVariants.{Set}
+use Rattle.bk_world.specs.declared.msdb.RestoreRow.{RestoreRow}
 use Rattle.bk_kept.specs.declared.kept.Kept.{Kept}
 use Rattle.bk_kept.specs.Keeps.{Sees}
 use Rattle.bk_plans.specs.declared.refusal.Refusal.{Refusal}
@@ -52,10 +56,22 @@ pub record IsOfRestore (k : Kept) (asked : List ℕ) (set : Found) (name : List 
   pub branch_is : branch ≡ record { high = k.number; low = k.counter }
   pub ends : EndsRecovery set.log set.header.last last
 
--- a plan restores it so
-abbrev pub RestoresWhole : Kept → List ℕ → Found → RestorePlan → Type 0
-RestoresWhole k asked set (BringsUp name branch last) = IsOfRestore k asked set name branch last
-RestoresWhole k asked set (Refused rule) = ⊥
+-- the row of restorehistory of a restore at a moment, by the time that its set was finished
+abbrev pub row_by : ℕ → List ℕ → RestoreOptions → Header → RestoreRow
+row_by now name options header = record {
+  time = max (min now latest) header.finish;
+  database = name;
+  set = header.set;
+  kind = Set header.kind;
+  replace = options.replace;
+  recovery = is_recovery options.ending;
+  stop = None;
+}
+
+-- a plan restores it so at a moment, by this header and with this row
+abbrev pub RestoresWhole : Kept → List ℕ → ℕ → RestoreOptions → Found → RestorePlan → Type 0
+RestoresWhole k asked now options set (BringsUp name branch last header row) = (header ≡ set.header) × IsOfRestore k asked set name branch last × (row ≡ row_by now name options set.header)
+RestoresWhole k asked now options set (Refused rule) = ⊥
 
 -- a plan refuses by the rule of a refusal
 abbrev pub IsRefusedRestore : Refusal → RestorePlan → Type 0

@@ -3,6 +3,7 @@
 
 mod backing_up;
 mod headers;
+mod moving;
 mod planning_backup;
 mod planning_restore;
 mod restore_plan;

@@ -9,7 +9,7 @@ ghost use Rattle.bk_machine.specs.World.{World};
 ghost use Rattle.bk_machine.specs.statements.Backup.{ShowsRoom};
 ghost use Rattle.bk_media_plans.specs.Sets.{MayMakeSet};
 ghost use Rattle.bk_shown.specs.declared.error.TakeError.TheVariants.{Unfit};
-ghost use Rattle.bk_media_plans.specs.Backups.{BasesOne, HasRoom, IsBackup, IsBackupPlan, IsBackupReply, IsStamp, MarksOne, SealsOne, StampsOne, draws_part, position_behind};
+ghost use Rattle.bk_media_plans.specs.Backups.{BasesOne, HasRoom, IsBackup, IsBackupPlan, IsBackupReply, IsStamp, MarksOne, NotesOne, SealsOne, StampsOne, draws_part, position_behind};
 ghost use Rattle.bk_plans.specs.Planned.{IsRefusedBy};
 ghost use Rattle.bk_plans.specs.Planning.{KeepsPlan, Plans};
 ghost use Rattle.bk_world.specs.Medium.{medium_at};
@@ -20,10 +20,12 @@ use bk_acts::StoredAct;
 use bk_ids::{Body, Guid, Sequence, Text};
 use bk_items::{BackupOptions, UnitName};
 use bk_kept::{DatabaseView, InstanceView, copy_transactions};
-use bk_machine::{acts_keep_worlds_sound, statements_do_what_they_may, what_is_said_comes_last};
+use bk_machine::{
+    HistoryRow, acts_keep_worlds_sound, statements_do_what_they_may, what_is_said_comes_last,
+};
 use bk_plans::{Part, Plan, Refusal, logged, marked, refused, said_time, say_one};
 use bk_shown::TakeError;
-use bk_world::{Reply, Rule};
+use bk_world::{BackupRow, Reply, Rule};
 use std::alloc::{AllocError, Global};
 
 // One part more.
@@ -131,6 +133,47 @@ fn push_set(
     Ok(())
 }
 
+// How many sets a medium has at most.
+const MOST_SETS: u64 = 65_535;
+
+// The position of the next set on a medium that has room for one, from 1.
+fn next_position(sets: Option<u64>) -> u32
+    ensures { HasRoom sets → result ≡ position_behind sets }
+{
+    match sets {
+        Some(sets) => sets.min(MOST_SETS) as u32 + 1,
+        None => 1,
+    }
+}
+
+// One part more: the set's row comes to backupset. `Unfit` comes only where the database or the set's name fits no set.
+fn push_row(
+    alloc: Global,
+    parts: &mut Vec<Part>,
+    database: &DatabaseView<'_>,
+    sets: Option<u64>,
+    options: &BackupOptions,
+    set: Guid,
+    time: u64,
+) -> Result<(), TakeError>
+    requires { database.now.shown.«end» + 2 < 2 ^ 64 }
+    ensures notes { OnOk result (NotesOne database.now sets options.now set time parts.old.items parts.new.items) }
+    ensures unfit { IsErrOf result Unfit → (w : World) → MayMakeSet w database.now options.now time → ⊥ }
+{
+    let header = kept_header(alloc, database, options, set, time)?;
+    let row = BackupRow {
+        position: next_position(sets),
+        header,
+    };
+    push(
+        parts,
+        Part::Noted {
+            row: HistoryRow::Backup(row),
+        },
+    )?;
+    Ok(())
+}
+
 // One part more: the database is based on the set.
 fn push_base(
     alloc: Global,
@@ -168,21 +211,9 @@ fn backup_parts(
     push_mark(alloc, &mut parts, database, time)?;
     push_stamp(alloc, &mut parts, database, set, time)?;
     push_set(alloc, &mut parts, database, disk, options, set, time)?;
+    push_row(alloc, &mut parts, database, sets, options, set, time)?;
     push_base(alloc, &mut parts, database, options, set, time)?;
     Ok(parts)
-}
-
-// How many sets a medium has at most.
-const MOST_SETS: u64 = 65_535;
-
-// The position of the next set on a medium that has room for one, from 1.
-fn next_position(sets: Option<u64>) -> u32
-    ensures { HasRoom sets → result ≡ position_behind sets }
-{
-    match sets {
-        Some(sets) => sets.min(MOST_SETS) as u32 + 1,
-        None => 1,
-    }
 }
 
 // The reply to a backup of a database.

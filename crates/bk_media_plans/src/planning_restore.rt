@@ -1,6 +1,7 @@
 //! Plans of `RESTORE DATABASE`.
 
 ghost use Rattle.std.specs.Prelude.{◌≡◌, ◌+◌, ℕ, true, nat_le, Ok, IfOk, IsErrOf, MatchOption};
+ghost use Rattle.std.specs.List.{list_all};
 ghost use Rattle.bk_items.specs.declared.item.ScriptItem.TheVariants as script;
 ghost use Rattle.bk_machine.specs.statements.Restore as restore;
 ghost use Rattle.bk_kept.specs.Keeps.{Sees};
@@ -9,23 +10,24 @@ ghost use Rattle.bk_machine.specs.Outcome.{refused};
 ghost use Rattle.bk_machine.specs.Sound.{IsSound};
 ghost use Rattle.bk_machine.specs.World.{World};
 ghost use Rattle.bk_media_plans.specs.Restoring as request;
-ghost use Rattle.bk_media_plans.specs.Found.{FindsSet, KeepsFound};
+ghost use Rattle.bk_media_plans.specs.Found.{FindsSet, IsFit, KeepsFound, under};
 ghost use Rattle.bk_media_plans.specs.RestorePlans.{KeepsRestore, PlansRestore};
 ghost use Rattle.bk_media_plans.specs.Restoring.{EndsRecovery, IsKnown, IsRefusedRestore, LeavesRecovery, RestoresWhole};
 ghost use Rattle.bk_machine.specs.Checks as checks;
 ghost use Rattle.bk_shown.specs.declared.error.TakeError.TheVariants.{Unfit};
 
+use crate::moving::moved;
 use crate::restore_plan::RestorePlan;
 use crate::restoring::check_set;
-use crate::set_view::{SetView, keeps_found};
-use bk_ids::{Guid, Lsn, Name, Text};
-use bk_items::{Ending, RestoreOptions, RestoredUnits};
+use crate::set_view::{SetView, is_fit};
+use bk_ids::{Guid, Lsn, Name, Sequence, Text};
+use bk_items::{Ending, FileMove, RestoreOptions, RestoredUnits};
 use bk_kept::InstanceView;
 use bk_machine::{recoveries_undo_what_is_pending, sets_that_stay, statements_do_what_they_may};
-use bk_plans::{Refusal, is_name, is_path, name_in, outside};
+use bk_plans::{LATEST, Refusal, is_name, is_path, name_in, outside};
 use bk_record::Records;
 use bk_shown::{TakeError, pending_in, placed_logs};
-use bk_world::Rule;
+use bk_world::{Header, RestoreKind, RestoreRow, Rule};
 use std::alloc::{AllocError, Global};
 
 // Numbers from here on, 2^62, are never given.
@@ -41,11 +43,25 @@ fn is_recovery(ending: &Option<Ending>) -> bool
     }
 }
 
-// Whether at most FILE, RECOVERY and REPLACE are there, beside CHECKSUM and options without effect.
+// Whether a file is moved by its name to a path.
+fn is_move(file: &FileMove) -> bool
+    ensures { result ≡ restore.is_move file.now }
+{
+    is_name(file.name.as_str()) && is_path(file.path.as_str())
+}
+
+// Whether each file is moved by its name to a path.
+fn are_moves(moves: &Sequence<FileMove>) -> bool
+    ensures { result ≡ list_all restore.is_move moves.now }
+{
+    moves.as_slice().iter().all(is_move)
+}
+
+// Whether at most FILE, MOVE, RECOVERY and REPLACE are there, beside CHECKSUM and options without effect.
 fn is_plain(o: &RestoreOptions) -> bool
     ensures { result ≡ restore.is_plain o.now }
 {
-    is_recovery(&o.ending) && o.stop.is_none() && !o.partial && o.moves.as_slice().is_empty()
+    is_recovery(&o.ending) && o.stop.is_none() && !o.partial && are_moves(&o.moves)
 }
 
 // Whether a restore lists no units.
@@ -127,28 +143,60 @@ fn known_name(kept: &InstanceView<'_>, alloc: Global, asked: &Text) -> Result<Na
     }
 }
 
-// The plan that brings up what is asked for by a set, on the next GUID. `Unfit` comes only where the set doesn't keep what every set keeps, or leaves no recovery.
+// The row of restorehistory of a restore of a database at `now`, by the header of its set.
+fn row_by(
+    alloc: Global,
+    name: &Name,
+    options: &RestoreOptions,
+    header: &Header,
+    now: u64,
+) -> Result<RestoreRow, AllocError>
+    ensures { IfOk result (λ row. row ≡ request.row_by now name.now options.now header.now) }
+{
+    Ok(RestoreRow {
+        time: now.min(LATEST).max(header.finish),
+        database: name.copy(alloc)?,
+        set: header.set,
+        kind: RestoreKind::Set(header.kind),
+        replace: options.replace,
+        recovery: is_recovery(&options.ending),
+        stop: None,
+    })
+}
+
+// The plan that brings up what is asked for at `now` by a set under this header, on the next GUID. `Unfit` comes only where the set doesn't keep under it what every set keeps, or leaves no recovery.
 fn bringing_up(
     kept: &InstanceView<'_>,
     alloc: Global,
     asked: &Text,
+    options: &RestoreOptions,
     set: &SetView<'_>,
+    header: Header,
+    now: u64,
 ) -> Result<RestorePlan, TakeError>
     requires { checks.is_name asked.now ≡ true }
-    ensures whole { IfOk result (RestoresWhole kept.now asked.now set.now) }
-    ensures unfit { IsErrOf result Unfit → KeepsFound set.now → LeavesRecovery set.now.log set.now.header.last → ⊥ }
-    ensures keeps { IfOk result (λ plan. KeepsFound set.now) }
+    ensures whole { IfOk result (RestoresWhole kept.now asked.now now options.now (under header set.now)) }
+    ensures unfit { IsErrOf result Unfit → KeepsFound (under header set.now) → LeavesRecovery set.now.log header.last → ⊥ }
+    ensures fits { IfOk result (λ plan. IsFit (under header set.now)) }
 {
-    if !keeps_found(set) {
+    if !is_fit(alloc, &header, set)? {
+        drop(header);
         return Err(TakeError::Unfit);
     }
-    let last = last_of(alloc, set.log, set.header.last)?;
+    let last = last_of(alloc, set.log, header.last)?;
     let name = known_name(kept, alloc, asked)?;
+    let row = row_by(alloc, &name, options, &header, now)?;
     let branch = Guid {
         high: kept.number,
         low: kept.counter,
     };
-    Ok(RestorePlan::BringsUp { name, branch, last })
+    Ok(RestorePlan::BringsUp {
+        name,
+        branch,
+        last,
+        header,
+        row,
+    })
 }
 
 // The plan of a restore that is refused.
@@ -176,18 +224,22 @@ fn restore_set(
 ) -> Result<RestorePlan, TakeError>
     requires built { request.is_built database.now units.now disk.now options.now ≡ true }
     requires out { (w : World) → Sees w kept.now → checks.outside w ≡ Ok tt }
-    ensures plans { IfOk result (PlansRestore kept.now (FindsSet (restore.position_of options.now.file) disk.now (Ok set.now)) (Ok set.now)
+    ensures plans { IfOk result (PlansRestore kept.now (FindsSet (restore.position_of options.now.file) disk.now (Ok set.now)) options.now (Ok set.now)
         (record { item = script.RestoreDatabase database.now units.now disk.now options.now; line = line }) now) }
     ensures unfit { IsErrOf result Unfit → (w : World) → IsSound w → FindsSet (restore.position_of options.now.file) disk.now (Ok set.now) w → ⊥ }
-    ensures keeps { IfOk result (KeepsRestore (Ok set.now)) }
+    ensures keeps { IfOk result (KeepsRestore options.now (Ok set.now)) }
 {
     sets_that_stay();
     statements_do_what_they_may();
     recoveries_undo_what_is_pending();
     placed_logs();
-    match check_set(kept, alloc, database, options, set.header) {
-        Ok(()) => bringing_up(kept, alloc, database, set),
-        Err(refusal) => refusing_restore(refusal),
+    let header = moved(alloc, options.moves.as_slice(), set.header)?;
+    match check_set(kept, alloc, database, options, set.header, &header) {
+        Ok(()) => bringing_up(kept, alloc, database, options, set, header, now),
+        Err(refusal) => {
+            drop(header);
+            refusing_restore(refusal)
+        }
     }
 }
 
@@ -206,9 +258,9 @@ pub fn plan_restore(
     now: u64,
 ) -> Result<RestorePlan, TakeError>
     requires built { request.is_built database.now units.now disk.now options.now ≡ true }
-    ensures plans { IfOk result (PlansRestore kept.now (FindsSet (restore.position_of options.now.file) disk.now set.entry) set.entry
+    ensures plans { IfOk result (PlansRestore kept.now (FindsSet (restore.position_of options.now.file) disk.now set.entry) options.now set.entry
         (record { item = script.RestoreDatabase database.now units.now disk.now options.now; line = line }) now) }
-    ensures keeps { IfOk result (KeepsRestore set.entry) }
+    ensures keeps { IfOk result (KeepsRestore options.now set.entry) }
     ensures unfit { IsErrOf result Unfit → (w : World) → IsSound w → FindsSet (restore.position_of options.now.file) disk.now set.entry w → ⊥ }
 {
     match outside(kept) {

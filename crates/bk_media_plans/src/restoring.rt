@@ -1,6 +1,6 @@
 //! The checks of a whole restore, by the header of its set.
 
-ghost use Rattle.std.specs.Prelude.{◌≡◌, [], true, map, IfSome};
+ghost use Rattle.std.specs.Prelude.{◌≡◌, [], map, IfSome};
 ghost use Rattle.std.specs.List.{find};
 ghost use Rattle.std.specs.Option.{option_map};
 ghost use Rattle.bk_machine.specs.Checks as checks;
@@ -12,6 +12,7 @@ ghost use Rattle.bk_plans.specs.Checking.{IsCheck};
 ghost use Rattle.bk_media_plans.specs.SetPaths as paths;
 ghost use Rattle.bk_media_plans.specs.SetPaths.{file_check};
 
+use crate::moving::check_moves;
 use bk_ids::Text;
 use bk_items::RestoreOptions;
 use bk_kept::{DatabaseView, InstanceView, used_up};
@@ -179,7 +180,7 @@ fn named_in<'a>(kept: &'a InstanceView<'a>, name: &Text) -> Option<&'a DatabaseV
     Some(database)
 }
 
-// Whether the set with this header, of which no file is moved, may take the place of the database of this name, or come behind the others.
+// Whether the set with this header, whose files are moved so, may take the place of the database of this name, or come behind the others.
 #[tactic(auto, unfolding(bk_machine::specs::statements::Restore::check_set))]
 pub(crate) fn check_set(
     kept: &InstanceView<'_>,
@@ -187,14 +188,16 @@ pub(crate) fn check_set(
     name: &Text,
     options: &RestoreOptions,
     header: &Header,
+    moved: &Header,
 ) -> Result<(), Refusal>
-    requires { restore.has_no_move options.now.moves ≡ true }
-    ensures { (w : World) → Sees w kept.now → IsCheck (λ u. header.now) result (restore.check_set w name.now options.now header.now) }
+    requires { moved.now ≡ restore.moved options.now.moves header.now }
+    ensures { (w : World) → Sees w kept.now → IsCheck (λ u. moved.now) result (restore.check_set w name.now options.now header.now) }
 {
     let named = named_in(kept, name);
     check_unused(named)?;
     check_family(named, options.replace, header)?;
+    check_moves(alloc, header, options.moves.as_slice())?;
     check_tail(named, options.replace)?;
     check_number(&kept.databases, named)?;
-    check_room(kept, alloc, name, header)
+    check_room(kept, alloc, name, moved)
 }

@@ -1,12 +1,13 @@
 //! A set of a medium, as it is read for a restore.
 
-ghost use Rattle.std.specs.Prelude.{◌≡◌, true};
+ghost use Rattle.std.specs.Prelude.{◌≡◌, true, IfOk};
 ghost use Rattle.bk_machine.specs.statements.Restore as restore;
-ghost use Rattle.bk_media_plans.specs.Found.{Found, KeepsFound};
+ghost use Rattle.bk_media_plans.specs.Found.{Found, IsFit, KeepsFound, under};
 
-use bk_header::keeps;
+use bk_header::{encode, keeps};
 use bk_record::Records;
 use bk_world::{Header, TableSpec};
+use std::alloc::{AllocError, Global};
 use std::marker::Model;
 
 // How many tables a database has at most.
@@ -26,12 +27,17 @@ impl<'a> Model for SetView<'a> {
     ghost view = { λ f. record { header = f.header.now; tables = f.tables.now; log = f.log.now } };
 }
 
-/// Whether a set keeps what every set keeps, so that a database has room for what it has.
-pub(crate) fn keeps_found(set: &SetView<'_>) -> bool
-    ensures kept { result ≡ true → KeepsFound set.now }
-    ensures found { KeepsFound set.now → result ≡ true }
+/// Whether a set keeps under this header what every set keeps; the header has a spelling then. The error comes where memory is wanting.
+pub(crate) fn is_fit(alloc: Global, header: &Header, set: &SetView<'_>) -> Result<bool, AllocError>
+    ensures fit { IfOk result (λ is. is ≡ true → IsFit (under header.now set.now)) }
+    ensures found { IfOk result (λ is. KeepsFound (under header.now set.now) → is ≡ true) }
 {
-    keeps(set.header) && set.tables.len() <= MOST_TABLES
+    if !keeps(header) || set.tables.len() > MOST_TABLES {
+        return Ok(false);
+    }
+    let mut bytes = Vec::new(alloc);
+    encode(alloc, header, &mut bytes)?;
+    Ok(true)
 }
 
 /// The position of the set that `FILE` chooses, from 1 on: the first one where there is no `FILE`. A medium has none at 0.
