@@ -4,9 +4,10 @@ use Rattle.std.specs.Prelude.{set, slice_get}
 use Rattle.std.specs.List.{AllByRecursion, position}
 use Rattle.std.proofs.lemmas.List.{length-append}
 use Rattle.bk_archive.specs.Media.{IsMediumFile, KeepsMedia}
-use Rattle.bk_archive.specs.MediaLaws.{SameFiles, media-in, set-in}
+use Rattle.bk_archive.specs.MediaLaws.{SameFiles, media-in}
 use Rattle.bk_hosting.specs.ArrivingSets.{arriving_of, pages_of}
 use Rattle.bk_body.specs.Body.{Body}
+use Rattle.bk_body.specs.Conditions.{IsBody}
 use Rattle.bk_body.specs.Slots.{holds}
 use Rattle.bk_bytes.specs.Codec.{IsString}
 use Rattle.bk_carried.specs.Arrived.{MayName, arrived, known_of}
@@ -16,6 +17,7 @@ use Rattle.bk_device.specs.Disk.{Disk, Files}
 use Rattle.bk_device.specs.Effects.{Effect}
 use Rattle.bk_facts.specs.declared.facts.DataFile.{DataFile}
 use Rattle.bk_fields.specs.Guids.{IsGuid}
+use Rattle.bk_header.specs.Conditions.{IsHeader}
 use Rattle.bk_hosted.specs.Hosted.{Hosted, Hosts, names, restoring, set_log}
 use Rattle.bk_hosting.specs.Bringing.{ComesUp, IsUpAs}
 use Rattle.bk_hosting.specs.Hosting.{IsHosting, LeavesEither}
@@ -26,7 +28,7 @@ use Rattle.bk_known.specs.declared.known.Known.{Known}
 use Rattle.bk_known.specs.Known.{KeepsKnown}
 use Rattle.bk_machine.specs.Acts.{Recovery, done_all}
 use Rattle.bk_machine.specs.Checks.{most_branches}
-use Rattle.bk_machine.specs.Sound.{IsSound, IsSoundSet}
+use Rattle.bk_machine.specs.Sound.{IsSound}
 use Rattle.bk_machine.specs.World.{Database, World}
 use Rattle.bk_machine.specs.Writes.{ActsWrite}
 use Rattle.bk_machine.specs.statements.Restore.{is_online}
@@ -44,15 +46,17 @@ use Rattle.bk_undo.specs.Spelled.{spelled}
 use Rattle.bk_volume.specs.Media.{slot_at}
 use Rattle.bk_volume.specs.Names.{medium_file}
 use Rattle.bk_volume.specs.Stored.{IsOf, Stored}
+use Rattle.bk_world.specs.declared.database.TableSpec.{TableSpec}
 use Rattle.bk_world.specs.declared.header.Header.{Header}
 use Rattle.bk_world.specs.Cut.{end_behind, settled}
 use Rattle.bk_world.specs.Records.{Logged}
 use Rattle.bk_engine.specs.ActLaws.{IsBehind, up-behind}
-use Rattle.bk_engine.specs.Bringing.{CutsActs, IsSetOn, Laws, MayComeUp, coming_up, files_on, known_on, last_said, points_at, recovery_of}
+use Rattle.bk_engine.specs.Bringing.{CutsActs, IsSetOn, Laws, MayComeUp, MovesOnly, coming_up, files_on, known_on, last_said, points_at, recovery_of}
 use Rattle.bk_engine.specs.BringingLaws.{hosted-none, known-is, last_record, parked-down, points-are, points-short, recovery-next, recovery-says, set-ends, up-hosts}
 use Rattle.bk_engine.specs.GivenLaws.{pages-same, whole-set}
 use Rattle.bk_engine.specs.PartLaws.{calm-beside, media-beside, world-crash, world-stands}
 use Rattle.bk_engine.specs.Stands.{IsOurs, IsReady, Kept, StandsFor, own_in}
+use Rattle.bk_engine.proofs.MovedSets.{moved-body, moved-carries}
 use Rattle.bk_engine.proofs.Named.{found-at}
 
 -- ---- the files of media
@@ -69,52 +73,50 @@ set-stays files image m stored at same set =
     }
 
 -- its path has room for the branch where a note has room for what is known behind it
-pub room-left : (name : List ℕ) (stored : Stored) (branch : Guid) (known : Known) → known ≡ known_on name stored branch → KeepsKnown known → length stored.header.path < most_branches
-room-left name stored branch known same keeps =
-    let size : length (known_on name stored branch).spec.path ≡ length stored.header.path + 1 = length-append stored.header.path _ in
-    let short : length (known_on name stored branch).spec.path ≤ 64 = subst (λ (k : Known). length k.spec.path ≤ 64) same keeps.path in
+pub room-left : (name : List ℕ) (header : Header) (tables : List TableSpec) (branch : Guid) (known : Known) → known ≡ known_on name header tables branch → KeepsKnown known → length header.path < most_branches
+room-left name header tables branch known same keeps =
+    let size : length (known_on name header tables branch).spec.path ≡ length header.path + 1 = length-append header.path _ in
+    let short : length (known_on name header tables branch).spec.path ≤ 64 = subst (λ (k : Known). length k.spec.path ≤ 64) same keeps.path in
     omega (arith, size, short)
 
 -- ---- what is brought up
 
 -- What is called with these values brings a database up, and with it the world's.
-pub record IsBrought (a : Disk) (e : Kept) (w : World) (is : StandsFor a e w) (name m : List ℕ) (stored : Stored) (branch : Guid) (last i : ℕ) (files : List DataFile) (checkpoint : ℕ) (known : Known) (points : Points) : Type 0 where
+pub record IsBrought (a : Disk) (e : Kept) (w : World) (is : StandsFor a e w) (name m : List ℕ) (stored : Stored) (header : Header) (branch : Guid) (last i : ℕ) (files : List DataFile) (checkpoint : ℕ) (known : Known) (points : Points) : Type 0 where
   pub told : Told
   pub final : Logged
   pub new : Hosted
   pub comes : ComesUp a e.hosting is.hosted i m stored files checkpoint known points (record { lsn = last; begin = 0; body = RecoveryBody branch }) told final
   pub up : IsUpAs told final points new
-  pub behind : IsBehind w (done_all w (coming_up w name stored.header branch)) 1
-  pub hosts : Hosts (done_all w (coming_up w name stored.header branch)) (set is.hosted i new)
-  pub sound : IsSound (done_all w (coming_up w name stored.header branch))
-  pub media : (image : Files) → KeepsMedia w None image → KeepsMedia (done_all w (coming_up w name stored.header branch)) None image
+  pub behind : IsBehind w (done_all w (coming_up w name header branch)) 1
+  pub hosts : Hosts (done_all w (coming_up w name header branch)) (set is.hosted i new)
+  pub sound : IsSound (done_all w (coming_up w name header branch))
+  pub media : (image : Files) → KeepsMedia w None image → KeepsMedia (done_all w (coming_up w name header branch)) None image
 
 -- a crash leaves the world before, or the one behind
-pub brought-crash : (a b : Disk) (e : Kept) (w : World) (is : StandsFor a e w) (name m : List ℕ) (stored : Stored) (branch : Guid) (last i : ℕ) (files : List DataFile) (checkpoint : ℕ) (known : Known) (points : Points) → (it : IsBrought a e w is name m stored branch last i files checkpoint known points)
-    → IsReady e → e.drawn + 1 ≤ (own_in e).counter → Effect IsOfStores (LeavesEither (own_in e) is.hosted (set is.hosted i it.new)) a b → Effect IsOurs (CutsActs w (coming_up w name stored.header branch)) a b
-brought-crash a b e w is name m stored branch last i files checkpoint known points it ready reserved effect =
-    world-crash a b e w (done_all w (coming_up w name stored.header branch)) 1 (set is.hosted i it.new) ready is it.behind reserved it.hosts (it.media a.files is.media) (λ image left. left) effect
+pub brought-crash : (a b : Disk) (e : Kept) (w : World) (is : StandsFor a e w) (name m : List ℕ) (stored : Stored) (header : Header) (branch : Guid) (last i : ℕ) (files : List DataFile) (checkpoint : ℕ) (known : Known) (points : Points) → (it : IsBrought a e w is name m stored header branch last i files checkpoint known points)
+    → IsReady e → e.drawn + 1 ≤ (own_in e).counter → Effect IsOfStores (LeavesEither (own_in e) is.hosted (set is.hosted i it.new)) a b → Effect IsOurs (CutsActs w (coming_up w name header branch)) a b
+brought-crash a b e w is name m stored header branch last i files checkpoint known points it ready reserved effect =
+    world-crash a b e w (done_all w (coming_up w name header branch)) 1 (set is.hosted i it.new) ready is it.behind reserved it.hosts (it.media a.files is.media) (λ image left. left) effect
 
 -- and the one behind stands then
-pub brought-stands : {P : Files → Type 0} (a b : Disk) (e then : Kept) (w : World) (is : StandsFor a e w) (name m : List ℕ) (stored : Stored) (branch : Guid) (last i : ℕ) (files : List DataFile) (checkpoint : ℕ) (known : Known) (points : Points) → (it : IsBrought a e w is name m stored branch last i files checkpoint known points)
-    → IsHosting b then.hosting (set is.hosted i it.new) → (own_in then).number ≡ (own_in e).number → then.drawn ≡ e.drawn + 1 → then.session ≡ e.session → then.sessions ≡ e.sessions → Effect IsOfStores P a b → StandsFor b then (done_all w (coming_up w name stored.header branch))
-brought-stands a b e then w is name m stored branch last i files checkpoint known points it hosting number drawn session sessions effect =
-    world-stands a b e then w (done_all w (coming_up w name stored.header branch)) 1 (set is.hosted i it.new) is it.behind it.sound it.hosts hosting number drawn session sessions
+pub brought-stands : {P : Files → Type 0} (a b : Disk) (e then : Kept) (w : World) (is : StandsFor a e w) (name m : List ℕ) (stored : Stored) (header : Header) (branch : Guid) (last i : ℕ) (files : List DataFile) (checkpoint : ℕ) (known : Known) (points : Points) → (it : IsBrought a e w is name m stored header branch last i files checkpoint known points)
+    → IsHosting b then.hosting (set is.hosted i it.new) → (own_in then).number ≡ (own_in e).number → then.drawn ≡ e.drawn + 1 → then.session ≡ e.session → then.sessions ≡ e.sessions → Effect IsOfStores P a b → StandsFor b then (done_all w (coming_up w name header branch))
+brought-stands a b e then w is name m stored header branch last i files checkpoint known points it hosting number drawn session sessions effect =
+    world-stands a b e then w (done_all w (coming_up w name header branch)) 1 (set is.hosted i it.new) is it.behind it.sound it.hosts hosting number drawn session sessions
     (it.media b.files (media-in w None a.files b.files (media-beside effect) is.media)) (calm-beside effect is.calm)
 
-module _ (laws : Laws) (a : Disk) (e : Kept) (w : World) (name m : List ℕ) (stored : Stored) (branch : Guid) (last i : ℕ) (is : StandsFor a e w) (at : IsMediumFile m) (opened : IsSetOn a.files m stored)
-    (may : MayComeUp w name stored.header branch last) (place : position (names name) is.hosted ≡ Some i) (named : IsString 1 64 name) (guid : IsGuid branch) (room : length stored.header.path < most_branches) where
-  abbrev header : Header
-  header = stored.header
-
+module _ (laws : Laws) (a : Disk) (e : Kept) (w : World) (name m : List ℕ) (stored : Stored) (header : Header) (branch : Guid) (last i : ℕ) (is : StandsFor a e w) (at : IsMediumFile m) (opened : IsSetOn a.files m stored)
+    (moves : MovesOnly stored.header header) (is_header : IsHeader header) (may : MayComeUp w name header branch last) (place : position (names name) is.hosted ≡ Some i) (named : IsString 1 64 name) (guid : IsGuid branch)
+    (room : length header.path < most_branches) where
   abbrev rs : List Logged
-  rs = set_log w stored.header
+  rs = set_log w header
 
   abbrev r : Recovery
-  r = recovery_of w stored.header branch
+  r = recovery_of w header branch
 
   abbrev note : List ℕ
-  note = points_bytes (points_at stored.header)
+  note = points_bytes (points_at header)
 
   -- ---- the set
 
@@ -131,19 +133,27 @@ module _ (laws : Laws) (a : Disk) (e : Kept) (w : World) (name m : List ℕ) (st
   there : slot_at (a.files (medium_file at.0)) opened.position ≡ Some (holds body)
   there = subst (λ (n : List ℕ). slot_at (a.files n) opened.position ≡ Some (holds body)) at.2 (subst (λ (b : Body). slot_at (a.files m) opened.position ≡ Some (holds b)) body-same opened.there)
 
-  carries : Carries w.history body
-  carries = is.media.carried at.0 opened.position body at.1 there
+  -- ---- the set under the header by which it is restored
 
-  is-set : IsSoundSet w stored.header
-  is-set = laws.sets w at.0 stored.header is.sound (set-in w None a.files at.0 opened.position body is.media at.1 there)
+  abbrev moved : Body
+  moved = record body { header = header }
 
-  ends : end_behind rs ≡ stored.header.last
-  ends = set-ends w name stored.header is-set
+  moved-is : IsBody moved
+  moved-is = moved-body body header moves is_header is-of.is_body
+
+  carries : Carries w.history moved
+  carries = moved-carries w.history body header moves (is.media.carried at.0 opened.position body at.1 there)
+
+  first-is : header.first ≡ stored.header.first
+  first-is = ap (λ (h : Header). h.first) moves.is
+
+  ends : end_behind rs ≡ header.last
+  ends = set-ends w name header may.sound
 
   -- ---- the database that it makes
 
   abbrev told : Told
-  told = arrived w name stored.header r note
+  told = arrived w name header r note
 
   -- the record that names the branch, and how it is spelled
   abbrev final : Logged
@@ -153,40 +163,43 @@ module _ (laws : Laws) (a : Disk) (e : Kept) (w : World) (name m : List ℕ) (st
   spelled_final = record { lsn = last; begin = 0; body = RecoveryBody branch }
 
   abbrev new : Hosted
-  new = restoring rs name stored.header r
+  new = restoring rs name header r
 
-  may-name : MayName name stored.header r note
-  may-name = record { named = named; branch = guid; at_end = refl; room = room; short = points-short stored.header is-of.is_body.header }
+  abbrev known_new : Known
+  known_new = known_on name header stored.tables branch
+
+  may-name : MayName name header r note
+  may-name = record { named = named; branch = guid; at_end = refl; room = room; short = points-short header is_header }
 
   abbrev held : List Rec
-  held = kept_from stored.header.first (map spelled rs)
+  held = kept_from header.first (map spelled rs)
 
-  makes : (db : ℕ) → Makes (contents (a.files m)) stored (files_on stored.header) db stored.header.checkpoint note (known_on name stored branch) told
+  makes : (db : ℕ) → Makes (contents (a.files m)) stored (files_on header) db header.checkpoint note known_new told
   makes db = record {
     body = body;
     records = held;
     is = is-of;
-    whole = whole-set body is-of.is_body.header.files.numbered (laws.listed body is-of.is_body carries.there);
+    whole = whole-set moved is_header.files.numbered (laws.listed moved moved-is carries.there);
     log = carries.log;
     suffices = suffices;
   }
     where
       arriving : KeptArriving
-      arriving = arriving_of (files_on stored.header) db stored.header.first
+      arriving = arriving_of (files_on header) db stored.header.first
 
-      carried : SufficesTold arriving stored.header.checkpoint note (given body) held (known_of told.spec body) told
-      carried = laws.suffices w body name r note arriving held carries is-set is-of.is_body may-name (record { files = refl; kept = refl }) carries.log
+      carried : SufficesTold arriving header.checkpoint note (given moved) held (known_of told.spec moved) told
+      carried = laws.suffices w moved name r note arriving held carries may.sound moved-is may-name (record { files = refl; kept = sym first-is }) carries.log
 
-      suffices : SufficesTold arriving stored.header.checkpoint note (pages_of body) held (known_on name stored branch) told
-      suffices = subst (λ (k : Known). SufficesTold arriving stored.header.checkpoint note (pages_of body) held k told) (sym (known-is w name stored branch note body is-set refl refl))
-          (subst (λ (pages : ℕ × ℕ → List ℕ). SufficesTold arriving stored.header.checkpoint note pages held (known_of told.spec body) told) (pages-same body) carried)
+      suffices : SufficesTold arriving header.checkpoint note (pages_of body) held known_new told
+      suffices = subst (λ (k : Known). SufficesTold arriving header.checkpoint note (pages_of moved) held k told) (sym (known-is w name branch note moved may.sound))
+          (subst (λ (pages : ℕ × ℕ → List ℕ). SufficesTold arriving header.checkpoint note pages held (known_of told.spec moved) told) (pages-same moved) carried)
 
-  last-is : last_record (last_said w stored.header) branch ≡ final
+  last-is : last_record (last_said w header) branch ≡ final
   last-is = ap (λ (n : ℕ). last_record n branch) (sym may.last_is)
 
   ends-with : EndsWith told final spelled_final
   ends-with = record {
-    next = subst (IsNext (files_of told) (settled rs)) last-is (recovery-next (files_of told) rs stored.header.last branch ends (let few = is-set.numbers in omega (arith, few)));
+    next = subst (IsNext (files_of told) (settled rs)) last-is (recovery-next (files_of told) rs header.last branch ends (let few = may.sound.numbers in omega (arith, few)));
     spelled_is = refl;
   }
 
@@ -195,52 +208,52 @@ module _ (laws : Laws) (a : Disk) (e : Kept) (w : World) (name m : List ℕ) (st
   hosted : (h : Hosted) × (slice_get is.hosted i ≡ Some h)
   hosted = found-at name is.hosted i place
 
-  comes : ComesUp a e.hosting is.hosted i m stored (files_on stored.header) stored.header.checkpoint (known_on name stored branch) (points_at stored.header) spelled_final told final
+  comes : ComesUp a e.hosting is.hosted i m stored (files_on header) header.checkpoint known_new (points_at header) spelled_final told final
   comes = record {
     parked = hosted.0;
     there = hosted.1;
-    down = parked-down w name stored.header is-set is.hosted i hosted.0 is.hosts place hosted.1 may.parked;
-    none = hosted-none (files_on stored.header) is.hosted (subst (λ (dbs : List Database). AllByRecursion (λ (db : Database). is_online db.status ≡ true → ShareNoFile (files_on stored.header) (map data_file db.files)) dbs) is.hosts.same may.none);
+    down = parked-down w name header may.sound is.hosted i hosted.0 is.hosts place hosted.1 may.parked;
+    none = hosted-none (files_on header) is.hosted (subst (λ (dbs : List Database). AllByRecursion (λ (db : Database). is_online db.status ≡ true → ShareNoFile (files_on header) (map data_file db.files)) dbs) is.hosts.same may.none);
     makes = makes e.hosting.stores.master.record.next;
     ends = ends-with;
   }
 
-  up : IsUpAs told final (points_at stored.header) new
+  up : IsUpAs told final (points_at header) new
   up = record {
     spec = refl;
-    records = ap (λ (l : Logged). settled rs ++ l ∷ []) (sym last-is) ∙ recovery-says rs stored.header.last branch ends;
-    points_are = points-are stored.header rs is-of.is_body.header.files.some is-set.model;
+    records = ap (λ (l : Logged). settled rs ++ l ∷ []) (sym last-is) ∙ recovery-says rs header.last branch ends;
+    points_are = points-are header rs is_header.files.some may.sound.model;
     none_next = refl;
     none_kept = refl;
     up = refl;
     idle = refl;
   }
 
-  hosts : Hosts (done_all w (coming_up w name stored.header branch)) (set is.hosted i new)
-  hosts = up-hosts w name stored.header is-set is.hosted i hosted.0 is.hosts place hosted.1 may.parked laws.brings branch is.sound may.may
+  hosts : Hosts (done_all w (coming_up w name header branch)) (set is.hosted i new)
+  hosts = up-hosts w name header may.sound is.hosted i hosted.0 is.hosts place hosted.1 may.parked laws.brings branch is.sound may.may
 
   -- neither act writes to a medium
-  writes-none : (path : List ℕ) → ActsWrite (coming_up w name stored.header branch) path → ⊥
+  writes-none : (path : List ℕ) → ActsWrite (coming_up w name header branch) path → ⊥
   writes-none path writes = elim writes [ inl first ↦ first | inr rest ↦ elim rest [ inl second ↦ second | inr none ↦ none ] ]
 
-  by-set : IsBrought a e w is name m stored branch last i (files_on stored.header) stored.header.checkpoint (known_on name stored branch) (points_at stored.header)
+  by-set : IsBrought a e w is name m stored header branch last i (files_on header) header.checkpoint known_new (points_at header)
   by-set = record {
     told = told;
     final = final;
     new = new;
     comes = comes;
     up = up;
-    behind = up-behind w name stored.header r may.may;
+    behind = up-behind w name header r may.may;
     hosts = hosts;
-    sound = laws.sound w (coming_up w name stored.header branch) is.sound may.may;
-    media = λ image media. laws.media w (coming_up w name stored.header branch) None image is.sound may.may writes-none media;
+    sound = laws.sound w (coming_up w name header branch) is.sound may.may;
+    media = λ image media. laws.media w (coming_up w name header branch) None image is.sound may.may writes-none media;
   }
 
-  -- also with values that are what the set says
-  pub brought : (files : List DataFile) (checkpoint : ℕ) (known : Known) (points : Points) → files ≡ files_on stored.header → checkpoint ≡ stored.header.checkpoint → known ≡ known_on name stored branch → points ≡ points_at stored.header
-      → IsBrought a e w is name m stored branch last i files checkpoint known points
+  -- also with values that are what the header says
+  pub brought : (files : List DataFile) (checkpoint : ℕ) (known : Known) (points : Points) → files ≡ files_on header → checkpoint ≡ header.checkpoint → known ≡ known_on name header stored.tables branch → points ≡ points_at header
+      → IsBrought a e w is name m stored header branch last i files checkpoint known points
   brought files checkpoint known points one two three four =
-      let Is : List DataFile → ℕ → Known → Points → Type 0 = IsBrought a e w is name m stored branch last i in
+      let Is : List DataFile → ℕ → Known → Points → Type 0 = IsBrought a e w is name m stored header branch last i in
       subst (λ (fs : List DataFile). Is fs checkpoint known points) (sym one)
-      (subst (λ (n : ℕ). Is (files_on stored.header) n known points) (sym two)
-      (subst (λ (k : Known). Is (files_on stored.header) stored.header.checkpoint k points) (sym three) (subst (Is (files_on stored.header) stored.header.checkpoint (known_on name stored branch)) (sym four) by-set)))
+      (subst (λ (n : ℕ). Is (files_on header) n known points) (sym two)
+      (subst (λ (k : Known). Is (files_on header) header.checkpoint k points) (sym three) (subst (Is (files_on header) header.checkpoint known_new) (sym four) by-set)))

@@ -13,20 +13,21 @@ use Rattle.bk_stores.specs.Stores.{IsOurs as IsOfStores}
 use Rattle.bk_engine.specs.CloseLaws.{ended-stands}
 use Rattle.bk_engine.specs.Loading.{Leaves, Stands}
 use Rattle.bk_engine.specs.PartLaws.{calm-beside, media-beside, media-then, stores-wide, world-kept}
+use Rattle.bk_engine.specs.Rows.{KeepsBeside}
 use Rattle.bk_engine.specs.Stands.{Covers, IsOurs, IsReady, Kept, StandsFor, own_in}
 
 module _ (number : ℕ) (a : Disk) (e : Kept) (w : World) (own : Own) (is : StandsFor a e w) (idle : AreIdle w) (ends : IsSound (ended w)) (rest : Hosts (ended w) is.hosted) (same_number : own.number ≡ (own_in e).number) (same_counter : own.counter ≡ e.drawn) (none : own.making ≡ None) where
   -- an image under the own part that reserves no more
-  left-ended : (image : Files) → LeavesHosted own is.hosted image → KeepsMedia w None image → Stands number image (ended w)
-  left-ended image left media =
-      ended-stands number w own is.hosted image is.sound ends idle (is.instance ∙ sym same_number) (is.counter ∙ sym same_counter) is.hosts rest none left (subst (λ (making : Option (List ℕ)). KeepsMedia w making image) (sym none) media)
+  left-ended : (image : Files) → LeavesHosted own is.hosted image → KeepsBeside w w None image → Stands number image (ended w)
+  left-ended image left beside =
+      ended-stands number w own is.hosted image is.sound ends idle (is.instance ∙ sym same_number) (is.counter ∙ sym same_counter) is.hosts rest none left (subst (λ (making : Option (List ℕ)). KeepsMedia w making image) (sym none) beside.media) beside.rows
 
   pub closed-crash : (b : Disk) → IsReady e → Effect IsOfStores (λ image. LeavesHosted (own_in e) is.hosted image ⊎ LeavesHosted own is.hosted image) a b → Effect IsOurs (λ image. Covers w image ⊎ Stands number image (ended w)) a b
   closed-crash b ready effect = stores-wide (λ image left others.
-      let media : KeepsMedia w None image = media-then w None a image is.calm others is.media in
+      let beside : KeepsBeside w w None image = media-then w None a image is.calm others is.media in
       elim left [
-        | inl before ↦ inl (world-kept a e w image ready is before media)
-        | inr after ↦ inr (left-ended image after media)
+        | inl before ↦ inl (world-kept a e w image ready is before beside)
+        | inr after ↦ inr (left-ended image after beside)
       ]) effect
 
 -- whatever is left between two calls stands for the world in which the run has ended, where no GUID is reserved

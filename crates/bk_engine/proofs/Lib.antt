@@ -1,4 +1,5 @@
 mod Named
+mod Noted
 mod Logged
 mod Changed
 mod Reserved
@@ -10,5 +11,6 @@ mod Sealed
 mod Copied
 mod Closed
 mod Fills
+mod MovedSets
 mod Brought
 mod Viewed

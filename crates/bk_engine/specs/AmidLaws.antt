@@ -1,6 +1,6 @@
 -- Within a call the record names what is being made, and a medium is made.
 use Rattle.std.proofs.Common.{◌≡◌, ◌≤◌, ◌⊎◌, inl, inr, ℕ, ◌+◌, List, map, None, refl, sym, ap, subst, ◌∙◌, arith}
-use Rattle.bk_archive.specs.DiskLaws.{media-after, media-durable}
+use Rattle.bk_archive.specs.DiskLaws.{media-after}
 use Rattle.bk_archive.specs.Media.{IsMediumFile, KeepsMedia, MediaAreDurable}
 use Rattle.bk_archive.specs.MediaLaws.{media-in}
 use Rattle.bk_device.specs.Compose.{effect_widen}
@@ -20,7 +20,10 @@ use Rattle.bk_engine.specs.Amid.{Amid}
 use Rattle.bk_volume.specs.Names.{medium_file}
 use Rattle.bk_volume.specs.Staging.{Staging}
 use Rattle.bk_engine.specs.BesideLaws.{beside-store, hosting-stays, medium-apart, stores-keep}
-use Rattle.bk_engine.specs.NameLaws.{store-medium}
+use Rattle.bk_msdb.specs.Msdb.{Shows, msdb_file}
+use Rattle.bk_engine.specs.NameLaws.{staging-rows, store-medium, store-rows}
+use Rattle.bk_engine.specs.RowLaws.{beside-then, calm-by, calm-media, rows-then}
+use Rattle.bk_engine.specs.Rows.{KeepsBeside, rows_in}
 use Rattle.bk_engine.specs.PartLaws.{calm-beside, media-beside, media-then, stores-wide}
 use Rattle.bk_engine.specs.Stands.{Covers, IsOurs, IsReady, IsStagingFile, Kept as KeptEngine, StandsFor, own_in}
 
@@ -55,8 +58,8 @@ amid-stands disk e w is sound none drawn session sessions = record {
 -- ---- what a crash leaves
 
 -- the world under an own part with the same number and counter
-own-covers : (disk : Disk) (x : Kept) (w : World) (own : Own) (image : Files) → (is : Amid disk x w) → own.number ≡ (own_of x).number → own.counter ≡ (own_of x).counter → LeavesHosted own is.hosted image → KeepsMedia w own.making image → Covers w image
-own-covers disk x w own image is number counter left media = record {
+own-covers : (disk : Disk) (x : Kept) (w : World) (own : Own) (image : Files) → (is : Amid disk x w) → own.number ≡ (own_of x).number → own.counter ≡ (own_of x).counter → LeavesHosted own is.hosted image → KeepsBeside w w own.making image → Covers w image
+own-covers disk x w own image is number counter left beside = record {
   own = own;
   instance = is.instance ∙ sym number;
   no_less = let low = is.no_less in omega (arith, counter, low);
@@ -64,7 +67,8 @@ own-covers disk x w own image is number counter left media = record {
   hosted = is.hosted;
   hosts = is.hosts;
   left = left;
-  media = media;
+  media = beside.media;
+  rows = beside.rows;
 }
 
 -- ---- the record names another medium, or none
@@ -89,15 +93,16 @@ named-amid a b x y w own is number counter media same hosting effect = record {
 
 -- ---- something is done to media
 
--- a world that hosts the same databases, with some GUIDs more, for which numbers are reserved
+-- a world with the same rows of msdb that hosts the same databases, with some GUIDs more, for which numbers are reserved
 pub record MayCome (disk : Disk) (x : Kept) (w v : World) (is : Amid disk x w) : Type 0 where
   pub instance : v.instance ≡ w.instance
   pub no_less : v.counter ≤ (own_of x).counter
   pub no_more : w.counter ≤ v.counter
   pub hosts : Hosts v is.hosted
+  pub rows : rows_in v ≡ rows_in w
 
-behind-covers : (a : Disk) (x : Kept) (w v : World) (image : Files) → (is : Amid a x w) → MayCome a x w v is → LeavesHosted (own_of x) is.hosted image → KeepsMedia v (own_of x).making image → Covers v image
-behind-covers a x w v image is may left media = record {
+behind-covers : (a : Disk) (x : Kept) (w v : World) (image : Files) → (is : Amid a x w) → MayCome a x w v is → LeavesHosted (own_of x) is.hosted image → KeepsBeside w v (own_of x).making image → Covers v image
+behind-covers a x w v image is may left beside = record {
   own = own_of x;
   instance = may.instance ∙ is.instance;
   no_less = may.no_less;
@@ -105,7 +110,8 @@ behind-covers a x w v image is may left media = record {
   hosted = is.hosted;
   hosts = may.hosts;
   left = left;
-  media = media;
+  media = beside.media;
+  rows = subst (Shows image) (sym may.rows) beside.rows;
 }
 
 -- a crash leaves the world before it, or the one behind it
@@ -113,9 +119,10 @@ pub media-crash : {P : Files → Type 0} (a b : Disk) (x : Kept) (w : World) (ac
     → ((image : Files) → P image → KeepsMedia w (own_of x).making image ⊎ KeepsMedia (done w act) (own_of x).making image) → Effect IsMediumFile P a b → Effect IsOurs (CutsAct w act) a b
 media-crash a b x w act is may left media effect = effect_widen (λ name at. inr (inl at)) (λ image its others.
     let here : LeavesHosted (own_of x) is.hosted image = left image (λ name store. others name (λ at. beside-store name (inl at) store) (inl store)) in
+    let rows : Shows image (rows_in w) = rows-then a image is.calm others in
     elim (media image its) [
-      | inl before ↦ inl (own-covers a x w (own_of x) image is refl refl here before)
-      | inr after ↦ inr (behind-covers a x w (done w act) image is may here after)
+      | inl before ↦ inl (own-covers a x w (own_of x) image is refl refl here (record { media = before; rows = rows }))
+      | inr after ↦ inr (behind-covers a x w (done w act) image is may here (record { media = after; rows = rows }))
     ]) effect
 
 pub media-amid : {P : Files → Type 0} (a b : Disk) (x : Kept) (w v : World) → (is : Amid a x w) → MayCome a x w v is → KeepsMedia v (own_of x).making b.files → MediaAreDurable b → Effect IsMediumFile P a b → Amid b x v
@@ -127,16 +134,16 @@ media-amid a b x w v is may media calm effect = record {
   hosts = may.hosts;
   hosting = hosting-stays x is.hosted (stores-keep (λ name at. inl at) effect) is.hosting;
   media = media;
-  calm = calm;
+  calm = calm-media may.rows calm effect is.calm;
 }
 
 -- ---- something is done to the file of a set that is being written
 
 -- it leaves the world
 pub staging-crash : {own : List ℕ → Type 0} {P : Files → Type 0} (a b : Disk) (x : Kept) (w : World) → (is : Amid a x w) → ((name : List ℕ) → own name → IsStagingFile name) → ((image : Files) → MayLeaveOwn IsOfStores a image → LeavesHosted (own_of x) is.hosted image) → Effect own P a b → Effect IsOurs (Covers w) a b
-staging-crash a b x w is within left effect = effect_widen (λ name at. inr (inr (within name at))) (λ image its others.
+staging-crash a b x w is within left effect = effect_widen (λ name at. inr (inr (inl (within name at)))) (λ image its others.
     own-covers a x w (own_of x) image is refl refl (left image (λ name store. others name (λ at. beside-store name (inr (within name at)) store) (inl store)))
-    (media-in w (own_of x).making a.files image (λ path bytes. is.calm path bytes (image (medium_file path)) (others (medium_file path) (λ at. medium-apart path (within (medium_file path) at)) (inr (inl (path, bytes, refl))))) is.media)) effect
+    (beside-then (λ path at. medium-apart path (within (medium_file path) at)) (λ at. staging-rows (within msdb_file at)) w w (own_of x).making a image is.calm others is.media)) effect
 
 pub staging-amid : {own : List ℕ → Type 0} {P : Files → Type 0} (a b : Disk) (x : Kept) (w : World) → Amid a x w → ((name : List ℕ) → own name → IsStagingFile name) → Effect own P a b → Amid b x w
 staging-amid a b x w is within effect = record {
@@ -147,7 +154,7 @@ staging-amid a b x w is within effect = record {
   hosts = is.hosts;
   hosting = hosting-stays x is.hosted (stores-keep (λ name at. inr (within name at)) effect) is.hosting;
   media = media-in w (own_of x).making a.files b.files (media-after a b (λ path at. medium-apart path (within (medium_file path) at)) effect) is.media;
-  calm = media-durable a b (λ path at. medium-apart path (within (medium_file path) at)) effect is.calm;
+  calm = calm-by (λ path at. medium-apart path (within (medium_file path) at)) (λ at. staging-rows (within msdb_file at)) effect is.calm;
 }
 
 -- ---- a database is copied into a set
@@ -156,11 +163,15 @@ copied-apart : (into : Staging) → IsStagingFile into.name → (path : List ℕ
 copied-apart into named path (inl store) = store-medium path store
 copied-apart into named path (inr its) = medium-apart path (subst IsStagingFile (sym its) named)
 
+copied-rows : (into : Staging) → IsStagingFile into.name → IsOursOr into msdb_file → ⊥
+copied-rows into named (inl store) = store-rows store
+copied-rows into named (inr its) = staging-rows (subst IsStagingFile (sym its) named)
+
 -- it leaves the world
 pub copied-crash : (a b : Disk) (x : Kept) (w : World) (into : Staging) → (is : Amid a x w) → IsStagingFile into.name → CopyLeaves (own_of x) is.hosted into a b → Effect IsOurs (Covers w) a b
-copied-crash a b x w into is named effect = effect_widen (λ name at. elim at [ inl store ↦ inl store | inr its ↦ inr (inr (subst IsStagingFile (sym its) named)) ]) (λ image left others.
+copied-crash a b x w into is named effect = effect_widen (λ name at. elim at [ inl store ↦ inl store | inr its ↦ inr (inr (inl (subst IsStagingFile (sym its) named))) ]) (λ image left others.
     own-covers a x w (own_of x) image is refl refl left
-    (media-in w (own_of x).making a.files image (λ path bytes. is.calm path bytes (image (medium_file path)) (others (medium_file path) (copied-apart into named path) (inr (inl (path, bytes, refl))))) is.media)) effect
+    (beside-then (copied-apart into named) (copied-rows into named) w w (own_of x).making a image is.calm others is.media)) effect
 
 pub copied-amid : (a b : Disk) (x y : Kept) (w : World) (into : Staging) → (is : Amid a x w) → IsStagingFile into.name → own_of y ≡ own_of x → IsHosting b y is.hosted → CopyLeaves (own_of x) is.hosted into a b → Amid b y w
 copied-amid a b x y w into is named same hosting effect = record {
@@ -171,5 +182,5 @@ copied-amid a b x y w into is named same hosting effect = record {
   hosts = is.hosts;
   hosting = hosting;
   media = subst (λ (o : Own). KeepsMedia w o.making b.files) (sym same) (media-in w (own_of x).making a.files b.files (media-after a b (copied-apart into named) effect) is.media);
-  calm = media-durable a b (copied-apart into named) effect is.calm;
+  calm = calm-by (copied-apart into named) (copied-rows into named) effect is.calm;
 }

@@ -13,7 +13,8 @@ use Rattle.bk_stores.specs.StoreLaws.{physical-kept}
 use Rattle.bk_stores.specs.Stores.{IsOurs as IsOfStores, Kept as KeptStores}
 use Rattle.bk_volume.specs.Laws.{staging_apart}
 use Rattle.bk_volume.specs.Names.{medium_file}
-use Rattle.bk_engine.specs.NameLaws.{store-medium, store-staging}
+use Rattle.bk_msdb.specs.Msdb.{msdb_file}
+use Rattle.bk_engine.specs.NameLaws.{medium-rows, staging-rows, store-medium, store-staging}
 use Rattle.bk_engine.specs.Stands.{IsStagingFile}
 
 -- a name of a medium, or of a set that is being written
@@ -24,6 +25,11 @@ IsBeside name = IsMediumFile name ⊎ IsStagingFile name
 pub beside-store : (name : List ℕ) → IsBeside name → IsOfStores name → ⊥
 beside-store name (inl medium) store = store-medium medium.0 (subst IsOfStores medium.2 store)
 beside-store name (inr staging) store = store-staging name staging store
+
+-- nor that of the rows of msdb
+pub beside-rows : IsBeside msdb_file → ⊥
+beside-rows (inl medium) = medium-rows medium
+beside-rows (inr staging) = staging-rows staging
 
 -- and no medium's is a set's
 pub medium-apart : (path : List ℕ) → IsStagingFile (medium_file path) → ⊥

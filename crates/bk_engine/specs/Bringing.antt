@@ -18,7 +18,7 @@ use Rattle.bk_known.specs.declared.known.DatabaseSpec.{DatabaseSpec}
 use Rattle.bk_known.specs.declared.known.Known.{Known}
 use Rattle.bk_machine.specs.Acts.{Act, Recovery, done_all, file_units, is_simple, taken_over}
 use Rattle.bk_machine.specs.MayDo.{MayDoAll}
-use Rattle.bk_machine.specs.Sound.{IsSound, IsSoundSet, SetIn}
+use Rattle.bk_machine.specs.Sound.{IsSound, IsSoundSet}
 use Rattle.bk_machine.specs.World.{Database, World, database_named}
 use Rattle.bk_machine.specs.Writes.{ActsWrite}
 use Rattle.bk_machine.specs.statements.Restore.{base_of, is_online}
@@ -30,15 +30,30 @@ use Rattle.bk_store.specs.Told.{data_file}
 use Rattle.bk_stores.specs.Beside.{ShareNoFile}
 use Rattle.bk_volume.specs.Media.{slot_at}
 use Rattle.bk_volume.specs.Stored.{IsOf, Stored}
+use Rattle.bk_world.specs.declared.database.FileSpec.{FileSpec}
 use Rattle.bk_world.specs.declared.database.State.TheVariants as state
 use Rattle.bk_world.specs.declared.database.Status.TheVariants.{Online}
+use Rattle.bk_world.specs.declared.database.TableSpec.{TableSpec}
 use Rattle.bk_world.specs.declared.header.Header.{Header}
+use Rattle.bk_world.specs.declared.header.HeaderFile.{HeaderFile}
 use Rattle.bk_world.specs.Pending.{pending}
 use Rattle.bk_world.specs.Records.{recovered}
 use Rattle.bk_world.specs.Says.{alone, settle_said}
 use Rattle.bk_engine.specs.Stands.{Covers}
 
--- ---- what a set says of the database
+-- ---- a set that is restored to other paths
+
+-- a data file at another path
+abbrev pub put_at : (FileSpec → List ℕ) → HeaderFile → HeaderFile
+put_at to file = record file { spec = record file.spec { path = to file.spec } }
+
+-- A set is restored under this header: its own, with its data files and its log at these paths.
+pub record MovesOnly (set header : Header) : Type 0 where
+  pub to : FileSpec → List ℕ
+  pub log_path : List ℕ
+  pub is : header ≡ record set { files = map (put_at to) set.files; log_path = log_path }
+
+-- ---- what a header says of the database
 
 -- its data files
 abbrev pub files_on : Header → List DataFile
@@ -48,11 +63,11 @@ files_on header = map data_file (set_storage header).files
 abbrev pub spec_on : List ℕ → Header → Guid → DatabaseSpec
 spec_on name header branch = record { name = name; family = header.family; path = header.path ++ (record { guid = branch; start = header.last }) ∷ []; storage = set_storage header }
 
--- what is known of it as of the set's end
-abbrev pub known_on : List ℕ → Stored → Guid → Known
-known_on name stored branch = record {
-  spec = spec_on name stored.header branch;
-  as_of = record { from = stored.header.last; tables = stored.tables; model = stored.header.model; time = stored.header.finish };
+-- what is known of it as of the set's end, where it has these tables
+abbrev pub known_on : List ℕ → Header → List TableSpec → Guid → Known
+known_on name header tables branch = record {
+  spec = spec_on name header branch;
+  as_of = record { from = header.last; tables = tables; model = header.model; time = header.finish };
 }
 
 -- its points: it is online, and its log begins with the set's end
@@ -90,8 +105,9 @@ coming_up w name header branch = bringing_up name header (recovery_of w header b
 abbrev pub HaveNoneOf : World → Header → Type 0
 HaveNoneOf w header = AllByRecursion (λ (db : Database). is_online db.status ≡ true → ShareNoFile (files_on header) (map data_file db.files)) w.databases
 
--- The database of the name is still as the set took its place, and it may be brought up on this branch; this is the number of the last record of its recovery.
+-- The database of the name is still as a sound set took its place, and it may be brought up on this branch; this is the number of the last record of its recovery.
 pub record MayComeUp (w : World) (name : List ℕ) (header : Header) (branch : Guid) (last : ℕ) : Type 0 where
+  pub sound : IsSoundSet w header
   pub parked : database_named w.databases name ≡ Some (taken_over name header)
   pub none : HaveNoneOf w header
   pub may : MayDoAll w (coming_up w name header branch)
@@ -115,9 +131,8 @@ abbrev pub BringsUp : Type 0
 BringsUp = (w : World) (name : List ℕ) (header : Header) (r : Recovery) (hosted : List Hosted) (i : ℕ) → IsSound w → Hosts w hosted → IsSoundSet w header → MayDoAll w (bringing_up name header r) → r.at ≡ header.last
     → position (names name) hosted ≡ Some i → slice_get hosted i ≡ Some (parking (set_log w header) name header) → Hosts (done_all w (bringing_up name header r)) (set hosted i (restoring (set_log w header) name header r))
 
--- Sets on media are sound and enough to restore them, and what a restore does to worlds, to their media and to what is hosted.
+-- Sets are enough to restore them, and what a restore does to worlds, to their media and to what is hosted.
 pub record Laws : Type 0 where
-  pub sets : (w : World) (path : List ℕ) (header : Header) → IsSound w → SetIn w path header → IsSoundSet w header
   pub listed : (body : Body) → IsBody body → ((file extent : ℕ) → has_extent body.header.files file extent ≡ true → is_there body.extents file extent ≡ true) → map id_of body.extents ≡ data_extents body.header.files
   pub suffices : (w : World) (body : Body) (name : List ℕ) (r : Recovery) (note : List ℕ) (a : KeptArriving) (records : List Rec) → Carries w.history body → IsSoundSet w body.header → IsBody body → MayName name body.header r note
       → IsFor a body.header.first (arrived w name body.header r note) → IsLog body.log records None

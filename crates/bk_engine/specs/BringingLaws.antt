@@ -29,7 +29,6 @@ use Rattle.bk_store.specs.Told.{data_file}
 use Rattle.bk_side.specs.Names.{name_of}
 use Rattle.bk_stores.specs.Beside.{ShareNoFile}
 use Rattle.bk_stores.specs.ListLaws.{got-inside, got-none, got-set}
-use Rattle.bk_volume.specs.Stored.{Stored}
 use Rattle.bk_world.specs.declared.database.Base.{Base}
 use Rattle.bk_world.specs.declared.database.FileSpec.{FileSpec}
 use Rattle.bk_world.specs.declared.database.State.TheVariants as state
@@ -115,11 +114,11 @@ path-kept (b ∷ path) n below =
     rw here (ap (λ (bs : List Branch). b ∷ bs) (path-kept path n below.1))
 
 -- what the set says of it is what is known of the database that it makes
-pub known-is : (w : World) (name : List ℕ) (stored : Stored) (branch : Guid) (note : List ℕ) (body : Body) → IsSoundSet w stored.header → body.header ≡ stored.header → body.tables ≡ stored.tables
-    → known_on name stored branch ≡ known_of (arrived w name stored.header (recovery_of w stored.header branch) note).spec body
-known-is w name stored branch note body set headers tables = λ i. record {
-  spec = record (spec_on name stored.header branch) { path = sym (path-kept stored.header.path stored.header.last set.starts) i ++ (record { guid = branch; start = stored.header.last }) ∷ [] };
-  as_of = record { from = (sym headers i).last; tables = sym tables i; model = (sym headers i).model; time = (sym headers i).finish };
+pub known-is : (w : World) (name : List ℕ) (branch : Guid) (note : List ℕ) (body : Body) → IsSoundSet w body.header
+    → known_on name body.header body.tables branch ≡ known_of (arrived w name body.header (recovery_of w body.header branch) note).spec body
+known-is w name branch note body set = λ i. record {
+  spec = record (spec_on name body.header branch) { path = sym (path-kept body.header.path body.header.last set.starts) i ++ (record { guid = branch; start = body.header.last }) ∷ [] };
+  as_of = record { from = body.header.last; tables = body.tables; model = body.header.model; time = body.header.finish };
 }
 
 -- ---- what the recovery says

@@ -20,6 +20,8 @@ use Rattle.bk_world.specs.Lines.{RecordLines}
 use Rattle.bk_world.specs.Pending.{Pending, PendingRise, pending}
 use Rattle.bk_world.specs.Records.{Logged, more}
 use Rattle.bk_world.specs.Says.{settle_said}
+use Rattle.bk_msdb.specs.Msdb.{Shows}
+use Rattle.bk_engine.specs.Rows.{rows_in}
 use Rattle.bk_engine.specs.LoadLaws.{none-lost, none-open}
 use Rattle.bk_engine.specs.Loading.{PendsInOrder, Stands}
 
@@ -79,9 +81,9 @@ all-idle [] idle = tt
 all-idle (h ∷ hosted) idle = (idle.0.transactions, all-idle hosted idle.1)
 
 -- what a crash leaves of a run in which nothing is open stands for the world in which the run has ended, where no more GUIDs are reserved than are drawn
-pub ended-stands : (number : ℕ) (w : World) (own : Own) (hosted : List Hosted) (image : Files) → IsSound w → IsSound (ended w) → AreIdle w → w.instance ≡ own.number → w.counter ≡ own.counter → Hosts w hosted → Hosts (ended w) hosted → own.making ≡ None → LeavesHosted own hosted image → KeepsMedia w own.making image → Stands number image (ended w)
-unfolding ended
-ended-stands number w own hosted image sound ends idle instance counter hosts rest none left media =
+pub ended-stands : (number : ℕ) (w : World) (own : Own) (hosted : List Hosted) (image : Files) → IsSound w → IsSound (ended w) → AreIdle w → w.instance ≡ own.number → w.counter ≡ own.counter → Hosts w hosted → Hosts (ended w) hosted → own.making ≡ None → LeavesHosted own hosted image → KeepsMedia w own.making image → Shows image (rows_in w) → Stands number image (ended w)
+unfolding ended rows_in
+ended-stands number w own hosted image sound ends idle instance counter hosts rest none left media rows =
     let opens : AllByRecursion (OpenBy w.history) (map database_of hosted) = subst (λ (dbs : List Database). AllByRecursion (OpenBy w.history) dbs) hosts.same sound.opens in
     let idles : AllByRecursion IsIdle (map database_of hosted) = subst (λ (dbs : List Database). AllByRecursion IsIdle dbs) hosts.same idle in
     record {
@@ -94,5 +96,6 @@ ended-stands number w own hosted image sound ends idle instance counter hosts re
       hosts = subst (Hosts (ended w)) (sym (all-settled w.history hosted hosts.each opens idles)) rest;
       holds = inr (subst (HoldsHosted own image) (none-lost hosted left.0 (all-idle hosted idles) left.1) left.2);
       media = media-on w (ended w) own.making image refl (λ path header in_it. refl) media;
+      rows = rows;
       finished = λ closed. none;
     }

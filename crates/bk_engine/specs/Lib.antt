@@ -11,6 +11,8 @@ pub mod Amid
 pub mod AmidLaws
 pub mod CloseLaws
 pub mod SeatLaws
+pub mod Rows
+pub mod RowLaws
 pub mod Saying
 pub mod Sealing
 pub mod Copying

@@ -2,7 +2,7 @@
 -- SQL Server: "Restore and Recovery Overview", recovery of databases at startup.
 use Rattle.std.specs.Prelude.{◌≡◌, ℕ, true, List, Option, None, map}
 use Rattle.std.specs.List.{AllByRecursion}
-use Rattle.bk_archive.specs.Media.{KeepsMedia, MediaAreDurable}
+use Rattle.bk_archive.specs.Media.{KeepsMedia}
 use Rattle.bk_device.specs.Disk.{Disk, Files}
 use Rattle.bk_device.specs.Effects.{MayLeaveOwn}
 use Rattle.bk_hosted.specs.Fronts.{settling}
@@ -13,13 +13,15 @@ use Rattle.bk_machine.specs.Sound.{IsSound}
 use Rattle.bk_machine.specs.World.{World}
 use Rattle.bk_master.specs.declared.record.Own.{Own}
 use Rattle.bk_world.specs.Pending.{PendingRise, pending}
+use Rattle.bk_msdb.specs.Msdb.{Shows}
+use Rattle.bk_engine.specs.Rows.{IsCalm, rows_in}
 use Rattle.bk_engine.specs.Stands.{IsOurs}
 
 -- what is pending in a database that can be used comes in the order of its numbers
 abbrev pub PendsInOrder : Hosted → Type 0
 PendsInOrder h = is_up h ≡ true → PendingRise (pending h.records)
 
--- Files stand for a sound world: it hosts the databases that they hold, of each with all undone that is pending, and they keep its media. Where a run has ended no medium is being made. An instance that isn't made yet has this number.
+-- Files stand for a sound world: it hosts the databases that they hold, of each with all undone that is pending, and they keep its media and show its rows of msdb. Where a run has ended no medium is being made. An instance that isn't made yet has this number.
 pub record Stands (number : ℕ) (files : Files) (w : World) : Type 0 where
   pub sound : IsSound w
   pub own : Own
@@ -30,6 +32,7 @@ pub record Stands (number : ℕ) (files : Files) (w : World) : Type 0 where
   pub hosts : Hosts w (map settling hosted)
   pub holds : HoldsHosting number own files hosted
   pub media : KeepsMedia w own.making files
+  pub rows : Shows files (rows_in w)
   pub finished : w.closed ≡ true → own.making ≡ None
 
 -- Databases that were opened stand for a sound world: it hosts them, of each with all undone that was pending. Nothing is pending in its media, and the record may name one that was being made.
@@ -43,7 +46,7 @@ pub record Opened (disk : Disk) (x : KeptHosting) (w : World) : Type 0 where
   pub hosting : IsHosting disk x (map settling hosted)
   pub media : KeepsMedia w (own_of x).making disk.files
   pub finished : w.closed ≡ true → (own_of x).making ≡ None
-  pub calm : MediaAreDurable disk
+  pub calm : IsCalm disk w
 
 -- ---- what was being made
 

@@ -1,8 +1,8 @@
 -- What an instance stands for behind what is done to its hosted databases, and what a crash leaves.
 use Rattle.std.proofs.Common.{◌≡◌, ◌≤◌, ◌⊎◌, inl, inr, ℕ, ◌+◌, List, map, Option, None, refl, sym, ap, subst, ◌∙◌, arith}
-use Rattle.bk_archive.specs.DiskLaws.{media-after, media-durable}
-use Rattle.bk_archive.specs.Media.{KeepsMedia, MediaAreDurable}
-use Rattle.bk_archive.specs.MediaLaws.{SameFiles, media-in}
+use Rattle.bk_archive.specs.DiskLaws.{media-after}
+use Rattle.bk_archive.specs.Media.{KeepsMedia}
+use Rattle.bk_archive.specs.MediaLaws.{SameFiles}
 use Rattle.bk_device.specs.Compose.{effect_widen}
 use Rattle.bk_device.specs.Disk.{Disk, Files}
 use Rattle.bk_device.specs.Effects.{Effect}
@@ -13,31 +13,32 @@ use Rattle.bk_machine.specs.Acts.{Act, done}
 use Rattle.bk_machine.specs.Sound.{IsSound}
 use Rattle.bk_machine.specs.World.{World}
 use Rattle.bk_stores.specs.Stores.{IsOurs as IsOfStores}
-use Rattle.bk_volume.specs.Names.{medium_file}
 use Rattle.bk_engine.specs.ActLaws.{IsBehind, draws, same-behind}
 use Rattle.bk_engine.specs.Acts.{CutsAct}
-use Rattle.bk_engine.specs.NameLaws.{store-medium}
+use Rattle.bk_msdb.specs.Msdb.{Shows}
+use Rattle.bk_engine.specs.NameLaws.{store-medium, store-rows}
+use Rattle.bk_engine.specs.RowLaws.{beside-then, calm-by, calm-on}
+use Rattle.bk_engine.specs.Rows.{IsCalm, KeepsBeside}
 use Rattle.bk_engine.specs.Stands.{Covers, IsOurs, IsReady, Kept, StandsFor, own_in}
 
--- ---- media
+-- ---- media and rows of msdb
 
 -- what is done to stores leaves the files of media
 pub media-beside : {P : Files → Type 0} {a b : Disk} → Effect IsOfStores P a b → SameFiles a.files b.files
 media-beside {a = a} {b = b} effect = media-after a b store-medium effect
 
-pub calm-beside : {P : Files → Type 0} {a b : Disk} → Effect IsOfStores P a b → MediaAreDurable a → MediaAreDurable b
-calm-beside {a = a} {b = b} effect calm = media-durable a b store-medium effect calm
+pub calm-beside : {P : Files → Type 0} {a b : Disk} {w : World} → Effect IsOfStores P a b → IsCalm a w → IsCalm b w
+calm-beside effect calm = calm-by store-medium store-rows effect calm
 
 -- and so does a crash meanwhile
-pub media-then : (w : World) (making : Option (List ℕ)) (a : Disk) (image : Files) → MediaAreDurable a → ((name : List ℕ) → (IsOfStores name → ⊥) → IsOurs name → a.may name (image name)) → KeepsMedia w making a.files → KeepsMedia w making image
-media-then w making a image calm others media =
-    media-in w making a.files image (λ path bytes. calm path bytes (image (medium_file path)) (others (medium_file path) (store-medium path) (inr (inl (path, bytes, refl))))) media
+pub media-then : {u : World} (v : World) (making : Option (List ℕ)) (a : Disk) (image : Files) → IsCalm a u → ((name : List ℕ) → (IsOfStores name → ⊥) → IsOurs name → a.may name (image name)) → KeepsMedia v making a.files → KeepsBeside u v making image
+media-then {u = u} v making a image calm others media = beside-then store-medium store-rows u v making a image calm others media
 
 -- ---- what stands
 
 -- a world in which so many GUIDs more are drawn
 pub world-stands : (a b : Disk) (old new : Kept) (w v : World) (n : ℕ) (hosted : List Hosted) → StandsFor a old w → IsBehind w v n → IsSound v → Hosts v hosted → IsHosting b new.hosting hosted → (own_in new).number ≡ (own_in old).number
-    → new.drawn ≡ old.drawn + n → new.session ≡ old.session → new.sessions ≡ old.sessions → KeepsMedia v None b.files → MediaAreDurable b → StandsFor b new v
+    → new.drawn ≡ old.drawn + n → new.session ≡ old.session → new.sessions ≡ old.sessions → KeepsMedia v None b.files → IsCalm b w → StandsFor b new v
 world-stands a b old new w v n hosted is behind sound hosts hosting number drawn session sessions media calm = record {
   sound = sound;
   instance = behind.instance ∙ is.instance ∙ sym number;
@@ -48,15 +49,15 @@ world-stands a b old new w v n hosted is behind sound hosts hosting number drawn
   hosts = hosts;
   hosting = hosting;
   media = media;
-  calm = calm;
+  calm = calm-on behind.rows calm;
 }
 
 -- ---- what a crash leaves
 
 -- a world for whose GUIDs numbers were reserved
 pub world-left : (a : Disk) (e : Kept) (w v : World) (n : ℕ) (hosted : List Hosted) (image : Files) → IsReady e → StandsFor a e w → IsBehind w v n → e.drawn + n ≤ (own_in e).counter → Hosts v hosted → LeavesHosted (own_in e) hosted image
-    → KeepsMedia v None image → Covers v image
-world-left a e w v n hosted image ready is behind reserved hosts left media = record {
+    → KeepsBeside w v None image → Covers v image
+world-left a e w v n hosted image ready is behind reserved hosts left beside = record {
   own = own_in e;
   instance = behind.instance ∙ is.instance;
   no_less = let count = behind.counter in let same = is.counter in omega (arith, count, same, reserved);
@@ -64,12 +65,13 @@ world-left a e w v n hosted image ready is behind reserved hosts left media = re
   hosted = hosted;
   hosts = hosts;
   left = left;
-  media = subst (λ (making : Option (List ℕ)). KeepsMedia v making image) (sym ready.no_medium) media;
+  media = subst (λ (making : Option (List ℕ)). KeepsMedia v making image) (sym ready.no_medium) beside.media;
+  rows = subst (Shows image) (sym behind.rows) beside.rows;
 }
 
 -- the one for which it stands
-pub world-kept : (a : Disk) (e : Kept) (w : World) (image : Files) → IsReady e → (is : StandsFor a e w) → LeavesHosted (own_in e) is.hosted image → KeepsMedia w None image → Covers w image
-world-kept a e w image ready is left media = world-left a e w w 0 is.hosted image ready is (same-behind w) (let low = ready.no_less in omega (arith, low)) is.hosts left media
+pub world-kept : (a : Disk) (e : Kept) (w : World) (image : Files) → IsReady e → (is : StandsFor a e w) → LeavesHosted (own_in e) is.hosted image → KeepsBeside w w None image → Covers w image
+world-kept a e w image ready is left beside = world-left a e w w 0 is.hosted image ready is (same-behind w) (let low = ready.no_less in omega (arith, low)) is.hosts left beside
 
 -- what is done to stores alone, as what is done to the instance
 pub stores-wide : {P Q : Files → Type 0} {a b : Disk} → ((image : Files) → P image → ((name : List ℕ) → (IsOfStores name → ⊥) → IsOurs name → a.may name (image name)) → Q image) → Effect IsOfStores P a b → Effect IsOurs Q a b

@@ -8,10 +8,12 @@ use Rattle.bk_kept.specs.SessionLaws.{named, set-so}
 use Rattle.bk_machine.specs.Acts.{done, seated, turned}
 use Rattle.bk_machine.specs.Sound.{IsSound}
 use Rattle.bk_machine.specs.World.{World, session_numbered, with_session}
+use Rattle.bk_engine.specs.RowLaws.{calm-on}
+use Rattle.bk_engine.specs.Rows.{rows_in}
 use Rattle.bk_engine.specs.Stands.{Kept, StandsFor}
 
 pub seated-stands : (disk : Disk) (e : Kept) (w : World) (session : ℕ) → StandsFor disk e w → IsSound (done w (seated session)) → StandsFor disk (record e { session = session }) (done w (seated session))
-unfolding done
+unfolding done rows_in
 seated-stands disk e w session is sound = record {
   sound = sound;
   instance = is.instance;
@@ -22,11 +24,11 @@ seated-stands disk e w session is sound = record {
   hosts = record { same = is.hosts.same; each = is.hosts.each };
   hosting = is.hosting;
   media = media-on w (done w (seated session)) None disk.files refl (λ path header in_it. refl) is.media;
-  calm = is.calm;
+  calm = calm-on refl is.calm;
 }
 
 pub turned-stands : (disk : Disk) (e : Kept) (w : World) (name : Option (List ℕ)) (ss : List Session) → StandsFor disk e w → map session_of ss ≡ with_session (map session_of e.sessions) (named e.session name) → IsSound (done w (turned name)) → StandsFor disk (record e { sessions = ss }) (done w (turned name))
-unfolding done
+unfolding done rows_in
 turned-stands disk e w name ss is set sound = record {
   sound = sound;
   instance = is.instance;
@@ -41,5 +43,5 @@ turned-stands disk e w name ss is set sound = record {
   hosts = record { same = is.hosts.same; each = is.hosts.each };
   hosting = is.hosting;
   media = media-on w (done w (turned name)) None disk.files refl (λ path header in_it. refl) is.media;
-  calm = is.calm;
+  calm = calm-on refl is.calm;
 }

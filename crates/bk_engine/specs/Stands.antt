@@ -1,8 +1,9 @@
 -- Which worlds an instance over its stores stands for, and which its files hold.
 -- SQL Server: "Database Files and Filegroups"; "Media Sets, Media Families, and Backup Sets".
 use Rattle.std.specs.Prelude.{◌≡◌, ◌≤◌, ◌+◌, ◌⊎◌, ℕ, List, map, Option, None}
-use Rattle.bk_archive.specs.Media.{IsMediumFile, KeepsMedia, MediaAreDurable}
+use Rattle.bk_archive.specs.Media.{IsMediumFile, KeepsMedia}
 use Rattle.bk_device.specs.Disk.{Disk, Files}
+use Rattle.bk_device.specs.Effects.{IsName}
 use Rattle.bk_hosted.specs.Hosted.{Hosted, Hosts}
 use Rattle.bk_hosting.specs.Hosting.{IsHosting, IsReady as AreReady, LeavesHosted, own_of, Kept as KeptHosting}
 use Rattle.bk_ids.specs.declared.guid.Guid.{Guid}
@@ -11,8 +12,10 @@ use Rattle.bk_kept.specs.Keeps.{session_of}
 use Rattle.bk_machine.specs.Sound.{IsSound}
 use Rattle.bk_machine.specs.World.{World}
 use Rattle.bk_master.specs.declared.record.Own.{Own}
+use Rattle.bk_msdb.specs.Msdb.{Shows, msdb_file}
 use Rattle.bk_stores.specs.Stores.{IsOurs as IsOfStores}
 use Rattle.bk_volume.specs.Names.{staging_file}
+use Rattle.bk_engine.specs.Rows.{IsCalm, rows_in}
 
 -- ---- an instance
 
@@ -40,7 +43,7 @@ pub record IsReady (e : Kept) : Type 0 where
   pub no_less : e.drawn ≤ (own_in e).counter
   pub no_more : (own_in e).counter ≤ e.drawn + 1024
 
--- It stands for a sound world, with what is open in it: it hosts the world's databases, and keeps its media, in which nothing is pending.
+-- It stands for a sound world, with what is open in it: it hosts the world's databases, and keeps its media and its rows of msdb, in which nothing is pending.
 pub record StandsFor (disk : Disk) (e : Kept) (w : World) : Type 0 where
   pub sound : IsSound w
   pub instance : w.instance ≡ (own_in e).number
@@ -51,7 +54,7 @@ pub record StandsFor (disk : Disk) (e : Kept) (w : World) : Type 0 where
   pub hosts : Hosts w hosted
   pub hosting : IsHosting disk e.hosting hosted
   pub media : KeepsMedia w None disk.files
-  pub calm : MediaAreDurable disk
+  pub calm : IsCalm disk w
 
 -- ---- what a crash leaves
 
@@ -65,6 +68,7 @@ pub record Covers (w : World) (files : Files) : Type 0 where
   pub hosts : Hosts w hosted
   pub left : LeavesHosted own hosted files
   pub media : KeepsMedia w own.making files
+  pub rows : Shows files (rows_in w)
 
 -- ---- names
 
@@ -72,6 +76,6 @@ pub record Covers (w : World) (files : Files) : Type 0 where
 abbrev pub IsStagingFile : List ℕ → Type 0
 IsStagingFile name = (set : Guid) × (name ≡ staging_file set)
 
--- the files that an instance may touch: its own and its stores', media, and sets that are being written
+-- the files that an instance may touch: its own and its stores', media, sets that are being written, and that of the rows of msdb
 abbrev pub IsOurs : List ℕ → Type 0
-IsOurs name = IsOfStores name ⊎ (IsMediumFile name ⊎ IsStagingFile name)
+IsOurs name = IsOfStores name ⊎ (IsMediumFile name ⊎ (IsStagingFile name ⊎ IsName msdb_file name))

@@ -7,6 +7,7 @@ use Rattle.bk_device.specs.Disk.{Disk, Files}
 use Rattle.bk_device.specs.Effects.{Effect, IsName}
 use Rattle.bk_device.specs.Laws.{nothing_yet}
 use Rattle.bk_hosting.specs.Copying.{TouchesOursOr}
+use Rattle.bk_msdb.specs.Msdb.{msdb_file}
 use Rattle.bk_stores.specs.Stores.{TouchesOurs}
 use Rattle.bk_volume.specs.Names.{medium_file}
 use Rattle.bk_volume.specs.Staging.{Staging}
@@ -34,7 +35,11 @@ module _ {named : List ℕ → Type 0} where
 
   -- to a medium
   pub medium-touch : {P : Files → Type 0} {a b : Disk} (path : List ℕ) → named path → AreBytes path → Effect (IsName (medium_file path)) P a b → TouchesOnly named a b
-  medium-touch path is bytes effect = effect_widen (λ name own. inr (inr (path, is, bytes, own))) (λ image left others. tt) effect
+  medium-touch path is bytes effect = effect_widen (λ name own. inr (inr (inl (path, is, bytes, own)))) (λ image left others. tt) effect
+
+  -- to the rows of msdb
+  pub rows-touch : {P : Files → Type 0} {a b : Disk} → Effect (IsName msdb_file) P a b → TouchesOnly named a b
+  rows-touch effect = effect_widen (λ name own. inr (inr (inr own))) (λ image left others. tt) effect
 
   -- nothing is done
   pub rest-touch : {D : Type 0} (disk : D → Disk) (x y : D) → y ≡ x → TouchesOnly named (disk x) (disk y)
@@ -50,6 +55,9 @@ wider-touch within effect = effect_widen (λ name own. elim own [
   | inl store ↦ inl store
   | inr other ↦ elim other [
     | inl set ↦ inr (inl set)
-    | inr medium ↦ inr (inr (medium.0, within medium.0 medium.1, medium.2, medium.3))
+    | inr last ↦ elim last [
+      | inl medium ↦ inr (inr (inl (medium.0, within medium.0 medium.1, medium.2, medium.3)))
+      | inr rows ↦ inr (inr (inr rows))
+    ]
   ]
 ]) (λ image left others. tt) effect

@@ -3,7 +3,8 @@
 use Rattle.std.specs.Prelude.{◌≡◌, ◌⊎◌, ℕ, List, Option, Some}
 use Rattle.bk_bytes.specs.Field.{AreBytes}
 use Rattle.bk_device.specs.Disk.{Disk}
-use Rattle.bk_device.specs.Effects.{Effect}
+use Rattle.bk_device.specs.Effects.{Effect, IsName}
+use Rattle.bk_msdb.specs.Msdb.{msdb_file}
 use Rattle.bk_stores.specs.Stores.{IsOurs as IsOfStores}
 use Rattle.bk_volume.specs.Names.{medium_file}
 use Rattle.bk_engine.specs.Stands.{IsStagingFile}
@@ -12,9 +13,9 @@ use Rattle.bk_engine.specs.Stands.{IsStagingFile}
 abbrev pub IsMediumAt : (List ℕ → Type 0) → List ℕ → Type 0
 IsMediumAt named name = (path : List ℕ) × named path × AreBytes path × (name ≡ medium_file path)
 
--- a file of the instance itself or of its stores, one of a set that is being written, or that of a medium at one of these paths
+-- a file of the instance itself or of its stores, one of a set that is being written, that of a medium at one of these paths, or that of the rows of msdb
 abbrev pub IsTouched : (List ℕ → Type 0) → List ℕ → Type 0
-IsTouched named name = IsOfStores name ⊎ (IsStagingFile name ⊎ IsMediumAt named name)
+IsTouched named name = IsOfStores name ⊎ (IsStagingFile name ⊎ (IsMediumAt named name ⊎ IsName msdb_file name))
 
 -- only such files were touched, and nothing was told
 abbrev pub TouchesOnly : (List ℕ → Type 0) → Disk → Disk → Type 0

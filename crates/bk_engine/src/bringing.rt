@@ -3,10 +3,11 @@ ghost use Rattle.std.specs.Prelude.{◌≡◌, OnOk, IsErrOf};
 ghost use Rattle.bk_archive.specs.Media.{IsMediumFile};
 ghost use Rattle.bk_device.specs.Counts.{HasCause};
 ghost use Rattle.bk_device.specs.Effects.{Effect};
+ghost use Rattle.bk_header.specs.Conditions.{IsHeader};
 ghost use Rattle.bk_machine.specs.Acts.{done_all};
 ghost use Rattle.bk_machine.specs.World.{World};
 ghost use Rattle.bk_stores.specs.Standing.{AreStanding};
-ghost use Rattle.bk_engine.specs.Bringing.{CutsActs, IsSetOn, Laws, MayComeUp, coming_up};
+ghost use Rattle.bk_engine.specs.Bringing.{CutsActs, IsSetOn, Laws, MayComeUp, MovesOnly, coming_up};
 ghost use Rattle.bk_engine.specs.Stands.{IsOurs, IsReady, NamesSet, StandsFor, own_in};
 ghost use Rattle.bk_engine.specs.Touched.{NoMedium, TouchesOnly};
 
@@ -17,9 +18,10 @@ use bk_carried::{carried_sets_suffice, extents_lie_in_order};
 use bk_device::Device;
 use bk_hosted::hosted_databases_follow_restores;
 use bk_ids::{Body, Guid, Lsn, Rec};
-use bk_machine::{acts_keep_worlds_sound, sets_that_stay};
+use bk_machine::acts_keep_worlds_sound;
 use bk_stores::StoresError;
 use bk_volume::{Medium, StoredSet};
+use bk_world::Header;
 use std::thread::Threads;
 
 // What the laws of the crates below say of sets that bring databases up.
@@ -31,12 +33,11 @@ fn laws()
     carried_sets_suffice();
     extents_lie_in_order();
     hosted_databases_follow_restores();
-    sets_that_stay();
 }
 
 impl Engine {
-    /// The set that was opened on a medium brings up the database of this name, whose place it has taken (`park`): its files are restored, and it is recovered at the set's end, on this branch. All is undone that
-    /// was pending in the backup, and then a record with the number `last` names the branch. A crash leaves the world before both acts, but for what waited, or the one behind both.
+    /// The set that was opened on a medium brings up the database of this name, whose place it has taken (`park`) under this header, which is the set's own, or has its files and its log at other paths: its
+    /// files are restored, and it is recovered at the set's end, on this branch. All is undone that was pending in the backup, and then a record with the number `last` names the branch. A crash leaves the world before both acts, but for what waited, or the one behind both.
     ///
     /// `Broken` is answered only where the set makes no such database, or a database that can be used has one of its data files. Where there is no database of this name, it isn't being restored, no database may
     /// have the set's files, or all GUIDs are used up, the call ends as if memory were wanting.
@@ -47,22 +48,25 @@ impl Engine {
         name: &str,
         medium: &Medium,
         stored: &StoredSet,
+        header: &Header,
         branch: Guid,
         last: Lsn,
     ) -> Result<(), StoresError>
         requires ready { IsReady self.old }
         requires medium { IsMediumFile medium.now.name }
+        requires moves { MovesOnly stored.now.header header.now }
+        requires is_header { IsHeader header.now }
         requires standing { D.tells → AreStanding (D.disk dev.old) self.old.hosting.stores }
         ensures ready { OnOk result (IsReady self.new) }
         ensures own { OnOk result (NamesSet (own_in self.old).staging self.old self.new) }
         ensures standing { D.tells → OnOk result (AreStanding (D.disk dev.new) self.new.hosting.stores) }
-        ensures stands { D.tells → (w : World) → StandsFor (D.disk dev.old) self.old w → IsSetOn (D.disk dev.old).files medium.now.name stored.now → MayComeUp w name.now stored.now.header branch last
-            → OnOk result (StandsFor (D.disk dev.new) self.new (done_all w (coming_up w name.now stored.now.header branch))) }
-        ensures crash { D.tells → (w : World) → StandsFor (D.disk dev.old) self.old w → IsSetOn (D.disk dev.old).files medium.now.name stored.now → MayComeUp w name.now stored.now.header branch last
-            → Effect IsOurs (CutsActs w (coming_up w name.now stored.now.header branch)) (D.disk dev.old) (D.disk dev.new) }
+        ensures stands { D.tells → (w : World) → StandsFor (D.disk dev.old) self.old w → IsSetOn (D.disk dev.old).files medium.now.name stored.now → MayComeUp w name.now header.now branch last
+            → OnOk result (StandsFor (D.disk dev.new) self.new (done_all w (coming_up w name.now header.now branch))) }
+        ensures crash { D.tells → (w : World) → StandsFor (D.disk dev.old) self.old w → IsSetOn (D.disk dev.old).files medium.now.name stored.now → MayComeUp w name.now header.now branch last
+            → Effect IsOurs (CutsActs w (coming_up w name.now header.now branch)) (D.disk dev.old) (D.disk dev.new) }
         ensures touches { D.tells → TouchesOnly NoMedium (D.disk dev.old) (D.disk dev.new) }
         ensures broken { D.tells → IsErrOf result StoresError.Broken → (w : World) → StandsFor (D.disk dev.old) self.old w → IsSetOn (D.disk dev.old).files medium.now.name stored.now
-            → MayComeUp w name.now stored.now.header branch last → ⊥ }
+            → MayComeUp w name.now header.now branch last → ⊥ }
         ensures not_an_instance { IsErrOf result StoresError.NotAnInstance → ⊥ }
         ensures cause { HasCause D.disk_faults D.tell_faults dev.old dev.new (IsErrOf result StoresError.Fault) }
     {
@@ -71,13 +75,13 @@ impl Engine {
         let Some(at) = self.hosting.find(name) else {
             return Err(StoresError::NoMemory);
         };
-        let coming = coming_of(self.alloc, name, stored, branch)?;
+        let coming = coming_of(self.alloc, name, header, stored.tables(), branch)?;
         let Coming {
             files,
             known,
             points,
         } = coming;
-        let checkpoint = stored.header().checkpoint;
+        let checkpoint = header.checkpoint;
         let named = Rec {
             lsn: last,
             begin: 0,

@@ -19,8 +19,7 @@ use bk_paged::may_make;
 use bk_points::Points;
 use bk_store::copy_tables;
 use bk_stores::StoresError;
-use bk_volume::StoredSet;
-use bk_world::{Base, FileSpec, Header, HeaderFile, State, Status, Storage};
+use bk_world::{Base, FileSpec, Header, HeaderFile, State, Status, Storage, TableSpec};
 use std::alloc::{AllocError, Global};
 
 // No data file has more extents.
@@ -86,13 +85,13 @@ fn spec_of(
 fn known_of(
     alloc: Global,
     name: Name,
-    stored: &StoredSet,
+    header: &Header,
+    tables: &[TableSpec],
     branch: Guid,
 ) -> Result<Known, AllocError>
-    ensures { IfOk result (λ known. known ≡ known_on name stored.now branch) }
+    ensures { IfOk result (λ known. known ≡ known_on name header.now tables.now branch) }
 {
-    let header = stored.header();
-    let tables = copy_tables(alloc, stored.tables())?;
+    let tables = copy_tables(alloc, tables)?;
     let spec = spec_of(alloc, name, header, branch)?;
     let as_of = AsOf {
         from: header.last,
@@ -225,28 +224,29 @@ fn files_made(alloc: Global, files: &[FileSpec]) -> Result<Vec<DataFile>, Stores
     Ok(made)
 }
 
-/// What a set makes of a database with this name, on a branch of its own at the set's end. Where it makes none, or the text is no name, the call ends as if memory were wanting.
+/// What a set with this header and these tables makes of a database with this name, on a branch of its own at the set's end. Where it makes none, or the text is no name, the call ends as if memory were wanting.
 pub(crate) fn coming_of(
     alloc: Global,
     name: &str,
-    stored: &StoredSet,
+    header: &Header,
+    tables: &[TableSpec],
     branch: Guid,
 ) -> Result<Coming, StoresError>
-    ensures files { IfOk result (λ c. c.files.items ≡ files_on stored.now.header) }
+    ensures files { IfOk result (λ c. c.files.items ≡ files_on header.now) }
     ensures fills { IfOk result (λ c. MayFill c.files.items) }
-    ensures known { IfOk result (λ c. c.known ≡ known_on name.now stored.now branch) }
+    ensures known { IfOk result (λ c. c.known ≡ known_on name.now header.now tables.now branch) }
     ensures keeps { IfOk result (λ c. KeepsKnown c.known) }
-    ensures points { IfOk result (λ c. c.points ≡ points_at stored.now.header) }
+    ensures points { IfOk result (λ c. c.points ≡ points_at header.now) }
     ensures string { OnOk result (IsString 1 64 name.now) }
     ensures memory { IfErr result (λ e. e ≡ StoresError.NoMemory) }
 {
     let spelled = name_of(alloc, name)?;
-    let known = known_of(alloc, spelled, stored, branch)?;
+    let known = known_of(alloc, spelled, header, tables, branch)?;
     if !may_keep(&known) {
         return Err(StoresError::NoMemory);
     }
     let files = files_made(alloc, known.spec.storage.files.as_slice())?;
-    let points = points_of(alloc, stored.header())?;
+    let points = points_of(alloc, header)?;
     Ok(Coming {
         files,
         known,

@@ -11,6 +11,7 @@ mod drawing;
 mod dropping;
 mod engine;
 mod finishing;
+mod history;
 mod loading;
 mod logging;
 mod making;

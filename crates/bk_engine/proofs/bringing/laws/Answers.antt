@@ -2,7 +2,6 @@ use Rattle.bk_engine.proofs.bringing.laws.Goals as goal
 
 pub returns : goal.returns
 returns c = record {
-  sets = c.sets_that_stay.ensures.sound;
   listed = c.extents_lie_in_order.ensures.listed;
   suffices = c.carried_sets_suffice.ensures.told;
   brings = c.hosted_databases_follow_restores.ensures.brought_up;

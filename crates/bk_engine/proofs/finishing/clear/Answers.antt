@@ -31,7 +31,7 @@ returns-in_err-finish_making-clause-crash g c = λ tells number w is.
     let effect = subst (λ d. Effect IsMediumFile (IfDurable (g.D.Device.disk d) (LeavesFinishingAny c.own-own.result.now.making (g.D.Device.disk d).files)) (g.D.Device.disk d) b) c.at_rest.ensures.same (c.finish_making.ensures.crash tells) in
     let rest = subst (λ d. (image : _) → MayLeaveOwn IsOfStores (g.D.Device.disk d) image → LeavesHosted (own_of x) (map settling is.hosted) image) c.at_rest.ensures.same (λ image mine. (c.at_rest.ensures.crash tells (map settling is.hosted) is.hosting).now image mine) in
     let first = beside-crash number a b x w is (λ name at. inl at) rest
-    (λ image left others. subst (λ (o : Own). KeepsMedia w o.making image) c.own-own.ensures (left is.calm w (subst (λ (o : Own). KeepsMedia w o.making a.files) (sym c.own-own.ensures) is.media))) effect in
+    (λ image left others. subst (λ (o : Own). KeepsMedia w o.making image) c.own-own.ensures (left is.calm.media w (subst (λ (o : Own). KeepsMedia w o.making a.files) (sym c.own-own.ensures) is.media))) effect in
     first
 
 pub returns-clause-crash : goal.returns-clause-crash
@@ -42,9 +42,9 @@ returns-clause-crash g c = λ tells number w is.
     let effect = subst (λ d. Effect IsMediumFile (IfDurable (g.D.Device.disk d) (LeavesFinishingAny c.own-own.result.now.making (g.D.Device.disk d).files)) (g.D.Device.disk d) b) c.at_rest.ensures.same (c.finish_making.ensures.crash tells) in
     let rest = subst (λ d. (image : _) → MayLeaveOwn IsOfStores (g.D.Device.disk d) image → LeavesHosted (own_of x) (map settling is.hosted) image) c.at_rest.ensures.same (λ image mine. (c.at_rest.ensures.crash tells (map settling is.hosted) is.hosting).now image mine) in
     let first = beside-crash number a b x w is (λ name at. inl at) rest
-    (λ image left others. subst (λ (o : Own). KeepsMedia w o.making image) c.own-own.ensures (left is.calm w (subst (λ (o : Own). KeepsMedia w o.making a.files) (sym c.own-own.ensures) is.media))) effect in
+    (λ image left others. subst (λ (o : Own). KeepsMedia w o.making image) c.own-own.ensures (left is.calm.media w (subst (λ (o : Own). KeepsMedia w o.making a.files) (sym c.own-own.ensures) is.media))) effect in
     let finished : HasFinishedAny (own_of x).making a.files b.files = subst (λ (o : Own). HasFinishedAny o.making a.files b.files) c.own-own.ensures (subst (λ d. HasFinishedAny c.own-own.result.now.making (g.D.Device.disk d).files b.files) c.at_rest.ensures.same (c.in_ok-finish_making.ensures.finished tells)) in
-    let calm : MediaAreDurable b = c.in_ok-finish_making.ensures.calm tells (subst (λ d. MediaAreDurable (g.D.Device.disk d)) (sym c.at_rest.ensures.same) is.calm) in
+    let calm : MediaAreDurable b = c.in_ok-finish_making.ensures.calm tells (subst (λ d. MediaAreDurable (g.D.Device.disk d)) (sym c.at_rest.ensures.same) is.calm.media) in
     let cleared : Cleared b x w = finished-opens a b x w is finished calm effect in
     let again = subst (λ d. (image : _) → MayLeaveOwn IsOfStores (g.D.Device.disk d) image → LeavesHosted (own_of x) (map settling cleared.opened.hosted) image) c.at_rest-2.ensures.same (λ image mine. (c.at_rest-2.ensures.crash tells (map settling cleared.opened.hosted) cleared.opened.hosting).now image mine) in
     effect_then first
@@ -58,7 +58,7 @@ returns-clause-stands g c = λ tells w is.
     let x : Kept = c.args.hosting.now in
     let effect = subst (λ d. Effect IsMediumFile (IfDurable (g.D.Device.disk d) (LeavesFinishingAny c.own-own.result.now.making (g.D.Device.disk d).files)) (g.D.Device.disk d) b) c.at_rest.ensures.same (c.finish_making.ensures.crash tells) in
     let finished : HasFinishedAny (own_of x).making a.files b.files = subst (λ (o : Own). HasFinishedAny o.making a.files b.files) c.own-own.ensures (subst (λ d. HasFinishedAny c.own-own.result.now.making (g.D.Device.disk d).files b.files) c.at_rest.ensures.same (c.in_ok-finish_making.ensures.finished tells)) in
-    let calm : MediaAreDurable b = c.in_ok-finish_making.ensures.calm tells (subst (λ d. MediaAreDurable (g.D.Device.disk d)) (sym c.at_rest.ensures.same) is.calm) in
+    let calm : MediaAreDurable b = c.in_ok-finish_making.ensures.calm tells (subst (λ d. MediaAreDurable (g.D.Device.disk d)) (sym c.at_rest.ensures.same) is.calm.media) in
     let cleared : Cleared b x w = finished-opens a b x w is finished calm effect in
     on-all c.remove_set.result (λ value ok. removed-opens b (g.D.Device.disk c.remove_set.new.dev) x w cleared (moved g.D.Device.disk c.finish_making.new.dev c.at_rest-2.new.dev c.at_rest-2.ensures.same (c.remove_set.ensures.crash tells)))
 

@@ -8,8 +8,9 @@ use Rattle.bk_master.specs.declared.record.Own.{Own}
 use Rattle.bk_stores.specs.Stores.{IsOurs as IsOfStores}
 use Rattle.bk_stores.specs.declared.error.StoresError.TheVariants.{Broken}
 use Rattle.bk_volume.specs.Stored.{Stored}
+use Rattle.bk_world.specs.declared.database.TableSpec.{TableSpec}
 use Rattle.bk_world.specs.declared.header.Header.{Header}
-use Rattle.bk_engine.specs.Bringing.{IsSetOn}
+use Rattle.bk_engine.specs.Bringing.{IsSetOn, known_on}
 use Rattle.bk_engine.specs.NameLaws.{store-medium}
 use Rattle.bk_engine.specs.Stands.{IsReady, Kept, StandsFor, own_in}
 use Rattle.bk_engine.proofs.Brought.{IsBrought, brought, brought-crash, brought-stands, room-left, set-stays}
@@ -39,17 +40,19 @@ returns-in_err-bring_up-clause-crash g c = λ tells w is set may.
     let at : ℕ = c.in-Some.at in
     let name : List ℕ = c.args.name.now in
     let stored : Stored = c.args.stored.now in
+    let header : Header = c.args.header.now in
     let coming = c.in_ok-coming.coming in
+    let known : coming.known ≡ known_on name header stored.tables c.args.branch = c.in_ok-coming.ensures.known ∙ ap (λ (made : List TableSpec). known_on name header made c.args.branch) c.tables.ensures in
     let here : IsSetOn a.files c.args.medium.now.name stored = set-stays (g.D.Device.disk c.args.dev.now).files a.files c.args.medium.now.name stored c.requires.medium (c.reserve.ensures.media tells w is) set in
     let place : position (names name) is'.hosted ≡ Some at = sym (c.find.ensures.found is'.hosted (described a c.self.inside.hosting is'.hosted is'.hosting)) ∙ c.in-Some.is in
-    let it : IsBrought a e w is' name c.args.medium.now.name stored c.args.branch c.args.last at coming.files.items c.header.result.now.checkpoint coming.known coming.points =
-    brought c.laws.ensures a e w name c.args.medium.now.name stored c.args.branch c.args.last at is' c.requires.medium here may place c.in_ok-coming.ensures.string (record { high = search rules; low = search rules }) (room-left name stored c.args.branch coming.known c.in_ok-coming.ensures.known c.in_ok-coming.ensures.keeps)
-    coming.files.items c.header.result.now.checkpoint coming.known coming.points c.in_ok-coming.ensures.files (ap (λ (h : Header). h.checkpoint) c.header.ensures) c.in_ok-coming.ensures.known c.in_ok-coming.ensures.points in
+    let it : IsBrought a e w is' name c.args.medium.now.name stored header c.args.branch c.args.last at coming.files.items header.checkpoint coming.known coming.points =
+    brought c.laws.ensures a e w name c.args.medium.now.name stored header c.args.branch c.args.last at is' c.requires.medium here c.requires.moves c.requires.is_header may place c.in_ok-coming.ensures.string (record { high = search rules; low = search rules }) (room-left name header stored.tables c.args.branch coming.known known c.in_ok-coming.ensures.keeps)
+    coming.files.items header.checkpoint coming.known coming.points c.in_ok-coming.ensures.files refl known c.in_ok-coming.ensures.points in
     let ready' : IsReady e = subst IsReady (sym c.self.view_is) c.in_ok-reserve.ensures.ready in
     let reserved : e.drawn + 1 ≤ (own_in e).counter = subst (λ (k : Kept). k.drawn + 1 ≤ (own_in k).counter) (sym c.self.view_is) c.in_ok-reserve.ensures.reserved in
     let b = g.D.Device.disk c.bring_up.new.dev in
     effect_then (effect_weaken (λ image covers. inl covers) (c.reserve.ensures.crash tells w is))
-    (brought-crash a b e w is' name c.args.medium.now.name stored c.args.branch c.args.last at coming.files.items c.header.result.now.checkpoint coming.known coming.points it ready' reserved
+    (brought-crash a b e w is' name c.args.medium.now.name stored header c.args.branch c.args.last at coming.files.items header.checkpoint coming.known coming.points it ready' reserved
     (c.bring_up.ensures.crash tells is'.hosted it.told it.final it.new is'.hosting it.comes it.up))
 
 pub returns-clause-crash : goal.returns-clause-crash
@@ -60,17 +63,19 @@ returns-clause-crash g c = λ tells w is set may.
     let at : ℕ = c.in-Some.at in
     let name : List ℕ = c.args.name.now in
     let stored : Stored = c.args.stored.now in
+    let header : Header = c.args.header.now in
     let coming = c.in_ok-coming.coming in
+    let known : coming.known ≡ known_on name header stored.tables c.args.branch = c.in_ok-coming.ensures.known ∙ ap (λ (made : List TableSpec). known_on name header made c.args.branch) c.tables.ensures in
     let here : IsSetOn a.files c.args.medium.now.name stored = set-stays (g.D.Device.disk c.args.dev.now).files a.files c.args.medium.now.name stored c.requires.medium (c.reserve.ensures.media tells w is) set in
     let place : position (names name) is'.hosted ≡ Some at = sym (c.find.ensures.found is'.hosted (described a c.self.inside.hosting is'.hosted is'.hosting)) ∙ c.in-Some.is in
-    let it : IsBrought a e w is' name c.args.medium.now.name stored c.args.branch c.args.last at coming.files.items c.header.result.now.checkpoint coming.known coming.points =
-    brought c.laws.ensures a e w name c.args.medium.now.name stored c.args.branch c.args.last at is' c.requires.medium here may place c.in_ok-coming.ensures.string (record { high = search rules; low = search rules }) (room-left name stored c.args.branch coming.known c.in_ok-coming.ensures.known c.in_ok-coming.ensures.keeps)
-    coming.files.items c.header.result.now.checkpoint coming.known coming.points c.in_ok-coming.ensures.files (ap (λ (h : Header). h.checkpoint) c.header.ensures) c.in_ok-coming.ensures.known c.in_ok-coming.ensures.points in
+    let it : IsBrought a e w is' name c.args.medium.now.name stored header c.args.branch c.args.last at coming.files.items header.checkpoint coming.known coming.points =
+    brought c.laws.ensures a e w name c.args.medium.now.name stored header c.args.branch c.args.last at is' c.requires.medium here c.requires.moves c.requires.is_header may place c.in_ok-coming.ensures.string (record { high = search rules; low = search rules }) (room-left name header stored.tables c.args.branch coming.known known c.in_ok-coming.ensures.keeps)
+    coming.files.items header.checkpoint coming.known coming.points c.in_ok-coming.ensures.files refl known c.in_ok-coming.ensures.points in
     let ready' : IsReady e = subst IsReady (sym c.self.view_is) c.in_ok-reserve.ensures.ready in
     let reserved : e.drawn + 1 ≤ (own_in e).counter = subst (λ (k : Kept). k.drawn + 1 ≤ (own_in k).counter) (sym c.self.view_is) c.in_ok-reserve.ensures.reserved in
     let b = g.D.Device.disk c.bring_up.new.dev in
     effect_then (effect_weaken (λ image covers. inl covers) (c.reserve.ensures.crash tells w is))
-    (brought-crash a b e w is' name c.args.medium.now.name stored c.args.branch c.args.last at coming.files.items c.header.result.now.checkpoint coming.known coming.points it ready' reserved
+    (brought-crash a b e w is' name c.args.medium.now.name stored header c.args.branch c.args.last at coming.files.items header.checkpoint coming.known coming.points it ready' reserved
     (c.bring_up.ensures.crash tells is'.hosted it.told it.final it.new is'.hosting it.comes it.up))
 
 pub returns-in_err-bring_up-clause-broken : goal.returns-in_err-bring_up-clause-broken
@@ -81,12 +86,14 @@ returns-in_err-bring_up-clause-broken g c = λ tells broken w is set may.
     let at : ℕ = c.in-Some.at in
     let name : List ℕ = c.args.name.now in
     let stored : Stored = c.args.stored.now in
+    let header : Header = c.args.header.now in
     let coming = c.in_ok-coming.coming in
+    let known : coming.known ≡ known_on name header stored.tables c.args.branch = c.in_ok-coming.ensures.known ∙ ap (λ (made : List TableSpec). known_on name header made c.args.branch) c.tables.ensures in
     let here : IsSetOn a.files c.args.medium.now.name stored = set-stays (g.D.Device.disk c.args.dev.now).files a.files c.args.medium.now.name stored c.requires.medium (c.reserve.ensures.media tells w is) set in
     let place : position (names name) is'.hosted ≡ Some at = sym (c.find.ensures.found is'.hosted (described a c.self.inside.hosting is'.hosted is'.hosting)) ∙ c.in-Some.is in
-    let it : IsBrought a e w is' name c.args.medium.now.name stored c.args.branch c.args.last at coming.files.items c.header.result.now.checkpoint coming.known coming.points =
-    brought c.laws.ensures a e w name c.args.medium.now.name stored c.args.branch c.args.last at is' c.requires.medium here may place c.in_ok-coming.ensures.string (record { high = search rules; low = search rules }) (room-left name stored c.args.branch coming.known c.in_ok-coming.ensures.known c.in_ok-coming.ensures.keeps)
-    coming.files.items c.header.result.now.checkpoint coming.known coming.points c.in_ok-coming.ensures.files (ap (λ (h : Header). h.checkpoint) c.header.ensures) c.in_ok-coming.ensures.known c.in_ok-coming.ensures.points in
+    let it : IsBrought a e w is' name c.args.medium.now.name stored header c.args.branch c.args.last at coming.files.items header.checkpoint coming.known coming.points =
+    brought c.laws.ensures a e w name c.args.medium.now.name stored header c.args.branch c.args.last at is' c.requires.medium here c.requires.moves c.requires.is_header may place c.in_ok-coming.ensures.string (record { high = search rules; low = search rules }) (room-left name header stored.tables c.args.branch coming.known known c.in_ok-coming.ensures.keeps)
+    coming.files.items header.checkpoint coming.known coming.points c.in_ok-coming.ensures.files refl known c.in_ok-coming.ensures.points in
     let its : IsErrOf c.bring_up.result Broken = search rules in
     c.bring_up.ensures.broken tells its is'.hosted it.told it.final is'.hosting it.comes
 
@@ -98,15 +105,17 @@ returns-clause-stands g c = λ tells w is set may.
     let at : ℕ = c.in-Some.at in
     let name : List ℕ = c.args.name.now in
     let stored : Stored = c.args.stored.now in
+    let header : Header = c.args.header.now in
     let coming = c.in_ok-coming.coming in
+    let known : coming.known ≡ known_on name header stored.tables c.args.branch = c.in_ok-coming.ensures.known ∙ ap (λ (made : List TableSpec). known_on name header made c.args.branch) c.tables.ensures in
     let here : IsSetOn a.files c.args.medium.now.name stored = set-stays (g.D.Device.disk c.args.dev.now).files a.files c.args.medium.now.name stored c.requires.medium (c.reserve.ensures.media tells w is) set in
     let place : position (names name) is'.hosted ≡ Some at = sym (c.find.ensures.found is'.hosted (described a c.self.inside.hosting is'.hosted is'.hosting)) ∙ c.in-Some.is in
-    let it : IsBrought a e w is' name c.args.medium.now.name stored c.args.branch c.args.last at coming.files.items c.header.result.now.checkpoint coming.known coming.points =
-    brought c.laws.ensures a e w name c.args.medium.now.name stored c.args.branch c.args.last at is' c.requires.medium here may place c.in_ok-coming.ensures.string (record { high = search rules; low = search rules }) (room-left name stored c.args.branch coming.known c.in_ok-coming.ensures.known c.in_ok-coming.ensures.keeps)
-    coming.files.items c.header.result.now.checkpoint coming.known coming.points c.in_ok-coming.ensures.files (ap (λ (h : Header). h.checkpoint) c.header.ensures) c.in_ok-coming.ensures.known c.in_ok-coming.ensures.points in
+    let it : IsBrought a e w is' name c.args.medium.now.name stored header c.args.branch c.args.last at coming.files.items header.checkpoint coming.known coming.points =
+    brought c.laws.ensures a e w name c.args.medium.now.name stored header c.args.branch c.args.last at is' c.requires.medium here c.requires.moves c.requires.is_header may place c.in_ok-coming.ensures.string (record { high = search rules; low = search rules }) (room-left name header stored.tables c.args.branch coming.known known c.in_ok-coming.ensures.keeps)
+    coming.files.items header.checkpoint coming.known coming.points c.in_ok-coming.ensures.files refl known c.in_ok-coming.ensures.points in
     let b = g.D.Device.disk c.bring_up.new.dev in
-    brought-stands a b e (record { hosting = c.bring_up.new.self; drawn = c.self.inside.drawn + 1; session = c.self.inside.session; sessions = c.self.inside.sessions.items }) w is' name c.args.medium.now.name stored c.args.branch c.args.last at
-    coming.files.items c.header.result.now.checkpoint coming.known coming.points it (c.in_ok-bring_up.ensures.stands tells is'.hosted it.told it.final it.new is'.hosting it.comes it.up) (ap (λ (o : Own). o.number) c.in_ok-bring_up.ensures.own) refl refl refl
+    brought-stands a b e (record { hosting = c.bring_up.new.self; drawn = c.self.inside.drawn + 1; session = c.self.inside.session; sessions = c.self.inside.sessions.items }) w is' name c.args.medium.now.name stored header c.args.branch c.args.last at
+    coming.files.items header.checkpoint coming.known coming.points it (c.in_ok-bring_up.ensures.stands tells is'.hosted it.told it.final it.new is'.hosting it.comes it.up) (ap (λ (o : Own). o.number) c.in_ok-bring_up.ensures.own) refl refl refl
     (c.bring_up.ensures.crash tells is'.hosted it.told it.final it.new is'.hosting it.comes it.up)
 
 pub returns-clause-own : goal.returns-clause-own

@@ -31,7 +31,7 @@ returns-clause-stands g c = λ tells w was its enough absent.
     let effect = subst (λ d. Effect IsMediumFile (IfDurable (g.D.Device.disk d) (LeavesMaking c.args.path.now (g.D.Device.disk d).files)) (g.D.Device.disk d) b) c.at_rest.ensures.same (c.make_at.ensures.crash tells) in
     let both = on-all c.make_at.result (λ value ok.
     let made = subst (λ d. HasMade c.args.path.now (g.D.Device.disk d).files b.files) c.at_rest.ensures.same (of-ok c.make_at.result value ok (c.make_at.ensures.made tells)) in
-    let calm = of-ok c.make_at.result value ok (c.make_at.ensures.calm tells (subst (λ d. MediaAreDurable (g.D.Device.disk d)) (sym c.at_rest.ensures.same) is.calm)) in
+    let calm = of-ok c.make_at.result value ok (c.make_at.ensures.calm tells (subst (λ d. MediaAreDurable (g.D.Device.disk d)) (sym c.at_rest.ensures.same) is.calm.media)) in
     subst (λ (k : Kept). Amid b k.hosting (done w (medium_made c.args.path.now)) × KeepsMedia (done w (medium_made c.args.path.now)) None b.files) c.self.view_is
     (made-amid a b x w c.args.path.now is named reserved absent hosts made calm effect)) in
     both

@@ -45,7 +45,7 @@ returns-clause-stands g c = λ tells w body is may.
     let behind = done-behind w (set_sealed path c.args.header.now) may.sound (λ turn. turn) in
     on-all c.seal_at.result (λ value ok.
     let sealed = subst (λ d. HasSealed path body (g.D.Device.disk d).files b.files) c.at_rest.ensures.same (of-ok c.seal_at.result value ok (c.seal_at.ensures.sealed tells body set)) in
-    let calm = of-ok c.seal_at.result value ok (c.seal_at.ensures.calm tells body set (subst (λ d. MediaAreDurable (g.D.Device.disk d)) (sym c.at_rest.ensures.same) is'.calm)) in
+    let calm = of-ok c.seal_at.result value ok (c.seal_at.ensures.calm tells body set (subst (λ d. MediaAreDurable (g.D.Device.disk d)) (sym c.at_rest.ensures.same) is'.calm.media)) in
     let amid : Amid b e.hosting (done w (set_sealed path body.header)) = sealed-amid a b e.hosting w path body (stands-amid a e w ready' is') ready'.no_medium may.carries hosts sealed calm effect in
     subst (λ (k : Kept). StandsFor b k (done w (set_sealed path c.args.header.now))) c.self.view_is
     (amid-stands b e (done w (set_sealed path c.args.header.now)) (subst (λ (h : Header). Amid b e.hosting (done w (set_sealed path h))) may.is.header amid) (c.acts_keep_worlds_sound.ensures.act w (set_sealed path c.args.header.now) is'.sound may.sound) ready'.no_medium
