@@ -4,6 +4,7 @@ use Rattle.std.specs.List.{AllByRecursion}
 use Rattle.bk_archive.specs.MediaLaws.{media-in, media-on}
 use Rattle.bk_device.specs.Disk.{Files}
 use Rattle.bk_engine.specs.Loading.{Stands}
+use Rattle.bk_engine.specs.Rows.{rows_in}
 use Rattle.bk_engine.specs.Stands.{IsOurs}
 use Rattle.bk_hosted.specs.Fronts.{settling}
 use Rattle.bk_hosted.specs.Hosted.{Hosted, database_of}
@@ -20,6 +21,8 @@ use Rattle.bk_machine.specs.World.{World, ended, opened, restarted}
 use Rattle.bk_master.specs.declared.record.Own.{Own}
 use Rattle.bk_master.specs.declared.record.Record.{Record}
 use Rattle.bk_master.specs.Laws.{holds_same, own_made}
+use Rattle.bk_msdb.specs.Laws.{shows_same}
+use Rattle.bk_msdb.specs.Msdb.{msdb_file}
 use Rattle.bk_restarts.proofs.Runs.{ended-there}
 use Rattle.bk_restarts.specs.Crashes.{LeavesEnded}
 use Rattle.bk_engine.specs.StoreTold.{Told}
@@ -62,6 +65,7 @@ stands-same number w f g same is = record {
   hosts = is.hosts;
   holds = hosting-same number f g is.own is.hosted (λ name own. same name (inl own)) is.holds;
   media = media-in w is.own.making f g (λ path bytes. same (medium_file path) (inr (inl (path, bytes, refl)))) is.media;
+  rows = shows_same f g (rows_in w) (same msdb_file (inr (inr (inr refl)))) is.rows;
   finished = is.finished;
 }
 
@@ -78,7 +82,7 @@ stands-idle number w files is = subst (AllByRecursion IsIdle) (sym is.hosts.same
 
 -- what a crash of a run leaves that has just begun
 pub begun-stands : (number : ℕ) (w : World) (image : Files) → Stands number image w → IsSound (restarted w.counter (opened w)) → Stands number image (restarted w.counter (opened w))
-unfolding opened restarted
+unfolding opened restarted rows_in
 begun-stands number w image is sound = record {
   sound = sound;
   own = is.own;
@@ -89,6 +93,7 @@ begun-stands number w image is sound = record {
   hosts = record { same = is.hosts.same; each = is.hosts.each };
   holds = is.holds;
   media = media-on w (restarted w.counter (opened w)) is.own.making image refl (λ path header there. refl) is.media;
+  rows = is.rows;
   finished = λ closed. absurd (cc);
 }
 
@@ -124,7 +129,7 @@ unfolding ended
 ended-idle w idle = idle
 
 ended-stands : (number : ℕ) (w : World) (image : Files) → Stands number image (ended w) → IsSound (restarted w.counter w) → Stands number image (restarted w.counter w)
-unfolding ended restarted
+unfolding ended restarted rows_in
 ended-stands number w image is sound = record {
   sound = sound;
   own = is.own;
@@ -135,6 +140,7 @@ ended-stands number w image is sound = record {
   hosts = record { same = is.hosts.same; each = is.hosts.each };
   holds = is.holds;
   media = media-on (ended w) (restarted w.counter w) is.own.making image refl (λ path header there. refl) is.media;
+  rows = is.rows;
   finished = λ closed. absurd (cc);
 }
 

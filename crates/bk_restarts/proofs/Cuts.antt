@@ -8,7 +8,7 @@ use Rattle.bk_hosted.specs.Fronts.{TellsLast}
 use Rattle.bk_ids.specs.Name.{same_name}
 use Rattle.bk_ids.specs.declared.record.RecoveryModel.{RecoveryModel}
 use Rattle.bk_lemmas.specs.Lists.{all_both}
-use Rattle.bk_machine.specs.Acts.{Act, based, created, done, done_all, dropped, gone_on, logged, medium_made, pointed, pointed_by, recovered, replaced, restored, says, seated, set_drawn, set_sealed, turned, where_found}
+use Rattle.bk_machine.specs.Acts.{Act, based, created, done, done_all, dropped, gone_on, logged, medium_made, noted, pointed, pointed_by, recovered, replaced, restored, says, seated, set_drawn, set_sealed, turned, where_found}
 use Rattle.bk_machine.specs.Crash.{IsQuiet, begins_in, front_of, open_begins}
 use Rattle.bk_machine.specs.SaysLaws.{point-over}
 use Rattle.bk_machine.specs.Sound.{IsSound, OpenBy}
@@ -105,6 +105,7 @@ first-opens before w (created c ∷ acts) good (suc n) = opens-at before w (good
 first-opens before w (dropped name ∷ acts) good (suc n) = opens-at before w (good 0)
 first-opens before w (medium_made path ∷ acts) good (suc n) = opens-at before w (good 0)
 first-opens before w (set_drawn ∷ acts) good (suc n) = opens-at before w (good 0)
+first-opens before w (noted row ∷ acts) good (suc n) = opens-at before w (good 0)
 first-opens before w (set_sealed path header ∷ acts) good (suc n) = opens-at before w (good 0)
 first-opens before w (based name header ∷ acts) good (suc n) = opens-at before w (good 0)
 first-opens before w (replaced name header ∷ acts) good (suc n) = opens-at before w (good 0)
@@ -145,6 +146,7 @@ first-cut w (created c ∷ acts) last (suc n) = still w (created c ∷ acts) w r
 first-cut w (dropped name ∷ acts) last (suc n) = still w (dropped name ∷ acts) w refl
 first-cut w (medium_made path ∷ acts) last (suc n) = still w (medium_made path ∷ acts) w refl
 first-cut w (set_drawn ∷ acts) last (suc n) = still w (set_drawn ∷ acts) w refl
+first-cut w (noted row ∷ acts) last (suc n) = still w (noted row ∷ acts) w refl
 first-cut w (set_sealed path header ∷ acts) last (suc n) = still w (set_sealed path header ∷ acts) w refl
 first-cut w (based name header ∷ acts) last (suc n) = still w (based name header ∷ acts) w refl
 first-cut w (replaced name header ∷ acts) last (suc n) = still w (replaced name header ∷ acts) w refl

@@ -5,8 +5,9 @@ use Rattle.std.specs.List.{AllByRecursion, AllZip}
 use Rattle.bk_archive.specs.MediaLaws.{media-same}
 use Rattle.bk_device.specs.Disk.{Files}
 use Rattle.bk_engine.specs.Loading.{PendsInOrder, Stands}
+use Rattle.bk_engine.specs.Rows.{rows_in}
 use Rattle.bk_engine.specs.Stands.{Covers}
-use Rattle.bk_hosted.specs.Fronts.{AreFronts, IsFrontOf, Waits, settling}
+use Rattle.bk_hosted.specs.Fronts.{AreFronts, IsFrontOf, SameRows, Waits, settling}
 use Rattle.bk_hosted.specs.Hosted.{Hosted, Hosts, database_of, is_up}
 use Rattle.bk_engine.specs.Hosting.{LosesWaiting}
 use Rattle.bk_lemmas.specs.Lists.{all_mapped}
@@ -16,11 +17,15 @@ use Rattle.bk_machine.specs.Same.{SameMedia}
 use Rattle.bk_machine.specs.Sound.{IsSound}
 use Rattle.bk_machine.specs.statements.Restore.{is_online}
 use Rattle.bk_machine.specs.World.{World}
+use Rattle.bk_msdb.specs.Msdb.{Shows}
 use Rattle.bk_restarts.proofs.Cuts.{OpensAt}
 use Rattle.bk_restarts.proofs.Logs.{PendsUp, hosted-pend}
 use Rattle.bk_restarts.proofs.Runs.{IsCuttable, cuts-there, opens-there}
 use Rattle.bk_restarts.specs.Crashes.{LeavesFrom}
 use Rattle.bk_world.specs.declared.database.Status.TheVariants.{Online}
+use Rattle.bk_world.specs.declared.msdb.BackupRow.{BackupRow}
+use Rattle.bk_world.specs.declared.msdb.MarkRow.{MarkRow}
+use Rattle.bk_world.specs.declared.msdb.RestoreRow.{RestoreRow}
 use Rattle.bk_world.specs.declared.transaction.Open.{Open}
 use Rattle.bk_world.specs.Cut.{is_among}
 use Rattle.bk_world.specs.Records.{Logged}
@@ -50,9 +55,17 @@ all-fronts law before (h ∷ hosted) (front ∷ fronts) opens pends loses = (fro
 
 -- ---- worlds
 
+-- the rows of msdb, as their file shows them
+rows-same : (cut left : World) → SameRows cut left → rows_in cut ≡ rows_in left
+unfolding rows_in
+rows-same cut left same =
+    ap (λ (bs : List BackupRow). record { backups = bs; restores = cut.restores; marks = cut.marks }) (sym same.backups)
+    ∙ ap (λ (rs : List RestoreRow). record { backups = left.backups; restores = rs; marks = cut.marks }) (sym same.restores)
+    ∙ ap (λ (ms : List MarkRow). record { backups = left.backups; restores = left.restores; marks = ms }) (sym same.marks)
+
 -- the world in which these are settled is one for which the files stand
-left-stands : (number : ℕ) (cut left : World) (image : Files) → (covers : Covers cut image) → IsSound left → left.closed ≡ false → left.counter ≡ covers.own.counter → Hosts left (map settling covers.left.0) → SameMedia cut left → Stands number image left
-left-stands number cut left image covers sound still counter hosts media = record {
+left-stands : (number : ℕ) (cut left : World) (image : Files) → (covers : Covers cut image) → IsSound left → left.closed ≡ false → left.counter ≡ covers.own.counter → Hosts left (map settling covers.left.0) → SameMedia cut left → SameRows cut left → Stands number image left
+left-stands number cut left image covers sound still counter hosts media rows = record {
   sound = sound;
   own = covers.own;
   instance = media.instance ∙ covers.instance;
@@ -62,6 +75,7 @@ left-stands number cut left image covers sound still counter hosts media = recor
   hosts = hosts;
   holds = inr covers.left.2;
   media = media-same cut left covers.own.making image media covers.media;
+  rows = subst (Shows image) (rows-same cut left rows) covers.rows;
   finished = λ closed. absurd (cc);
 }
 
@@ -72,4 +86,4 @@ leaves-from law number old outcomes run least n image enough within is =
     let opens = subst (AllByRecursion (OpensAt _)) covers.hosts.same (opens-there old outcomes run least n enough within is.done is.records) in
     let left = run.fronts least _ _ _ covers.hosted fronts covers.own.counter (cuts-there old outcomes run least n enough within is.done is.records) covers.hosts
     (all-fronts law _ covers.hosted fronts opens (hosted-pend covers.own image fronts covers.left.2) covers.left.1) covers.no_less covers.no_more in
-    (left.0, left.1, left-stands number _ left.0 image covers (run.sound_left least left.0 left.1) left.1.world.closed left.2 left.3 left.4)
+    (left.0, left.1, left-stands number _ left.0 image covers (run.sound_left least left.0 left.1) left.1.world.closed left.2 left.3 left.4 left.5)

@@ -2,7 +2,7 @@
 use Rattle.std.proofs.Common.{◌≡◌, ◌≤◌, ℕ, zero, suc, ◌+◌, List, [], ◌∷◌, ◌++◌, drop, length, map, take, refl, ap, ◌∙◌, arith}
 use Rattle.std.proofs.lemmas.List.{take_all}
 use Rattle.std.specs.List.{AllByRecursion}
-use Rattle.bk_hosted.specs.Fronts.{AreFronts, TellsLast, settling}
+use Rattle.bk_hosted.specs.Fronts.{AreFronts, SameRows, TellsLast, settling}
 use Rattle.bk_hosted.specs.Hosted.{Hosted, Hosts}
 use Rattle.bk_items.specs.declared.item.ScriptEntry.{ScriptEntry}
 use Rattle.bk_lemmas.specs.Lists.{all_joined}
@@ -49,7 +49,7 @@ pub record IsCuttable (old : World) (outcomes : List Outcome) : Type 0 where
   pub opens : (n k : ℕ) → AllByRecursion (OpenAmong (behind_all old (take n outcomes))) (cut_between old outcomes n k).databases
   pub last : AllByRecursion TellLast outcomes
   pub fronts : (least : ℕ) (before cut whole : World) (hosted fronts : List Hosted) (counter : ℕ) → CutsRun old outcomes least before cut whole → Hosts cut hosted → AreFronts before hosted fronts
-      → cut.counter ≤ counter → counter ≤ cut.counter + 1024 → (left : World) × Leaves old outcomes least left × (left.counter ≡ counter) × Hosts left (map settling fronts) × SameMedia cut left
+      → cut.counter ≤ counter → counter ≤ cut.counter + 1024 → (left : World) × Leaves old outcomes least left × (left.counter ≡ counter) × Hosts left (map settling fronts) × SameMedia cut left × SameRows cut left
   pub sound_left : (least : ℕ) (left : World) → Leaves old outcomes least left → IsSound left
 
 module _ (old : World) (outcomes : List Outcome) (run : IsCuttable old outcomes) (least n : ℕ) (enough : least ≤ n) (within : n ≤ length outcomes) (k records : ℕ) where

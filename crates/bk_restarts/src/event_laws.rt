@@ -4,15 +4,16 @@ ghost use Rattle.bk_device.specs.Disk.{Files};
 ghost use Rattle.bk_machine.specs.Events.{Happen};
 ghost use Rattle.bk_machine.specs.World.{World, empty_world};
 ghost use Rattle.bk_master.specs.Master.{IsNotMade};
+ghost use Rattle.bk_msdb.specs.Msdb.{msdb_file};
 ghost use Rattle.bk_restarts.specs.Events.{AddsMedium, ChangesMedium, HappenOn, RemovesMedium, RemovesStandby, StandsAtRest};
 ghost use Rattle.bk_volume.specs.Names.{medium_file};
 
 use bk_archive::{events_keep_media, media_stay};
 use bk_machine::{empty_worlds_are_sound, events_keep_worlds_sound, logs_that_stay};
 
-/// Where no instance is made and there is no medium, the files stand for the empty world of each number.
+/// Where no instance is made, and there is no medium and no file of the rows of msdb, the files stand for the empty world of each number.
 pub fn empty_files_stand()
-    ensures { (number : ℕ) (files : Files) → IsNotMade files → ((path : List ℕ) → AreBytes path → files (medium_file path) ≡ None) → StandsAtRest number files (empty_world number) }
+    ensures { (number : ℕ) (files : Files) → IsNotMade files → ((path : List ℕ) → AreBytes path → files (medium_file path) ≡ None) → files msdb_file ≡ None → StandsAtRest number files (empty_world number) }
 {
     empty_worlds_are_sound();
     media_stay();
