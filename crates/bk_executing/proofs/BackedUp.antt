@@ -17,7 +17,7 @@ use Rattle.bk_machine.specs.Sound.{IsSound, IsWhole, IsWholeDatabase}
 use Rattle.bk_machine.specs.World.{Database, World, database_named, log_of}
 use Rattle.bk_machine.specs.statements.Backup.{DoesBackup, check_backup, check_medium, draws_set, full_backup, full_header, is_whole_backup}
 use Rattle.bk_plans.specs.declared.parts.Part.{Part}
-use Rattle.bk_plans.specs.declared.parts.Part.TheVariants.{MediumMade, SetDrawn, SetSealed, Stored}
+use Rattle.bk_plans.specs.declared.parts.Part.TheVariants.{MediumMade, Noted, SetDrawn, SetSealed, Stored}
 use Rattle.bk_plans.specs.declared.parts.Plan.{Plan}
 use Rattle.bk_plans.specs.declared.parts.Plan.TheVariants.{Answered, Parts, Refused, Seated, Turned}
 use Rattle.bk_plans.specs.Planning.{AreActsOf, AreParts, IsPart}
@@ -119,6 +119,7 @@ seals-by : (w : World) (part : Part) (act : Act) → IsPart w part act → ((pat
 seals-by w (Stored stored) act is now = tt
 seals-by w (MediumMade path) act is now = tt
 seals-by w SetDrawn act is now = tt
+seals-by w (Noted row) act is now = tt
 seals-by w (SetSealed path header) act is now = now path header is.is
 
 abbrev header_sealed : Act → Header → Type 0
@@ -137,7 +138,7 @@ draws-alone (Some reading) path seals = seals
 backup-sets : Laws → (w : World) (db : Database) (before : Option Reading) (path : List ℕ) (options : BackupOptions) (set : Guid) (time : ℕ) (parts : List Part) → IsSound w → database_named w.databases db.name ≡ Some db → db.status ≡ Online
     → MayDoAll w (full_backup before db path (full_header w db options set time)) → AreParts w parts (full_backup before db path (full_header w db options set time)) → SetsNow w parts (full_backup before db path (full_header w db options set time))
 unfolding full_header
-backup-sets laws w db before path options set time (a ∷ b ∷ c ∷ d ∷ e ∷ []) sound there online may are = (
+backup-sets laws w db before path options set time (a ∷ b ∷ c ∷ d ∷ e ∷ f ∷ []) sound there online may are = (
   seals-by _ a _ are.0 (λ p h is. absurd (draws-alone before path (subst Seals (sym is) tt))),
   (
     seals-by _ b _ are.1.0 (λ p h is. absurd (subst Seals (sym is) tt)),
@@ -147,7 +148,10 @@ backup-sets laws w db before path options set time (a ∷ b ∷ c ∷ d ∷ e �
         seals-by _ d _ are.1.1.1.0 (λ p h is. subst (λ (x : Header). IsSetNow (sealing w db (draws_set before path) set time) x) (sym (subst (λ act. header_sealed act h) (sym is) refl)) (set-now laws w db before path options set time sound there online may)),
         (
           seals-by _ e _ are.1.1.1.1.0 (λ p h is. absurd (subst Seals (sym is) tt)),
-          tt,
+          (
+            seals-by _ f _ are.1.1.1.1.1.0 (λ p h is. absurd (subst Seals (sym is) tt)),
+            tt,
+          ),
         ),
       ),
     ),
@@ -158,7 +162,8 @@ backup-sets laws w db before path options set time (a ∷ []) sound there online
 backup-sets laws w db before path options set time (a ∷ b ∷ []) sound there online may are = absurd are.1.1
 backup-sets laws w db before path options set time (a ∷ b ∷ c ∷ []) sound there online may are = absurd are.1.1.1
 backup-sets laws w db before path options set time (a ∷ b ∷ c ∷ d ∷ []) sound there online may are = absurd are.1.1.1.1
-backup-sets laws w db before path options set time (a ∷ b ∷ c ∷ d ∷ e ∷ f ∷ rest) sound there online may are = absurd are.1.1.1.1.1
+backup-sets laws w db before path options set time (a ∷ b ∷ c ∷ d ∷ e ∷ []) sound there online may are = absurd are.1.1.1.1.1
+backup-sets laws w db before path options set time (a ∷ b ∷ c ∷ d ∷ e ∷ f ∷ g ∷ rest) sound there online may are = absurd are.1.1.1.1.1.1
 
 -- ---- the statement
 

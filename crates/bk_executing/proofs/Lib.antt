@@ -8,6 +8,7 @@ pub mod Outcomes
 pub mod PartByPart
 pub mod PartsDone
 pub mod Planned
+pub mod Catalogued
 pub mod Queried
 pub mod RestoringDone
 pub mod RestoringFound

@@ -9,7 +9,7 @@ use Rattle.bk_machine.specs.Outcome.{Outcome}
 use Rattle.bk_machine.specs.World.{World}
 use Rattle.bk_machine.specs.Writes.{ActWrites, ActsWrite, IsStill, IsTurn}
 use Rattle.bk_plans.specs.declared.parts.Part.{Part}
-use Rattle.bk_plans.specs.declared.parts.Part.TheVariants.{Stored, MediumMade, SetDrawn, SetSealed}
+use Rattle.bk_plans.specs.declared.parts.Part.TheVariants.{Stored, MediumMade, SetDrawn, SetSealed, Noted}
 use Rattle.bk_plans.specs.declared.parts.Plan.{Plan}
 use Rattle.bk_plans.specs.declared.parts.Plan.TheVariants.{Refused, Answered, Turned, Seated, Parts}
 use Rattle.bk_plans.specs.Planning.{AreActsOf, AreParts, IsPart}
@@ -22,6 +22,7 @@ part-writes w (Stored stored) act is path writes = absurd writes
 part-writes w (MediumMade at) act is path writes = subst (λ a. ActWrites a path) (sym is.is) writes
 part-writes w SetDrawn act is path writes = absurd writes
 part-writes w (SetSealed at header) act is path writes = subst (λ a. ActWrites a path) (sym is.is) writes
+part-writes w (Noted row) act is path writes = absurd writes
 
 parts-write : (w : World) (parts : List Part) (acts : List Act) → AreParts w parts acts → (path : List ℕ) → PartsWrite parts path → ActsWrite acts path
 parts-write w [] acts are path writes = absurd writes
@@ -53,6 +54,7 @@ not-part w (Stored stored) act turn is = not-meant stored act turn is.means
 not-part w (MediumMade at) act turn is = subst IsTurn is.is turn
 not-part w SetDrawn act turn is = subst IsTurn is.is turn
 not-part w (SetSealed at header) act turn is = subst IsTurn is.is turn
+not-part w (Noted row) act turn is = subst IsTurn is turn
 
 none-stored : (w : World) (parts : List Part) (acts : List Act) → AreParts w parts acts → AllByRecursion IsTurn acts → parts ≡ []
 none-stored w [] acts are still = refl

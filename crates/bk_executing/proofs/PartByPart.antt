@@ -5,10 +5,12 @@ use Rattle.bk_device.specs.Compose.{effect_weaken}
 use Rattle.bk_device.specs.Disk.{Disk, Files}
 use Rattle.bk_device.specs.Effects.{Effect}
 use Rattle.bk_engine.specs.Stands.{Covers, IsOurs, Kept, StandsFor}
-use Rattle.bk_machine.specs.Acts.{Act, done, done_all}
+use Rattle.bk_machine.specs.Acts.{Act, based, created, done, done_all, dropped, logged, medium_made, noted, recovered, replaced, restored, seated, set_drawn, set_sealed, turned}
+use Rattle.bk_machine.specs.Crash.{front_of}
 use Rattle.bk_machine.specs.World.{World}
 use Rattle.bk_plans.specs.declared.parts.Part.{Part}
 use Rattle.bk_restarts.specs.Crashes.{CutIn}
+use Rattle.bk_restarts.specs.Cuts.{cut_in}
 use Rattle.bk_restarts.specs.CutLaws.{cut-first, cut-later}
 use Rattle.bk_executing.specs.Parts.{CutsPart, CutsParts, DoesPart, DoesParts, MayDoPart, MayDoParts, PartWrites, PartsWrite}
 
@@ -18,6 +20,36 @@ use Rattle.bk_executing.specs.Parts.{CutsPart, CutsParts, DoesPart, DoesParts, M
 pub cut-behind : (w : World) (front rest : List Act) (image : Files) → CutIn (done_all w front) rest image → CutIn w (front ++ rest) image
 cut-behind w [] rest image is = is
 cut-behind w (act ∷ front) rest image is = cut-later w act (front ++ rest) image (cut-behind (done w act) front rest image is)
+
+-- what is said of an act that is cut is the same whatever comes behind it
+front-same : (n : ℕ) (act : Act) (a b : List Act) → front_of n (act ∷ a) ≡ front_of n (act ∷ b)
+front-same zero act a b = refl
+front-same (suc n) (turned name) a b = refl
+front-same (suc n) (seated session) a b = refl
+front-same (suc n) (created creation) a b = refl
+front-same (suc n) (dropped name) a b = refl
+front-same (suc n) (logged name said transactions) a b = refl
+front-same (suc n) (medium_made path) a b = refl
+front-same (suc n) set_drawn a b = refl
+front-same (suc n) (set_sealed path header) a b = refl
+front-same (suc n) (noted row) a b = refl
+front-same (suc n) (based name header) a b = refl
+front-same (suc n) (replaced name header) a b = refl
+front-same (suc n) (restored name base at) a b = refl
+front-same (suc n) (recovered name r) a b = refl
+
+-- before others
+pub cut-before : (w : World) (front rest : List Act) (image : Files) → CutIn w front image → CutIn w (front ++ rest) image
+cut-before w front rest image is = by w front is.done is.records is.covers
+  where
+    by : (v : World) (acts : List Act) (n records : ℕ) → Covers (cut_in v acts n records) image → CutIn v (acts ++ rest) image
+    by v [] zero zero covers = cut-first v rest image covers
+    by v [] zero (suc records) covers = cut-first v rest image covers
+    by v [] (suc n) zero covers = cut-first v rest image covers
+    by v [] (suc n) (suc records) covers = cut-first v rest image covers
+    by v (act ∷ acts) zero records covers =
+        record { done = 0; records = records; covers = subst (λ (said : List Act). Covers (done_all v said) image) (front-same records act acts (acts ++ rest)) covers }
+    by v (act ∷ acts) (suc n) records covers = cut-later v act (acts ++ rest) image (by (done v act) acts n records covers)
 
 -- ---- one of several parts
 

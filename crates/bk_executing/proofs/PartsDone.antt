@@ -1,15 +1,19 @@
 -- What calls of an engine do with a part.
-use Rattle.std.proofs.Common.{◌≡◌, ℕ, List, ◌∷◌, None, Option, sym, subst}
+use Rattle.std.proofs.Common.{◌≡◌, ℕ, List, ◌∷◌, None, Option, Some, sym, subst}
 use Rattle.bk_device.specs.Compose.{effect_weaken}
 use Rattle.bk_device.specs.Disk.{Disk}
 use Rattle.bk_device.specs.Effects.{Effect}
 use Rattle.bk_engine.specs.Acts.{CutsAct}
 use Rattle.bk_engine.specs.Stands.{IsOurs, Kept, StandsFor}
-use Rattle.bk_machine.specs.Acts.{Act, done, done_all, medium_made, seated, set_drawn, set_sealed, turned}
+use Rattle.bk_machine.specs.Acts.{Act, done, done_all, medium_made, noted, seated, set_drawn, set_sealed, turned}
+use Rattle.bk_machine.specs.declared.history_row.HistoryRow.{HistoryRow}
+use Rattle.bk_machine.specs.declared.history_row.HistoryRow.TheVariants as history
 use Rattle.bk_machine.specs.MayDo.{MayDo}
 use Rattle.bk_machine.specs.World.{World}
 use Rattle.bk_plans.specs.declared.parts.Part.TheVariants as part
 use Rattle.bk_plans.specs.declared.parts.Plan.TheVariants as plan
+use Rattle.bk_plans.specs.Planning.{IsShortStop, KeepsRow}
+use Rattle.bk_msdb.specs.Spelling.{IsShortStop as IsShortSpelled, KeepsRow as KeepsSpelled}
 use Rattle.bk_restarts.specs.Crashes.{CutIn}
 use Rattle.bk_restarts.specs.CutLaws.{cut-act}
 use Rattle.bk_sealing.specs.Sealing.{IsSetNow}
@@ -45,6 +49,24 @@ set-does old new a b path header does w act stands is = subst (λ (x : Act). Sta
 
 pub set-cuts : (old : Kept) (a b : Disk) (path : List ℕ) (header : Header) → ((w : World) → StandsFor a old w → IsSetNow w header → Effect IsOurs (CutsAct w (set_sealed path header)) a b) → CutsPart old a (part.SetSealed path header) b
 set-cuts old a b path header cuts w act acts stands is = whole-cut w (set_sealed path header) act acts is.0.is (cuts w stands is.1)
+
+-- ---- a row comes to its table of msdb
+
+-- what a plan keeps of a row is what its file asks for
+keeps-stop : (stop : Option (List ℕ)) → IsShortStop stop → IsShortSpelled stop
+keeps-stop None is = tt
+keeps-stop (Some stop) is = is
+
+pub keeps-spelled : (row : HistoryRow) → KeepsRow row → KeepsSpelled row
+keeps-spelled (history.Backup row) keeps = keeps
+keeps-spelled (history.Restore row) keeps = keeps-stop row.stop keeps
+keeps-spelled (history.Mark row) keeps = keeps
+
+pub noted-does : (old : Kept) (a b : Disk) (row : HistoryRow) → ((w : World) → StandsFor a old w → StandsFor b old (done w (noted row))) → DoesPart old a (part.Noted row) old b
+noted-does old a b row does w act stands is = subst (λ (x : Act). StandsFor b old (done w x)) (sym is.0) (does w stands)
+
+pub noted-cuts : (old : Kept) (a b : Disk) (row : HistoryRow) → ((w : World) → StandsFor a old w → Effect IsOurs (CutsAct w (noted row)) a b) → CutsPart old a (part.Noted row) b
+noted-cuts old a b row cuts w act acts stands is = whole-cut w (noted row) act acts is.0 (cuts w stands)
 
 -- ---- sessions
 

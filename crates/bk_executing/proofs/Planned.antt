@@ -1,7 +1,7 @@
 -- A statement that was planned, and whose plan is followed.
 use Rattle.std.proofs.Common.{◌≡◌, inl, inr, ℕ, List, [], ◌∷◌, None, Ok, Err, refl, sym, ◌∙◌, subst}
 use Rattle.std.specs.Prelude.{Result, IfOk, OnOk, OnErr}
-use Rattle.bk_archive.specs.DiskLaws.{calm-nothing}
+use Rattle.bk_engine.specs.RowLaws.{calm-nothing}
 use Rattle.bk_archive.specs.MediaLaws.{media-in}
 use Rattle.bk_device.specs.Calls.{ChangesNothing}
 use Rattle.bk_device.specs.Compose.{effect_of_nothing, effect_then}
@@ -16,6 +16,7 @@ use Rattle.bk_engine.specs.Viewing.{Remembers}
 use Rattle.bk_engine.specs.ViewLaws.{remembers}
 use Rattle.bk_items.specs.declared.item.ScriptEntry.{ScriptEntry}
 use Rattle.bk_items.specs.declared.item.ScriptItem.{ScriptItem}
+use Rattle.bk_items.specs.declared.options.RestoreOptions.{RestoreOptions}
 use Rattle.bk_kept.specs.declared.kept.Kept.{Kept as KeptOf}
 use Rattle.bk_kept.specs.Keeps.{Sees}
 use Rattle.bk_machine.specs.Acts.{Act, done}
@@ -29,7 +30,7 @@ use Rattle.bk_media_plans.specs.declared.restore_plan.RestorePlan.{RestorePlan}
 use Rattle.bk_media_plans.specs.Found.{Found}
 use Rattle.bk_media_plans.specs.RestorePlans.{PlansRestore}
 use Rattle.bk_plans.specs.declared.parts.Part.{Part}
-use Rattle.bk_plans.specs.declared.parts.Part.TheVariants.{MediumMade, SetDrawn, SetSealed, Stored}
+use Rattle.bk_plans.specs.declared.parts.Part.TheVariants.{MediumMade, Noted, SetDrawn, SetSealed, Stored}
 use Rattle.bk_plans.specs.declared.parts.Plan.{Plan}
 use Rattle.bk_plans.specs.declared.parts.Plan.TheVariants.{Answered, Parts, Refused, Seated, Turned}
 use Rattle.bk_plans.specs.Planning.{AreActsOf, AreParts, Plans, reply_of}
@@ -81,15 +82,15 @@ pub planned-all : {E : Type 0} (k : KeptOf) (e : Kept) (Known : World → Type 0
 planned-all k e Known s now (Ok plan) sees plans = planned k e Known s now plan sees plans
 planned-all k e Known s now (Err error) sees plans = tt
 
-pub restore-planned : {E : Type 0} (k : KeptOf) (e : Kept) (Known : World → Type 0) (found : Result Found Rule) (s : ScriptEntry) (now : ℕ) (result : Result RestorePlan E) → ((w : World) → Remembers e w → Sees w k) → IfOk result (PlansRestore k Known found s now)
-    → IfOk result (IsRestorePlanned e Known found s now)
-restore-planned k e Known found s now (Ok plan) sees plans = record {
+pub restore-planned : {E : Type 0} (k : KeptOf) (e : Kept) (Known : World → Type 0) (options : RestoreOptions) (found : Result Found Rule) (s : ScriptEntry) (now : ℕ) (result : Result RestorePlan E) → ((w : World) → Remembers e w → Sees w k) → IfOk result (PlansRestore k Known options found s now)
+    → IfOk result (IsRestorePlanned e Known options found s now)
+restore-planned k e Known options found s now (Ok plan) sees plans = record {
   outcome = plans.outcome;
   replies = plans.replies;
   may = λ w sound has known. plans.may w sound (sees w has) known;
   acts = λ w sound has known. plans.acts w sound (sees w has) known;
 }
-restore-planned k e Known found s now (Err error) sees plans = tt
+restore-planned k e Known options found s now (Err error) sees plans = tt
 
 -- ---- sets that are sealed
 
@@ -122,6 +123,7 @@ none-sealed w (part ∷ parts) [] are none = tt
 none-sealed w (Stored stored ∷ parts) (act ∷ acts) are none = (tt, none-sealed (done w act) parts acts are.1 (λ path writes. none path (inr writes)))
 none-sealed w (MediumMade path ∷ parts) (act ∷ acts) are none = (tt, none-sealed (done w act) parts acts are.1 (λ other writes. none other (inr writes)))
 none-sealed w (SetDrawn ∷ parts) (act ∷ acts) are none = (tt, none-sealed (done w act) parts acts are.1 (λ other writes. none other (inr writes)))
+none-sealed w (Noted row ∷ parts) (act ∷ acts) are none = (tt, none-sealed (done w act) parts acts are.1 (λ other writes. none other (inr writes)))
 none-sealed w (SetSealed path header ∷ parts) (act ∷ acts) are none = absurd (none path (inl (subst (λ (a : Act). ActWrites a path) (sym are.0.is) refl)))
 
 pub none-planned : (w : World) (plan : Plan) (acts : List Act) → AreActsOf w plan acts → ((path : List ℕ) → ActsWrite acts path → ⊥) → PlanSets w plan acts

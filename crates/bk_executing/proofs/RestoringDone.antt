@@ -1,5 +1,5 @@
 -- A whole restore that was planned by a set of its medium.
-use Rattle.std.proofs.Common.{◌≡◌, inl, inr, ℕ, List, Option, Ok, Err, None, Some, refl, sym, ◌∙◌, ap, subst}
+use Rattle.std.proofs.Common.{◌≡◌, inl, inr, ℕ, List, [], ◌∷◌, ◌++◌, Option, Ok, Err, None, Some, refl, sym, ◌∙◌, ap, subst}
 use Rattle.std.specs.Prelude.{Result, IfOk, IsErrOf, OnErr}
 use Rattle.std.specs.List.{AllByRecursion}
 use Rattle.bk_archive.specs.Opened.{IsOpened}
@@ -12,7 +12,7 @@ use Rattle.bk_device.specs.Compose.{effect_then}
 use Rattle.bk_device.specs.Disk.{Disk, Files, IsLawful}
 use Rattle.bk_device.specs.Effects.{Effect}
 use Rattle.bk_device.specs.Laws.{effect_after_nothing, nothing_then}
-use Rattle.bk_engine.specs.Bringing.{IsSetOn}
+use Rattle.bk_engine.specs.Bringing.{IsSetOn, MovesOnly}
 use Rattle.bk_engine.specs.Stands.{IsOurs, Kept, StandsFor}
 use Rattle.bk_engine.specs.Touched.{NoMedium, TouchesOnly}
 use Rattle.bk_engine.specs.TouchLaws.{wider-touch}
@@ -20,19 +20,22 @@ use Rattle.bk_engine.specs.ViewLaws.{remembers}
 use Rattle.bk_ids.specs.declared.guid.Guid.{Guid}
 use Rattle.bk_ids.specs.declared.record.Rec.{Rec}
 use Rattle.bk_items.specs.declared.item.ScriptEntry.{ScriptEntry}
-use Rattle.bk_machine.specs.Acts.{Act, done_all}
+use Rattle.bk_items.specs.declared.options.FileMove.{FileMove}
+use Rattle.bk_items.specs.declared.options.RestoreOptions.{RestoreOptions}
+use Rattle.bk_machine.specs.Acts.{Act, done_all, noted}
 use Rattle.bk_machine.specs.Checks.{Checked}
 use Rattle.bk_machine.specs.Machine.{May}
 use Rattle.bk_machine.specs.MayDo.{MayDoAll}
 use Rattle.bk_machine.specs.Outcome.{Outcome, refused}
 use Rattle.bk_machine.specs.Sound.{IsSound}
 use Rattle.bk_machine.specs.World.{World}
+use Rattle.bk_machine.specs.declared.history_row.HistoryRow.TheVariants as history
 use Rattle.bk_machine.specs.Writes.{ActsWrite, IsStill, IsTurn}
-use Rattle.bk_machine.specs.statements.Restore.{disk_path, set_at}
+use Rattle.bk_machine.specs.statements.Restore.{disk_path, moved, moved_log, moved_path, set_at}
 use Rattle.bk_media_plans.specs.declared.restore_plan.RestorePlan.{RestorePlan}
 use Rattle.bk_media_plans.specs.declared.restore_plan.RestorePlan.TheVariants as restore
 use Rattle.bk_media_plans.specs.Found.{FindsSet, Found}
-use Rattle.bk_media_plans.specs.RestorePlans.{AreOfRestore}
+use Rattle.bk_media_plans.specs.RestorePlans.{AreNotedRestore, AreOfRestore, KeepsBringing, KeepsRestore}
 use Rattle.bk_plans.specs.declared.parts.Plan.TheVariants as plan
 use Rattle.bk_record.specs.Log.{IsLog}
 use Rattle.bk_restarts.specs.Crashes.{CutIn}
@@ -41,8 +44,10 @@ use Rattle.bk_shown.specs.declared.error.TakeError.TheVariants.{NoMemory, Unfit}
 use Rattle.bk_volume.specs.Media.{slot_at}
 use Rattle.bk_volume.specs.Names.{medium_file}
 use Rattle.bk_volume.specs.Stored.{IsOf, Stored}
+use Rattle.bk_world.specs.declared.database.FileSpec.{FileSpec}
 use Rattle.bk_world.specs.declared.database.TableSpec.{TableSpec}
 use Rattle.bk_world.specs.declared.header.Header.{Header}
+use Rattle.bk_world.specs.declared.msdb.RestoreRow.{RestoreRow}
 use Rattle.bk_world.specs.declared.reply.Reply.{Reply}
 use Rattle.bk_world.specs.declared.reply.Reply.TheVariants as reply
 use Rattle.bk_world.specs.declared.rule.Rule.{Rule}
@@ -52,7 +57,7 @@ use Rattle.bk_executing.specs.declared.error.ExecuteError.TheVariants.{Broken}
 use Rattle.bk_executing.specs.Errors.{taken_error}
 use Rattle.bk_executing.specs.Executing.{CutOff, Executed, Failed, Rests}
 use Rattle.bk_executing.specs.Planned.{IsPlanned, IsRestorePlanned}
-use Rattle.bk_executing.specs.Restoring.{found_of}
+use Rattle.bk_executing.specs.Restoring.{found_of, found_under}
 use Rattle.bk_executing.proofs.Planned.{Knows, stands-nothing, touches-nothing}
 
 -- ---- one that is refused
@@ -62,8 +67,8 @@ pub refused-always : (e : Kept) (s : ScriptEntry) (now : ℕ) (rule : Rule) → 
 refused-always e s now rule may = record { outcome = refused rule; replies = refl; may = λ w sound has known. may w; acts = λ w sound has known. refl }
 
 -- its plan is to refuse it
-pub refused-plan : (e : Kept) (Known : World → Type 0) (found : Result Found Rule) (s : ScriptEntry) (now : ℕ) (rule : Rule) → IsRestorePlanned e Known found s now (restore.Refused rule) → IsPlanned e Known s now (plan.Refused rule)
-refused-plan e Known found s now rule plans = record { outcome = plans.outcome; replies = plans.replies; may = plans.may; acts = plans.acts }
+pub refused-plan : (e : Kept) (Known : World → Type 0) (options : RestoreOptions) (found : Result Found Rule) (s : ScriptEntry) (now : ℕ) (rule : Rule) → IsRestorePlanned e Known options found s now (restore.Refused rule) → IsPlanned e Known s now (plan.Refused rule)
+refused-plan e Known options found s now rule plans = record { outcome = plans.outcome; replies = plans.replies; may = plans.may; acts = plans.acts }
 
 pub refused-knows : {tells : Type 0} (e : Kept) (a b : Disk) (Known : World → Type 0) (s : ScriptEntry) (now : ℕ) (rule : Rule) (outcome : Outcome) → (tells → IsLawful a) → (tells → ChangesNothing a b) → (tells → (w : World) → StandsFor a e w → Known w)
     → ((w : World) → IsSound w → May w s now outcome → MayDoAll w outcome.acts) → Knows tells e a b Known (plan.Refused rule) s now outcome
@@ -98,12 +103,12 @@ abbrev pub parts : Header → List TableSpec → List ℕ → Found
 parts header made log = record { header = header; tables = made; log = log }
 
 -- what is planned by its parts as they are read is planned by the set
-pub of-set : (e : Kept) (at : ℕ) (disk : Option (List ℕ)) (s : ScriptEntry) (now : ℕ) (plan : RestorePlan) (header : Header) (made : List TableSpec) (log : List ℕ) (set : Stored) → header ≡ set.header → made ≡ set.tables
-    → IsRestorePlanned e (FindsSet at disk (Ok (parts header made log))) (Ok (parts header made log)) s now plan
-    → IsRestorePlanned e (FindsSet at disk (Ok (found_of set log))) (Ok (found_of set log)) s now plan
-of-set e at disk s now plan header made log set same_header same_made plans =
+pub of-set : (e : Kept) (at : ℕ) (disk : Option (List ℕ)) (options : RestoreOptions) (s : ScriptEntry) (now : ℕ) (plan : RestorePlan) (header : Header) (made : List TableSpec) (log : List ℕ) (set : Stored) → header ≡ set.header → made ≡ set.tables
+    → IsRestorePlanned e (FindsSet at disk (Ok (parts header made log))) options (Ok (parts header made log)) s now plan
+    → IsRestorePlanned e (FindsSet at disk (Ok (found_of set log))) options (Ok (found_of set log)) s now plan
+of-set e at disk options s now plan header made log set same_header same_made plans =
     let same : parts header made log ≡ found_of set log = λ i. record { header = same_header i; tables = same_made i; log = log } in
-    subst (λ (one : Found). IsRestorePlanned e (FindsSet at disk (Ok one)) (Ok one) s now plan) same plans
+    subst (λ (one : Found). IsRestorePlanned e (FindsSet at disk (Ok one)) options (Ok one) s now plan) same plans
 
 -- and what it finds is found in its parts
 pub finds-parts : (at : ℕ) (disk : Option (List ℕ)) (w : World) (header : Header) (made : List TableSpec) (log : List ℕ) (set : Stored) → header ≡ set.header → made ≡ set.tables → FindsSet at disk (Ok (found_of set log)) w
@@ -186,15 +191,31 @@ module _ {tells : Type 0} (e : Kept) (a b c : Disk) (s : ScriptEntry) (now : ℕ
   all-failed (Ok answer) failed = tt
   all-failed (Err error) failed = after-failed failed
 
+-- ---- the header by which it is brought up
+
+-- what a plan keeps of it
+pub kept-up : (options : RestoreOptions) (set : Found) (plan : RestorePlan) (name : List ℕ) (branch : Guid) (last : ℕ) (header : Header) (row : RestoreRow) → plan ≡ restore.BringsUp name branch last header row → KeepsRestore options (Ok set) plan
+    → KeepsBringing options set header row
+kept-up options set plan name branch last header row is keeps = subst (KeepsRestore options (Ok set)) is keeps
+
+-- it is the set's, with files at other paths
+pub moves-only : (moves : List FileMove) (read own header : Header) → read ≡ own → header ≡ moved moves read → MovesOnly own header
+moves-only moves read own header same is =
+    subst (λ (h : Header). MovesOnly h header) same (record { to = λ (f : FileSpec). moved_path moves f.name f.path; log_path = moved_log moves read; is = is })
+
 -- ---- it brings a database up
 
 -- A restore by a set that was opened on a medium, whose device was read alone till then.
-module _ (tells : Type 0) (e new : Kept) (a b c : Disk) (at : ℕ) (disk : Option (List ℕ)) (medium : List ℕ) (set : Stored) (log : List ℕ) (s : ScriptEntry) (now : ℕ) (name : List ℕ) (branch : Guid) (last : ℕ) where
+module _ (tells : Type 0) (e new : Kept) (a b c : Disk) (at : ℕ) (disk : Option (List ℕ)) (medium : List ℕ) (set : Stored) (log : List ℕ) (s : ScriptEntry) (now : ℕ) (options : RestoreOptions) (name : List ℕ) (branch : Guid) (last : ℕ) (header : Header) (row : RestoreRow) where
   abbrev pub found : Result Found Rule
   found = Ok (found_of set log)
 
+  -- the acts that bring it up, and its row behind them
+  abbrev pub with_row : List Act → List Act
+  with_row acts = acts ++ noted (history.Restore row) ∷ []
+
   abbrev pub Brings : (World → List Act → Type 0) → Type 0
-  Brings Does = (w : World) (its : List ℕ) (acts : List Act) → StandsFor b e w → IsSetOn b.files medium set → AreOfRestore w (found_of set its) name branch last acts → Does w acts
+  Brings Does = (w : World) (its : List ℕ) (acts : List Act) → StandsFor b e w → IsSetOn b.files medium set → AreOfRestore w (found_under header set its) name branch last acts → Does w (with_row acts)
 
   -- what is known where it was read
   pub record Reads : Type 0 where
@@ -203,14 +224,14 @@ module _ (tells : Type 0) (e new : Kept) (a b c : Disk) (at : ℕ) (disk : Optio
     pub opened : tells → (w : World) → StandsFor a e w → IsOpened w (disk_path disk) at (a.files medium) set
     pub logs : tells → (body : Body) → IsOf (contents (a.files medium)) body set → log ≡ body.log
 
-  module _ (reads : Reads) (plans : IsRestorePlanned e (FindsSet at disk found) found s now (restore.BringsUp name branch last)) where
+  module _ (reads : Reads) (plans : IsRestorePlanned e (FindsSet at disk found) options found s now (restore.BringsUp name branch last header row)) where
     knows-set : tells → (w : World) → StandsFor a e w → FindsSet at disk found w
     knows-set told w stands = finds-set at disk (a.files medium) set log w (reads.opened told w stands) (reads.logs told)
 
     then-may : tells → (w : World) → StandsFor a e w → May w s now plans.outcome
     then-may told w stands = plans.may w stands.sound (remembers a e w stands) (knows-set told w stands)
 
-    then-acts : tells → (w : World) → StandsFor a e w → AreOfRestore w (found_of set log) name branch last plans.outcome.acts
+    then-acts : tells → (w : World) → StandsFor a e w → AreNotedRestore w now options (found_under header set log) name branch last row plans.outcome.acts
     then-acts told w stands = plans.acts w stands.sound (remembers a e w stands) (knows-set told w stands)
 
     then-there : tells → (w : World) → StandsFor a e w → IsSetOn b.files medium set
@@ -226,7 +247,9 @@ module _ (tells : Type 0) (e new : Kept) (a b c : Disk) (at : ℕ) (disk : Optio
 
     -- what holds for each such list of acts holds for those of the outcome
     then-brings : (Does : World → List Act → Type 0) → tells → Brings Does → (w : World) → StandsFor a e w → Does w plans.outcome.acts
-    then-brings Does told brings w stands = brings w log plans.outcome.acts (stands-nothing a b e w (reads.call told) stands) (then-there told w stands) (then-acts told w stands)
+    then-brings Does told brings w stands =
+        let acts = then-acts told w stands in
+        subst (Does w) (sym acts.are) (brings w log acts.bringing (stands-nothing a b e w (reads.call told) stands) (then-there told w stands) acts.of)
 
     then-crash : (tells → Brings (λ w acts. Effect IsOurs (CutIn w acts) b c)) → tells → (w : World) → StandsFor a e w → Effect IsOurs (CutIn w plans.outcome.acts) a c
     then-crash crash told w stands = effect_after_nothing (reads.lawful told) (reads.call told) (then-brings (λ v acts. Effect IsOurs (CutIn v acts) b c) told (crash told) w stands)
@@ -236,9 +259,11 @@ module _ (tells : Type 0) (e new : Kept) (a b c : Disk) (at : ℕ) (disk : Optio
 
     -- it stores something
     then-still : tells → (w : World) → StandsFor a e w → IsStill plans.outcome → Rests e a new c
-    then-still told w stands still = absurd (subst (λ (acts : List Act). AllByRecursion IsTurn acts) (then-acts told w stands).are still).0
+    then-still told w stands still =
+        let acts = then-acts told w stands in
+        absurd (subst (λ (all : List Act). AllByRecursion IsTurn all) (acts.are ∙ ap with_row acts.of.are) still).0
 
-    pub brings-executed : (tells → Brings (λ w acts. StandsFor c new (done_all w acts))) → (tells → Brings (λ w acts. Effect IsOurs (CutIn w acts) b c)) → (tells → TouchesOnly NoMedium b c) → (answer : Reply) → answer ≡ reply.Recovered set.header.last
+    pub brings-executed : (tells → Brings (λ w acts. StandsFor c new (done_all w acts))) → (tells → Brings (λ w acts. Effect IsOurs (CutIn w acts) b c)) → (tells → TouchesOnly NoMedium b c) → (answer : Reply) → answer ≡ reply.Recovered header.last
         → Executed tells e a s now answer new c
     brings-executed does crash touches answer is = record {
       outcome = plans.outcome;

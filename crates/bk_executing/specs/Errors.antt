@@ -1,6 +1,8 @@
 -- What the errors of the layers below come to.
 use Rattle.bk_archive.specs.declared.error.ArchiveError.{ArchiveError}
 use Rattle.bk_archive.specs.declared.error.ArchiveError.TheVariants as archive
+use Rattle.bk_msdb.specs.declared.error.MsdbError.{MsdbError}
+use Rattle.bk_msdb.specs.declared.error.MsdbError.TheVariants as msdb
 use Rattle.bk_sealing.specs.declared.error.SealError.{SealError}
 use Rattle.bk_sealing.specs.declared.error.SealError.TheVariants as seal
 use Rattle.bk_shown.specs.declared.error.TakeError.{TakeError}
@@ -25,6 +27,10 @@ sealed_error seal.NoMemory = NoMemory
 abbrev pub archive_error : ArchiveError → ExecuteError
 archive_error archive.Fault = Fault
 archive_error archive.NoMemory = NoMemory
+
+abbrev pub msdb_error : MsdbError → ExecuteError
+msdb_error msdb.Fault = Fault
+msdb_error msdb.NoMemory = NoMemory
 
 abbrev pub read_error : ReadError → ExecuteError
 read_error read.Fault = Fault

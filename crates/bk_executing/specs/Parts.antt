@@ -9,7 +9,7 @@ use Rattle.bk_machine.specs.Acts.{Act, done, done_all, seated}
 use Rattle.bk_machine.specs.MayDo.{MayDo}
 use Rattle.bk_machine.specs.World.{World}
 use Rattle.bk_plans.specs.declared.parts.Part.{Part}
-use Rattle.bk_plans.specs.declared.parts.Part.TheVariants.{Stored, MediumMade, SetDrawn, SetSealed}
+use Rattle.bk_plans.specs.declared.parts.Part.TheVariants.{Stored, MediumMade, SetDrawn, SetSealed, Noted}
 use Rattle.bk_plans.specs.declared.parts.Plan.{Plan}
 use Rattle.bk_plans.specs.declared.parts.Plan.TheVariants.{Parts, Seated}
 use Rattle.bk_plans.specs.Planning.{AreActsOf, IsPart}
@@ -34,6 +34,7 @@ SealsNow w (SetSealed path header) = IsSetNow w header
 SealsNow w (Stored stored) = Unit {0}
 SealsNow w (MediumMade path) = Unit {0}
 SealsNow w SetDrawn = Unit {0}
+SealsNow w (Noted row) = Unit {0}
 
 -- a part is this act, which may be done so
 abbrev pub MayDoPart : World → Part → Act → Type 0
@@ -83,6 +84,7 @@ PartWrites (Stored stored) path = ⊥
 PartWrites (MediumMade at) path = path ≡ at
 PartWrites SetDrawn path = ⊥
 PartWrites (SetSealed at header) path = path ≡ at
+PartWrites (Noted row) path = ⊥
 
 abbrev pub PartsWrite : List Part → List ℕ → Type 0
 PartsWrite [] path = ⊥

@@ -3,6 +3,7 @@ use Rattle.std.specs.Prelude.{◌≡◌, ℕ, Result}
 use Rattle.bk_engine.specs.Stands.{Kept}
 use Rattle.bk_engine.specs.Viewing.{Remembers}
 use Rattle.bk_items.specs.declared.item.ScriptEntry.{ScriptEntry}
+use Rattle.bk_items.specs.declared.options.RestoreOptions.{RestoreOptions}
 use Rattle.bk_machine.specs.Machine.{May}
 use Rattle.bk_machine.specs.Outcome.{Outcome}
 use Rattle.bk_machine.specs.Sound.{IsSound}
@@ -21,9 +22,9 @@ pub record IsPlanned (e : Kept) (Known : World → Type 0) (s : ScriptEntry) (no
   pub may : (w : World) → IsSound w → Remembers e w → Known w → May w s now outcome
   pub acts : (w : World) → IsSound w → Remembers e w → Known w → AreActsOf w plan outcome.acts
 
--- So it is with a restore, by the set that was found.
-pub record IsRestorePlanned (e : Kept) (Known : World → Type 0) (found : Result Found Rule) (s : ScriptEntry) (now : ℕ) (plan : RestorePlan) : Type 0 where
+-- So it is with a restore by these options, by the set that was found.
+pub record IsRestorePlanned (e : Kept) (Known : World → Type 0) (options : RestoreOptions) (found : Result Found Rule) (s : ScriptEntry) (now : ℕ) (plan : RestorePlan) : Type 0 where
   pub outcome : Outcome
   pub replies : outcome.reply ≡ restore_reply found plan
   pub may : (w : World) → IsSound w → Remembers e w → Known w → May w s now outcome
-  pub acts : (w : World) → IsSound w → Remembers e w → Known w → AreRestoreActs w found plan outcome.acts
+  pub acts : (w : World) → IsSound w → Remembers e w → Known w → AreRestoreActs w now options found plan outcome.acts

@@ -4,6 +4,7 @@ ghost use Rattle.bk_executing.specs.Errors as errors;
 ghost use Rattle.bk_executing.specs.declared.error.ExecuteError.TheVariants as execute;
 
 use bk_archive::ArchiveError;
+use bk_msdb::MsdbError;
 use bk_sealing::SealError;
 use bk_shown::TakeError;
 use bk_stores::StoresError;
@@ -63,6 +64,17 @@ impl From<ArchiveError> for ExecuteError {
         match error {
             ArchiveError::Fault => ExecuteError::Fault,
             ArchiveError::NoMemory => ExecuteError::NoMemory,
+        }
+    }
+}
+
+impl From<MsdbError> for ExecuteError {
+    ghost from_gives = { λ error e. e ≡ errors.msdb_error error };
+
+    fn from(error: MsdbError) -> Self {
+        match error {
+            MsdbError::Fault => ExecuteError::Fault,
+            MsdbError::NoMemory => ExecuteError::NoMemory,
         }
     }
 }

@@ -12,6 +12,7 @@ ghost use Rattle.bk_stores.specs.Standing.{AreStanding};
 use crate::backing_up::backup;
 use crate::error::ExecuteError;
 use crate::following::follow;
+use crate::listing::list;
 use crate::planning::plan_kept;
 use crate::querying::answer;
 use crate::restoring::restore;
@@ -64,11 +65,15 @@ pub fn execute<R: Threads + Sync, D: Device>(
             let reply = answer(engine.alloc(), dev, line, *query, disk, *file)?;
             follow(engine, dev, Plan::Answered { reply })
         }
+        ScriptItem::SelectCatalog { catalog } => {
+            let reply = list(engine.alloc(), dev, line, *catalog)?;
+            follow(engine, dev, Plan::Answered { reply })
+        }
         _ => execute_other(engine, dev, statement, now),
     }
 }
 
-// Executes a statement that reads no medium.
+// Executes a statement that reads neither a medium nor the tables of msdb.
 fn execute_other<D: Device>(
     engine: &mut Engine,
     dev: &mut D,

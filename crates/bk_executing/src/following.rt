@@ -18,6 +18,7 @@ use bk_acts::StoredAct;
 use bk_device::Device;
 use bk_engine::Engine;
 use bk_ids::Text;
+use bk_machine::HistoryRow;
 use bk_plans::{Part, Plan};
 use bk_sealing::seal_database;
 use bk_world::{Header, Reply};
@@ -106,6 +107,25 @@ fn seal_set<D: Device>(
     Ok(())
 }
 
+// Adds a row to its table of msdb.
+fn note<D: Device>(engine: &mut Engine, dev: &mut D, row: &HistoryRow) -> Result<(), ExecuteError>
+    requires ready { IsReady engine.old }
+    requires keeps { KeepsPart (part.Noted row.now) }
+    requires none { (own_in engine.old).staging ≡ None }
+    requires standing { D.tells → AreStanding (D.disk dev.old) engine.old.hosting.stores }
+    ensures ready { OnOk result (IsReady engine.new) }
+    ensures own { OnOk result (NamesSet None engine.old engine.new) }
+    ensures standing { D.tells → OnOk result (AreStanding (D.disk dev.new) engine.new.hosting.stores) }
+    ensures does { D.tells → OnOk result (DoesPart engine.old (D.disk dev.old) (part.Noted row.now) engine.new (D.disk dev.new)) }
+    ensures crash { D.tells → CutsPart engine.old (D.disk dev.old) (part.Noted row.now) (D.disk dev.new) }
+    ensures touches { D.tells → TouchesOnly (PartWrites (part.Noted row.now)) (D.disk dev.old) (D.disk dev.new) }
+    ensures sound { IsErrOf result Broken → ⊥ }
+    ensures cause { HasCause D.disk_faults D.tell_faults dev.old dev.new (IsErrOf result Fault) }
+{
+    engine.note(dev, row)?;
+    Ok(())
+}
+
 // Does one part. A crash leaves what it may leave inside of its act.
 fn do_part<D: Device>(engine: &mut Engine, dev: &mut D, part: &Part) -> Result<(), ExecuteError>
     requires ready { IsReady engine.old }
@@ -126,6 +146,7 @@ fn do_part<D: Device>(engine: &mut Engine, dev: &mut D, part: &Part) -> Result<(
         Part::MediumMade { path } => make_medium(engine, dev, path),
         Part::SetDrawn => draw_set(engine, dev),
         Part::SetSealed { path, header } => seal_set(engine, dev, path, header),
+        Part::Noted { row } => note(engine, dev, row),
     }
 }
 

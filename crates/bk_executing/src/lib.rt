@@ -8,6 +8,7 @@ mod doing;
 mod error;
 mod executing;
 mod following;
+mod listing;
 mod parking;
 mod planning;
 mod querying;

@@ -8,8 +8,7 @@ use crate::copies::storage_of;
 use bk_ids::Name;
 use bk_known::{AsOf, DatabaseSpec, Known, spell_known};
 use bk_store::copy_tables;
-use bk_volume::StoredSet;
-use bk_world::Header;
+use bk_world::{Header, TableSpec};
 use std::alloc::{AllocError, Global};
 
 // The description of a set's database under this name.
@@ -26,11 +25,15 @@ fn spec_of(alloc: Global, name: &Name, header: &Header) -> Result<DatabaseSpec, 
 }
 
 // What is known of a set's database under this name, as of the set's end.
-fn known_of(alloc: Global, name: &Name, stored: &StoredSet) -> Result<Known, AllocError>
-    ensures { IfOk result (λ known. known ≡ known_in name.now stored.now) }
+fn known_of(
+    alloc: Global,
+    name: &Name,
+    header: &Header,
+    tables: &[TableSpec],
+) -> Result<Known, AllocError>
+    ensures { IfOk result (λ known. known ≡ known_in name.now header.now tables.now) }
 {
-    let header = stored.header();
-    let tables = copy_tables(alloc, stored.tables())?;
+    let tables = copy_tables(alloc, tables)?;
     let spec = spec_of(alloc, name, header)?;
     let as_of = AsOf {
         from: header.last,
@@ -50,14 +53,19 @@ fn spell(alloc: Global, known: &Known) -> Result<(), AllocError>
     Ok(())
 }
 
-/// What is known of a set's database under this name, as of the set's end, which has room in a note.
-pub(crate) fn known_set(alloc: Global, name: &Name, stored: &StoredSet) -> Result<Known, AllocError>
-    requires { KeepsSet stored.now.header stored.now.tables }
-    ensures known { IfOk result (λ known. known ≡ known_in name.now stored.now) }
+/// What is known under this name of the database of a set with this header and these tables, as of the set's end, which has room in a note.
+pub(crate) fn known_set(
+    alloc: Global,
+    name: &Name,
+    header: &Header,
+    tables: &[TableSpec],
+) -> Result<Known, AllocError>
+    requires { KeepsSet header.now tables.now }
+    ensures known { IfOk result (λ known. known ≡ known_in name.now header.now tables.now) }
     ensures keeps { IfOk result KeepsKnown }
     ensures spelled { IfOk result IsKnown }
 {
-    let known = known_of(alloc, name, stored)?;
+    let known = known_of(alloc, name, header, tables)?;
     spell(alloc, &known)?;
     Ok(known)
 }

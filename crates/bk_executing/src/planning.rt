@@ -97,9 +97,9 @@ pub(crate) fn plan_kept_restore(
 ) -> Result<RestorePlan, TakeError>
     requires ready { IsReady engine.now }
     requires built { request.is_built database.now units.now disk.now options.now ≡ true }
-    ensures plans { IfOk result (IsRestorePlanned engine.now (FindsSet (position_of options.now.file) disk.now set.entry) set.entry
+    ensures plans { IfOk result (IsRestorePlanned engine.now (FindsSet (position_of options.now.file) disk.now set.entry) options.now set.entry
         (record { item = script.RestoreDatabase database.now units.now disk.now options.now; line = line }) now) }
-    ensures keeps { IfOk result (KeepsRestore set.entry) }
+    ensures keeps { IfOk result (KeepsRestore options.now set.entry) }
     ensures unfit { IsErrOf result Unfit → (w : World) → IsSound w → Remembers engine.now w → FindsSet (position_of options.now.file) disk.now set.entry w → ⊥ }
 {
     let alloc = engine.alloc();

@@ -1,23 +1,26 @@
 // RESTORE DATABASE.
-ghost use Rattle.std.specs.Prelude.{◌≡◌, ℕ, List, None, Ok, Err, true, IfOk, OnOk, OnErr, IsErrOf};
+ghost use Rattle.std.specs.Prelude.{◌≡◌, ℕ, List, [], ◌∷◌, ◌++◌, None, Ok, Err, true, IfOk, OnOk, OnErr, IsErrOf};
 ghost use Rattle.bk_archive.specs.Opened.{IsOpened};
 ghost use Rattle.bk_archive.specs.Media.{IsMediumFile};
 ghost use Rattle.bk_body.specs.Body.{Body};
 ghost use Rattle.bk_device.specs.Calls.{ChangesNothing, contents};
 ghost use Rattle.bk_device.specs.Counts.{HasCause};
 ghost use Rattle.bk_device.specs.Effects.{Effect};
-ghost use Rattle.bk_engine.specs.Bringing.{IsSetOn};
+ghost use Rattle.bk_engine.specs.Bringing.{IsSetOn, MovesOnly};
 ghost use Rattle.bk_engine.specs.Stands.{IsOurs, IsReady, NamesSet, StandsFor, own_in};
 ghost use Rattle.bk_engine.specs.Touched.{IsPath, NoMedium, TouchesOnly};
 ghost use Rattle.bk_executing.specs.Executing.{Executed, Failed};
-ghost use Rattle.bk_executing.specs.Restoring.{found_of};
+ghost use Rattle.bk_executing.specs.Restoring.{found_under};
 ghost use Rattle.bk_executing.specs.declared.error.ExecuteError.TheVariants.{Broken, Fault};
+ghost use Rattle.bk_header.specs.Conditions.{IsHeader};
 ghost use Rattle.bk_items.specs.declared.item.ScriptItem.TheVariants as script;
-ghost use Rattle.bk_machine.specs.Acts.{Act, done_all};
+ghost use Rattle.bk_machine.specs.Acts.{Act, done_all, noted};
 ghost use Rattle.bk_machine.specs.World.{World};
+ghost use Rattle.bk_machine.specs.declared.history_row.HistoryRow.TheVariants as history;
 ghost use Rattle.bk_machine.specs.statements.Restore as restore;
 ghost use Rattle.bk_media_plans.specs.RestorePlans.{AreOfRestore, KeepsSet};
 ghost use Rattle.bk_media_plans.specs.Restoring as request;
+ghost use Rattle.bk_plans.specs.Planning.{KeepsRow};
 ghost use Rattle.bk_restarts.specs.Crashes.{CutIn};
 ghost use Rattle.bk_stores.specs.Standing.{AreStanding};
 ghost use Rattle.bk_volume.specs.Stored.{IsOf};
@@ -32,12 +35,12 @@ use bk_device::Device;
 use bk_engine::Engine;
 use bk_ids::{Guid, Lsn, Name, Text};
 use bk_items::{RestoreOptions, RestoredUnits};
-use bk_machine::statements_do_what_they_may;
+use bk_machine::{HistoryRow, statements_do_what_they_may};
 use bk_media_plans::{RestorePlan, SetView, position_of, unbuilt_restore};
 use bk_plans::Plan;
 use bk_record::{Records, log_law};
 use bk_side::name_law;
-use bk_world::{Reply, Rule};
+use bk_world::{Header, Reply, RestoreRow, Rule};
 use std::thread::Threads;
 
 // The path of a medium, empty where none is named.
@@ -69,46 +72,88 @@ fn read_log<D: Device>(
     }
 }
 
-// The set that was opened takes the place of the database of this name and brings it up on this branch. A crash leaves what it may leave inside of the acts of the restore.
+// The set that was opened takes the place of the database of this name, under this header, and brings it up on this branch. A crash leaves what it may leave inside of the acts of the restore.
 fn bring_up<R: Threads + Sync, D: Device>(
     engine: &mut Engine,
     rt: &R,
     dev: &mut D,
     opened: &OpenedSet,
     name: &Name,
+    header: &Header,
     branch: Guid,
     last: Lsn,
 ) -> Result<(), ExecuteError>
     requires ready { IsReady engine.old }
     requires none { (own_in engine.old).staging ≡ None }
     requires medium { IsMediumFile opened.now.medium.name }
-    requires keeps { KeepsSet opened.now.set.header opened.now.set.tables }
+    requires moves { MovesOnly opened.now.set.header header.now }
+    requires is_header { IsHeader header.now }
+    requires keeps { KeepsSet header.now opened.now.set.tables }
     requires standing { D.tells → AreStanding (D.disk dev.old) engine.old.hosting.stores }
     ensures ready { OnOk result (IsReady engine.new) }
     ensures own { OnOk result (NamesSet None engine.old engine.new) }
     ensures standing { D.tells → OnOk result (AreStanding (D.disk dev.new) engine.new.hosting.stores) }
     ensures does { D.tells → (w : World) (log : List ℕ) (acts : List Act) → StandsFor (D.disk dev.old) engine.old w → IsSetOn (D.disk dev.old).files opened.now.medium.name opened.now.set
-        → AreOfRestore w (found_of opened.now.set log) name.now branch last acts → OnOk result (StandsFor (D.disk dev.new) engine.new (done_all w acts)) }
+        → AreOfRestore w (found_under header.now opened.now.set log) name.now branch last acts → OnOk result (StandsFor (D.disk dev.new) engine.new (done_all w acts)) }
     ensures crash { D.tells → (w : World) (log : List ℕ) (acts : List Act) → StandsFor (D.disk dev.old) engine.old w → IsSetOn (D.disk dev.old).files opened.now.medium.name opened.now.set
-        → AreOfRestore w (found_of opened.now.set log) name.now branch last acts → Effect IsOurs (CutIn w acts) (D.disk dev.old) (D.disk dev.new) }
+        → AreOfRestore w (found_under header.now opened.now.set log) name.now branch last acts → Effect IsOurs (CutIn w acts) (D.disk dev.old) (D.disk dev.new) }
     ensures touches { D.tells → TouchesOnly NoMedium (D.disk dev.old) (D.disk dev.new) }
     ensures broken { D.tells → IsErrOf result Broken → (w : World) (log : List ℕ) (acts : List Act) → StandsFor (D.disk dev.old) engine.old w → IsSetOn (D.disk dev.old).files opened.now.medium.name opened.now.set
-        → AreOfRestore w (found_of opened.now.set log) name.now branch last acts → ⊥ }
+        → AreOfRestore w (found_under header.now opened.now.set log) name.now branch last acts → ⊥ }
     ensures cause { HasCause D.disk_faults D.tell_faults dev.old dev.new (IsErrOf result Fault) }
 {
     name_law();
     engine.at_rest(dev);
-    let known = known_set(engine.alloc(), name, &opened.set)?;
-    engine.park(dev, known, opened.set.header())?;
+    let known = known_set(engine.alloc(), name, header, opened.set.tables())?;
+    engine.park(dev, known, header)?;
     engine.bring_up(
         rt,
         dev,
         name.as_str(),
         &opened.medium,
         &opened.set,
+        header,
         branch,
         last,
     )?;
+    Ok(())
+}
+
+// So it is brought up, and behind that this row comes to restorehistory. A crash leaves what it may leave inside of all these acts.
+fn bring_up_noted<R: Threads + Sync, D: Device>(
+    engine: &mut Engine,
+    rt: &R,
+    dev: &mut D,
+    opened: &OpenedSet,
+    name: &Name,
+    header: &Header,
+    branch: Guid,
+    last: Lsn,
+    row: RestoreRow,
+) -> Result<(), ExecuteError>
+    requires ready { IsReady engine.old }
+    requires none { (own_in engine.old).staging ≡ None }
+    requires medium { IsMediumFile opened.now.medium.name }
+    requires moves { MovesOnly opened.now.set.header header.now }
+    requires is_header { IsHeader header.now }
+    requires keeps { KeepsSet header.now opened.now.set.tables }
+    requires keeps_row { KeepsRow (history.Restore row) }
+    requires standing { D.tells → AreStanding (D.disk dev.old) engine.old.hosting.stores }
+    ensures ready { OnOk result (IsReady engine.new) }
+    ensures own { OnOk result (NamesSet None engine.old engine.new) }
+    ensures standing { D.tells → OnOk result (AreStanding (D.disk dev.new) engine.new.hosting.stores) }
+    ensures does { D.tells → (w : World) (log : List ℕ) (acts : List Act) → StandsFor (D.disk dev.old) engine.old w → IsSetOn (D.disk dev.old).files opened.now.medium.name opened.now.set
+        → AreOfRestore w (found_under header.now opened.now.set log) name.now branch last acts → OnOk result (StandsFor (D.disk dev.new) engine.new (done_all w (acts ++ noted (history.Restore row) ∷ []))) }
+    ensures crash { D.tells → (w : World) (log : List ℕ) (acts : List Act) → StandsFor (D.disk dev.old) engine.old w → IsSetOn (D.disk dev.old).files opened.now.medium.name opened.now.set
+        → AreOfRestore w (found_under header.now opened.now.set log) name.now branch last acts → Effect IsOurs (CutIn w (acts ++ noted (history.Restore row) ∷ [])) (D.disk dev.old) (D.disk dev.new) }
+    ensures touches { D.tells → TouchesOnly NoMedium (D.disk dev.old) (D.disk dev.new) }
+    ensures broken { D.tells → IsErrOf result Broken → (w : World) (log : List ℕ) (acts : List Act) → StandsFor (D.disk dev.old) engine.old w → IsSetOn (D.disk dev.old).files opened.now.medium.name opened.now.set
+        → AreOfRestore w (found_under header.now opened.now.set log) name.now branch last acts → ⊥ }
+    ensures cause { HasCause D.disk_faults D.tell_faults dev.old dev.new (IsErrOf result Fault) }
+{
+    bring_up(engine, rt, dev, opened, name, header, branch, last)?;
+    let row = HistoryRow::Restore(row);
+    engine.note(dev, &row)?;
     Ok(())
 }
 
@@ -150,11 +195,15 @@ fn restore_set<R: Threads + Sync, D: Device>(
     let plan = plan_kept_restore(engine, line, database, units, disk, options, Ok(view), now)?;
     match plan {
         RestorePlan::Refused { rule } => follow(engine, dev, Plan::Refused { rule }),
-        RestorePlan::BringsUp { name, branch, last } => {
-            bring_up(engine, rt, dev, opened, &name, branch, last)?;
-            Ok(Reply::Recovered {
-                at: opened.set.header().last,
-            })
+        RestorePlan::BringsUp {
+            name,
+            branch,
+            last,
+            header,
+            row,
+        } => {
+            bring_up_noted(engine, rt, dev, opened, &name, &header, branch, last, row)?;
+            Ok(Reply::Recovered { at: header.last })
         }
     }
 }

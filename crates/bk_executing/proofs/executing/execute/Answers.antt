@@ -1,4 +1,5 @@
 use Rattle.bk_executing.proofs.Planned.{executed-by, failed-by, plan-executed, plan-failed, plan-touches, standing-nothing}
+use Rattle.bk_executing.proofs.Catalogued.{catalog-planned, knows-catalog, selecting}
 use Rattle.bk_executing.proofs.Queried.{asking, knows-query, query-planned}
 use Rattle.bk_executing.proofs.executing.execute.Goals as goal
 
@@ -37,3 +38,23 @@ returns-in_ok-reply-in-QueryMedium-clause-failed g c =
 
 pub returns-in_ok-reply-in-QueryMedium-clause-touches : goal.returns-in_ok-reply-in-QueryMedium-clause-touches
 returns-in_ok-reply-in-QueryMedium-clause-touches g c tells = plan-touches (g.D.Device.disk c.args.dev.now) (g.D.Device.disk c.answer.new.dev) (g.D.Device.disk c.follow.new.dev) (c.answer.ensures.effect tells) (c.follow.ensures.touches tells)
+
+pub follow-requires-in-SelectCatalog-clause-standing : goal.follow-requires-in-SelectCatalog-clause-standing
+follow-requires-in-SelectCatalog-clause-standing g c = λ tells. standing-nothing (g.D.Device.disk c.args.dev.now) (g.D.Device.disk c.list.new.dev) c.args.engine.now.hosting.stores (c.list.ensures.effect tells) (c.requires.standing tells)
+
+pub returns-in_ok-reply-in-SelectCatalog-clause-executed : goal.returns-in_ok-reply-in-SelectCatalog-clause-executed
+returns-in_ok-reply-in-SelectCatalog-clause-executed g c =
+    executed-by g.D.Device.tells c.args.engine.now c.follow-in-SelectCatalog.new.engine (g.D.Device.disk c.args.dev.now) (g.D.Device.disk c.follow-in-SelectCatalog.new.dev) c.args.statement.now _ c.args.now c.follow-in-SelectCatalog.result c.in-SelectCatalog.is
+    (plan-executed c.args.engine.now c.follow-in-SelectCatalog.new.engine (g.D.Device.disk c.args.dev.now) (g.D.Device.disk c.list.new.dev) (g.D.Device.disk c.follow-in-SelectCatalog.new.dev) (selecting c.args.statement.now.line c.in-SelectCatalog.catalog) c.args.now _ (catalog-planned c.args.engine.now c.args.statement.now.line c.in-SelectCatalog.catalog c.args.now c.in_ok-reply-in-SelectCatalog.reply)
+    (knows-catalog c.args.engine.now (g.D.Device.disk c.args.dev.now) (g.D.Device.disk c.list.new.dev) c.args.statement.now.line c.in-SelectCatalog.catalog c.args.now c.in_ok-reply-in-SelectCatalog.reply (λ t. g.met.D.Device.lawful t c.args.dev.now) c.list.ensures.effect (λ t w stands. c.in_ok-reply-in-SelectCatalog.ensures.replies t w stands.calm.rows))
+    c.follow-in-SelectCatalog.result (record { replies = c.follow-in-SelectCatalog.ensures.replies; does = c.follow-in-SelectCatalog.ensures.does; crash = c.follow-in-SelectCatalog.ensures.crash; still = c.follow-in-SelectCatalog.ensures.still; touches = c.follow-in-SelectCatalog.ensures.touches }))
+
+pub returns-in_ok-reply-in-SelectCatalog-clause-failed : goal.returns-in_ok-reply-in-SelectCatalog-clause-failed
+returns-in_ok-reply-in-SelectCatalog-clause-failed g c =
+    failed-by g.D.Device.tells c.args.engine.now (g.D.Device.disk c.args.dev.now) (g.D.Device.disk c.follow-in-SelectCatalog.new.dev) c.args.statement.now _ c.args.now c.follow-in-SelectCatalog.result c.in-SelectCatalog.is
+    (plan-failed c.args.engine.now c.follow-in-SelectCatalog.new.engine (g.D.Device.disk c.args.dev.now) (g.D.Device.disk c.list.new.dev) (g.D.Device.disk c.follow-in-SelectCatalog.new.dev) (selecting c.args.statement.now.line c.in-SelectCatalog.catalog) c.args.now _ (catalog-planned c.args.engine.now c.args.statement.now.line c.in-SelectCatalog.catalog c.args.now c.in_ok-reply-in-SelectCatalog.reply)
+    (knows-catalog c.args.engine.now (g.D.Device.disk c.args.dev.now) (g.D.Device.disk c.list.new.dev) c.args.statement.now.line c.in-SelectCatalog.catalog c.args.now c.in_ok-reply-in-SelectCatalog.reply (λ t. g.met.D.Device.lawful t c.args.dev.now) c.list.ensures.effect (λ t w stands. c.in_ok-reply-in-SelectCatalog.ensures.replies t w stands.calm.rows))
+    c.follow-in-SelectCatalog.result (record { replies = c.follow-in-SelectCatalog.ensures.replies; does = c.follow-in-SelectCatalog.ensures.does; crash = c.follow-in-SelectCatalog.ensures.crash; still = c.follow-in-SelectCatalog.ensures.still; touches = c.follow-in-SelectCatalog.ensures.touches }))
+
+pub returns-in_ok-reply-in-SelectCatalog-clause-touches : goal.returns-in_ok-reply-in-SelectCatalog-clause-touches
+returns-in_ok-reply-in-SelectCatalog-clause-touches g c tells = plan-touches (g.D.Device.disk c.args.dev.now) (g.D.Device.disk c.list.new.dev) (g.D.Device.disk c.follow-in-SelectCatalog.new.dev) (c.list.ensures.effect tells) (c.follow-in-SelectCatalog.ensures.touches tells)

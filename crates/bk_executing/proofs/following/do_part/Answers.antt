@@ -43,3 +43,13 @@ returns-in-SetSealed-clause-crash g c tells = subst (λ (p : Part). CutsPart c.a
 
 pub returns-in-SetSealed-clause-touches : goal.returns-in-SetSealed-clause-touches
 returns-in-SetSealed-clause-touches g c tells = subst (λ (p : Part). TouchesOnly (PartWrites p) (g.D.Device.disk c.args.dev.now) (g.D.Device.disk c.seal_set.new.dev)) (sym c.in-SetSealed.is) (c.seal_set.ensures.touches tells)
+
+pub returns-in-Noted-clause-does : goal.returns-in-Noted-clause-does
+returns-in-Noted-clause-does g c tells =
+    subst (λ (p : Part). OnOk c.note.result (DoesPart c.args.engine.now (g.D.Device.disk c.args.dev.now) p c.note.new.engine (g.D.Device.disk c.note.new.dev))) (sym c.in-Noted.is) (c.note.ensures.does tells)
+
+pub returns-in-Noted-clause-crash : goal.returns-in-Noted-clause-crash
+returns-in-Noted-clause-crash g c tells = subst (λ (p : Part). CutsPart c.args.engine.now (g.D.Device.disk c.args.dev.now) p (g.D.Device.disk c.note.new.dev)) (sym c.in-Noted.is) (c.note.ensures.crash tells)
+
+pub returns-in-Noted-clause-touches : goal.returns-in-Noted-clause-touches
+returns-in-Noted-clause-touches g c tells = subst (λ (p : Part). TouchesOnly (PartWrites p) (g.D.Device.disk c.args.dev.now) (g.D.Device.disk c.note.new.dev)) (sym c.in-Noted.is) (c.note.ensures.touches tells)

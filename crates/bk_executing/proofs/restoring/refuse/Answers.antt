@@ -30,14 +30,14 @@ returns-in_err-plan-clause-broken g c tells =
 pub returns-in-Refused-clause-executed : goal.returns-in-Refused-clause-executed
 returns-in-Refused-clause-executed g c =
     plan-executed c.args.engine.now c.follow.new.engine (g.D.Device.disk c.args.dev.now) (g.D.Device.disk c.args.dev.now) (g.D.Device.disk c.follow.new.dev) (record { item = script.RestoreDatabase c.args.database.now c.args.units.now c.args.disk.now c.args.options.now; line = c.args.line }) c.args.now (plan.Refused c.in-Refused.rule)
-    (refused-plan c.args.engine.now (FindsSet (position_of c.args.options.now.file) c.args.disk.now (Err c.args.rule)) (Err c.args.rule) (record { item = script.RestoreDatabase c.args.database.now c.args.units.now c.args.disk.now c.args.options.now; line = c.args.line }) c.args.now c.in-Refused.rule (subst (λ (p : RestorePlan). IsRestorePlanned c.args.engine.now (FindsSet (position_of c.args.options.now.file) c.args.disk.now (Err c.args.rule)) (Err c.args.rule) (record { item = script.RestoreDatabase c.args.database.now c.args.units.now c.args.disk.now c.args.options.now; line = c.args.line }) c.args.now p) c.in-Refused.is c.in_ok-plan.ensures.plans))
+    (refused-plan c.args.engine.now (FindsSet (position_of c.args.options.now.file) c.args.disk.now (Err c.args.rule)) c.args.options.now (Err c.args.rule) (record { item = script.RestoreDatabase c.args.database.now c.args.units.now c.args.disk.now c.args.options.now; line = c.args.line }) c.args.now c.in-Refused.rule (subst (λ (p : RestorePlan). IsRestorePlanned c.args.engine.now (FindsSet (position_of c.args.options.now.file) c.args.disk.now (Err c.args.rule)) c.args.options.now (Err c.args.rule) (record { item = script.RestoreDatabase c.args.database.now c.args.units.now c.args.disk.now c.args.options.now; line = c.args.line }) c.args.now p) c.in-Refused.is c.in_ok-plan.ensures.plans))
     (refused-knows c.args.engine.now (g.D.Device.disk c.args.dev.now) (g.D.Device.disk c.args.dev.now) (FindsSet (position_of c.args.options.now.file) c.args.disk.now (Err c.args.rule)) (record { item = script.RestoreDatabase c.args.database.now c.args.units.now c.args.disk.now c.args.options.now; line = c.args.line }) c.args.now c.in-Refused.rule _ (λ t. g.met.D.Device.lawful t c.args.dev.now) (λ told. nothing_yet (g.D.Device.disk c.args.dev.now)) (λ told w stands. finds-none (position_of c.args.options.now.file) c.args.disk.now c.args.rule w (c.requires.refused told w stands)) (λ w sound m. c.statements_do_what_they_may.ensures.may w _ _ _ sound m))
     c.follow.result (record { replies = c.follow.ensures.replies; does = c.follow.ensures.does; crash = c.follow.ensures.crash; still = c.follow.ensures.still; touches = c.follow.ensures.touches })
 
 pub returns-in-Refused-clause-failed : goal.returns-in-Refused-clause-failed
 returns-in-Refused-clause-failed g c =
     plan-failed c.args.engine.now c.follow.new.engine (g.D.Device.disk c.args.dev.now) (g.D.Device.disk c.args.dev.now) (g.D.Device.disk c.follow.new.dev) (record { item = script.RestoreDatabase c.args.database.now c.args.units.now c.args.disk.now c.args.options.now; line = c.args.line }) c.args.now (plan.Refused c.in-Refused.rule)
-    (refused-plan c.args.engine.now (FindsSet (position_of c.args.options.now.file) c.args.disk.now (Err c.args.rule)) (Err c.args.rule) (record { item = script.RestoreDatabase c.args.database.now c.args.units.now c.args.disk.now c.args.options.now; line = c.args.line }) c.args.now c.in-Refused.rule (subst (λ (p : RestorePlan). IsRestorePlanned c.args.engine.now (FindsSet (position_of c.args.options.now.file) c.args.disk.now (Err c.args.rule)) (Err c.args.rule) (record { item = script.RestoreDatabase c.args.database.now c.args.units.now c.args.disk.now c.args.options.now; line = c.args.line }) c.args.now p) c.in-Refused.is c.in_ok-plan.ensures.plans))
+    (refused-plan c.args.engine.now (FindsSet (position_of c.args.options.now.file) c.args.disk.now (Err c.args.rule)) c.args.options.now (Err c.args.rule) (record { item = script.RestoreDatabase c.args.database.now c.args.units.now c.args.disk.now c.args.options.now; line = c.args.line }) c.args.now c.in-Refused.rule (subst (λ (p : RestorePlan). IsRestorePlanned c.args.engine.now (FindsSet (position_of c.args.options.now.file) c.args.disk.now (Err c.args.rule)) c.args.options.now (Err c.args.rule) (record { item = script.RestoreDatabase c.args.database.now c.args.units.now c.args.disk.now c.args.options.now; line = c.args.line }) c.args.now p) c.in-Refused.is c.in_ok-plan.ensures.plans))
     (refused-knows c.args.engine.now (g.D.Device.disk c.args.dev.now) (g.D.Device.disk c.args.dev.now) (FindsSet (position_of c.args.options.now.file) c.args.disk.now (Err c.args.rule)) (record { item = script.RestoreDatabase c.args.database.now c.args.units.now c.args.disk.now c.args.options.now; line = c.args.line }) c.args.now c.in-Refused.rule _ (λ t. g.met.D.Device.lawful t c.args.dev.now) (λ told. nothing_yet (g.D.Device.disk c.args.dev.now)) (λ told w stands. finds-none (position_of c.args.options.now.file) c.args.disk.now c.args.rule w (c.requires.refused told w stands)) (λ w sound m. c.statements_do_what_they_may.ensures.may w _ _ _ sound m))
     c.follow.result (record { replies = c.follow.ensures.replies; does = c.follow.ensures.does; crash = c.follow.ensures.crash; still = c.follow.ensures.still; touches = c.follow.ensures.touches })
 
