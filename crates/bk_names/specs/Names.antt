@@ -3,6 +3,7 @@ use Rattle.std.specs.Prelude.{◌≡◌, ◌⊎◌, ℕ, List}
 use Rattle.bk_bytes.specs.Field.{AreBytes}
 use Rattle.bk_ids.specs.declared.guid.Guid.{Guid}
 use Rattle.bk_master.specs.Master.{IsOwn as IsOfMaster}
+use Rattle.bk_msdb.specs.Msdb.{msdb_file}
 use Rattle.bk_segments.specs.Files.{IsOwn as IsOfThisLog}
 use Rattle.bk_side.specs.Names.{data_file, side_file}
 use Rattle.bk_volume.specs.Names.{medium_file, staging_file}
@@ -27,6 +28,10 @@ IsMediumFile name = (path : List ℕ) × AreBytes path × (name ≡ medium_file 
 abbrev pub IsStagingFile : List ℕ → Type 0
 IsStagingFile name = (set : Guid) × (name ≡ staging_file set)
 
+-- the file of the rows of msdb
+abbrev pub IsRowsFile : List ℕ → Type 0
+IsRowsFile name = name ≡ msdb_file
+
 -- one of the instance's own two, or of these
 abbrev pub IsOfInstance : List ℕ → Type 0
-IsOfInstance name = IsOfMaster name ⊎ (IsOfLog name ⊎ (IsSideFile name ⊎ (IsDataFile name ⊎ (IsMediumFile name ⊎ IsStagingFile name))))
+IsOfInstance name = IsOfMaster name ⊎ (IsOfLog name ⊎ (IsSideFile name ⊎ (IsDataFile name ⊎ (IsMediumFile name ⊎ (IsStagingFile name ⊎ IsRowsFile name)))))

@@ -7,7 +7,7 @@ ghost use Rattle.bk_master.specs.Master.{IsOwn as IsOfMaster};
 ghost use Rattle.bk_segments.specs.Files.{control_file, segment_file};
 ghost use Rattle.bk_side.specs.Names.{data_file, side_file};
 ghost use Rattle.bk_volume.specs.Names.{medium_file};
-ghost use Rattle.bk_names.specs.Names.{IsOfLog, IsSideFile, IsDataFile, IsMediumFile, IsStagingFile, IsOfInstance};
+ghost use Rattle.bk_names.specs.Names.{IsOfLog, IsSideFile, IsDataFile, IsMediumFile, IsStagingFile, IsRowsFile, IsOfInstance};
 
 use bk_ids::Guid;
 use bk_segments::control_name;
@@ -33,7 +33,8 @@ impl Names for Ours {
                 || is_side_file(alloc, name)?
                 || is_data_file(alloc, name)?
                 || is_medium_file(alloc, name)?
-                || is_staging_file(alloc, name)?,
+                || is_staging_file(alloc, name)?
+                || is_rows_file(name),
         )
     }
 }
@@ -43,6 +44,13 @@ fn is_of_master(name: &str) -> bool
     ensures { result ≡ true → IsOfMaster name.now }
 {
     name == "sqlbak.made" || name == "sqlbak.control"
+}
+
+// Whether a name is that of the file of the rows of msdb.
+fn is_rows_file(name: &str) -> bool
+    ensures { result ≡ true → IsRowsFile name.now }
+{
+    name == "sqlbak.msdb"
 }
 
 // Whether a name is one of a log's.
