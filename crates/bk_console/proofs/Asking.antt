@@ -18,6 +18,9 @@ use Rattle.bk_machine.specs.World.{World}
 use Rattle.bk_restarts.specs.Crashes.{CutIn}
 use Rattle.bk_stores.specs.Standing.{AreStanding}
 use Rattle.bk_stores.specs.Stores.{IsOurs as IsOfStores}
+use Rattle.bk_executing.specs.EngineRows.{rows_in}
+use Rattle.bk_msdb.specs.Laws.{shows_same}
+use Rattle.bk_msdb.specs.Msdb.{msdb_file}
 use Rattle.bk_volume.specs.Names.{medium_file}
 use Rattle.bk_report.specs.Listing.{listing_text}
 use Rattle.bk_world.specs.Text.{reply_text}
@@ -94,7 +97,11 @@ told-stands e before after w bytes tells is = record {
   hosts = is.hosts;
   hosting = hosting-stays e.hosting is.hosted (keeps_by_telling {names = IsOfStores} tells) is.hosting;
   media = media-in w None before.files after.files (λ path bytes. tells.files (medium_file path)) is.media;
-  calm = λ path bytes. durable_kept {names = λ (name : List ℕ). Unit {0}} (medium_file path) tt (keeps_by_telling tells) (is.calm path bytes);
+  calm = record {
+    media = λ path bytes. durable_kept {names = λ (name : List ℕ). Unit {0}} (medium_file path) tt (keeps_by_telling tells) (is.calm.media path bytes);
+    rows = shows_same before.files after.files (rows_in w) (tells.files msdb_file) is.calm.rows;
+    durable = durable_kept {names = λ (name : List ℕ). Unit {0}} msdb_file tt (keeps_by_telling tells) is.calm.durable;
+  };
 }
 
 -- One statement.

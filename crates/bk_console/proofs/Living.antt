@@ -21,6 +21,7 @@ use Rattle.bk_machine.specs.World.{World, empty_world, opened, ended}
 use Rattle.bk_master.specs.declared.record.Own.{Own}
 use Rattle.bk_master.specs.Laws.{record_is_instance}
 use Rattle.bk_master.specs.Master.{IsNotMade, IsNoInstance, fresh_own}
+use Rattle.bk_msdb.specs.Msdb.{msdb_file}
 use Rattle.bk_restarts.specs.Events.{HappenOn, StandsAtRest}
 use Rattle.bk_volume.specs.Names.{medium_file}
 use Rattle.bk_report.specs.Listing.{listing_text}
@@ -38,7 +39,7 @@ pub record EventLaws : Type 0 where
   pub any : (number : ℕ) (f g : Files) (w v : World) → HappenOn f w g v → StandsAtRest number f w → StandsAtRest number g v
   pub of_world : (f g : Files) (w v : World) → HappenOn f w g v → Happen w v
   pub closed : (old new : World) → old.closed ≡ true → Happen old new → new.closed ≡ true
-  pub empty : (number : ℕ) (files : Files) → IsNotMade files → ((path : List ℕ) → AreBytes path → files (medium_file path) ≡ None) → StandsAtRest number files (empty_world number)
+  pub empty : (number : ℕ) (files : Files) → IsNotMade files → ((path : List ℕ) → AreBytes path → files (medium_file path) ≡ None) → files msdb_file ≡ None → StandsAtRest number files (empty_world number)
 
 -- files that stand for a world under one number do so under each that may be asked for
 stands-under : (number : ℕ) (files : Files) (w : World) → Stands number files w → (other : ℕ) → MayAsk other files w → Stands other files w
@@ -52,6 +53,7 @@ stands-under number files w stands other asks = record {
   hosts = stands.hosts;
   holds = holds stands.holds;
   media = stands.media;
+  rows = stands.rows;
   finished = stands.finished;
 }
   where
@@ -121,7 +123,7 @@ happen-lives laws f g w v live closed happen =
 
 pub empty-lives : EventLaws → (number : ℕ) (files : Files) → IsEmpty files → Live files (empty_world number)
 empty-lives laws number files is =
-    let at = laws.empty number files is.not_made is.no_media in
+    let at = laws.empty number files is.not_made is.no_media is.no_rows in
     lives-for number files (empty_world number) (nothing number) at.stands
 
 -- Calls.

@@ -110,8 +110,9 @@ ours-touched name (inl master) = inl (inl master)
 ours-touched name (inr (inl log)) = inl (inr (log.0, [], inl log.1))
 ours-touched name (inr (inr (inl side))) = inl (inr (side.0, [], inr (inl side.1)))
 ours-touched name (inr (inr (inr (inl data')))) = inl (inr (0, (record { path = data'.0; pages = 0 }) ∷ [], inr (inr (1, ap Some (sym data'.1)))))
-ours-touched name (inr (inr (inr (inr (inl medium))))) = inr (inr (medium.0, tt, medium.1, medium.2))
-ours-touched name (inr (inr (inr (inr (inr staging))))) = inr (inl staging)
+ours-touched name (inr (inr (inr (inr (inl medium))))) = inr (inr (inl (medium.0, tt, medium.1, medium.2)))
+ours-touched name (inr (inr (inr (inr (inr (inl staging)))))) = inr (inl staging)
+ours-touched name (inr (inr (inr (inr (inr (inr rows)))))) = inr (inr (inr rows))
 
 pub keeps-ours : {P : Files → Type 0} {a b : Disk} → Effect IsOfInstance P a b → KeepsFiles NotOurs a b
 keeps-ours effect = keeps_by_effect (λ name off own. off (ours-touched name own)) effect

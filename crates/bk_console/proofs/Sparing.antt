@@ -10,7 +10,7 @@ use Rattle.bk_executing.specs.EngineStands.{Kept, StandsFor}
 use Rattle.bk_executing.specs.EngineTouched.{IsTouched, TouchesOnly}
 use Rattle.bk_executing.specs.Executing.{Failed, Rests}
 use Rattle.bk_items.specs.declared.item.ScriptEntry.{ScriptEntry}
-use Rattle.bk_machine.specs.Acts.{Act, done, done_all, turned, seated, created, dropped, logged, medium_made, set_drawn, set_sealed, based, replaced, restored, recovered}
+use Rattle.bk_machine.specs.Acts.{Act, done, done_all, turned, seated, created, dropped, logged, medium_made, set_drawn, noted, set_sealed, based, replaced, restored, recovered}
 use Rattle.bk_machine.specs.Machine.{May}
 use Rattle.bk_machine.specs.Outcome.{Outcome}
 use Rattle.bk_machine.specs.Run.{behind_all}
@@ -71,7 +71,8 @@ spares-more {written} {wider} within one = spares-wider within-touched one
     within-touched : (name : List ℕ) → IsTouched written name → IsTouched wider name
     within-touched name (inl store) = inl store
     within-touched name (inr (inl set)) = inr (inl set)
-    within-touched name (inr (inr medium)) = inr (inr (medium.0, within medium.0 medium.1, medium.2, medium.3))
+    within-touched name (inr (inr (inl medium))) = inr (inr (inl (medium.0, within medium.0 medium.1, medium.2, medium.3)))
+    within-touched name (inr (inr (inr rows))) = inr (inr (inr rows))
 
 -- One statement more.
 
@@ -99,6 +100,7 @@ turns-idle w (dropped name ∷ acts) all idle = absurd all.0
 turns-idle w (logged name said transactions ∷ acts) all idle = absurd all.0
 turns-idle w (medium_made path ∷ acts) all idle = absurd all.0
 turns-idle w (set_drawn ∷ acts) all idle = absurd all.0
+turns-idle w (noted row ∷ acts) all idle = absurd all.0
 turns-idle w (set_sealed path header ∷ acts) all idle = absurd all.0
 turns-idle w (based name header ∷ acts) all idle = absurd all.0
 turns-idle w (replaced name header ∷ acts) all idle = absurd all.0

@@ -4,6 +4,7 @@ use Rattle.bk_bytes.specs.Field.{AreBytes}
 use Rattle.bk_device.specs.Disk.{Files, Disk, IsSettled, MayLeave}
 use Rattle.bk_executing.specs.EngineLoading.{Stands}
 use Rattle.bk_master.specs.Master.{IsNoInstance, IsNotMade}
+use Rattle.bk_msdb.specs.Msdb.{msdb_file}
 use Rattle.bk_restarts.specs.Events.{HappenOn}
 use Rattle.bk_machine.specs.Acts.{Act, done_all}
 use Rattle.bk_machine.specs.Closing.{AreClosing}
@@ -20,10 +21,11 @@ use Rattle.bk_console.specs.Words.{WordOptions}
 abbrev pub SameFiles : Files → Files → Type 0
 SameFiles files others = (name : List ℕ) → others name ≡ files name
 
--- no instance is made, and there is no medium
+-- no instance is made, and there is no medium and no file of the rows of msdb
 pub record IsEmpty (files : Files) : Type 0 where
   pub not_made : IsNotMade files
   pub no_media : (path : List ℕ) → AreBytes path → files (medium_file path) ≡ None
+  pub no_rows : files msdb_file ≡ None
 
 -- words may ask for this number: for any where the instance is made, and else for that of the world
 abbrev pub MayAsk : ℕ → Files → World → Type 0
