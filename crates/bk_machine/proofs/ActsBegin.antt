@@ -1,5 +1,5 @@
 -- Databases that are made or recovered: each goes on on a branch that is drawn for it.
-use Rattle.std.proofs.Common.{◌≡◌, ◌≢◌, ◌⊎◌, ◌<◌, ◌≤◌, inl, inr, ℕ, ◌+◌, ◌-◌, Bool, true, false, cond, List, [], ◌∷◌, ◌++◌, length, Some, refl, sym, ◌∙◌, ap, subst, filter, arith, length-append}
+use Rattle.std.proofs.Common.{◌≡◌, ◌≢◌, ◌⊎◌, ◌<◌, ◌≤◌, inl, inr, ℕ, ◌+◌, ◌-◌, Bool, true, false, cond, List, [], ◌∷◌, ◌++◌, length, Some, refl, sym, ◌∙◌, ap, subst, filter, arith, length-append, None}
 use Rattle.std.specs.Prelude.{Contains, count_by, nat_le}
 use Rattle.std.specs.List.{AllByRecursion}
 use Rattle.std.proofs.lemmas.List.{append-nil}
@@ -21,13 +21,15 @@ use Rattle.bk_world.specs.ReadingLaws.{entries-more}
 use Rattle.bk_world.specs.Records.{Counts, Deed, Logged, Said, more, numbered, database_made, table_made, begun, written, committed, rolled_back, undone, checkpointed, stamped, model_set, loaded, recovered}
 use Rattle.bk_world.specs.Telling.{entries, entries_from, entry_of, model, tables}
 use Rattle.bk_world.specs.BranchLaws.{branch_at-last}
+use Rattle.bk_machine.specs.JobLaws.{job-none, without-one}
 use Rattle.bk_machine.specs.Acts.{Recovery, created, creation_said, done, drawn, forked, goes_online, gone_online, new_database, new_line}
 use Rattle.bk_machine.specs.Checks.{last_number, most_branches}
 use Rattle.bk_machine.specs.Fits.{FitsLog, FitsSet}
 use Rattle.bk_machine.specs.MayDo.{MayCreate, MayRecover}
-use Rattle.bk_machine.specs.Sound.{AreApart, HasFew, KeepsAll, AreNumbered, AreOpen, ArePlaced, Differ, IsIdle, IsLog, IsNotToCome, IsPassed, IsPlaced, IsSound, IsSoundLine, IsWholeDatabase, OpenBy, has_begin, storage_of}
+use Rattle.bk_machine.specs.Sound.{AreApart, HasFew, KeepsAll, AreNumbered, AreOpen, ArePlaced, Differ, IsIdle, IsLog, IsNotToCome, IsPassed, IsPlaced, IsSound, IsSoundLine, IsWholeDatabase, OpenBy, has_begin, storage_of, IsFitJob, JobIs}
 use Rattle.bk_machine.specs.statements.Restore.{IsOfRecovery, Recovers, is_recovery_deed}
 use Rattle.bk_world.specs.declared.transaction.Open.{Open}
+use Rattle.bk_machine.specs.declared.job.Job.{Job}
 use Rattle.bk_machine.specs.World.{World, Database, database_named, log_of, log_to, most_sessions}
 use Rattle.bk_machine.proofs.ActsLogs.{log-of-front, log-of-more, tables-quiet}
 use Rattle.bk_machine.proofs.Fitting.{fits-front, fits-told}
@@ -59,14 +61,16 @@ module _ (w next : World) (follows : Follows w next) (path : List Branch) (at : 
   held d passed k pos (inr behind) = inl (refl, branch_at-last (forked path at branch) at k (starts-forked path at branch) behind)
 
   pub on_branch-whole : (d : Database) → IsLog d.files (more (log_below w.history path at) at said) (at + length said) → IsPath (forked path at branch) → AllByRecursion (λ (b : Branch). IsNotToCome w b.guid) path
-      → IsNotToCome next branch → IsNotToCome next d.family → ((k : ℕ) → 0 < k → k < at → IsPassed w.history (branch_at path k) k) → Anchor at (numbered at said)
+      → IsNotToCome next branch → IsNotToCome next d.family → JobIs (λ (job : Job). IsNotToCome next job.set) d.job → d.kept ≤ at → ((k : ℕ) → 0 < k → k < at → IsPassed w.history (branch_at path k) k) → Anchor at (numbered at said)
       → FitsSet (storage_of d) (forked path at branch) (more (log_below w.history path at) at said) → IsWholeDatabase next (on_branch d path at branch said)
-  on_branch-whole d log is_path drawn own family passed anchor fits = record {
+  on_branch-whole d log is_path drawn own family job low passed anchor fits = record {
     log = subst (λ rs. IsLog d.files rs (at + length said)) (sym (on_branch-log d)) log;
     path = is_path;
     starts = all_mapped (λ (b : Branch). b.start ≤ at) (λ (b : Branch). b.start < at + length said) (λ b le. omega (arith, le, some)) (forked path at branch) (starts-forked path at branch);
     drawn = all-forked (IsNotToCome next) path at branch (path-later w next path follows.instance follows.counter drawn) own;
+    kept = omega (arith, low);
     family = family;
+    job = job;
     held = λ k pos lt. held d passed k pos (before-or-not k at);
     online = λ up. record {
       goes_on = subst (λ lines. MayGoOn lines (forked path at branch) (at + length said)) (sym history) (goes_on-forked w.history path at branch said);
@@ -76,14 +80,17 @@ module _ (w next : World) (follows : Follows w next) (path : List Branch) (at : 
         anchor.2,
         all_mapped (λ (b : Branch). b.start ≤ at) (λ (b : Branch). b.start ≤ anchor.0.lsn) (λ b le. omega (arith, le, anchor.3)) (forked path at branch) (starts-forked path at branch),
       );
+      holds = (anchor.0, subst (λ rs. Contains rs anchor.0) (sym (on_branch-log d)) (Contains-append_right (log_below w.history path at) (numbered at said) anchor.0 anchor.1), anchor.2, omega (arith, low, anchor.3));
     };
     fits = subst (FitsSet (storage_of d) (forked path at branch)) (sym (on_branch-log d)) fits;
   }
 
-  pub on_branch-open : (d : Database) → AreOpen (more (log_below w.history path at) at said) (at + length said) d.transactions → OpenBy next.history (on_branch d path at branch said)
-  on_branch-open d opens = record {
+  pub on_branch-open : (d : Database) → AreOpen (more (log_below w.history path at) at said) (at + length said) d.transactions → d.job ≡ None → d.transactions ≡ [] → OpenBy next.history (on_branch d path at branch said)
+  on_branch-open d opens none closed = record {
     online = λ up. subst (λ rs. AreOpen rs (at + length said) d.transactions) (sym (on_branch-log d)) opens;
     offline = λ off. absurd (off refl);
+    job = job-none (IsFitJob (log_of next.history (on_branch d path at branch said)) (at + length said) d.transactions) d.job none;
+    keeps = record { begins = subst (λ (ts : List Open). AllByRecursion (λ (t : Open). d.kept ≤ t.begin) ts) (sym closed) tt; job = job-none (λ (j : Job). d.kept ≤ j.first) d.job none };
   }
 
   -- others stay, and write elsewhere
@@ -92,8 +99,8 @@ module _ (w next : World) (follows : Follows w next) (path : List Branch) (at : 
       database-stays w next follows o
       (λ up. subst (λ lines. MayGoOn lines o.path o.end) (sym history) (goes_on-beside (new_line branch at said) w.history o.path o.end (not-last branch o.path elsewhere) (is.online up).goes_on)) is
 
-  pub others-differ : (d o : Database) → lowered d.name ≢ lowered o.name → AllByRecursion (λ (b : Branch). is_guid branch b.guid ≡ false) o.path → Differ (on_branch d path at branch said) o
-  others-differ d o names elsewhere = record { names = names; branches = λ up other same. not-last branch o.path elsewhere (sym same ∙ last-forked path at branch) }
+  pub others-differ : (d o : Database) → d.job ≡ None → lowered d.name ≢ lowered o.name → AllByRecursion (λ (b : Branch). is_guid branch b.guid ≡ false) o.path → Differ (on_branch d path at branch said) o
+  others-differ d o none names elsewhere = record { names = names; branches = λ up other same. not-last branch o.path elsewhere (sym same ∙ last-forked path at branch); sets = λ job some. without-one d.job job none some }
 
 -- CREATE DATABASE.
 module _ (w : World) (c : Creation) (is : IsSound w) (may : MayCreate w c) where
@@ -130,13 +137,13 @@ module _ (w : World) (c : Creation) (is : IsSound w) (may : MayCreate w c) where
   created-whole : IsWholeDatabase (done w (created c)) (new_database c)
   unfolding done new_database
   created-whole =
-      on_branch-whole w (done w (created c)) created-follows [] 1 c.branch (creation_said c) refl tt (omega arith) (new_database c) created-log (refl, tt) tt branch-later family-later
+      on_branch-whole w (done w (created c)) created-follows [] 1 c.branch (creation_said c) refl tt (omega arith) (new_database c) created-log (refl, tt) tt branch-later family-later tt (omega arith)
       (λ k pos lt. absurd (omega (arith, pos, lt))) (record { lsn = 1; begin = 0; deed = database_made c.time c.family c.branch }, (0, omega arith, refl), refl, omega arith) created-fits
 
   created-open : OpenBy (done w (created c)).history (new_database c)
   unfolding done new_database log_below pending
   created-open =
-      on_branch-open w (done w (created c)) created-follows [] 1 c.branch (creation_said c) refl tt (omega arith) (new_database c) (record { pending = tt; loads = tt; apart = tt; begins = tt; few = tt; seats = tt; kept = tt; numbers = omega arith })
+      on_branch-open w (done w (created c)) created-follows [] 1 c.branch (creation_said c) refl tt (omega arith) (new_database c) (record { pending = tt; loads = tt; apart = tt; begins = tt; few = tt; seats = tt; kept = tt; numbers = omega arith }) refl refl
 
   created-others : (dbs : List Database) → AllByRecursion (IsWholeDatabase w) dbs → AllByRecursion (IsWholeDatabase (done w (created c))) dbs
   unfolding done
@@ -148,7 +155,7 @@ module _ (w : World) (c : Creation) (is : IsSound w) (may : MayCreate w c) where
   unfolding done new_database
   created-differs dbs all names =
       all_both (IsWholeDatabase w) (λ (o : Database). lowered o.name ≢ lowered c.name) (λ o. Differ o (new_database c))
-      (λ o one apart. differ-sym (others-differ w (done w (created c)) created-follows [] 1 c.branch (creation_said c) refl tt (omega arith) (new_database c) o (λ same. apart (sym same)) (new-there o.path one.drawn))) dbs all names
+      (λ o one apart. differ-sym (others-differ w (done w (created c)) created-follows [] 1 c.branch (creation_said c) refl tt (omega arith) (new_database c) o refl (λ same. apart (sym same)) (new-there o.path one.drawn))) dbs all names
 
   created-line : IsSoundLine (done w (created c)) (new_line c.branch 1 (creation_said c))
   created-line = record { drawn = branch-later; rises = rise-numbered 0 1 (creation_said c) (omega arith) }
@@ -333,14 +340,14 @@ module _ (w : World) (db : Database) (r : Recovery) (is : IsSound w) (there : da
   unfolding goes_online online-there
   whole-there =
       on_branch-whole w (goes_online w db r) recovered-follows db.path r.at r.branch r.said refl (new-to db.path own.drawn) some-said (online-there db) log-behind (path-forked db.path r.at r.branch may.some own.path) own.drawn drawn-later
-      (not_to_come-later w (goes_online w db r) db.family recovered-follows.instance recovered-follows.counter own.family) passed-there
+      (not_to_come-later w (goes_online w db r) db.family recovered-follows.instance recovered-follows.counter own.family) (job-none (λ (job : Job). IsNotToCome (goes_online w db r) job.set) db.job idle.job) (omega arith) passed-there
       (find-anchor r.branch r.at r.at r.said (omega arith) recovers-there.each (let one : length (filter is_recovery_deed r.said) ≡ 1 = length-filter is_recovery_deed r.said ∙ recovers-there.one in omega (arith, one))) fits-there
 
   open-there : OpenBy (goes_online w db r).history (online-there db)
   unfolding goes_online online-there
   open-there =
       on_branch-open w (goes_online w db r) recovered-follows db.path r.at r.branch r.said refl (new-to db.path own.drawn) some-said (online-there db)
-      (none-open (more (log_below w.history db.path r.at) r.at r.said) (r.at + length r.said) db.transactions recovers-there.settles idle.transactions may.numbers)
+      (none-open (more (log_below w.history db.path r.at) r.at r.said) (r.at + length r.said) db.transactions recovers-there.settles idle.transactions may.numbers) idle.job idle.transactions
 
   -- it is found, and its log is what it was up to there with this behind it
   pub recovered-log : log_of (goes_online w db r).history (gone_online (model (log_to w.history db r.at)) r db) ≡ more (log_to w.history db r.at) r.at r.said
@@ -358,7 +365,7 @@ module _ (w : World) (db : Database) (r : Recovery) (is : IsSound w) (there : da
   recovered-differs : (o : Database) → IsWholeDatabase w o → Differ db o → Differ (online-there db) o
   unfolding goes_online online-there
   recovered-differs o one differ =
-      others-differ w (goes_online w db r) recovered-follows db.path r.at r.branch r.said refl (new-to db.path own.drawn) some-said (online-there db) o differ.names (new-to o.path one.drawn)
+      others-differ w (goes_online w db r) recovered-follows db.path r.at r.branch r.said refl (new-to db.path own.drawn) some-said (online-there db) o idle.job differ.names (new-to o.path one.drawn)
 
   both : AllByRecursion (λ o. IsWholeDatabase w o × OpenBy w.history o) w.databases
   both = all_both (IsWholeDatabase w) (OpenBy w.history) (λ o. IsWholeDatabase w o × OpenBy w.history o) (λ o one opens. (one, opens)) w.databases is.whole.databases is.opens

@@ -1,5 +1,5 @@
 -- Acts that say nothing leave a sound world: databases go or are based or restored or replaced, and media grow.
-use Rattle.std.proofs.Common.{◌≡◌, ◌≤◌, inr, ℕ, Bool, true, false, cond, List, [], ◌∷◌, Option, Some, refl, sym, subst, arith}
+use Rattle.std.proofs.Common.{◌≡◌, ◌≤◌, inr, ℕ, Bool, true, false, cond, List, [], ◌∷◌, Option, Some, refl, sym, subst, arith, None}
 use Rattle.std.specs.Prelude.{not}
 use Rattle.std.specs.List.{AllByRecursion}
 use Rattle.std.specs.Str.{bytes_eq}
@@ -11,7 +11,8 @@ use Rattle.bk_world.specs.Lines.{Grew, MayGoOn}
 use Rattle.bk_lemmas.specs.Lists.{all_filter, all_joined}
 use Rattle.bk_world.specs.Medium.{Reading, readable, not_media, medium, medium_at, without_medium}
 use Rattle.bk_machine.specs.declared.history_row.HistoryRow.{HistoryRow}
-use Rattle.bk_machine.specs.Acts.{based, based_on, done, dropped, medium_made, set_drawn, noted, replaced, restored, seated, set_sealed, taken_over, turned, units_in, with_slot}
+use Rattle.bk_machine.specs.Acts.{based, based_on, done, dropped, medium_made, set_drawn, noted, replaced, restored, seated, set_sealed, taken_over, turned, units_in, with_slot, readied}
+use Rattle.bk_machine.specs.JobLaws.{without-one}
 use Rattle.bk_machine.specs.Sound.{AreDifferent, IsOnce, IsSound, IsSoundLine, IsSoundReading, IsSoundSet, IsSoundSlot, IsWhole, IsWholeDatabase, OpenBy}
 use Rattle.bk_machine.specs.World.{World, Database, log_of, most_sessions}
 use Rattle.bk_machine.proofs.ActsStay.{Follows, database-stays, lines-stay, media-stay, open-retouched, whole-retouched}
@@ -19,7 +20,7 @@ use Rattle.bk_machine.proofs.Histories.{grew-same}
 use Rattle.bk_machine.specs.NamedLaws.{all-placed, all-with, all-without, different-placed, different-with, different-without}
 
 -- A world with the history of another: each of its databases could stand in the other, and each of its media.
-record Plain (old new : World) : Type 0 where
+pub record Plain (old new : World) : Type 0 where
   pub instance : new.instance ≡ old.instance
   pub counter : old.counter ≤ new.counter
   pub history : new.history ≡ old.history
@@ -29,10 +30,10 @@ record Plain (old new : World) : Type 0 where
   pub media : AllByRecursion (λ (m : List ℕ × Reading). IsSoundReading old m.1) new.media
   pub seat : new.session ≤ most_sessions
 
-plain-follows : (old new : World) → Plain old new → Follows old new
+pub plain-follows : (old new : World) → Plain old new → Follows old new
 plain-follows old new plain = record { instance = plain.instance; counter = plain.counter; grew = subst (λ h. Grew old.history h) (sym plain.history) (grew-same old.history) }
 
-plain-sound : (old new : World) → Plain old new → IsWhole old → IsSound new
+pub plain-sound : (old new : World) → Plain old new → IsWhole old → IsSound new
 plain-sound old new plain whole =
     let on : Follows old new = plain-follows old new plain in record {
       whole = record {
@@ -77,6 +78,18 @@ module _ (w : World) (is : IsSound w) where
 
   pub seated-follows : (session : ℕ) → session ≤ most_sessions → Follows w (done w (seated session))
   seated-follows session seat = plain-follows w (done w (seated session)) (seated-plain session seat)
+
+  -- `:start`
+
+  readied-plain : (starts : Bool) → Plain w (done w (readied starts))
+  unfolding done
+  readied-plain starts = record { instance = refl; counter = omega arith; history = refl; databases = is.whole.databases; different = is.whole.different; opens = is.opens; media = is.whole.media; seat = is.seat }
+
+  pub readied-sound : (starts : Bool) → IsSound (done w (readied starts))
+  readied-sound starts = plain-sound w (done w (readied starts)) (readied-plain starts) is.whole
+
+  pub readied-follows : (starts : Bool) → Follows w (done w (readied starts))
+  readied-follows starts = plain-follows w (done w (readied starts)) (readied-plain starts)
 
   -- DROP DATABASE
 
@@ -204,10 +217,10 @@ module _ (w : World) (is : IsSound w) where
         counter = omega arith;
         history = refl;
         databases = all-with (IsWholeDatabase w) (IsWholeDatabase w) w.databases name (based_on header) is.whole.databases
-            (λ o one. whole-retouched w o (next o).archive o.kept o.checkpoint (next o).chain (next o).began (next o).base o.units one) (λ o one. one);
-        different = different-with w.databases name (based_on header) (λ o other differ. record { names = differ.names; branches = differ.branches }) is.whole.different;
+            (λ o one. whole-retouched w o (next o).archive o.kept o.checkpoint (next o).chain (next o).began (next o).base o.units refl one) (λ o one. one);
+        different = different-with w.databases name (based_on header) (λ o other differ. record { names = differ.names; branches = differ.branches; sets = differ.sets }) is.whole.different;
         opens = all-with (OpenBy w.history) (OpenBy w.history) w.databases name (based_on header) is.opens
-            (λ o one. open-retouched w o (next o).archive o.kept o.checkpoint (next o).chain (next o).began (next o).base o.units one) (λ o one. one);
+            (λ o one. open-retouched w o (next o).archive o.kept o.checkpoint (next o).chain (next o).began (next o).base o.units refl one) (λ o one. one);
         media = is.whole.media;
         seat = is.seat;
       }
@@ -227,10 +240,10 @@ module _ (w : World) (is : IsSound w) where
     counter = omega arith;
     history = refl;
     databases = all-with (IsWholeDatabase w) (IsWholeDatabase w) w.databases name _ is.whole.databases
-        (λ o one. whole-retouched w o o.archive o.kept o.checkpoint o.chain o.began o.base (units_in (state.Restoring base redo) o.units) one) (λ o one. one);
-    different = different-with w.databases name _ (λ o other differ. record { names = differ.names; branches = differ.branches }) is.whole.different;
+        (λ o one. whole-retouched w o o.archive o.kept o.checkpoint o.chain o.began o.base (units_in (state.Restoring base redo) o.units) refl one) (λ o one. one);
+    different = different-with w.databases name _ (λ o other differ. record { names = differ.names; branches = differ.branches; sets = differ.sets }) is.whole.different;
     opens = all-with (OpenBy w.history) (OpenBy w.history) w.databases name _ is.opens
-        (λ o one. open-retouched w o o.archive o.kept o.checkpoint o.chain o.began o.base (units_in (state.Restoring base redo) o.units) one) (λ o one. one);
+        (λ o one. open-retouched w o o.archive o.kept o.checkpoint o.chain o.began o.base (units_in (state.Restoring base redo) o.units) refl one) (λ o one. one);
     media = is.whole.media;
     seat = is.seat;
   }
@@ -252,15 +265,17 @@ module _ (w : World) (is : IsSound w) where
     log = set.log;
     path = set.path;
     starts = set.starts;
+    kept = omega arith;
     drawn = set.drawn;
     family = set.family;
+    job = tt;
     held = λ k pos lt. inr (set.held k pos lt);
     online = λ up. none-online up;
     fits = set.fits;
   }
 
   taken_over-open : (name : List ℕ) (header : Header) → OpenBy w.history (taken_over name header)
-  taken_over-open name header = record { online = λ up. none-online up; offline = λ off. record { job = refl; transactions = refl } }
+  taken_over-open name header = record { online = λ up. none-online up; offline = λ off. record { job = refl; transactions = refl }; job = tt; keeps = record { begins = tt; job = tt } }
 
   replaced-plain : (name : List ℕ) (header : Header) → IsSoundSet w header → Plain w (done w (replaced name header))
   unfolding done
@@ -269,7 +284,7 @@ module _ (w : World) (is : IsSound w) where
     counter = omega arith;
     history = refl;
     databases = all-placed (IsWholeDatabase w) (IsWholeDatabase w) w.databases (taken_over name header) is.whole.databases (taken_over-whole name header set) (λ o one. one);
-    different = different-placed w.databases (taken_over name header) is.whole.different (λ o apart. record { names = λ same. apart (sym same); branches = λ up. none-online up });
+    different = different-placed w.databases (taken_over name header) is.whole.different (λ o apart. record { names = λ same. apart (sym same); branches = λ up. none-online up; sets = λ job some. without-one None job refl some });
     opens = all-placed (OpenBy w.history) (OpenBy w.history) w.databases (taken_over name header) is.opens (taken_over-open name header) (λ o one. one);
     media = is.whole.media;
     seat = is.seat;

@@ -2,7 +2,7 @@
 use Rattle.std.proofs.Common.{◌≡◌, ◌⊎◌, ◌<◌, ◌≤◌, inl, inr, ℕ, ◌+◌, List, [], ◌∷◌, length, Some, refl, sym, ◌∙◌, ap, subst, arith}
 use Rattle.std.specs.Prelude.{Contains}
 use Rattle.std.specs.List.{AllByRecursion}
-use Rattle.std.proofs.lemmas.List.Elements.{Contains-append_left}
+use Rattle.std.proofs.lemmas.List.Elements.{Contains-append_left, Contains-append_right, Contains-push}
 use Rattle.bk_ids.specs.declared.path.Branch.{Branch}
 use Rattle.bk_ids.specs.declared.record.RecoveryModel.{RecoveryModel}
 use Rattle.bk_ids.specs.Path.{branch_at, last_branch}
@@ -13,11 +13,15 @@ use Rattle.bk_world.specs.Records.{Deed, Logged, Said, more, numbered, database_
 use Rattle.bk_world.specs.Telling.{model}
 use Rattle.bk_world.specs.BranchLaws.{branch_at-last}
 use Rattle.bk_world.specs.SaidLaws.{GoesOn-said, records-said}
+use Rattle.bk_world.specs.Says.{alone}
+use Rattle.bk_machine.proofs.Keeping.{checkpoint-end, kept-is}
+use Rattle.bk_machine.specs.JobLaws.{job-on}
 use Rattle.bk_machine.specs.Acts.{gone_on, kept_after, pointed, pointed_by, says}
 use Rattle.bk_machine.specs.Fits.{FitsSet}
 use Rattle.bk_machine.specs.MayDo.{MaySay}
-use Rattle.bk_machine.specs.Sound.{AreOpen, Differ, IsLog, IsOnce, IsOnline, IsSoundLine, IsWhole, IsWholeDatabase, OpenBy, storage_of}
+use Rattle.bk_machine.specs.Sound.{AreOpen, Differ, IsLog, IsOnce, IsOnline, IsSoundLine, IsWhole, IsWholeDatabase, OpenBy, storage_of, IsFitJob, JobIs, IsNotToCome, IsKept}
 use Rattle.bk_world.specs.declared.transaction.Open.{Open}
+use Rattle.bk_machine.specs.declared.job.Job.{Job}
 use Rattle.bk_machine.specs.World.{World, Database, database_named, log_of, with_database}
 use Rattle.bk_machine.proofs.ActsLogs.{log-of-more}
 use Rattle.bk_machine.proofs.ActsStay.{Follows, database-stays, line-stays, media-stay, open-stays}
@@ -88,29 +92,58 @@ module _ (w : World) (db : Database) (said : List Said) (transactions : List Ope
   unfolding new says
   on_end = GoesOn-said w.history db.path db.end goes_on said
 
-  went-whole : (kept checkpoint : ℕ) → IsWholeDatabase new (went db kept checkpoint (db.end + length said) transactions)
+  -- what is kept behind it, and a record at that number or behind it
+  kept-below : (kept : ℕ) → (gone_on (model (log_of w.history db)) said transactions db).kept ≡ kept → kept ≤ db.end + length said
+  kept-below kept same = by (kept-is (model (log_of w.history db)) db said transactions may.marks)
+    where
+      by : ((gone_on (model (log_of w.history db)) said transactions db).kept ≡ db.kept) ⊎ ((time : ℕ) × (said ≡ alone (checkpointed time)) × ((gone_on (model (log_of w.history db)) said transactions db).kept ≡ kept_after db (model (log_of w.history db)) db.end))
+          → kept ≤ db.end + length said
+      by (inl stays) = omega (arith, own.kept, stays, same)
+      by (inr (time, is, moved)) = let low : kept_after db (model (log_of w.history db)) db.end ≤ db.end = checkpoint-end (model (log_of w.history db)) db own.kept in omega (arith, low, moved, same)
+
+  holds-behind : (kept : ℕ) → (gone_on (model (log_of w.history db)) said transactions db).kept ≡ kept → (r : Logged) × Contains (more (log_of w.history db) db.end said) r × (r.begin ≡ 0) × (kept ≤ r.lsn)
+  holds-behind kept same = by (kept-is (model (log_of w.history db)) db said transactions may.marks)
+    where
+      by : ((gone_on (model (log_of w.history db)) said transactions db).kept ≡ db.kept) ⊎ ((time : ℕ) × (said ≡ alone (checkpointed time)) × ((gone_on (model (log_of w.history db)) said transactions db).kept ≡ kept_after db (model (log_of w.history db)) db.end))
+          → (r : Logged) × Contains (more (log_of w.history db) db.end said) r × (r.begin ≡ 0) × (kept ≤ r.lsn)
+      by (inl stays) =
+          let was = (own.online may.online).holds in
+          (was.0, Contains-append_left (log_of w.history db) (numbered db.end said) was.0 was.1, was.2, omega (arith, was.3, stays, same))
+      by (inr (time, is, moved)) =
+          let r : Logged = record { lsn = db.end; begin = 0; deed = checkpointed time } in
+          let there : Contains (numbered db.end said) r = subst (λ (ss : List Said). Contains (numbered db.end ss) r) (sym is) (Contains-push [] r) in
+          let low : kept_after db (model (log_of w.history db)) db.end ≤ db.end = checkpoint-end (model (log_of w.history db)) db own.kept in
+          (r, Contains-append_right (log_of w.history db) (numbered db.end said) r there, refl, omega (arith, low, moved, same))
+
+  went-whole : (kept checkpoint : ℕ) → (gone_on (model (log_of w.history db)) said transactions db).kept ≡ kept → IsWholeDatabase new (went db kept checkpoint (db.end + length said) transactions)
   unfolding new
-  went-whole kept checkpoint =
+  went-whole kept checkpoint its =
       let was : IsOnline w.history db = own.online may.online in
       let is : IsLog db.files (more (log_of w.history db) db.end said) (db.end + length said) = log-of-more db.files (log_of w.history db) db.end said own.log may.may may.tables may.places in
       record {
         log = subst (λ rs. IsLog db.files rs (db.end + length said)) (sym (went-log kept checkpoint)) is;
         path = own.path;
         starts = all_mapped (λ (b : Branch). b.start < db.end) (λ (b : Branch). b.start < db.end + length said) (λ b lt. omega (arith, lt)) db.path own.starts;
+        kept = kept-below kept its;
         drawn = path-later w new db.path says-follows.instance says-follows.counter own.drawn;
         family = not_to_come-later w new db.family says-follows.instance says-follows.counter own.family;
+        job = job-on (λ (job : Job). IsNotToCome w job.set) (λ (job : Job). IsNotToCome new job.set) (λ job one. not_to_come-later w new job.set says-follows.instance says-follows.counter one) db.job own.job;
         held = λ k pos lt. went-held k pos lt (before-or-not k db.end);
         online = λ up. record {
           goes_on = on_end;
           anchor = (was.anchor.0, subst (λ rs. Contains rs was.anchor.0) (sym (went-log kept checkpoint)) (Contains-append_left (log_of w.history db) (numbered db.end said) was.anchor.0 was.anchor.1), was.anchor.2, was.anchor.3);
+          holds = (let held = holds-behind kept its in (held.0, subst (λ rs. Contains rs held.0) (sym (went-log kept checkpoint)) held.1, held.2, held.3));
         };
         fits = subst (FitsSet (storage_of db) db.path) (sym (went-log kept checkpoint)) (record { storage = own.fits.storage; branches = own.fits.branches; log = may.fits });
       }
 
-  went-open : (kept checkpoint : ℕ) → AreOpen (more (log_of w.history db) db.end said) (db.end + length said) transactions → OpenBy new.history (went db kept checkpoint (db.end + length said) transactions)
-  went-open kept checkpoint opens = record {
+  went-open : (kept checkpoint : ℕ) → AreOpen (more (log_of w.history db) db.end said) (db.end + length said) transactions → JobIs (IsFitJob (more (log_of w.history db) db.end said) (db.end + length said) transactions) db.job → IsKept kept transactions db.job
+      → OpenBy new.history (went db kept checkpoint (db.end + length said) transactions)
+  went-open kept checkpoint opens fits keeps = record {
     online = λ up. subst (λ rs. AreOpen rs (db.end + length said) transactions) (sym (went-log kept checkpoint)) opens;
     offline = λ off. absurd (off may.online);
+    job = subst (λ rs. JobIs (IsFitJob rs (db.end + length said) transactions) db.job) (sym (went-log kept checkpoint)) fits;
+    keeps = keeps;
   }
 
   -- others say nothing
@@ -125,7 +158,7 @@ module _ (w : World) (db : Database) (said : List Said) (transactions : List Ope
   unfolding changed
   changed-differs o other differ =
       let points = gone_on-is (model (log_of w.history db)) said transactions o in
-      subst (λ d. Differ d other) (sym points.2) (record { names = differ.names; branches = differ.branches })
+      subst (λ d. Differ d other) (sym points.2) (record { names = differ.names; branches = differ.branches; sets = differ.sets })
 
   changed-named : database_named (with_database w.databases db.name changed) db.name ≡ Some (changed db)
   unfolding changed
@@ -164,7 +197,7 @@ module _ (w : World) (db : Database) (said : List Said) (transactions : List Ope
         once = subst (λ b. IsOnce (said_on_last w.history b (numbered db.end said))) (sym goes_on.last) (once-said w.history goes_on.branch (numbered db.end said) whole.once);
         lines = lines-sound;
         databases = all-changed (IsWholeDatabase w) (IsWholeDatabase new) w.databases db.name db changed whole.databases whole.different there
-            (λ is. subst (IsWholeDatabase new) (sym points.2) (went-whole points.0 points.1))
+            (λ is. subst (IsWholeDatabase new) (sym points.2) (went-whole points.0 points.1 (ap (λ (d : Database). d.kept) points.2)))
             (λ o is differ. database-stays w new says-follows o (other-goes o is differ) is);
         different = different-with w.databases db.name changed changed-differs whole.different;
         media = media-stay w new says-follows w.media whole.media;
@@ -172,11 +205,12 @@ module _ (w : World) (db : Database) (said : List Said) (transactions : List Ope
 
   -- where these transactions are open then, all of what is open stays so
   pub says-opens : AllByRecursion (OpenBy w.history) w.databases → AreOpen (more (log_of w.history db) db.end said) (db.end + length said) transactions
+      → JobIs (IsFitJob (more (log_of w.history db) db.end said) (db.end + length said) transactions) db.job → IsKept (gone_on (model (log_of w.history db)) said transactions db).kept transactions db.job
       → AllByRecursion (OpenBy (says w db said transactions).history) (says w db said transactions).databases
   unfolding says new changed
-  says-opens opens are =
+  says-opens opens are fits keeps =
       let points = gone_on-is (model (log_of w.history db)) said transactions db in
       all-changed (λ o. IsWholeDatabase w o × OpenBy w.history o) (OpenBy new.history) w.databases db.name db changed
       (all_both (IsWholeDatabase w) (OpenBy w.history) (λ o. IsWholeDatabase w o × OpenBy w.history o) (λ o one open_there. (one, open_there)) w.databases whole.databases opens) whole.different there
-      (λ is. subst (OpenBy new.history) (sym points.2) (went-open points.0 points.1 are))
+      (λ is. subst (OpenBy new.history) (sym points.2) (went-open points.0 points.1 are fits (subst (λ (k : ℕ). IsKept k transactions db.job) (ap (λ (d : Database). d.kept) points.2) keeps)))
       (λ o is differ. open-stays w new says-follows o is.0 is.1)

@@ -1,5 +1,5 @@
 -- What stays sound where a world's history grows: sets, media, and databases that say nothing.
-use Rattle.std.proofs.Common.{◌≡◌, ◌≤◌, inl, inr, ℕ, ◌+◌, Bool, List, length, Option, sym, subst}
+use Rattle.std.proofs.Common.{◌≡◌, ◌≤◌, inl, inr, ℕ, ◌+◌, Bool, List, length, Option, sym, subst, arith}
 use Rattle.std.specs.Prelude.{Contains}
 use Rattle.std.specs.List.{AllByRecursion}
 use Rattle.bk_ids.specs.Path.{branch_at}
@@ -14,9 +14,11 @@ use Rattle.bk_world.specs.Pending.{pending}
 use Rattle.bk_world.specs.Records.{Counts}
 use Rattle.bk_world.specs.Telling.{model, time}
 use Rattle.bk_world.specs.GrowthLaws.{records-grown}
+use Rattle.bk_machine.specs.JobLaws.{job-on}
 use Rattle.bk_machine.specs.Checks.{last_number}
 use Rattle.bk_machine.specs.Fits.{FitsSet}
-use Rattle.bk_machine.specs.Sound.{AreOpen, IsHeld, IsLog, IsOnline, IsSoundLine, IsSoundReading, IsSoundSet, IsSoundSlot, IsWholeDatabase, OpenBy, files_of_set, storage_in, storage_of}
+use Rattle.bk_machine.specs.Sound.{AreOpen, IsHeld, IsLog, IsOnline, IsSoundLine, IsSoundReading, IsSoundSet, IsSoundSlot, IsWholeDatabase, OpenBy, files_of_set, storage_in, storage_of, IsFitJob, JobIs, IsNotToCome, IsKept}
+use Rattle.bk_machine.specs.declared.job.Job.{Job}
 use Rattle.bk_machine.specs.World.{World, Database, log_of}
 use Rattle.bk_machine.proofs.Histories.{held-grew, not_to_come-later, passed-grew, path-later}
 
@@ -87,12 +89,15 @@ database-stays old new on db goes is =
       log = subst (λ rs. IsLog db.files rs db.end) (sym same) is.log;
       path = is.path;
       starts = is.starts;
+      kept = is.kept;
       drawn = path-later old new db.path on.instance on.counter is.drawn;
       family = not_to_come-later old new db.family on.instance on.counter is.family;
+      job = job-on (λ (job : Job). IsNotToCome old job.set) (λ (job : Job). IsNotToCome new job.set) (λ job one. not_to_come-later old new job.set on.instance on.counter one) db.job is.job;
       held = λ k pos lt. elim (is.held k pos lt) [ inl last ↦ inl last | inr passed ↦ inr (passed-grew old.history new.history (branch_at db.path k) k on.grew passed) ];
       online = λ up. let was : IsOnline old.history db = is.online up in record {
         goes_on = goes up;
         anchor = (was.anchor.0, subst (λ rs. Contains rs was.anchor.0) (sym same) was.anchor.1, was.anchor.2, was.anchor.3);
+        holds = (was.holds.0, subst (λ rs. Contains rs was.holds.0) (sym same) was.holds.1, was.holds.2, was.holds.3);
       };
       fits = subst (FitsSet (storage_of db) db.path) (sym same) is.fits;
     }
@@ -101,6 +106,8 @@ pub open-stays : (old new : World) → Follows old new → (db : Database) → I
 open-stays old new on db is opens = record {
   online = λ up. subst (λ rs. AreOpen rs db.end db.transactions) (sym (log-stays old new on db is.log.counts)) (opens.online up);
   offline = opens.offline;
+  job = subst (λ rs. JobIs (IsFitJob rs db.end db.transactions) db.job) (sym (log-stays old new on db is.log.counts)) opens.job;
+  keeps = opens.keeps;
 }
 
 -- Points, units and bases that change.
@@ -110,19 +117,25 @@ abbrev pub retouched : Database → ℕ → ℕ → ℕ → Bool → Bool → Op
 retouched db archive kept checkpoint chain began base units = record db { archive = archive; kept = kept; checkpoint = checkpoint; chain = chain; began = began; base = base; units = units }
 
 module _ (w : World) (db : Database) (archive kept checkpoint : ℕ) (chain began : Bool) (base : Option Base) (units : List RestoreUnit) where
-  pub whole-retouched : IsWholeDatabase w db → IsWholeDatabase w (retouched db archive kept checkpoint chain began base units)
+  pub whole-retouched : kept ≡ db.kept → IsWholeDatabase w db → IsWholeDatabase w (retouched db archive kept checkpoint chain began base units)
   unfolding log_of
-  whole-retouched is = record {
+  whole-retouched same is = record {
     log = is.log;
     path = is.path;
     starts = is.starts;
+    kept = omega (arith, same, is.kept);
     drawn = is.drawn;
     family = is.family;
+    job = is.job;
     held = is.held;
-    online = λ up. record { goes_on = (is.online up).goes_on; anchor = (is.online up).anchor };
+    online = λ up. let was : IsOnline w.history db = is.online up in record {
+      goes_on = was.goes_on;
+      anchor = was.anchor;
+      holds = (was.holds.0, was.holds.1, was.holds.2, omega (arith, same, was.holds.3));
+    };
     fits = is.fits;
   }
 
-  pub open-retouched : OpenBy w.history db → OpenBy w.history (retouched db archive kept checkpoint chain began base units)
+  pub open-retouched : kept ≡ db.kept → OpenBy w.history db → OpenBy w.history (retouched db archive kept checkpoint chain began base units)
   unfolding log_of
-  open-retouched is = record { online = is.online; offline = λ off. record { job = (is.offline off).job; transactions = (is.offline off).transactions } }
+  open-retouched same is = record { online = is.online; offline = λ off. record { job = (is.offline off).job; transactions = (is.offline off).transactions }; job = is.job; keeps = subst (λ (k : ℕ). IsKept k db.transactions db.job) (sym same) is.keeps }

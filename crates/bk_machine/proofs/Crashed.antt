@@ -1,5 +1,5 @@
 -- A crash leaves sound worlds.
-use Rattle.std.proofs.Common.{◌≡◌, ◌≢◌, ℕ, List, [], ◌∷◌, Option, refl, sym, ◌∙◌, ap, subst, arith}
+use Rattle.std.proofs.Common.{◌≡◌, ◌≢◌, ℕ, List, [], ◌∷◌, Option, refl, sym, ◌∙◌, ap, subst, arith, None}
 use Rattle.std.specs.List.{AllByRecursion, AllZip}
 use Rattle.bk_ids.specs.declared.guid.Guid.{Guid}
 use Rattle.bk_ids.specs.declared.path.Branch.{Branch}
@@ -12,6 +12,7 @@ use Rattle.bk_world.specs.declared.database.Status.TheVariants.{Online, Standby,
 use Rattle.bk_world.specs.declared.header.Header.{Header}
 use Rattle.bk_world.specs.CrashLaws.{left-tells}
 use Rattle.bk_machine.specs.Crash.{DatabaseLeft, LineLeft, OfflineLeft, OnlineLeft, StatusLeft, WorldLeft, open_begins}
+use Rattle.bk_machine.specs.JobLaws.{without-one}
 use Rattle.bk_machine.specs.Sound.{AreDifferent, AreIdle, Differ, IsHeld, IsIdle, IsNotToCome, IsPassed, IsSound, IsSoundLine, IsSoundReading, IsSoundSet, IsWhole, IsWholeDatabase, OpenBy}
 use Rattle.bk_machine.specs.World.{Database, World, log_of}
 use Rattle.bk_machine.proofs.ActsStay.{media-there, set-there}
@@ -47,10 +48,10 @@ module _ (before whole cut left : World) (l : WorldLeft before whole cut left) w
       let name : b.name ≡ a.name = ap (λ (d : Database). d.name) one.same in
       let status : b.status ≡ a.status = ap (λ (d : Database). d.status) one.same in
       let path : b.path ≡ a.path = ap (λ (d : Database). d.path) one.same in
-      subst (λ (d : Database). Differ d other) (sym one.same) (record { names = is.names; branches = is.branches })
+      subst (λ (d : Database). Differ d other) (sym one.same) (record { names = is.names; branches = is.branches; sets = λ job some. without-one None job refl some })
 
   differ-second : (a b other : Database) → DatabaseLeft before whole cut left a b → Differ other a → Differ other b
-  differ-second a b other one is = subst (λ (d : Database). Differ other d) (sym one.same) (record { names = is.names; branches = is.branches })
+  differ-second a b other one is = subst (λ (d : Database). Differ other d) (sym one.same) (record { names = is.names; branches = is.branches; sets = λ job one_runs other some. without-one None other refl some })
 
   different-left : (olds news : List Database) → AllZip (DatabaseLeft before whole cut left) olds news → AreDifferent olds → AreDifferent news
   different-left [] [] each all = tt

@@ -9,7 +9,7 @@ use Rattle.bk_world.specs.declared.database.Status.TheVariants.{Online}
 use Rattle.bk_world.specs.declared.header.Header.{Header}
 use Rattle.bk_world.specs.declared.database.Base.{Base}
 use Rattle.bk_machine.specs.declared.history_row.HistoryRow.{HistoryRow}
-use Rattle.bk_machine.specs.Acts.{Act, turned, seated, created, dropped, logged, medium_made, set_drawn, noted, set_sealed, based, replaced, restored, recovered, done, done_all, Recovery}
+use Rattle.bk_machine.specs.Acts.{Act, turned, seated, created, dropped, logged, medium_made, set_drawn, noted, set_sealed, based, replaced, restored, recovered, done, done_all, readied, job_set, jobs_dropped, Recovery}
 use Rattle.bk_machine.specs.Crash.{CutsRun, IsQuiet, Leaves, WorldLeft, front_of, next_acts}
 use Rattle.bk_machine.specs.MayDo.{MayDoAll}
 use Rattle.bk_machine.specs.Outcome.{Outcome}
@@ -59,6 +59,7 @@ none-said act acts zero not_logged = refl
 none-said (logged name said transactions) acts (suc n) not_logged = absurd not_logged
 none-said (turned name) acts (suc n) not_logged = refl
 none-said (seated session) acts (suc n) not_logged = refl
+none-said (readied starts) acts (suc n) not_logged = refl
 none-said (created c) acts (suc n) not_logged = refl
 none-said (dropped name) acts (suc n) not_logged = refl
 none-said (medium_made path) acts (suc n) not_logged = refl
@@ -66,6 +67,8 @@ none-said set_drawn acts (suc n) not_logged = refl
 none-said (set_sealed path header) acts (suc n) not_logged = refl
 none-said (noted row) acts (suc n) not_logged = refl
 none-said (based name header) acts (suc n) not_logged = refl
+none-said (job_set name job) acts (suc n) not_logged = refl
+none-said jobs_dropped acts (suc n) not_logged = refl
 none-said (replaced name header) acts (suc n) not_logged = refl
 none-said (restored name base redo) acts (suc n) not_logged = refl
 none-said (recovered name r) acts (suc n) not_logged = refl

@@ -10,7 +10,8 @@ use Rattle.bk_world.specs.ReadingLaws.{pending-more}
 use Rattle.bk_world.specs.Records.{Deed, Load, Logged, Said, more, numbered, database_made, table_made, begun, written, committed, rolled_back, undone, checkpointed, stamped, model_set, loaded, recovered as recovery}
 use Rattle.bk_world.specs.Telling.{model}
 use Rattle.bk_world.specs.declared.database.Status.TheVariants.{Online}
-use Rattle.bk_machine.specs.Acts.{Act, turned, seated, created, dropped, logged, medium_made, set_drawn, noted, set_sealed, based, replaced, restored, recovered, done, done_all, gone_on, gone_online, goes_online, new_database, says, taken_over, where_found}
+use Rattle.bk_machine.proofs.ActsJobs.{all-dropped}
+use Rattle.bk_machine.specs.Acts.{Act, turned, seated, created, dropped, logged, medium_made, set_drawn, noted, set_sealed, based, replaced, restored, recovered, done, done_all, gone_on, gone_online, goes_online, new_database, says, taken_over, where_found, readied, job_set, jobs_dropped}
 use Rattle.bk_machine.specs.Checks.{last_number}
 use Rattle.bk_machine.specs.Crash.{AreQuiet, IsQuiet, begins_in, begins_of, front_of, open_begins}
 use Rattle.bk_machine.specs.MayDo.{HoldsOf, MayDoAll, MayLog, MaySay}
@@ -126,6 +127,7 @@ module _ (before : World) where
   unfolding done goes_online new_database
   open-done w (turned name) different own all = all
   open-done w (seated session) different own all = all
+  open-done w (readied starts) different own all = all
   open-done w (created c) different own all = all_joined OpenOwn w.databases (new_database c ∷ []) all (tt, tt)
   open-done w (dropped name) different own all = all-without OpenOwn w.databases name all
   open-done w (logged name said transactions) different own all = by (database_named w.databases name) refl
@@ -141,6 +143,8 @@ module _ (before : World) where
   open-done w (set_sealed path header) different own all = all
   open-done w (noted row) different own all = all
   open-done w (based name header) different own all = all-with OpenOwn OpenOwn w.databases name _ all (λ d was. was) (λ d was. was)
+  open-done w (job_set name job) different own all = all-with OpenOwn OpenOwn w.databases name _ all (λ d was. was) (λ d was. was)
+  open-done w jobs_dropped different own all = all-dropped OpenOwn OpenOwn (λ d was. was) w.databases all
   open-done w (replaced name header) different own all = all-placed OpenOwn OpenOwn w.databases (taken_over name header) all tt (λ d was. was)
   open-done w (restored name base redo) different own all = all-with OpenOwn OpenOwn w.databases name _ all (λ d was. was) (λ d was. was)
   open-done w (recovered name r) different own all = by (database_named w.databases name)
@@ -225,6 +229,7 @@ module _ (before : World) where
     cut-pends (logged name said transactions ∷ acts) (suc n) may own left quiet = front-pends name said transactions n may.0 own.0 left.0 quiet.0
     cut-pends (turned name ∷ acts) (suc n) may own left quiet = nothing-said
     cut-pends (seated session ∷ acts) (suc n) may own left quiet = nothing-said
+    cut-pends (readied starts ∷ acts) (suc n) may own left quiet = nothing-said
     cut-pends (created c ∷ acts) (suc n) may own left quiet = nothing-said
     cut-pends (dropped name ∷ acts) (suc n) may own left quiet = nothing-said
     cut-pends (medium_made path ∷ acts) (suc n) may own left quiet = nothing-said
@@ -232,6 +237,8 @@ module _ (before : World) where
     cut-pends (set_sealed path header ∷ acts) (suc n) may own left quiet = nothing-said
     cut-pends (noted row ∷ acts) (suc n) may own left quiet = nothing-said
     cut-pends (based name header ∷ acts) (suc n) may own left quiet = nothing-said
+    cut-pends (job_set name job ∷ acts) (suc n) may own left quiet = nothing-said
+    cut-pends (jobs_dropped ∷ acts) (suc n) may own left quiet = nothing-said
     cut-pends (replaced name header ∷ acts) (suc n) may own left quiet = nothing-said
     cut-pends (restored name base redo ∷ acts) (suc n) may own left quiet = nothing-said
     cut-pends (recovered name r ∷ acts) (suc n) may own left quiet = nothing-said

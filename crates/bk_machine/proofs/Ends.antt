@@ -1,5 +1,5 @@
 -- Where a statement is cut, the ends of databases lie within those before and behind it.
-use Rattle.std.proofs.Common.{◌≡◌, ◌≤◌, ℕ, zero, suc, ◌+◌, Bool, true, false, cond, List, [], ◌∷◌, length, take, Option, None, Some, refl, sym, ◌∙◌, ap, arith}
+use Rattle.std.proofs.Common.{◌≡◌, ◌≤◌, ℕ, zero, suc, ◌+◌, Bool, true, false, cond, List, [], ◌∷◌, length, take, Option, None, Some, refl, sym, ◌∙◌, ap, arith, map}
 use Rattle.std.specs.List.{AllByRecursion, AllZip}
 use Rattle.std.proofs.Math.Nat.{le-max_left, le-max_right}
 use Rattle.bk_ids.specs.Name.{same_name}
@@ -9,7 +9,7 @@ use Rattle.bk_world.specs.Records.{Said}
 use Rattle.bk_world.specs.Telling.{model}
 use Rattle.bk_world.specs.declared.database.Status.TheVariants.{Online, Down}
 use Rattle.bk_world.specs.declared.header.Header.{Header}
-use Rattle.bk_machine.specs.Acts.{Act, turned, seated, created, dropped, logged, medium_made, set_drawn, noted, set_sealed, based, replaced, restored, recovered, done, done_all, gone_on, says, taken_over, where_found}
+use Rattle.bk_machine.specs.Acts.{Act, turned, seated, created, dropped, logged, medium_made, set_drawn, noted, set_sealed, based, replaced, restored, recovered, done, done_all, gone_on, says, taken_over, where_found, readied, job_set, jobs_dropped, with_job}
 use Rattle.bk_machine.specs.Crash.{end_in, front_of, greatest_end}
 use Rattle.bk_machine.specs.Sound.{AreDifferent}
 use Rattle.bk_world.specs.declared.transaction.Open.{Open}
@@ -53,11 +53,16 @@ rose-changed (d ∷ ds) name g one = by (same_name d.name name) (rose-changed ds
     by true later = (one d, rose-itself ds)
     by false later = (record { name = refl; end = omega arith }, later)
 
+rose-dropped : (ds : List Database) → AllZip Rose ds (map (with_job None) ds)
+rose-dropped [] = tt
+rose-dropped (d ∷ ds) = (record { name = refl; end = omega arith }, rose-dropped ds)
+
 -- ---- acts by which ends rise
 
 abbrev pub IsSteady : Act → Type 0
 IsSteady (turned name) = Unit {0}
 IsSteady (seated session) = Unit {0}
+IsSteady (readied starts) = Unit {0}
 IsSteady (created c) = ⊥
 IsSteady (dropped name) = ⊥
 IsSteady (logged name said transactions) = Unit {0}
@@ -66,6 +71,8 @@ IsSteady set_drawn = Unit {0}
 IsSteady (set_sealed path header) = Unit {0}
 IsSteady (noted row) = Unit {0}
 IsSteady (based name header) = Unit {0}
+IsSteady (job_set name job) = Unit {0}
+IsSteady jobs_dropped = Unit {0}
 IsSteady (replaced name header) = ⊥
 IsSteady (restored name base redo) = ⊥
 IsSteady (recovered name r) = ⊥
@@ -82,6 +89,7 @@ rose-done : (w : World) (act : Act) → IsSteady act → AllZip Rose w.databases
 unfolding done says
 rose-done w (turned name) steady = rose-itself w.databases
 rose-done w (seated session) steady = rose-itself w.databases
+rose-done w (readied starts) steady = rose-itself w.databases
 rose-done w (created c) steady = absurd steady
 rose-done w (dropped name) steady = absurd steady
 rose-done w (logged name said transactions) steady = by (database_named w.databases name)
@@ -96,6 +104,8 @@ rose-done w set_drawn steady = rose-itself w.databases
 rose-done w (set_sealed path header) steady = rose-itself w.databases
 rose-done w (noted row) steady = rose-itself w.databases
 rose-done w (based name header) steady = rose-changed w.databases name _ (λ d. record { name = refl; end = omega arith })
+rose-done w (job_set name job) steady = rose-changed w.databases name _ (λ d. record { name = refl; end = omega arith })
+rose-done w jobs_dropped steady = rose-dropped w.databases
 rose-done w (replaced name header) steady = absurd steady
 rose-done w (restored name base redo) steady = absurd steady
 rose-done w (recovered name r) steady = absurd steady
@@ -128,6 +138,7 @@ rose-cut w (logged name said transactions ∷ acts) (suc n) steady =
     (rose-front w name said transactions (suc n)) (rose-all (done w (logged name said transactions)) acts steady.1)
 rose-cut w (turned name ∷ acts) (suc n) steady = rose-all w (turned name ∷ acts) steady
 rose-cut w (seated session ∷ acts) (suc n) steady = rose-all w (seated session ∷ acts) steady
+rose-cut w (readied starts ∷ acts) (suc n) steady = rose-all w (readied starts ∷ acts) steady
 rose-cut w (created c ∷ acts) (suc n) steady = absurd steady.0
 rose-cut w (dropped name ∷ acts) (suc n) steady = absurd steady.0
 rose-cut w (medium_made path ∷ acts) (suc n) steady = rose-all w (medium_made path ∷ acts) steady
@@ -135,6 +146,8 @@ rose-cut w (set_drawn ∷ acts) (suc n) steady = rose-all w (set_drawn ∷ acts)
 rose-cut w (set_sealed path header ∷ acts) (suc n) steady = rose-all w (set_sealed path header ∷ acts) steady
 rose-cut w (noted row ∷ acts) (suc n) steady = rose-all w (noted row ∷ acts) steady
 rose-cut w (based name header ∷ acts) (suc n) steady = rose-all w (based name header ∷ acts) steady
+rose-cut w (job_set name job ∷ acts) (suc n) steady = rose-all w (job_set name job ∷ acts) steady
+rose-cut w (jobs_dropped ∷ acts) (suc n) steady = rose-all w (jobs_dropped ∷ acts) steady
 rose-cut w (replaced name header ∷ acts) (suc n) steady = absurd steady.0
 rose-cut w (restored name base redo ∷ acts) (suc n) steady = absurd steady.0
 rose-cut w (recovered name r ∷ acts) (suc n) steady = absurd steady.0

@@ -34,13 +34,13 @@ same-follows old new instance counter history = record { instance = instance; co
 
 module _ (old : World) (name : List ℕ) (change : List RestoreUnit → List RestoreUnit) where
   changed-whole : (db : Database) → IsWholeDatabase old db → IsWholeDatabase old (with_units change db)
-  changed-whole db = whole-retouched old db db.archive db.kept db.checkpoint db.chain db.began db.base (change db.units)
+  changed-whole db = whole-retouched old db db.archive db.kept db.checkpoint db.chain db.began db.base (change db.units) refl
 
   changed-opens : (db : Database) → OpenBy old.history db → OpenBy old.history (with_units change db)
-  changed-opens db = open-retouched old db db.archive db.kept db.checkpoint db.chain db.began db.base (change db.units)
+  changed-opens db = open-retouched old db db.archive db.kept db.checkpoint db.chain db.began db.base (change db.units) refl
 
   changed-differs : (a b : Database) → Differ a b → Differ (with_units change a) b
-  changed-differs a b is = record { names = is.names; branches = is.branches }
+  changed-differs a b is = record { names = is.names; branches = is.branches; sets = is.sets }
 
   changed-idle : (db : Database) → IsIdle db → IsIdle (with_units change db)
   changed-idle db is = record { job = is.job; transactions = is.transactions }

@@ -114,6 +114,7 @@ module _ (cut left : World) (passed : (b : Option Guid) (k : ℕ) → IsPassed c
         let anchor = (is.online up).anchor in record {
           goes_on = goes_on;
           anchor = (anchor.0, contained-left old.files begins (log_below cut.history old.path old.end) (log_below left.history old.path end) old.end log is.log anchor.0 of_some anchor.2 anchor.1, anchor.2, anchor.3);
+          holds = (let held = (is.online up).holds in (held.0, contained-left old.files begins (log_below cut.history old.path old.end) (log_below left.history old.path end) old.end log is.log held.0 of_some held.2 held.1, held.2, held.3));
         }
 
     starts-online : AllByRecursion (λ (b : Branch). b.start < end) old.path
@@ -122,6 +123,13 @@ module _ (cut left : World) (passed : (b : Option Guid) (k : ℕ) → IsPassed c
         let anchor = anchored.anchor in
         let below : anchor.0.lsn < end = of-contained (λ (r : Logged). r.lsn < end) (log_below left.history old.path end) anchor.0 (counts-below 1 end (log_below left.history old.path end) log-online.counts) anchor.1 in
         all_mapped (λ (b : Branch). b.start ≤ anchor.0.lsn) (λ (b : Branch). b.start < end) (λ b le. omega (arith, le, below)) old.path anchor.3
+
+    kept-online : old.kept ≤ end
+    unfolding log_of
+    kept-online =
+        let held = anchored.holds in
+        let below : held.0.lsn < end = of-contained (λ (r : Logged). r.lsn < end) (log_below left.history old.path end) held.0 (counts-below 1 end (log_below left.history old.path end) log-online.counts) held.1 in
+        omega (arith, below, held.3)
 
     fits-online : FitsLog (length old.groups) (log_below left.history old.path end)
     unfolding log_of
@@ -135,8 +143,10 @@ module _ (cut left : World) (passed : (b : Option Guid) (k : ℕ) → IsPassed c
       log = log-online;
       path = is.path;
       starts = starts-online;
+      kept = kept-online;
       drawn = path-drawn;
       family = drawn old.family is.family;
+      job = tt;
       held = λ k pos lt. held k pos (leb old.end k) refl;
       online = λ e. anchored;
       fits = record { storage = is.fits.storage; branches = is.fits.branches; log = fits-online };
@@ -156,6 +166,8 @@ module _ (cut left : World) (passed : (b : Option Guid) (k : ℕ) → IsPassed c
         let OfLoads : List Pending → Type 0 = AllByRecursion (λ (w : Pending). w.extents ≡ []) in record {
           online = λ e. record { pending = subst OfPending (sym none) tt; loads = subst OfLoads (sym none) tt; apart = tt; begins = tt; few = tt; seats = tt; kept = tt; numbers = (let nothing : length (pending (log_below left.history old.path end)) ≡ 0 = ap length none in omega (arith, nothing, within)) };
           offline = λ e. record { job = refl; transactions = refl };
+          job = tt;
+          keeps = record { begins = tt; job = tt };
         }
 
   -- one that isn't
@@ -167,12 +179,14 @@ module _ (cut left : World) (passed : (b : Option Guid) (k : ℕ) → IsPassed c
           log = subst OfLog (sym same) is.log;
           path = is.path;
           starts = is.starts;
+          kept = is.kept;
           drawn = path-drawn;
           family = drawn old.family is.family;
+          job = tt;
           held = held-below;
           online = λ up. absurd (down up);
           fits = subst (FitsSet (storage_of old) old.path) (sym same) is.fits;
         }
 
     pub open-offline : OpenBy left.history (behind_crash old old.end)
-    open-offline = record { online = λ up. absurd (down up); offline = λ e. record { job = refl; transactions = refl } }
+    open-offline = record { online = λ up. absurd (down up); offline = λ e. record { job = refl; transactions = refl }; job = tt; keeps = record { begins = tt; job = tt } }

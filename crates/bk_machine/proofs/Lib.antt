@@ -2,8 +2,10 @@ pub mod Histories
 pub mod ActsLogs
 pub mod Fitting
 pub mod ActsStay
+pub mod Keeping
 pub mod ActsSays
 pub mod ActsPlain
+pub mod ActsJobs
 pub mod Forking
 pub mod ActsBegin
 pub mod Acting

@@ -1,5 +1,5 @@
 -- Acts that say no load leave worlds of logs without loads.
-use Rattle.std.proofs.Common.{◌≡◌, ℕ, zero, suc, ◌+◌, ◌-◌, not, List, [], ◌∷◌, ◌++◌, take, Option, None, Some, refl, sym, ◌∙◌, ap, subst, arith}
+use Rattle.std.proofs.Common.{◌≡◌, ℕ, zero, suc, ◌+◌, ◌-◌, not, List, [], ◌∷◌, ◌++◌, take, Option, None, Some, refl, sym, ◌∙◌, ap, subst, arith, Bool}
 use Rattle.std.specs.List.{AllByRecursion}
 use Rattle.std.specs.Str.{bytes_eq}
 use Rattle.bk_ids.specs.declared.guid.Guid.{Guid}
@@ -12,13 +12,15 @@ use Rattle.bk_world.specs.declared.database.Creation.{Creation}
 use Rattle.bk_world.specs.declared.database.FileSpec.{FileSpec}
 use Rattle.bk_world.specs.declared.header.Header.{Header}
 use Rattle.bk_world.specs.GrowthLaws.{records-grown}
+use Rattle.bk_machine.proofs.ActsJobs.{all-dropped}
 use Rattle.bk_machine.specs.NewFileLaws.{apart-from}
 use Rattle.bk_machine.specs.declared.history_row.HistoryRow.{HistoryRow}
-use Rattle.bk_machine.specs.Acts.{Act, Recovery, based, based_on, created, creation_said, done, done_all, dropped, gone_on, gone_online, goes_online, logged, medium_made, set_drawn, noted, new_database, recovered, replaced, restored, says, seated, set_sealed, taken_over, turned, where_found, with_slot}
+use Rattle.bk_machine.specs.Acts.{Act, Recovery, based, based_on, created, creation_said, done, done_all, dropped, gone_on, gone_online, goes_online, logged, medium_made, set_drawn, noted, new_database, recovered, replaced, restored, says, seated, set_sealed, taken_over, turned, where_found, with_slot, readied, job_set, jobs_dropped, with_job}
 use Rattle.bk_machine.specs.Built.{IsBuilt, IsBuiltLog, IsBuiltReading, IsBuiltSlot, IsNoLoad, SayNoLoad, SaysNoLoad}
 use Rattle.bk_machine.specs.MayDo.{HoldsOf, MayDo, MayDoAll, MayLog, MayRecover}
 use Rattle.bk_machine.specs.Sound.{IsSound, IsSoundReading, IsSoundSlot, IsWholeDatabase, files_of_set}
 use Rattle.bk_world.specs.declared.transaction.Open.{Open}
+use Rattle.bk_machine.specs.declared.job.Job.{Job}
 use Rattle.bk_machine.specs.World.{Database, World, database_named, log_of, log_to}
 use Rattle.bk_machine.specs.statements.Restore.{IsOfRecovery}
 use Rattle.bk_machine.proofs.Acting.{act-follows, act-sound}
@@ -109,6 +111,24 @@ module _ (w : World) (sound : IsSound w) (built : IsBuilt w) where
   seated-built : (session : ℕ) → IsBuilt (done w (seated session))
   unfolding done
   seated-built session = record { databases = built.databases; media = media-as-they-were (done w (seated session)) refl }
+
+  readied-built : (starts : Bool) → IsBuilt (done w (readied starts))
+  unfolding done
+  readied-built starts = record { databases = built.databases; media = media-as-they-were (done w (readied starts)) refl }
+
+  job_set-built : (name : List ℕ) (job : Option Job) → IsBuilt (done w (job_set name job))
+  unfolding done log_of
+  job_set-built name job = record {
+    databases = all-with (BuiltIn w.history) (BuiltIn w.history) w.databases name (with_job job) built.databases (λ db is. record { apart = is.apart; loads = is.loads }) (λ db is. is);
+    media = media-as-they-were (done w (job_set name job)) refl;
+  }
+
+  jobs_dropped-built : IsBuilt (done w jobs_dropped)
+  unfolding done log_of
+  jobs_dropped-built = record {
+    databases = all-dropped (BuiltIn w.history) (BuiltIn w.history) (λ db is. record { apart = is.apart; loads = is.loads }) w.databases built.databases;
+    media = media-as-they-were (done w jobs_dropped) refl;
+  }
 
   dropped-built : (name : List ℕ) → IsBuilt (done w (dropped name))
   unfolding done
@@ -264,6 +284,7 @@ module _ (w : World) (sound : IsSound w) (built : IsBuilt w) where
   pub act-built : (act : Act) → MayDo w act → SaysNoLoad w act → IsBuilt (done w act)
   act-built (turned name) may none = turned-built name
   act-built (seated session) may none = seated-built session
+  act-built (readied starts) may none = readied-built starts
   act-built (created c) may none = created-built c may
   act-built (dropped name) may none = dropped-built name
   act-built (logged name said transactions) may none = logged-built name said transactions may none
@@ -272,6 +293,8 @@ module _ (w : World) (sound : IsSound w) (built : IsBuilt w) where
   act-built (set_sealed path header) may none = sealed-built path header none
   act-built (noted row) may none = noted-built row
   act-built (based name header) may none = based-built name header
+  act-built (job_set name job) may none = job_set-built name job
+  act-built jobs_dropped may none = jobs_dropped-built
   act-built (replaced name header) may none = replaced-built name header none
   act-built (restored name base redo) may none = restored-built name base redo
   act-built (recovered name r) may none = recovered-built name r may

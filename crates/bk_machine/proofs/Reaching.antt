@@ -9,11 +9,10 @@ use Rattle.bk_machine.specs.Sound.{AreIdle, IsSound}
 use Rattle.bk_machine.specs.World.{World, empty_world, opened}
 use Rattle.bk_machine.proofs.Crashed.{crash-idle}
 use Rattle.bk_machine.proofs.Happened.{event-sound, events-idle}
-use Rattle.bk_machine.proofs.Opened.{idle-ended, idle-opened, sound-ended, sound-opened}
+use Rattle.bk_machine.proofs.Opened.{idle-ended, sound-ended, sound-opened}
 use Rattle.bk_machine.proofs.statements.Leaving.{left-sound}
 use Rattle.bk_machine.proofs.Acting.{acts-sound}
 use Rattle.bk_machine.proofs.statements.Closing.{closed-well, closing-idle, closing-well}
-use Rattle.bk_machine.proofs.statements.Idling.{no-job, no-job-run}
 use Rattle.bk_machine.proofs.statements.Running.{RunsWell, runs-well, sound-run}
 
 -- a world is sound, and nothing is open in it
@@ -32,7 +31,7 @@ reached-calm w (ran before statements moments outcomes acts reached run closing)
     let calm = reached-calm before reached in
     let end : World = behind_all (opened before) outcomes in
     let sound : IsSound end = sound-run (opened before) statements moments outcomes (sound-opened before calm.sound) run in
-    let idle : AreIdle (done_all end acts) = closing-idle end acts (no-job-run (opened before) outcomes (no-job (opened before) (idle-opened before calm.idle))) closing in
+    let idle : AreIdle (done_all end acts) = closing-idle end acts closing in
     record { sound = sound-ended _ (acts-sound end acts sound (closing-well end acts closing sound).may); idle = idle-ended _ idle }
 reached-calm w (crashed before left statements moments outcomes least reached run leaves) =
     let calm = reached-calm before reached in

@@ -1,12 +1,12 @@
 -- Worlds with the same databases, whose logs are the same.
-use Rattle.std.proofs.Common.{◌≡◌, inr, ℕ, List, Option, refl, sym, ◌∙◌, ap, subst}
+use Rattle.std.proofs.Common.{◌≡◌, inr, ℕ, List, Option, refl, sym, ◌∙◌, ap, subst, Bool}
 use Rattle.std.specs.List.{AllByRecursion}
 use Rattle.bk_world.specs.Lines.{Grew}
 use Rattle.bk_lemmas.specs.Lists.{all_mapped}
 use Rattle.bk_world.specs.declared.header.Header.{Header}
 use Rattle.bk_world.specs.GrowthLaws.{records-grown}
 use Rattle.bk_machine.specs.declared.history_row.HistoryRow.{HistoryRow}
-use Rattle.bk_machine.specs.Acts.{done, medium_made, set_drawn, noted, seated, set_sealed, turned}
+use Rattle.bk_machine.specs.Acts.{done, medium_made, set_drawn, noted, seated, set_sealed, turned, readied}
 use Rattle.bk_machine.specs.Events.{MediumAdded, MediumChanged, MediumRemoved, StandbyRemoved}
 use Rattle.bk_machine.specs.Same.{SameLogs}
 use Rattle.bk_machine.specs.SettledLaws.{logs-same}
@@ -41,6 +41,10 @@ same-seated w session = logs-same w (done w (seated session)) refl refl
 pub same-medium_made : (w : World) (path : List ℕ) → SameLogs w (done w (medium_made path))
 unfolding done
 same-medium_made w path = logs-same w (done w (medium_made path)) refl refl
+
+pub same-readied : (w : World) (starts : Bool) → SameLogs w (done w (readied starts))
+unfolding done
+same-readied w starts = logs-same w (done w (readied starts)) refl refl
 
 pub same-set_drawn : (w : World) → SameLogs w (done w set_drawn)
 unfolding done

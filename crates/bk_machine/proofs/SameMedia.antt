@@ -1,11 +1,12 @@
 -- Worlds with the same media, whose sets read the same.
-use Rattle.std.proofs.Common.{◌≡◌, ℕ, List, Option, None, Some, refl}
+use Rattle.std.proofs.Common.{◌≡◌, ℕ, List, Option, None, Some, refl, Bool}
 use Rattle.bk_machine.specs.declared.history_row.HistoryRow.{HistoryRow}
-use Rattle.bk_machine.specs.Acts.{done, logged, seated, set_drawn, noted, says, turned, where_found}
+use Rattle.bk_machine.specs.Acts.{done, logged, seated, set_drawn, noted, says, turned, where_found, readied, job_set, jobs_dropped}
 use Rattle.bk_machine.specs.MayDo.{MayDo}
 use Rattle.bk_machine.specs.Same.{SameMedia}
 use Rattle.bk_machine.specs.SettledLaws.{media-same}
 use Rattle.bk_machine.specs.Sound.{IsSound}
+use Rattle.bk_machine.specs.declared.job.Job.{Job}
 use Rattle.bk_machine.specs.World.{Database, World, database_named, ended, opened, restarted}
 use Rattle.bk_machine.proofs.Sets.{set-done}
 use Rattle.bk_world.specs.Records.{Said}
@@ -18,6 +19,18 @@ media-turned w name = media-same w (done w (turned name)) refl refl refl
 pub media-seated : (w : World) (session : ℕ) → SameMedia w (done w (seated session))
 unfolding done
 media-seated w session = media-same w (done w (seated session)) refl refl refl
+
+pub media-readied : (w : World) (starts : Bool) → SameMedia w (done w (readied starts))
+unfolding done
+media-readied w starts = media-same w (done w (readied starts)) refl refl refl
+
+pub media-job_set : (w : World) (name : List ℕ) (job : Option Job) → SameMedia w (done w (job_set name job))
+unfolding done
+media-job_set w name job = media-same w (done w (job_set name job)) refl refl refl
+
+pub media-jobs_dropped : (w : World) → SameMedia w (done w jobs_dropped)
+unfolding done
+media-jobs_dropped w = media-same w (done w jobs_dropped) refl refl refl
 
 pub media-set_drawn : (w : World) → SameMedia w (done w set_drawn)
 unfolding done

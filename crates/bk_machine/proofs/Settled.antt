@@ -1,13 +1,15 @@
 -- What a crash leaves where nothing is lost is the world at the cut, with all undone that is pending in it.
-use Rattle.std.proofs.Common.{◌≡◌, ◌≢◌, List, [], ◌∷◌, refl, sym, ◌∙◌, ap}
+use Rattle.std.proofs.Common.{◌≡◌, ◌≢◌, List, [], ◌∷◌, refl, sym, ◌∙◌, ap, map, None}
 use Rattle.std.proofs.lemmas.List.{append-nil}
 use Rattle.std.specs.List.{AllByRecursion, AllZip}
 use Rattle.bk_world.specs.Cut.{end_behind, settled}
 use Rattle.bk_world.specs.declared.database.Status.{Status}
 use Rattle.bk_world.specs.declared.database.Status.TheVariants.{Online, Standby, Down}
+use Rattle.bk_machine.proofs.SameMedia.{media-jobs_dropped}
+use Rattle.bk_machine.specs.Acts.{done, jobs_dropped, with_job}
 use Rattle.bk_machine.specs.Crash.{DatabaseLeft, OfflineLeft, StatusLeft, WorldLeft, open_begins}
 use Rattle.bk_machine.specs.Settled.{IsSettledTo, SettledTo}
-use Rattle.bk_machine.specs.SettledLaws.{counts-end, zip-first}
+use Rattle.bk_machine.specs.SettledLaws.{counts-end, zip-first, media-symmetric, media-transitive}
 use Rattle.bk_machine.specs.Sound.{IsSound, IsWhole, IsWholeDatabase, OpenBy}
 use Rattle.bk_machine.specs.Stays.{IsFront}
 use Rattle.bk_machine.specs.World.{Database, World, log_of}
@@ -55,3 +57,14 @@ pub whole-front : (before cut : World) → IsSound cut → AllByRecursion (λ (d
 whole-front before cut sound =
     all_mapped (OpenBy cut.history) (λ (db : Database). db.status ≡ Online → IsFront before cut db (log_of cut.history db))
     (λ db opens up. record { lost = []; splits = sym (append-nil (log_of cut.history db)); of_open = tt; of_some = tt; quiet = tt; loads = (opens.online up).loads }) cut.databases sound.opens
+
+-- where no job runs any more the same is settled
+pub settled-dropped : (w v : World) → IsSettledTo w v → IsSettledTo (done w jobs_dropped) v
+unfolding done log_of
+settled-dropped w v s = record { media = media-transitive (done w jobs_dropped) w v (media-symmetric w (done w jobs_dropped) (media-jobs_dropped w)) s.media; databases = by w.databases v.databases s.databases }
+  where
+    by : (olds news : List Database) → AllZip (SettledTo w v) olds news → AllZip (SettledTo (done w jobs_dropped) v) (map (with_job None) olds) news
+    by [] [] each = tt
+    by [] (new ∷ news) each = absurd each
+    by (old ∷ olds) [] each = absurd each
+    by (old ∷ olds) (new ∷ news) each = (record { same = each.0.same; end = each.0.end; online = λ up. each.0.online up; offline = λ down. each.0.offline down }, by olds news each.1)

@@ -1,5 +1,5 @@
 -- What is pending in a database is undone by an act that may be done.
-use Rattle.std.proofs.Common.{◌≡◌, ◌≤◌, ℕ, ◌+◌, Bool, true, false, not, ◌&&◌, cond, List, [], ◌∷◌, ◌++◌, length, reverse, Some, refl, sym, ◌∙◌, ap, subst, append_assoc, arith}
+use Rattle.std.proofs.Common.{◌≡◌, ◌≤◌, ℕ, ◌+◌, Bool, true, false, not, ◌&&◌, cond, List, [], ◌∷◌, ◌++◌, length, reverse, Some, refl, sym, ◌∙◌, ap, subst, append_assoc, arith, inl}
 use Rattle.std.proofs.lemmas.List.{append-nil, length-reverse}
 use Rattle.std.specs.List.{AllByRecursion, AllZip}
 use Rattle.std.specs.Prelude.{◌==◌}
@@ -18,17 +18,19 @@ use Rattle.bk_world.specs.SettledLaws.{end-more, length-undoing, nothing-pends}
 use Rattle.bk_world.specs.SoundLogs.{IsSound as IsSoundLog, MayFollow, NoLoadPends}
 use Rattle.bk_world.specs.Telling.{model, tables}
 use Rattle.bk_world.specs.declared.database.Status.TheVariants.{Online}
+use Rattle.bk_machine.specs.JobLaws.{job-on}
 use Rattle.bk_machine.specs.Acts.{done, gone_on, pointed, says, where_found}
 use Rattle.bk_machine.specs.Built.{IsNoLoad, SaysNoLoad}
 use Rattle.bk_machine.specs.Checks.{last_number}
-use Rattle.bk_machine.specs.MayDo.{MayDo, MaySay}
+use Rattle.bk_machine.specs.MayDo.{MayDo, MaySay, IsNoMark}
 use Rattle.bk_machine.specs.NamedLaws.{apart-named}
 use Rattle.bk_machine.specs.ReadyLaws.{nothing-open}
 use Rattle.bk_machine.specs.Same.{SameMedia}
 use Rattle.bk_machine.specs.Settled.{IsSettledTo, SettledTo, needs_settling, settled_database, settles}
 use Rattle.bk_machine.specs.SettledLaws.{counts-end, media-symmetric, media-transitive, settled-same}
-use Rattle.bk_machine.specs.Sound.{AreDifferent, AreNumbered, Differ, IsSound, IsWholeDatabase}
+use Rattle.bk_machine.specs.Sound.{AreDifferent, AreNumbered, Differ, IsSound, IsWholeDatabase, IsFitJob, JobIs, LeavesStamp}
 use Rattle.bk_machine.specs.UpLaws.{IsUp, is-up, may-open}
+use Rattle.bk_machine.specs.declared.job.Job.{Job}
 use Rattle.bk_machine.specs.World.{Database, World, database_named, log_of, with_database}
 use Rattle.bk_machine.specs.statements.Restore.{is_online}
 use Rattle.bk_machine.proofs.Fitting.{fits-told}
@@ -55,6 +57,10 @@ unfolding tables
 settle-tables rs n = ap tables_of (entries-settled rs n)
 
 -- what undoes moves no point
+settle-marks : (ws : List Pending) → AllByRecursion (λ (s : Said). IsNoMark s.deed) (undoing ws)
+settle-marks [] = tt
+settle-marks (w ∷ ws) = (tt, settle-marks ws)
+
 pointed-undoing : (m : RecoveryModel) (db : Database) (n : ℕ) (ws : List Pending) → pointed m db (numbered n (undoing ws)) ≡ db
 pointed-undoing m db n [] = refl
 pointed-undoing m db n (w ∷ ws) = pointed-undoing m db (n + 1) ws
@@ -119,6 +125,7 @@ module _ (w : World) (db : Database) (sound : IsSound w) (named : database_named
     tables = subst (AreNumbered 1) (sym (settle-tables (log_of w.history db) db.end)) is.whole.log.tables;
     places = placed-undoing db.files (log_of w.history db) db.end (reverse (pending (log_of w.history db)));
     fits = fits-told (length db.groups) (log_of w.history db) (more (log_of w.history db) db.end (settle_said (pending (log_of w.history db)))) (entries-settled (log_of w.history db) db.end) is.whole.fits.log;
+    marks = inl (settle-marks (reverse (pending (log_of w.history db))));
   }
 
   -- it says a record for each pending write, and none is open then
@@ -127,8 +134,16 @@ module _ (w : World) (db : Database) (sound : IsSound w) (named : database_named
       let many : length (settle_said (pending (log_of w.history db))) ≡ length (pending (log_of w.history db)) = length-undoing (reverse (pending (log_of w.history db))) ∙ length-reverse (pending (log_of w.history db)) in
       omega (arith, is.opens.numbers, many)
 
+  -- and a stamp may still come
+  leaves : JobIs (λ (job : Job). LeavesStamp (more (log_of w.history db) db.end said) (db.end + length said) []) db.job
+  leaves =
+      let many : length (settle_said (pending (log_of w.history db))) ≡ length (pending (log_of w.history db)) = length-undoing (reverse (pending (log_of w.history db))) ∙ length-reverse (pending (log_of w.history db)) in
+      let none : length (pending (more (log_of w.history db) db.end said)) ≡ 0 = ap length (pending-settled (log_of w.history db) db.end) in
+      job-on (IsFitJob (log_of w.history db) db.end db.transactions) (λ (job : Job). LeavesStamp (more (log_of w.history db) db.end said) (db.end + length said) [])
+      (λ job fit. let stamp : LeavesStamp (log_of w.history db) db.end db.transactions = fit.numbers in omega (arith, stamp, many, none)) db.job is.job
+
   pub settle-may : MayDo w (settles w db)
-  settle-may = may-open w db said [] is says-it tt (nothing-open (more (log_of w.history db) db.end said) (db.end + length said) (pending-settled (log_of w.history db) db.end) left)
+  settle-may = may-open w db said [] is says-it tt (nothing-open (more (log_of w.history db) db.end said) (db.end + length said) (pending-settled (log_of w.history db) db.end) left) leaves
 
   pub settle-sound : IsSound (done w (settles w db))
   settle-sound = act-sound w (settles w db) sound settle-may

@@ -4,7 +4,7 @@ use Rattle.std.specs.List.{AllByRecursion}
 use Rattle.bk_items.specs.declared.item.ScriptEntry.{ScriptEntry}
 use Rattle.bk_items.specs.declared.item.Catalog.{Catalog}
 use Rattle.bk_items.specs.declared.item.MediumQuery.{MediumQuery}
-use Rattle.bk_items.specs.declared.item.ScriptItem.TheVariants.{QueryMedium, Rows, SelectCatalog, Use, Session}
+use Rattle.bk_items.specs.declared.item.ScriptItem.TheVariants.{QueryMedium, Rows, SelectCatalog, Use, Session, Start}
 use Rattle.bk_items.specs.declared.rows.RowStatement.TheVariants.{Select}
 use Rattle.bk_world.specs.declared.reply.Reply.{Reply}
 use Rattle.bk_world.specs.declared.reply.Reply.TheVariants.{Done, Refused}
@@ -34,8 +34,8 @@ acts-write named (act ∷ acts) path only (inl here) = act-writes named act path
 acts-write named (act ∷ acts) path only (inr there) = acts-write named acts path only.1 there
 
 -- a statement writes to no medium but the one that it names
-pub statement-writes : (w : World) (s : ScriptEntry) (now : ℕ) (outcome : Outcome) (path : List ℕ) → May w s now outcome → ActsWrite outcome.acts path → StatementWrites s.item path
-statement-writes w s now outcome path may writes = acts-write (StatementWrites s.item) outcome.acts path (statement-facts w s now outcome may).writes writes
+pub statement-writes : (w : World) (s : ScriptEntry) (now : ℕ) (outcome : Outcome) (path : List ℕ) → May w s now outcome → ActsWrite outcome.acts path → StatementWrites w s.item path
+statement-writes w s now outcome path may writes = acts-write (StatementWrites w s.item) outcome.acts path (statement-facts w s now outcome may).writes writes
 
 -- a refused statement stores nothing
 pub refused-still : (w : World) (s : ScriptEntry) (now : ℕ) (outcome : Outcome) (rule : Rule) → May w s now outcome → outcome.reply ≡ Refused rule → IsStill outcome
@@ -65,6 +65,11 @@ query-still w line query disk file now = comes-to IsStill (check_query w line qu
 pub catalog-still : (w : World) (line : ℕ) (catalog : Catalog) (now : ℕ) (outcome : Outcome) → May w (record { item = SelectCatalog catalog; line = line }) now outcome → IsStill outcome
 unfolding May
 catalog-still w line catalog now = comes-to IsStill (check_catalog w line catalog) DoesSelectCatalog (λ rule. tt) (λ listing e outcome is. subst IsStill (sym is) tt)
+
+-- nor does `:start`
+pub start-still : (w : World) (line : ℕ) (now : ℕ) (outcome : Outcome) → May w (record { item = Start; line = line }) now outcome → IsStill outcome
+unfolding May
+start-still w line now outcome is = subst IsStill (sym is) (tt, tt)
 
 answered-still : (answer : Reply) (outcome : Outcome) → outcome ≡ answered answer → IsStill outcome
 answered-still answer outcome is = subst IsStill (sym is) tt

@@ -17,9 +17,11 @@ pub mod Restore
 pub mod Said
 pub mod Checkpoint
 pub mod Backup
+pub mod Job
 pub mod Each
 pub mod Running
 pub mod Leaving
 pub mod Closing
+pub mod Jobless
 pub mod Counting
 pub mod Firsts

@@ -30,7 +30,8 @@ use Rattle.bk_world.specs.Records.{Deed, Logged, Said, database_made, checkpoint
 use Rattle.bk_world.specs.Says.{alone}
 use Rattle.bk_world.specs.Telling.{model, time}
 use Rattle.bk_world.specs.declared.transaction.Open.{Open}
-use Rattle.bk_machine.specs.World.{World, Database, Job, log_of, log_to, least_begin, database_named, with_database, without_database, with_new_database, session_numbered, with_session}
+use Rattle.bk_machine.specs.declared.job.Job.{Job}
+use Rattle.bk_machine.specs.World.{World, Database, log_of, log_to, least_begin, database_named, with_database, without_database, with_new_database, session_numbered, with_session}
 
 -- a recovery: where, on which branch that is drawn for it, and what is said there
 pub record Recovery : Type 0 where
@@ -44,6 +45,8 @@ pub data Act : Type 0 where
   turned : Option (List ℕ) → Act
   -- this session is the current one from now on
   seated : ℕ → Act
+  -- the current session's next backup only starts, or it doesn't any more
+  readied : Bool → Act
   -- a database is made, and says its first record
   created : Creation → Act
   dropped : List ℕ → Act
@@ -59,6 +62,10 @@ pub data Act : Type 0 where
   noted : HistoryRow → Act
   -- a database is based on a set
   based : List ℕ → Header → Act
+  -- the backup of a database starts or goes on, or there is none any more
+  job_set : List ℕ → Option Job → Act
+  -- no database has one any more
+  jobs_dropped : Act
   -- a set takes the place of the database of a name, or comes behind the others; its files are Bad
   replaced : List ℕ → Header → Act
   -- the files of a database are restored, as of a number
@@ -174,6 +181,10 @@ based_on header db = record db {
   archive = if not db.chain && not (is_simple header.model) then header.first else db.archive;
   began = db.began && (db.chain || is_simple header.model);
 }
+
+-- a database with this job
+abbrev pub with_job : Option Job → Database → Database
+with_job job db = record db { job = job }
 
 -- Restores.
 
@@ -302,6 +313,7 @@ where_found w (Some db) next = next db
 unfoldable pub done : World → Act → World
 done w (turned name) = record w { sessions = with_session w.sessions (record (session_numbered w.sessions w.session) { current = name }) }
 done w (seated session) = record w { session = session }
+done w (readied starts) = record w { sessions = with_session w.sessions (record (session_numbered w.sessions w.session) { starts = starts }) }
 done w (created c) = record w {
   counter = w.counter + 2;
   history = new_line c.branch 1 (creation_said c) ∷ w.history;
@@ -317,6 +329,8 @@ done w set_drawn = record w { counter = w.counter + 1 }
 done w (set_sealed path header) = record w { media = with_medium w.media path (with_slot (medium_at w.media path) (readable header)) }
 done w (noted row) = record w { backups = w.backups ++ backups_in row; restores = w.restores ++ restores_in row; marks = w.marks ++ marks_in row }
 done w (based name header) = record w { databases = with_database w.databases name (based_on header) }
+done w (job_set name job) = record w { databases = with_database w.databases name (with_job job) }
+done w jobs_dropped = record w { databases = map (with_job None) w.databases }
 done w (replaced name header) = record w {
   databases = with_new_database w.databases (taken_over name header);
   standbys = without_standby_of (database_named w.databases name) w.standbys;

@@ -73,3 +73,12 @@ begins_rise db (t ∷ ts) m each le = le-min (by each.0) (begins_rise db ts m ea
     by : IsOpenOrNew db t → least_begin db.transactions db.end ≤ t.begin
     by (inl there) = least-open db.transactions db.end t.begin there
     by (inr new) = let one : least_begin db.transactions db.end ≤ db.end = least-end db.transactions db.end in omega (arith, one, new)
+
+-- a number that is above no begin
+pub of-begin : (ts : List Open) (n b : ℕ) → AllByRecursion (λ (t : Open). n ≤ t.begin) ts → has_begin ts b ≡ true → n ≤ b
+of-begin [] n b all there = absurd (cc)
+of-begin (t ∷ ts) n b all there = by (t.begin == b) refl there (of-begin ts n b all.1)
+  where
+    by : (e : Bool) → (t.begin == b) ≡ e → (e || has_begin ts b) ≡ true → (has_begin ts b ≡ true → n ≤ b) → n ≤ b
+    by true is there later = let same : t.begin ≡ b = grind (arith, nat_tests, is) in omega (arith, same, all.0)
+    by false is there later = later there

@@ -11,7 +11,7 @@ use Rattle.bk_world.specs.declared.database.TableSpec.{TableSpec}
 use Rattle.bk_world.specs.declared.database.Unit.{Unit as RestoreUnit}
 use Rattle.bk_world.specs.declared.rule.Limit.TheVariants.{Lsn}
 use Rattle.bk_world.specs.declared.rule.Rule.{Rule}
-use Rattle.bk_world.specs.declared.rule.Rule.TheVariants.{NotOnline, InTransaction, DatabaseInUse, FileInUse, LimitReached}
+use Rattle.bk_world.specs.declared.rule.Rule.TheVariants.{NotOnline, InTransaction, JobRunning, DatabaseInUse, FileInUse, LimitReached}
 use Rattle.bk_world.specs.declared.rule.StatusWord.{StatusWord}
 use Rattle.bk_world.specs.declared.rule.StatusWord.TheVariants as word
 use Rattle.bk_world.specs.declared.transaction.Open.{Open}
@@ -59,6 +59,10 @@ unused_by (Some session) = Err (DatabaseInUse session)
 -- refused where a session has an open transaction in the database
 abbrev pub unused : Database → Checked (Unit {0})
 unused db = unused_by (least_session db.transactions)
+
+-- refused while a backup of the database runs
+abbrev pub without_job : Database → Checked (Unit {0})
+without_job db = refuse_if (is_some db.job) JobRunning
 
 -- Numbers.
 

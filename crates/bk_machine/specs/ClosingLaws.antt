@@ -17,16 +17,16 @@ done-joined w (act ∷ a) b = done-joined (done w act) a b
 -- a front goes on
 pub front-joined : (w : World) (a b : List Act) → IsClosingFront w a → IsClosingFront (done_all w a) b → IsClosingFront w (a ++ b)
 front-joined w [] b front rest = rest
-front-joined w (act ∷ a) b (held, first, is, front) rest = (held, first, is, front-joined (done w act) a b front rest)
+front-joined w (act ∷ a) b (closes, front) rest = (closes, front-joined (done w act) a b front rest)
 
 pub closing-joined : (w : World) (a b : List Act) → IsClosingFront w a → AreClosing (done_all w a) b → AreClosing w (a ++ b)
 closing-joined w [] b front rest = rest
-closing-joined w (act ∷ a) b (held, first, is, front) rest = (held, first, is, closing-joined (done w act) a b front rest)
+closing-joined w (act ∷ a) b (closes, front) rest = (closes, closing-joined (done w act) a b front rest)
 
 -- each front of a closing is one, and the rest closes what is behind it
 pub closing-parts : (w : World) (a b : List Act) → AreClosing w (a ++ b) → IsClosingFront w a × AreClosing (done_all w a) b
 closing-parts w [] b closing = (tt, closing)
-closing-parts w (act ∷ a) b (held, first, is, closing) = let rest = closing-parts (done w act) a b closing in ((held, first, is, rest.0), rest.1)
+closing-parts w (act ∷ a) b (closes, closing) = let rest = closing-parts (done w act) a b closing in ((closes, rest.0), rest.1)
 
 -- where none is open, nothing is left to be rolled back
 pub none-open : (dbs : List Database) → count_open dbs ≡ 0 → AllByRecursion (λ (db : Database). db.transactions ≡ []) dbs

@@ -24,6 +24,7 @@ pub mod NamedLaws
 pub mod CheckLaws
 pub mod FindingLaws
 pub mod BeginLaws
+pub mod JobLaws
 pub mod ReadyLaws
 pub mod UpLaws
 pub mod HeldLaws

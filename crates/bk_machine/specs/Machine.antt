@@ -2,7 +2,7 @@
 use Rattle.std.specs.Prelude.{◌≡◌, ℕ}
 use Rattle.bk_items.specs.declared.item.ScriptEntry.{ScriptEntry}
 use Rattle.bk_items.specs.declared.item.ScriptItem.{ScriptItem}
-use Rattle.bk_items.specs.declared.item.ScriptItem.TheVariants.{CreateDatabase, DropDatabase, Use, CreateTable, Rows, BackupDatabase, RestoreDatabase, QueryMedium, Begin, Commit, Rollback, Checkpoint, SelectCatalog, Session, Syntax, TooLong}
+use Rattle.bk_items.specs.declared.item.ScriptItem.TheVariants.{CreateDatabase, DropDatabase, Use, CreateTable, Rows, BackupDatabase, RestoreDatabase, QueryMedium, Begin, Commit, Rollback, Checkpoint, SelectCatalog, Session, Start, Step, Wait, Syntax, TooLong}
 use Rattle.bk_world.specs.declared.rule.Rule.TheVariants as rule
 use Rattle.bk_world.specs.declared.rule.Rule.TheVariants.{NotBuilt}
 use Rattle.bk_machine.specs.Acts.{done_all}
@@ -19,6 +19,7 @@ use Rattle.bk_machine.specs.statements.Rollback.{check_rollback, DoesRollback}
 use Rattle.bk_machine.specs.statements.Session.{check_session, DoesSession}
 use Rattle.bk_machine.specs.statements.Checkpoint.{check_checkpoint, DoesCheckpoint}
 use Rattle.bk_machine.specs.statements.Backup.{check_backup, DoesBackup}
+use Rattle.bk_machine.specs.statements.Job.{check_job, DoesStart, DoesStep, DoesWait}
 use Rattle.bk_machine.specs.statements.Restore.{check_restore, DoesRestore}
 use Rattle.bk_machine.specs.statements.Catalog.{check_catalog, DoesSelectCatalog}
 use Rattle.bk_machine.specs.statements.Query.{check_query, DoesQuery}
@@ -39,6 +40,9 @@ ItemMay w line Rollback now = ComesTo (check_rollback w) (DoesRollback w)
 ItemMay w line Checkpoint now = ComesTo (check_checkpoint w) (DoesCheckpoint w now)
 ItemMay w line (SelectCatalog catalog) now = ComesTo (check_catalog w line catalog) DoesSelectCatalog
 ItemMay w line (Session number) now = ComesTo (check_session line number) DoesSession
+ItemMay w line Start now = DoesStart
+ItemMay w line (Step count) now = ComesTo (check_job w) (DoesStep count)
+ItemMay w line Wait now = ComesTo (check_job w) (DoesWait w now)
 ItemMay w line (Syntax there) now = λ outcome. outcome ≡ refused (rule.Syntax there)
 ItemMay w line TooLong now = λ outcome. outcome ≡ refused rule.TooLong
 ItemMay w line _ now = λ outcome. outcome ≡ refused (NotBuilt line)

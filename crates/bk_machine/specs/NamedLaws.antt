@@ -28,7 +28,7 @@ apart-named a b apart = by (same_name a b) refl
     by false is = is
 
 pub differ-sym : {a b : Database} → Differ a b → Differ b a
-differ-sym is = record { names = λ same. is.names (sym same); branches = λ one other same. is.branches other one (sym same) }
+differ-sym is = record { names = λ same. is.names (sym same); branches = λ one other same. is.branches other one (sym same); sets = λ job one other two same. is.sets other two job one (sym same) }
 
 -- The database of a name.
 
@@ -129,6 +129,18 @@ all-changed P Q (d ∷ dbs) name db change all apart is here others = by (λ e. 
         let same : d ≡ db = cc in
         (subst (λ x. P x → Q (change x)) (sym same) here all.0, rest dbs all.1 (subst (λ x. AllByRecursion (Differ x) dbs) same apart.0))
     by later false e = (others d all.0 (differ-sym (of-named (Differ d) dbs name db apart.0 e)), later e)
+
+-- it differs from all of other names
+pub differs-named : (dbs : List Database) (name : List ℕ) (db : Database) → AreDifferent dbs → database_named dbs name ≡ Some db → AllByRecursion (λ (o : Database). lowered o.name ≢ lowered db.name → Differ db o) dbs
+differs-named [] name db apart is = tt
+differs-named (d ∷ dbs) name db apart is = by (differs-named dbs name db apart.1) (same_name d.name name) is
+  where
+    by : (database_named dbs name ≡ Some db → AllByRecursion (λ (o : Database). lowered o.name ≢ lowered db.name → Differ db o) dbs) → (t : Bool) → cond t (Some d) (database_named dbs name) ≡ Some db
+        → AllByRecursion (λ (o : Database). lowered o.name ≢ lowered db.name → Differ db o) (d ∷ dbs)
+    by later true e =
+        let same : d ≡ db = cc in
+        (λ other. absurd (other (ap (λ (x : Database). lowered x.name) same)), all_mapped (Differ d) (λ (o : Database). lowered o.name ≢ lowered db.name → Differ db o) (λ o differ other. subst (λ x. Differ x o) same differ) dbs apart.0)
+    by later false e = (λ other. differ-sym (of-named (Differ d) dbs name db apart.0 e), later e)
 
 pub different-with : (dbs : List Database) (name : List ℕ) (change : Database → Database) → ((o other : Database) → Differ o other → Differ (change o) other) → AreDifferent dbs → AreDifferent (with_database dbs name change)
 different-with [] name change still all = tt

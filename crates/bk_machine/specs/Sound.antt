@@ -21,6 +21,7 @@ use Rattle.bk_world.specs.Telling.{telling, tables, model, time}
 use Rattle.bk_world.specs.declared.transaction.Open.{Open}
 use Rattle.bk_machine.specs.Checks.{last_number}
 use Rattle.bk_machine.specs.Fits.{FitsSet}
+use Rattle.bk_machine.specs.declared.job.Job.{Job}
 use Rattle.bk_machine.specs.World.{World, Database, log_of, most_sessions, most_writes}
 
 -- The history.
@@ -122,15 +123,41 @@ pub record IsIdle (db : Database) : Type 0 where
   pub job : db.job ≡ None
   pub transactions : db.transactions ≡ []
 
--- a database that is online has open transactions, and another one is idle
+-- this holds of a job, if there is one
+abbrev pub JobIs : (Job → Type 0) → Option Job → Type 0
+JobIs P None = Unit {0}
+JobIs P (Some job) = P job
+
+-- beside what is open in a log that ends here, numbers are left for a stamp, and for the recovery of the set behind it
+abbrev pub LeavesStamp : List Logged → ℕ → List Open → Type 0
+LeavesStamp rs end transactions = end + (length (pending rs) + (length transactions + 2)) ≤ last_number
+
+-- A job: there are numbers for its end. Its set begins at its checkpoint, which was said, or below, and not above what is open.
+pub record IsFitJob (rs : List Logged) (end : ℕ) (transactions : List Open) (job : Job) : Type 0 where
+  pub numbers : LeavesStamp rs end transactions
+  pub some : 1 ≤ job.first
+  pub first : job.first ≤ job.checkpoint
+  pub said : job.checkpoint < end
+  pub begins : AllByRecursion (λ (t : Open). job.first ≤ t.begin) transactions
+
+-- the live log keeps what is open from its first record on, and what a job needs
+pub record IsKept (kept : ℕ) (transactions : List Open) (runs : Option Job) : Type 0 where
+  pub begins : AllByRecursion (λ (t : Open). kept ≤ t.begin) transactions
+  pub job : JobIs (λ (j : Job). kept ≤ j.first) runs
+
+-- a database that is online has open transactions and perhaps a job, and another one is idle
 pub record OpenBy (lines : RecordLines) (db : Database) : Type 0 where
   pub online : db.status ≡ Online → AreOpen (log_of lines db) db.end db.transactions
   pub offline : db.status ≢ Online → IsIdle db
+  pub job : JobIs (IsFitJob (log_of lines db) db.end db.transactions) db.job
+  pub keeps : IsKept db.kept db.transactions db.job
 
--- A database that is online goes on. A record that is of no transaction, so that no crash loses it, lies on its last branch.
+-- A database that is online goes on. A record that is of no transaction, so that no crash loses it, lies on its last branch; and one lies at
+-- its kept number or behind it.
 pub record IsOnline (lines : RecordLines) (db : Database) : Type 0 where
   pub goes_on : MayGoOn lines db.path db.end
   pub anchor : (r : Logged) × Contains (log_of lines db) r × (r.begin ≡ 0) × AllByRecursion (λ (b : Branch). b.start ≤ r.lsn) db.path
+  pub holds : (r : Logged) × Contains (log_of lines db) r × (r.begin ≡ 0) × (db.kept ≤ r.lsn)
 
 -- what a database shows is held, but on the last branch of one that is online, which goes on
 abbrev pub IsHeldOf : RecordLines → Database → Type 0
@@ -145,16 +172,23 @@ pub record IsWholeDatabase (w : World) (db : Database) : Type 0 where
   pub log : IsLog db.files (log_of w.history db) db.end
   pub path : IsPath db.path
   pub starts : AllByRecursion (λ (b : Branch). b.start < db.end) db.path
+  pub kept : db.kept ≤ db.end
   pub drawn : AllByRecursion (λ (b : Branch). IsNotToCome w b.guid) db.path
   pub family : IsNotToCome w db.family
+  pub job : JobIs (λ (job : Job). IsNotToCome w job.set) db.job
   pub held : IsHeldOf w.history db
   pub online : db.status ≡ Online → IsOnline w.history db
   pub fits : FitsSet (storage_of db) db.path (log_of w.history db)
 
--- two databases have different names, and where both are online they write on different branches
+-- the backup of a database, if one runs, has another set
+abbrev pub IsOther : Guid → Database → Type 0
+IsOther set db = (job : Job) → db.job ≡ Some job → set ≢ job.set
+
+-- two databases have different names, where both are online they write on different branches, and where backups of both run these have different sets
 pub record Differ (a b : Database) : Type 0 where
   pub names : lowered a.name ≢ lowered b.name
   pub branches : a.status ≡ Online → b.status ≡ Online → last_branch a.path ≢ last_branch b.path
+  pub sets : (job : Job) → a.job ≡ Some job → IsOther job.set b
 
 -- each of some databases differs from all behind it
 abbrev pub AreDifferent : List Database → Type 0

@@ -12,8 +12,9 @@ use Rattle.bk_machine.specs.Checks.{last_number}
 use Rattle.bk_machine.specs.MayDo.{IsOpenOrNew, MayDo, MayLog, MaySay}
 use Rattle.bk_machine.specs.NamedLaws.{of-named}
 use Rattle.bk_machine.specs.ReadyLaws.{holds-of}
-use Rattle.bk_machine.specs.Sound.{AreOpen, IsSound, KeepsAll, IsWholeDatabase, OpenBy, has_begin}
+use Rattle.bk_machine.specs.Sound.{AreOpen, IsFitJob, IsSound, JobIs, KeepsAll, IsWholeDatabase, LeavesStamp, OpenBy, has_begin, IsKept}
 use Rattle.bk_world.specs.declared.transaction.Open.{Open}
+use Rattle.bk_machine.specs.declared.job.Job.{Job}
 use Rattle.bk_machine.specs.World.{World, Database, database_named, log_of, most_writes}
 
 -- a database that is online
@@ -22,17 +23,20 @@ pub record IsUp (w : World) (db : Database) : Type 0 where
   pub whole : IsWholeDatabase w db
   pub up : db.status ≡ Online
   pub opens : AreOpen (log_of w.history db) db.end db.transactions
+  pub job : JobIs (IsFitJob (log_of w.history db) db.end db.transactions) db.job
+  pub keeps : IsKept db.kept db.transactions db.job
 
 pub is-up : (w : World) (db : Database) → IsSound w → database_named w.databases db.name ≡ Some db → db.status ≡ Online → IsUp w db
 is-up w db sound named up =
     let opens : OpenBy w.history db = of-named (OpenBy w.history) w.databases db.name db sound.opens named in
-    record { named = named; whole = of-named (IsWholeDatabase w) w.databases db.name db sound.whole.databases named; up = up; opens = opens.online up }
+    record { named = named; whole = of-named (IsWholeDatabase w) w.databases db.name db sound.whole.databases named; up = up; opens = opens.online up; job = opens.job; keeps = opens.keeps }
 
 -- what it may say, behind which these transactions are open, is an act that may be done
 pub may-open : (w : World) (db : Database) (said : List Said) (transactions : List Open) → IsUp w db → MaySay w db said → AllByRecursion (IsOpenOrNew db) transactions
-    → AreOpen (more (log_of w.history db) db.end said) (db.end + length said) transactions → MayDo w (logged db.name said transactions)
-may-open w db said transactions r says each opens =
-    holds-of (database_named w.databases db.name) db (λ d. MayLog w d said transactions) r.named (record { says = says; each = each; opens = opens })
+    → AreOpen (more (log_of w.history db) db.end said) (db.end + length said) transactions → JobIs (λ (job : Job). LeavesStamp (more (log_of w.history db) db.end said) (db.end + length said) transactions) db.job
+    → MayDo w (logged db.name said transactions)
+may-open w db said transactions r says each opens leaves =
+    holds-of (database_named w.databases db.name) db (λ d. MayLog w d said transactions) r.named (record { says = says; each = each; opens = opens; leaves = leaves })
 
 -- a record that undoes nothing
 abbrev pub UndoesNone : Logged → Type 0
@@ -65,5 +69,5 @@ opens-same rs end ts said opens none same left = record {
 -- what it may say, behind which the same is pending and numbers are left, is an act that may be done
 pub may-tell : (w : World) (db : Database) (said : List Said) → IsUp w db → MaySay w db said → AllByRecursion UndoesNone (numbered db.end said)
     → pending (more (log_of w.history db) db.end said) ≡ pending (log_of w.history db) → (db.end + length said) + (length (pending (log_of w.history db)) + length db.transactions) ≤ last_number
-    → MayDo w (logged db.name said db.transactions)
-may-tell w db said r says none same left = may-open w db said db.transactions r says (each-own db) (opens-same (log_of w.history db) db.end db.transactions said r.opens none same left)
+    → JobIs (λ (job : Job). LeavesStamp (more (log_of w.history db) db.end said) (db.end + length said) db.transactions) db.job → MayDo w (logged db.name said db.transactions)
+may-tell w db said r says none same left leaves = may-open w db said db.transactions r says (each-own db) (opens-same (log_of w.history db) db.end db.transactions said r.opens none same left) leaves

@@ -2,13 +2,11 @@
 use Rattle.std.specs.Prelude.{ℕ, Bool, false, true, not, min, List, [], ◌∷◌, filter, Option, Some, None, ◌==◌, if◌then◌else◌}
 use Rattle.bk_ids.specs.declared.guid.Guid.{Guid}
 use Rattle.bk_ids.specs.declared.path.Branch.{Branch}
-use Rattle.bk_ids.specs.declared.record.ExtentId.{ExtentId}
 use Rattle.bk_ids.specs.Name.{same_name}
 use Rattle.bk_world.specs.declared.database.Base.{Base}
 use Rattle.bk_world.specs.declared.database.FileSpec.{FileSpec}
 use Rattle.bk_world.specs.declared.database.Status.{Status}
 use Rattle.bk_world.specs.declared.database.Unit.{Unit as RestoreUnit}
-use Rattle.bk_world.specs.declared.header.SetKind.{SetKind}
 use Rattle.bk_world.specs.declared.msdb.BackupRow.{BackupRow}
 use Rattle.bk_world.specs.declared.msdb.RestoreRow.{RestoreRow}
 use Rattle.bk_world.specs.declared.msdb.MarkRow.{MarkRow}
@@ -16,23 +14,7 @@ use Rattle.bk_world.specs.declared.transaction.Open.{Open}
 use Rattle.bk_world.specs.Lines.{RecordLines, log_below}
 use Rattle.bk_world.specs.Medium.{Reading}
 use Rattle.bk_world.specs.Records.{Logged}
-
--- a backup that runs beside the sessions
-pub record Job : Type 0 where
-  pub set : Guid
-  pub kind : SetKind
-  pub files : List ℕ
-  pub copy_only : Bool
-  pub checksums : Bool
-  pub name : List ℕ
-  pub expiry : Option ℕ
-  pub start : ℕ
-  -- the path of its medium
-  pub medium : List ℕ
-  pub first : ℕ
-  pub checkpoint : ℕ
-  -- the extents that aren't copied yet, in their order
-  pub left : List ExtentId
+use Rattle.bk_machine.specs.declared.job.Job.{Job}
 
 -- how many sessions there are, and how many writes a transaction has at most
 abbrev pub most_sessions : ℕ
@@ -120,7 +102,7 @@ empty_world instance = record {
 unfoldable pub opened : World → World
 opened w = record w { session = 1; sessions = []; closed = false }
 
--- a run has ended: no session is there any more (there is no job yet, and open transactions were rolled back before)
+-- a run has ended: no session is there any more (jobs were dropped and open transactions rolled back before)
 unfoldable pub ended : World → World
 ended w = record w { session = 1; sessions = []; closed = true }
 

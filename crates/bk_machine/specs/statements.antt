@@ -15,6 +15,7 @@ pub mod Rollback
 pub mod Session
 pub mod Checkpoint
 pub mod Backup
+pub mod Job
 pub mod Restore
 pub mod Query
 pub mod Catalog

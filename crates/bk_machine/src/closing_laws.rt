@@ -1,9 +1,9 @@
 ghost use Rattle.std.specs.Prelude.{◌≡◌, ◌⊎◌, ◌≤◌, ℕ, ◌+◌, true, List, [], ◌∷◌, ◌++◌, length, Some, take};
 ghost use Rattle.std.specs.List.{AllByRecursion, AllZip};
 ghost use Rattle.bk_items.specs.declared.item.ScriptEntry.{ScriptEntry};
-ghost use Rattle.bk_machine.specs.Acts.{Act, done, done_all};
+ghost use Rattle.bk_machine.specs.Acts.{Act, done, done_all, jobs_dropped};
 ghost use Rattle.bk_machine.specs.Built.{IsBuilt, SaysNoLoad};
-ghost use Rattle.bk_machine.specs.Closing.{AreClosing, IsClosingFront, IsFirst, closed_by, count_open};
+ghost use Rattle.bk_machine.specs.Closing.{AreClosing, HasNoJobs, IsClosingFront, IsFirst, closed_by, count_open};
 ghost use Rattle.bk_machine.specs.Crash.{CutsRun, Leaves, cut_between, open_begins};
 ghost use Rattle.bk_machine.specs.MayDo.{MayDo, MayDoAll};
 ghost use Rattle.bk_machine.specs.Outcome.{Outcome};
@@ -17,7 +17,7 @@ ghost use Rattle.bk_world.specs.Records.{Logged};
 ghost use Rattle.bk_world.specs.declared.transaction.Open.{Open};
 ghost use Rattle.bk_world.specs.declared.database.Status.TheVariants.{Online};
 
-/// Each sound world can be closed: its open transactions are rolled back by rising session. These are acts that may be done,
+/// Each sound world can be closed: its open transactions are rolled back by rising session, and backups that run are dropped. These are acts that may be done,
 /// behind them the world is sound, and built where it was. Where a run began with nothing open, nothing is open behind its closing.
 pub fn runs_are_closed()
     ensures comes { (w : World) → IsSound w → (acts : List Act) × AreClosing w acts }
@@ -80,7 +80,7 @@ pub fn closings_are_cut_between_acts()
 
 /// A run is closed rollback by rollback. While a transaction is open in a sound world, just one is the first to be rolled back: in
 /// the first database that has one of the least session. That may be done, and leaves a sound world in which one less is open.
-/// Where none is open the run is closed, and behind a front of a closing its rest closes the run.
+/// Where none is open the run is closed once no backup runs any more, and what closes starts none. Behind a front of a closing its rest closes the run.
 pub fn runs_are_closed_one_by_one()
     ensures comes { (w : World) → IsSound w → AllByRecursion (λ (db : Database). db.transactions ≡ []) w.databases ⊎ ((held : Held) × IsFirst w held) }
     ensures found { (w : World) (session : ℕ) (held : Held) → held_in w.databases session ≡ Some held
@@ -90,7 +90,10 @@ pub fn runs_are_closed_one_by_one()
     ensures sound { (w : World) (held : Held) → IsSound w → IsFirst w held → IsSound (done w (rolls_back w held)) }
     ensures says_no_load { (w : World) (held : Held) → SaysNoLoad w (rolls_back w held) }
     ensures fewer { (w : World) (held : Held) → IsSound w → IsFirst w held → count_open (done w (rolls_back w held)).databases + 1 ≡ count_open w.databases }
-    ensures none { (w : World) → count_open w.databases ≡ 0 → AreClosing w [] }
+    ensures none { (w : World) → count_open w.databases ≡ 0 → AreClosing w (jobs_dropped ∷ []) }
+    ensures drops { (w : World) → HasNoJobs (done w jobs_dropped) }
+    ensures jobless { (w : World) (acts : List Act) → IsClosingFront w acts → HasNoJobs w → HasNoJobs (done_all w acts) }
+    ensures closed { (w : World) → count_open w.databases ≡ 0 → HasNoJobs w → AreClosing w [] }
     ensures front_may { (w : World) (acts : List Act) → IsSound w → IsClosingFront w acts → MayDoAll w acts }
     ensures front_sound { (w : World) (acts : List Act) → IsSound w → IsClosingFront w acts → IsSound (done_all w acts) }
     ensures front_more { (w : World) (acts : List Act) (held : Held) → IsClosingFront w acts → IsFirst (done_all w acts) held

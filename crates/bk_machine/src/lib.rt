@@ -9,6 +9,7 @@ mod closing_laws;
 mod crash_laws;
 mod event_laws;
 mod history_row;
+mod job;
 mod laws;
 mod number_laws;
 mod progress_laws;
@@ -24,7 +25,7 @@ pub use act_laws::{
     a_recovery_is_said_last, acts_keep_what_is_read, acts_keep_worlds_sound,
     what_is_said_comes_last,
 };
-pub use backup_laws::sets_hold_what_is_pending;
+pub use backup_laws::{sets_hold_what_is_pending, sets_of_jobs_hold_what_is_pending};
 pub use built_laws::{acts_keep_worlds_built, events_keep_worlds_built, runs_keep_worlds_built};
 pub use closing_laws::{
     closings_are_cut_between_acts, closings_are_cut_in_whole_worlds, runs_are_closed,
@@ -36,6 +37,7 @@ pub use crash_laws::{
 };
 pub use event_laws::events_keep_worlds_sound;
 pub use history_row::HistoryRow;
+pub use job::Job;
 pub use laws::{
     empty_worlds_are_sound, restarts_keep_worlds_sound, runs_begin_and_end_in_sound_worlds,
 };

@@ -1,10 +1,11 @@
-ghost use Rattle.std.specs.Prelude.{ℕ, List, Option};
+ghost use Rattle.std.specs.Prelude.{ℕ, Bool, List, Option};
 ghost use Rattle.bk_machine.specs.declared.history_row.HistoryRow.{HistoryRow};
-ghost use Rattle.bk_machine.specs.Acts.{done, logged, medium_made, noted, seated, set_drawn, set_sealed, turned};
+ghost use Rattle.bk_machine.specs.Acts.{done, job_set, jobs_dropped, logged, medium_made, noted, readied, seated, set_drawn, set_sealed, turned};
 ghost use Rattle.bk_machine.specs.Events.{MediumAdded, MediumChanged, MediumRemoved, StandbyRemoved};
 ghost use Rattle.bk_machine.specs.MayDo.{MayDo};
 ghost use Rattle.bk_machine.specs.Same.{SameLogs, SameMedia};
 ghost use Rattle.bk_machine.specs.Sound.{AreIdle, IsSound};
+ghost use Rattle.bk_machine.specs.declared.job.Job.{Job};
 ghost use Rattle.bk_machine.specs.World.{World, ended, opened, restarted};
 ghost use Rattle.bk_world.specs.Records.{Said};
 ghost use Rattle.bk_world.specs.declared.transaction.Open.{Open};
@@ -18,6 +19,7 @@ pub fn logs_that_stay()
     ensures idle { (old new : World) → SameLogs old new → AreIdle old → AreIdle new }
     ensures turned { (w : World) (name : Option (List ℕ)) → SameLogs w (done w (turned name)) }
     ensures seated { (w : World) (session : ℕ) → SameLogs w (done w (seated session)) }
+    ensures readied { (w : World) (starts : Bool) → SameLogs w (done w (readied starts)) }
     ensures medium_made { (w : World) (path : List ℕ) → SameLogs w (done w (medium_made path)) }
     ensures set_drawn { (w : World) → SameLogs w (done w set_drawn) }
     ensures noted { (w : World) (row : HistoryRow) → SameLogs w (done w (noted row)) }
@@ -39,6 +41,9 @@ pub fn media_that_stay()
     ensures transitive { (a b c : World) → SameMedia a b → SameMedia b c → SameMedia a c }
     ensures turned { (w : World) (name : Option (List ℕ)) → SameMedia w (done w (turned name)) }
     ensures seated { (w : World) (session : ℕ) → SameMedia w (done w (seated session)) }
+    ensures readied { (w : World) (starts : Bool) → SameMedia w (done w (readied starts)) }
+    ensures job_set { (w : World) (name : List ℕ) (job : Option Job) → SameMedia w (done w (job_set name job)) }
+    ensures jobs_dropped { (w : World) → SameMedia w (done w jobs_dropped) }
     ensures set_drawn { (w : World) → SameMedia w (done w set_drawn) }
     ensures noted { (w : World) (row : HistoryRow) → SameMedia w (done w (noted row)) }
     ensures said { (w : World) (name : List ℕ) (said : List Said) (transactions : List Open) → IsSound w → MayDo w (logged name said transactions)

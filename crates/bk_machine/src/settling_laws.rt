@@ -1,7 +1,7 @@
 ghost use Rattle.std.specs.Prelude.{◌≡◌, ◌≤◌, ℕ, ◌+◌, Bool, false, true, List, [], ◌∷◌, ◌++◌, Some, length};
 ghost use Rattle.std.specs.List.{AllByRecursion, AllZip};
 ghost use Rattle.bk_items.specs.declared.item.ScriptEntry.{ScriptEntry};
-ghost use Rattle.bk_machine.specs.Acts.{Act, done};
+ghost use Rattle.bk_machine.specs.Acts.{Act, done, jobs_dropped};
 ghost use Rattle.bk_machine.specs.Built.{SaysNoLoad};
 ghost use Rattle.bk_machine.specs.Closing.{AreClosing, closed_by};
 ghost use Rattle.bk_machine.specs.Crash.{Leaves, WorldLeft, cut_between};
@@ -36,10 +36,12 @@ pub fn crashes_leave_settled_worlds()
 {}
 
 /// In what a world is settled to nothing is open. A sound world in which nothing is open is settled: it has the databases and
-/// logs of each world that it is settled to. What a world is settled to depends on its databases, logs and media alone.
+/// logs of each world that it is settled to. What a world is settled to depends on its databases, logs and media alone,
+/// and not on backups that run.
 pub fn settled_worlds()
     ensures idle { (w : World) → IsSound w → AreIdle w → IsSettledTo w w }
     ensures ended { (w v : World) → IsSound w → AreIdle w → IsSettledTo w v → SameLogs w v }
+    ensures dropped { (w v : World) → IsSettledTo w v → IsSettledTo (done w jobs_dropped) v }
     ensures leaves_idle { (w v : World) → IsSettledTo w v → AreIdle v }
     ensures before { (w x v : World) → SameLogs w x → SameMedia w x → IsSettledTo w v → IsSettledTo x v }
     ensures behind { (w v x : World) → SameLogs v x → SameMedia v x → IsSettledTo w v → IsSettledTo w x }

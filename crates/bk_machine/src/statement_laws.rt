@@ -29,19 +29,20 @@ pub fn acts_of_statements()
     ensures idle { (w : World) (act : Act) → IsSound w → AreIdle w → MayDo w act → LeavesIdle act → AreIdle (done w act) }
 {}
 
-/// What statements write to: one that is refused, USE, `:session`, SELECT, and what asks of a medium store nothing, and only BACKUP
-/// writes to a medium, the one that it names.
+/// What statements write to: one that is refused, USE, `:session`, `:start`, SELECT, and what asks of a medium store nothing. Only BACKUP
+/// writes to a medium, the one that it names, and `:wait` to that of the current database's backup.
 pub fn what_statements_write_to()
     ensures refused { (w : World) (s : ScriptEntry) (now : ℕ) (outcome : Outcome) (rule : Rule) → May w s now outcome → outcome.reply ≡ Refused rule → IsStill outcome }
     ensures uses { (w : World) (line : ℕ) (name : List ℕ) (now : ℕ) (outcome : Outcome) → May w (record { item = script.Use name; line = line }) now outcome → IsStill outcome }
     ensures sits { (w : World) (line n : ℕ) (now : ℕ) (outcome : Outcome) → May w (record { item = script.Session n; line = line }) now outcome → IsStill outcome }
+    ensures starts { (w : World) (line : ℕ) (now : ℕ) (outcome : Outcome) → May w (record { item = script.Start; line = line }) now outcome → IsStill outcome }
     ensures selects { (w : World) (line : ℕ) (table : List ℕ) (key : Option ℕ) (now : ℕ) (outcome : Outcome)
         → May w (record { item = script.Rows table (row.Select key); line = line }) now outcome → IsStill outcome }
     ensures asks { (w : World) (line : ℕ) (query : MediumQuery) (disk : List ℕ) (file : Option ℕ) (now : ℕ) (outcome : Outcome)
         → May w (record { item = script.QueryMedium query disk file; line = line }) now outcome → IsStill outcome }
     ensures lists { (w : World) (line : ℕ) (catalog : Catalog) (now : ℕ) (outcome : Outcome)
         → May w (record { item = script.SelectCatalog catalog; line = line }) now outcome → IsStill outcome }
-    ensures media { (w : World) (s : ScriptEntry) (now : ℕ) (outcome : Outcome) (path : List ℕ) → May w s now outcome → ActsWrite outcome.acts path → StatementWrites s.item path }
+    ensures media { (w : World) (s : ScriptEntry) (now : ℕ) (outcome : Outcome) (path : List ℕ) → May w s now outcome → ActsWrite outcome.acts path → StatementWrites w s.item path }
 {}
 
 /// A run keeps a sound world sound. So does a crash of it, behind which nothing is open.

@@ -1,12 +1,13 @@
 -- CHECKPOINT says a record that changes nothing that a log tells.
-use Rattle.std.proofs.Common.{◌≡◌, ◌≤◌, inl, ◌+◌, ℕ, false, Some, length, refl, sym, ◌∙◌, ap, subst, arith}
+use Rattle.std.proofs.Common.{◌≡◌, ◌≤◌, inl, ◌+◌, ℕ, false, Some, length, refl, sym, ◌∙◌, ap, subst, arith, [], ◌∷◌, inr}
 use Rattle.std.specs.Prelude.{Ok}
 use Rattle.bk_world.specs.Pending.{pending}
-use Rattle.bk_world.specs.Records.{checkpointed, more}
+use Rattle.bk_world.specs.Records.{checkpointed, more, Said}
 use Rattle.bk_world.specs.Says.{alone}
 use Rattle.bk_world.specs.declared.database.Status.TheVariants.{Online}
 use Rattle.bk_world.specs.declared.rule.Limit.TheVariants.{Lsn}
 use Rattle.bk_world.specs.declared.rule.Rule.TheVariants.{LimitReached, NoSuchDatabase}
+use Rattle.bk_machine.specs.JobLaws.{leaves-same}
 use Rattle.bk_machine.specs.Acts.{latest, said_time}
 use Rattle.bk_machine.specs.CheckLaws.{Up, not-refused, passed, was-found, was-online}
 use Rattle.bk_machine.specs.Checks.{kept_numbers, last_number, limit, online, or_refuse, used_up}
@@ -14,8 +15,9 @@ use Rattle.bk_machine.specs.FindingLaws.{current-found}
 use Rattle.bk_machine.specs.FitLaws.{said-time}
 use Rattle.bk_machine.specs.Fits.{FitsLog}
 use Rattle.bk_machine.specs.Outcome.{Outcome}
-use Rattle.bk_machine.specs.Sound.{AreNumbered, IsSound}
+use Rattle.bk_machine.specs.Sound.{AreNumbered, IsSound, JobIs, LeavesStamp}
 use Rattle.bk_machine.specs.UpLaws.{IsUp, is-up}
+use Rattle.bk_machine.specs.declared.job.Job.{Job}
 use Rattle.bk_machine.specs.World.{World, Database, current_database, log_of}
 use Rattle.bk_machine.specs.statements.Checkpoint.{DoesCheckpoint, check_checkpoint}
 use Rattle.bk_machine.proofs.Fitting.{fits-more}
@@ -58,11 +60,18 @@ tells-left w db r low =
     let left : db.end + (length (pending (log_of w.history db)) + (length db.transactions + 16)) ≤ last_number = numbers-there (log_of w.history db) db.end db.transactions r.opens low in
     omega (arith, left)
 
+-- numbers are left behind one record, for a stamp, too
+pub leaves-one : (w : World) (db : Database) (s : Said) (r : IsUp w db) → pending (more (log_of w.history db) db.end (s ∷ [])) ≡ pending (log_of w.history db) → db.end ≤ kept_numbers + 16
+    → JobIs (λ (job : Job). LeavesStamp (more (log_of w.history db) db.end (s ∷ [])) (db.end + 1) db.transactions) db.job
+leaves-one w db s r same low =
+    let left : db.end + (length (pending (log_of w.history db)) + (length db.transactions + 16)) ≤ last_number = numbers-there (log_of w.history db) db.end db.transactions r.opens low in
+    leaves-same (log_of w.history db) (more (log_of w.history db) db.end (s ∷ [])) (db.end + 1) db.transactions db.job same (omega (arith, left))
+
 pub checkpoint-tells : (w : World) (db : Database) (at : ℕ) (r : IsUp w db) → at ≤ latest → db.end ≤ kept_numbers + 16 → MayTell w db (alone (checkpointed at))
 checkpoint-tells w db at r timely low =
     let t = tells-checkpoint (log_of w.history db) db.end at in
     let fits : FitsLog (length db.groups) (more (log_of w.history db) db.end (alone (checkpointed at))) = fits-more (length db.groups) (log_of w.history db) db.end (alone (checkpointed at)) r.whole.fits.log t.tables (timely, tt) in
-    record { may = record { online = r.up; may = (tt, tt); tables = subst (AreNumbered 1) (sym t.tables) r.whole.log.tables; places = (tt, tt); fits = fits }; none = (λ b. refl, tt); same = t.pending; left = tells-left w db r low }
+    record { may = record { online = r.up; may = (tt, tt); tables = subst (AreNumbered 1) (sym t.tables) r.whole.log.tables; places = (tt, tt); fits = fits; marks = inr (at, refl) }; none = (λ b. refl, tt); same = t.pending; left = tells-left w db r low; leaves = leaves-one w db (record { begin = 0; deed = checkpointed at }) r t.pending low }
 
 -- the checkpoint of a database that is online and has numbers
 own-tells : (w : World) (db : Database) (now : ℕ) (r : IsUp w db) → used_up db.end ≡ false → MayTell w db (alone (checkpointed (said_time w db now)))

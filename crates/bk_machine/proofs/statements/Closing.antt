@@ -1,17 +1,18 @@
 -- A run is closed by acts that may be done, behind which nothing is open.
 use Rattle.bk_items.specs.declared.item.ScriptEntry.{ScriptEntry}
+use Rattle.bk_machine.proofs.ActsJobs.{all-dropped}
 use Rattle.bk_machine.specs.Outcome.{Outcome}
 use Rattle.bk_machine.specs.Run.{IsRun, behind_all}
 use Rattle.bk_machine.proofs.statements.Running.{RunsWell, runs-well, well-one_more}
-use Rattle.std.proofs.Common.{◌≡◌, inl, ℕ, suc, true, not, List, [], ◌∷◌, ◌++◌, Some, sym, ◌∙◌, ap, subst}
+use Rattle.std.proofs.Common.{◌≡◌, inl, ℕ, suc, true, not, List, [], ◌∷◌, ◌++◌, Some, sym, ◌∙◌, ap, subst, inr, refl}
 use Rattle.std.specs.Prelude.{◌==◌}
 use Rattle.std.specs.List.{AllByRecursion}
 use Rattle.bk_world.specs.Cut.{is_among}
-use Rattle.bk_lemmas.specs.Lists.{all_both, all_filter, all_mapped}
+use Rattle.bk_lemmas.specs.Lists.{all_filter, all_mapped}
 use Rattle.bk_world.specs.Pending.{pending}
 use Rattle.bk_world.specs.Records.{Said}
 use Rattle.bk_world.specs.Says.{rollback_said}
-use Rattle.bk_machine.specs.Acts.{Act, done, done_all}
+use Rattle.bk_machine.specs.Acts.{Act, done, done_all, jobs_dropped}
 use Rattle.bk_machine.specs.Built.{SayNoLoad}
 use Rattle.bk_machine.specs.Closing.{AreClosing, IsClosingFront, closed_by}
 use Rattle.bk_machine.specs.Crash.{open_begins}
@@ -27,7 +28,6 @@ use Rattle.bk_machine.proofs.Ends.{IsSteady}
 use Rattle.bk_machine.proofs.Left.{of-contained}
 use Rattle.bk_machine.proofs.statements.Ending.{said-rollback}
 use Rattle.bk_machine.proofs.statements.Facts.{GoWell, all-take}
-use Rattle.bk_machine.proofs.statements.Idling.{HasNoJob, no-job-done}
 use Rattle.bk_machine.proofs.statements.Transactions.{rollback-may, rollback-plain, rollback-well}
 use Rattle.bk_machine.specs.HeldLaws.{IsHeldBy, held-up, open-there}
 
@@ -77,7 +77,12 @@ closes-first before w acts h sound open_own there rest =
 
 closes : (before w : World) (acts : List Act) → IsSound w → AllByRecursion (OpenOwn before) w.databases → AreClosing w acts → Closes before w acts
 closes before w [] sound open_own closing = record { may = tt; opens = tt; own = tt; numbers = tt; steady = tt; plain = tt }
-closes before w (act ∷ acts) sound open_own (h, first, is, rest) =
+closes before w (act ∷ acts) sound open_own (inl is, rest) =
+    let later : Closes before (done w jobs_dropped) acts =
+    closes before (done w jobs_dropped) acts (act-sound w jobs_dropped sound tt) (open-done before w jobs_dropped sound.whole.different tt open_own) (subst (λ a. AreClosing (done w a) acts) is rest) in
+    subst (λ a. Closes before w (a ∷ acts)) (sym is)
+    (record { may = (tt, later.may); opens = (tt, later.opens); own = (tt, later.own); numbers = (tt, later.numbers); steady = (tt, later.steady); plain = (tt, later.plain) })
+closes before w (act ∷ acts) sound open_own (inr (h, first, is), rest) =
     subst (λ a. Closes before w (a ∷ acts)) (sym is)
     (closes-first before w acts h sound open_own first.there (λ next open_next. closes before (done w (rolls_back w h)) acts next open_next (subst (λ a. AreClosing (done w a) acts) is rest)))
 
@@ -92,14 +97,21 @@ closed-well w statements moments outcomes acts run closing = well-one_more w out
 
 -- ---- behind it nothing is open
 
-pub closing-idle : (w : World) (acts : List Act) → AllByRecursion HasNoJob w.databases → AreClosing w acts → AreIdle (done_all w acts)
-closing-idle w [] none closing = all_both HasNoJob (λ (db : Database). db.transactions ≡ []) IsIdle (λ db job closed. record { job = job; transactions = closed }) w.databases none closing
-closing-idle w (act ∷ acts) none (h, first, is, rest) = closing-idle (done w act) acts (no-job-done w act none) rest
+pub closing-idle : (w : World) (acts : List Act) → AreClosing w acts → AreIdle (done_all w acts)
+closing-idle w [] closing = closing
+closing-idle w (act ∷ acts) (_, rest) = closing-idle (done w act) acts rest
+
+-- where no transaction is open, jobs are dropped last
+pub dropped-idle : (w : World) → AllByRecursion (λ (db : Database). db.transactions ≡ []) w.databases → AreIdle (done w jobs_dropped)
+unfolding done
+dropped-idle w none = all-dropped (λ (db : Database). db.transactions ≡ []) IsIdle (λ db closed. record { job = refl; transactions = closed }) w.databases none
 
 -- ---- fronts
 
 pub front-may : (w : World) (acts : List Act) → IsSound w → IsClosingFront w acts → MayDoAll w acts
 front-may w [] sound front = tt
-front-may w (act ∷ acts) sound (h, first, is, front) =
+front-may w (act ∷ acts) sound (inl is, front) =
+    subst (λ a. MayDo w a × MayDoAll (done w a) acts) (sym is) (tt, front-may (done w jobs_dropped) acts (act-sound w jobs_dropped sound tt) (subst (λ a. IsClosingFront (done w a) acts) is front))
+front-may w (act ∷ acts) sound (inr (h, first, is), front) =
     let may : MayDo w (rolls_back w h) = rollback-may w h.transaction.session h sound first.there in
     subst (λ a. MayDo w a × MayDoAll (done w a) acts) (sym is) (may, front-may (done w (rolls_back w h)) acts (act-sound w (rolls_back w h) sound may) (subst (λ a. IsClosingFront (done w a) acts) is front))

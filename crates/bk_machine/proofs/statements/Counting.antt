@@ -7,7 +7,8 @@ use Rattle.bk_ids.specs.Name.{same_name}
 use Rattle.bk_lemmas.specs.Lists.{all_both, all_mapped}
 use Rattle.bk_world.specs.declared.database.Status.{Status}
 use Rattle.bk_world.specs.declared.database.Status.TheVariants.{Online, Standby, Down}
-use Rattle.bk_machine.specs.Acts.{Act, done, where_found}
+use Rattle.bk_machine.proofs.statements.Closing.{dropped-idle}
+use Rattle.bk_machine.specs.Acts.{Act, done, where_found, jobs_dropped}
 use Rattle.bk_machine.specs.Closing.{AreClosing, IsFirst, count_open}
 use Rattle.bk_machine.specs.ClosingLaws.{none-open}
 use Rattle.bk_machine.specs.HeldLaws.{IsHeldBy, held-is, held-none, held-up, open-begin, open-session}
@@ -113,7 +114,7 @@ rolled-fewer w h sound there =
 -- ---- closing
 
 closing-within : (n : ℕ) (w : World) → IsSound w → count_open w.databases ≤ n → (acts : List Act) × AreClosing w acts
-closing-within zero w sound le = ([], none-open w.databases (omega (arith, le)))
+closing-within zero w sound le = (jobs_dropped ∷ [], (inl refl, dropped-idle w (none-open w.databases (omega (arith, le)))))
 closing-within (suc n) w sound le = by (first w sound) (λ h is. closing-within n (done w (rolls_back w h)) (next h is) (fewer h is))
   where
     next : (h : Held) → IsFirst w h → IsSound (done w (rolls_back w h))
@@ -123,8 +124,8 @@ closing-within (suc n) w sound le = by (first w sound) (λ h is. closing-within 
     fewer h is = let less : count_open (done w (rolls_back w h)).databases + 1 ≡ count_open w.databases = rolled-fewer w h sound is.there in omega (arith, le, less)
 
     by : AllByRecursion (λ (db : Database). db.transactions ≡ []) w.databases ⊎ ((h : Held) × IsFirst w h) → ((h : Held) → IsFirst w h → (acts : List Act) × AreClosing (done w (rolls_back w h)) acts) → (acts : List Act) × AreClosing w acts
-    by (inl none) rest = ([], none)
-    by (inr (h, is)) rest = let more : (acts : List Act) × AreClosing (done w (rolls_back w h)) acts = rest h is in (rolls_back w h ∷ more.0, (h, is, refl, more.1))
+    by (inl none) rest = (jobs_dropped ∷ [], (inl refl, dropped-idle w none))
+    by (inr (h, is)) rest = let more : (acts : List Act) × AreClosing (done w (rolls_back w h)) acts = rest h is in (rolls_back w h ∷ more.0, (inr (h, is, refl), more.1))
 
 pub closing-comes : (w : World) → IsSound w → (acts : List Act) × AreClosing w acts
 closing-comes w sound = closing-within (count_open w.databases) w sound (omega arith)

@@ -14,6 +14,7 @@ use Rattle.bk_world.specs.ReadingLaws.{pending-more}
 use Rattle.bk_world.specs.Records.{Logged, more, numbered, table_made}
 use Rattle.bk_world.specs.Says.{alone}
 use Rattle.bk_world.specs.Telling.{tables}
+use Rattle.bk_machine.specs.JobLaws.{leaves-same}
 use Rattle.bk_machine.specs.Acts.{logged, said_time}
 use Rattle.bk_machine.specs.Checks.{is_name, last_number, limit, online, or_refuse, outside, refuse_if, table_named, used_up}
 use Rattle.bk_world.specs.declared.rule.Rule.TheVariants.{LimitReached, NoSuchDatabase, NoSuchGroup, NotBuilt, TableExists}
@@ -135,7 +136,9 @@ does w name asked now room r its =
       tables = subst (AreNumbered 1) (sym (tables-made rs db.end (said_time w db now) t)) (numbered-more 1 (tables rs) t r.whole.log.tables (omega arith));
       places = (tt, tt);
       fits = fits-with w name asked now room r its;
+      marks = inl (tt, tt);
     }) (λ b. refl, tt) (pending-more rs (numbered db.end (alone (table_made (said_time w db now) t)))) (omega (arith, left))
+    (leaves-same rs (more rs db.end (alone (table_made (said_time w db now) t))) (db.end + 1) db.transactions db.job (pending-more rs (numbered db.end (alone (table_made (said_time w db now) t)))) (omega (arith, left)))
 
 pub facts : (w : World) (line : ℕ) (name : List ℕ) (group : Option (List ℕ)) (now : ℕ) (room : Room) → check_create_table w line name group ≡ Ok room
     → (outcome : Outcome) → DoesCreateTable w name now room outcome → Facts w NoMedium outcome

@@ -12,7 +12,7 @@ use Rattle.bk_machine.specs.MayDo.{MayDoAll}
 use Rattle.bk_machine.specs.Outcome.{Outcome, in_one}
 use Rattle.bk_machine.specs.Sound.{IsSound}
 use Rattle.bk_machine.specs.World.{World}
-use Rattle.bk_machine.specs.Writes.{StatementWrites}
+use Rattle.bk_machine.specs.Writes.{StatementWrites, JobWrites, current_job}
 use Rattle.bk_machine.specs.statements.CreateDatabase.{check_create_database, DoesCreateDatabase}
 use Rattle.bk_machine.specs.statements.DropDatabase.{check_drop_database, DoesDropDatabase}
 use Rattle.bk_machine.specs.statements.Use.{check_use, DoesUse}
@@ -25,12 +25,14 @@ use Rattle.bk_machine.specs.statements.Checkpoint.{check_checkpoint, DoesCheckpo
 use Rattle.bk_machine.specs.statements.Backup.{check_backup, DoesBackup}
 use Rattle.bk_machine.specs.statements.Restore.{check_restore, DoesRestore}
 use Rattle.bk_machine.specs.statements.Catalog.{check_catalog, DoesSelectCatalog}
+use Rattle.bk_machine.specs.statements.Job.{check_job, DoesStep, DoesWait}
 use Rattle.bk_machine.specs.statements.Query.{check_query, DoesQuery}
 use Rattle.bk_machine.proofs.statements.Backup as backup
 use Rattle.bk_machine.proofs.statements.Checkpoint as checkpoint
 use Rattle.bk_machine.proofs.statements.CreateDatabase as create_database
 use Rattle.bk_machine.proofs.statements.CreateTable as create_table
 use Rattle.bk_machine.proofs.statements.Facts.{Facts, GoWell, NoMedium, comes-by, facts-answered, facts-of, facts-refused}
+use Rattle.bk_machine.proofs.statements.Job as job
 use Rattle.bk_machine.proofs.statements.Restore as restore
 use Rattle.bk_machine.proofs.statements.Rows as rows
 use Rattle.bk_machine.proofs.statements.Transactions.{begin-facts, commit-facts, rollback-facts, session-facts}
@@ -44,7 +46,7 @@ turn-facts : (w : World) (name : Option (List ℕ)) → Facts w NoMedium (in_one
 turn-facts w name = record { writes = (tt, tt); refused = λ rule no. absurd cc; well = λ sound. record { may = (tt, tt); opens = (tt, tt); own = (tt, tt); numbers = (tt, tt); ends = inl (tt, tt); plain = λ built. (tt, tt) } }
 
 module _ (w : World) where
-  item-facts : (line : ℕ) (item : ScriptItem) (now : ℕ) (outcome : Outcome) → ItemMay w line item now outcome → Facts w (StatementWrites item) outcome
+  item-facts : (line : ℕ) (item : ScriptItem) (now : ℕ) (outcome : Outcome) → ItemMay w line item now outcome → Facts w (StatementWrites w item) outcome
   item-facts line (CreateDatabase name primary groups log) now = comes-to (Facts w NoMedium) (check_create_database w line name primary groups log) (DoesCreateDatabase w name now) (facts-refused w)
       (create_database.facts w line name primary groups log now)
   item-facts line (DropDatabase name) now = comes-to (Facts w NoMedium) (check_drop_database w name) DoesDropDatabase (facts-refused w) (λ db e o is. facts-of w _ o is (drop-facts w db.name))
@@ -65,13 +67,13 @@ module _ (w : World) where
   item-facts line (SetRecovery name model) now = λ outcome is. facts-of w _ outcome is (facts-refused w _)
   item-facts line (SelectCatalog catalog) now = comes-to (Facts w NoMedium) (check_catalog w line catalog) DoesSelectCatalog (facts-refused w) (λ listing e o is. facts-of w _ o is (facts-answered w (Listed listing)))
   item-facts line (Session number) now = comes-to (Facts w NoMedium) (check_session line number) DoesSession (facts-refused w) (session-facts w line number)
-  item-facts line Start now = λ outcome is. facts-of w _ outcome is (facts-refused w _)
-  item-facts line (Step count) now = λ outcome is. facts-of w _ outcome is (facts-refused w _)
-  item-facts line Wait now = λ outcome is. facts-of w _ outcome is (facts-refused w _)
+  item-facts line Start now = job.start-facts w
+  item-facts line (Step count) now = comes-to (Facts w NoMedium) (check_job w) (DoesStep count) (facts-refused w) (job.step-facts w count)
+  item-facts line Wait now = comes-to (Facts w (JobWrites (current_job w))) (check_job w) (DoesWait w now) (facts-refused w) (job.wait-facts w now)
   item-facts line (Syntax at) now = λ outcome is. facts-of w _ outcome is (facts-refused w _)
   item-facts line TooLong now = λ outcome is. facts-of w _ outcome is (facts-refused w _)
 
-  pub statement-facts : (s : ScriptEntry) (now : ℕ) (outcome : Outcome) → May w s now outcome → Facts w (StatementWrites s.item) outcome
+  pub statement-facts : (s : ScriptEntry) (now : ℕ) (outcome : Outcome) → May w s now outcome → Facts w (StatementWrites w s.item) outcome
   unfolding May
   statement-facts s now outcome may = item-facts s.line s.item now outcome may
 
@@ -108,8 +110,8 @@ module _ (w : World) (sound : IsSound w) (built : IsBuilt w) where
   item-comes line (SelectCatalog catalog) now = comes-by (check_catalog w line catalog) DoesSelectCatalog (λ found e. (_, refl))
   item-comes line (Session number) now = comes-by (check_session line number) DoesSession (λ found e. (_, refl))
   item-comes line Start now = (_, refl)
-  item-comes line (Step count) now = (_, refl)
-  item-comes line Wait now = (_, refl)
+  item-comes line (Step count) now = comes-by (check_job w) (DoesStep count) (λ found e. (_, refl))
+  item-comes line Wait now = comes-by (check_job w) (DoesWait w now) (λ found e. (_, refl))
   item-comes line (Syntax there) now = (_, refl)
   item-comes line TooLong now = (_, refl)
 

@@ -19,7 +19,7 @@ use Rattle.bk_world.specs.UndoLaws.{filter-undone}
 use Rattle.bk_world.specs.declared.database.FileSpec.{FileSpec}
 use Rattle.bk_machine.specs.Checks.{last_number}
 use Rattle.bk_machine.specs.Crash.{AreQuiet}
-use Rattle.bk_machine.specs.Sound.{Apart, AreApart, AreOpen, ArePlaced, HasFew, KeepsAll, has_begin}
+use Rattle.bk_machine.specs.Sound.{Apart, AreApart, AreOpen, ArePlaced, HasFew, KeepsAll, has_begin, LeavesStamp}
 use Rattle.bk_machine.specs.UpLaws.{begins-later, kept-more}
 use Rattle.bk_world.specs.declared.transaction.Open.{Open}
 use Rattle.bk_machine.specs.World.{most_sessions, most_writes, transaction_of, without_begin}
@@ -87,6 +87,12 @@ module _ (rs : List Logged) (n : ℕ) (ts : List Open) (opens : AreOpen rs n ts)
             omega (arith, room, many, one_more));
       }
 
+  pub leaves-begun : LeavesStamp (more rs n (begin_said n)) (n + 1) (ts ++ (record { session = session; begin = n; mark = mark }) ∷ [])
+  leaves-begun =
+      let many : length (pending (more rs n (begin_said n))) ≡ length (pending rs) = ap length begun-pending in
+      let one_more : length (ts ++ new ∷ []) ≡ length ts + 1 = length-append ts (new ∷ []) in
+      omega (arith, room, many, one_more)
+
 -- ---- a transaction less
 
 has-less : (ts : List Open) (begin n : ℕ) → has_begin ts n ≡ true → (n == begin) ≡ false → has_begin (without_begin ts begin) n ≡ true
@@ -139,6 +145,14 @@ module _ (rs : List Logged) (n : ℕ) (ts : List Open) (opens : AreOpen rs n ts)
         let less : length (without_begin ts begin) + 1 ≡ length ts = one-less ts begin opens.apart there in
         omega (arith, opens.numbers, many, parts, less, few));
   }
+
+  -- and left those for a stamp
+  pub leaves-without : LeavesStamp rs n ts → LeavesStamp (more rs n said) (n + length said) (without_begin ts begin)
+  leaves-without stamp =
+      let many : length (pending (more rs n said)) ≡ length (of_others begin (pending rs)) = ap length left in
+      let parts : length (of_transaction begin (pending rs)) + length (of_others begin (pending rs)) ≡ length (pending rs) = split begin (pending rs) in
+      let less : length (without_begin ts begin) + 1 ≡ length ts = one-less ts begin opens.apart there in
+      omega (arith, stamp, many, parts, less, few)
 
 -- ---- COMMIT
 

@@ -1,17 +1,18 @@
 -- A front of what may be said may be said, and acts that are cut leave a whole world.
-use Rattle.std.proofs.Common.{◌≡◌, ℕ, zero, suc, ◌+◌, List, [], ◌∷◌, ◌++◌, length, take, drop, Option, None, Some, refl, sym, ◌∙◌, ap, subst, append_assoc}
+use Rattle.std.proofs.Common.{◌≡◌, ℕ, zero, suc, ◌+◌, List, [], ◌∷◌, ◌++◌, length, take, drop, Option, None, Some, refl, sym, ◌∙◌, ap, subst, append_assoc, inl, inr}
 use Rattle.std.proofs.lemmas.List.{take-append-drop}
 use Rattle.bk_world.specs.Pending.{pending}
 use Rattle.bk_world.specs.ReadingLaws.{numbered-append}
-use Rattle.bk_world.specs.Records.{Logged, Said, more, numbered}
+use Rattle.bk_world.specs.Records.{Logged, Said, more, numbered, checkpointed}
 use Rattle.bk_world.specs.Rows.{tables_of}
 use Rattle.bk_world.specs.SoundLaws.{follow-front}
 use Rattle.bk_world.specs.SoundLogs.{MayFollow}
 use Rattle.bk_world.specs.Telling.{entries_from, tables}
-use Rattle.bk_machine.specs.Acts.{Act, turned, seated, created, dropped, logged, medium_made, set_drawn, noted, set_sealed, based, replaced, restored, recovered, done, done_all, says, where_found}
+use Rattle.std.specs.List.{AllByRecursion}
+use Rattle.bk_machine.specs.Acts.{Act, turned, seated, created, dropped, logged, medium_made, set_drawn, noted, set_sealed, based, replaced, restored, recovered, done, done_all, says, where_found, readied, job_set, jobs_dropped}
 use Rattle.bk_machine.specs.Crash.{front_of}
 use Rattle.bk_machine.specs.Fits.{FitsLog}
-use Rattle.bk_machine.specs.MayDo.{HoldsOf, MayDoAll, MayLog, MaySay}
+use Rattle.bk_machine.specs.MayDo.{HoldsOf, MayDoAll, MayLog, MaySay, IsNoMark, MarksAlone}
 use Rattle.bk_machine.specs.NamedLaws.{named-own}
 use Rattle.bk_machine.specs.Sound.{AreNumbered, ArePlaced, IsWhole}
 use Rattle.bk_world.specs.declared.transaction.Open.{Open}
@@ -21,6 +22,21 @@ use Rattle.bk_machine.proofs.Fitting.{fits-front}
 use Rattle.bk_machine.proofs.ActsSays.{says-whole}
 
 -- ---- what is said
+
+-- a front of it has no checkpoint, or it is all of it
+front-none : (n : ℕ) (said : List Said) → AllByRecursion (λ (s : Said). IsNoMark s.deed) said → AllByRecursion (λ (s : Said). IsNoMark s.deed) (take n said)
+front-none zero said none = tt
+front-none (suc n) [] none = tt
+front-none (suc n) (s ∷ said) none = (none.0, front-none n said none.1)
+
+take-nothing : (n : ℕ) → let none : List Said = [] in take n none ≡ none
+take-nothing zero = refl
+take-nothing (suc n) = refl
+
+front-marks : (n : ℕ) (said : List Said) → MarksAlone said → MarksAlone (take n said)
+front-marks n said (inl none) = inl (front-none n said none)
+front-marks zero said (inr (time, is)) = inl tt
+front-marks (suc n) said (inr (time, is)) = inr (time, ap (take (suc n)) is ∙ ap (λ (rest : List Said). record { begin = 0; deed = checkpointed time } ∷ rest) (take-nothing n))
 
 pub says-front : (w : World) (db : Database) (said : List Said) (n : ℕ) → MaySay w db said → MaySay w db (take n said)
 says-front w db said n may =
@@ -35,6 +51,7 @@ says-front w db said n may =
       tables = numbered-front 1 (tables (rs ++ front)) _ (subst (AreNumbered 1) made may.tables);
       places = placed-front db.files rs front back (subst (ArePlaced db.files rs) whole may.places);
       fits = fits-front (length db.groups) (rs ++ front) back (subst (FitsLog (length db.groups)) (ap (λ ss. rs ++ ss) whole ∙ sym (append_assoc rs front back)) may.fits);
+      marks = front-marks n said may.marks;
     }
 
 -- ---- an act that is cut
@@ -55,6 +72,7 @@ cut-whole w [] (suc n) whole may = whole
 cut-whole w (logged name said transactions ∷ acts) (suc n) whole may = cut-says w name said transactions (suc n) whole may.0
 cut-whole w (turned name ∷ acts) (suc n) whole may = whole
 cut-whole w (seated session ∷ acts) (suc n) whole may = whole
+cut-whole w (readied starts ∷ acts) (suc n) whole may = whole
 cut-whole w (created c ∷ acts) (suc n) whole may = whole
 cut-whole w (dropped name ∷ acts) (suc n) whole may = whole
 cut-whole w (medium_made path ∷ acts) (suc n) whole may = whole
@@ -62,6 +80,8 @@ cut-whole w (set_drawn ∷ acts) (suc n) whole may = whole
 cut-whole w (set_sealed path header ∷ acts) (suc n) whole may = whole
 cut-whole w (noted row ∷ acts) (suc n) whole may = whole
 cut-whole w (based name header ∷ acts) (suc n) whole may = whole
+cut-whole w (job_set name job ∷ acts) (suc n) whole may = whole
+cut-whole w (jobs_dropped ∷ acts) (suc n) whole may = whole
 cut-whole w (replaced name header ∷ acts) (suc n) whole may = whole
 cut-whole w (restored name base redo ∷ acts) (suc n) whole may = whole
 cut-whole w (recovered name r ∷ acts) (suc n) whole may = whole

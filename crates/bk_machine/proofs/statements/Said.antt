@@ -8,8 +8,9 @@ use Rattle.bk_world.specs.Telling.{model}
 use Rattle.bk_machine.specs.Acts.{done, gone_on, logged, says, where_found}
 use Rattle.bk_machine.specs.Checks.{last_number}
 use Rattle.bk_machine.specs.MayDo.{MayDo, MaySay}
-use Rattle.bk_machine.specs.Sound.{IsSound}
+use Rattle.bk_machine.specs.Sound.{IsSound, JobIs, LeavesStamp}
 use Rattle.bk_machine.specs.UpLaws.{IsUp, UndoesNone, is-up, may-tell}
+use Rattle.bk_machine.specs.declared.job.Job.{Job}
 use Rattle.bk_machine.specs.World.{World, Database, database_named, log_of}
 use Rattle.bk_machine.proofs.Acting.{act-sound}
 use Rattle.bk_machine.proofs.ActsSays.{says-found, says-log}
@@ -20,6 +21,7 @@ pub record MayTell (w : World) (db : Database) (said : List Said) : Type 0 where
   pub none : AllByRecursion UndoesNone (numbered db.end said)
   pub same : pending (more (log_of w.history db) db.end said) ≡ pending (log_of w.history db)
   pub left : (db.end + length said) + (length (pending (log_of w.history db)) + length db.transactions) ≤ last_number
+  pub leaves : JobIs (λ (job : Job). LeavesStamp (more (log_of w.history db) db.end said) (db.end + length said) db.transactions) db.job
 
 module _ (w : World) (db : Database) (said : List Said) (sound : IsSound w) (r : IsUp w db) (tell : MayTell w db said) where
   abbrev after : World
@@ -29,7 +31,7 @@ module _ (w : World) (db : Database) (said : List Said) (sound : IsSound w) (r :
   new = gone_on (model (log_of w.history db)) said db.transactions db
 
   pub may-do : MayDo w (logged db.name said db.transactions)
-  may-do = may-tell w db said r tell.may tell.none tell.same tell.left
+  may-do = may-tell w db said r tell.may tell.none tell.same tell.left tell.leaves
 
   pub done-is : done w (logged db.name said db.transactions) ≡ says w db said db.transactions
   unfolding done

@@ -16,6 +16,7 @@ use Rattle.bk_world.specs.declared.database.Status.TheVariants.{Online}
 use Rattle.bk_world.specs.declared.reply.Reply.TheVariants.{Done}
 use Rattle.bk_world.specs.declared.rule.Limit.TheVariants.{Lsn}
 use Rattle.bk_world.specs.declared.rule.Rule.TheVariants.{InTransaction, LimitReached, NoSuchDatabase, NoTransaction, NotBuilt}
+use Rattle.bk_machine.specs.JobLaws.{job-any, job-on}
 use Rattle.bk_machine.specs.Acts.{logged, said_time}
 use Rattle.bk_machine.specs.BeginLaws.{each-begun, each-without}
 use Rattle.bk_machine.specs.Built.{IsNoLoad, SaysNoLoad}
@@ -24,12 +25,13 @@ use Rattle.bk_machine.specs.Checks.{limit, online, or_refuse, outside, refuse_if
 use Rattle.bk_machine.specs.Crash.{begins_in, begins_of}
 use Rattle.bk_machine.specs.FitLaws.{said-time}
 use Rattle.bk_machine.specs.FindingLaws.{current-found}
-use Rattle.bk_machine.specs.MayDo.{MayDo}
+use Rattle.bk_machine.specs.MayDo.{MayDo, IsNoMark}
 use Rattle.bk_machine.specs.NamedLaws.{of-named}
 use Rattle.bk_machine.specs.Outcome.{Outcome, in_one}
-use Rattle.bk_machine.specs.Sound.{AreNumbered, IsSound, KeepsAll, has_begin}
+use Rattle.bk_machine.specs.Sound.{AreNumbered, IsSound, KeepsAll, has_begin, IsFitJob, JobIs, LeavesStamp}
 use Rattle.bk_machine.specs.UpLaws.{IsUp, is-up, may-open}
 use Rattle.bk_world.specs.declared.transaction.Open.{Open}
+use Rattle.bk_machine.specs.declared.job.Job.{Job}
 use Rattle.bk_machine.specs.World.{Database, Held, World, current_database, database_named, held_in, log_of, most_sessions, own_held, transaction_of, without_begin}
 use Rattle.bk_machine.specs.statements.Begin.{check_begin, has_fit_texts, new_open, DoesBegin}
 use Rattle.bk_machine.specs.statements.Commit.{check_commit, commit_of, commits, committed, mark_of_commit, mark_with, notes_mark, DoesCommit}
@@ -42,7 +44,7 @@ use Rattle.bk_machine.specs.SettledLaws.{counts-end}
 use Rattle.bk_machine.proofs.Left.{of-contained}
 use Rattle.bk_machine.proofs.LeftNumbers.{numbers-before}
 use Rattle.bk_machine.proofs.statements.Begins.{begin-below}
-use Rattle.bk_machine.proofs.statements.Ending.{few-rollback, kept-commit, kept-rollback, may-roll-back, opens-begun, opens-without, placed-rollback, quiet-rollback, said-rollback, tables-commit, tables-rollback}
+use Rattle.bk_machine.proofs.statements.Ending.{few-rollback, kept-commit, kept-rollback, may-roll-back, opens-begun, opens-without, placed-rollback, quiet-rollback, said-rollback, tables-commit, tables-rollback, leaves-begun, leaves-without}
 use Rattle.bk_machine.proofs.statements.Facts.{Facts, GoWell, NoMedium, WritesOnly, all-take, facts-of, itself, opens-those, own-within}
 use Rattle.bk_machine.proofs.statements.Numbering.{numbers-loud, numbers-whole}
 use Rattle.bk_machine.proofs.statements.Telling.{tables-begun}
@@ -59,6 +61,11 @@ undoing-no-load : (begin : ℕ) (ws : List Pending) → AllByRecursion (λ (s : 
 undoing-no-load begin [] = (tt, tt)
 undoing-no-load begin (v ∷ ws) = (tt, undoing-no-load begin ws)
 
+-- nor a checkpoint
+rollback-marks : (begin : ℕ) (ws : List Pending) → AllByRecursion (λ (s : Said). IsNoMark s.deed) (undoing ws ++ within begin rolled_back)
+rollback-marks begin [] = (tt, tt)
+rollback-marks begin (v ∷ ws) = (tt, rollback-marks begin ws)
+
 -- a rollback says no load
 pub rollback-plain : (w : World) (h : Held) → SaysNoLoad w (rolls_back w h)
 rollback-plain w h = undoing-no-load h.transaction.begin (reverse (of_transaction h.transaction.begin (pending (log_of w.history h.database))))
@@ -73,6 +80,11 @@ module _ (w : World) (session : ℕ) (h : Held) (sound : IsSound w) (is : held_i
   its-begin : has_begin h.database.transactions h.transaction.begin ≡ true
   its-begin = open-begin h.database.transactions session h.transaction held.own
 
+  -- what is left for a stamp before is left behind
+  stamp-left : (after : List Logged) (end : ℕ) (ts : List Open) → (LeavesStamp (log_of w.history h.database) h.database.end h.database.transactions → LeavesStamp after end ts) → JobIs (λ (job : Job). LeavesStamp after end ts) h.database.job
+  stamp-left after end ts leads =
+      job-on (IsFitJob (log_of w.history h.database) h.database.end h.database.transactions) (λ (job : Job). LeavesStamp after end ts) (λ job fit. leads fit.numbers) h.database.job held.up.job
+
   commit-may : (now : ℕ) → MayDo w (commits w h now)
   commit-may now =
       let db : Database = h.database in
@@ -86,8 +98,11 @@ module _ (w : World) (session : ℕ) (h : Held) (sound : IsSound w) (is : held_i
         tables = subst (AreNumbered 1) (sym (tables-commit rs db.end begin time mark)) held.up.whole.log.tables;
         places = (tt, tt);
         fits = fits-more (length db.groups) rs db.end (commit_said begin time mark) held.up.whole.fits.log (tables-commit rs db.end begin time mark) (said-time w db now (length db.groups) held.up.whole.fits.log, tt);
+        marks = inl (tt, tt);
       }) (each-without db begin) (opens-without rs db.end db.transactions held.up.opens begin (commit_said begin time mark) (pending-commit rs db.end begin time mark) (kept-commit rs db.end db.transactions begin time mark held.up.opens.kept)
       its-begin (omega arith))
+      (stamp-left (more rs db.end (commit_said begin time mark)) (db.end + 1) (without_begin db.transactions begin)
+      (leaves-without rs db.end db.transactions held.up.opens begin (commit_said begin time mark) (pending-commit rs db.end begin time mark) (kept-commit rs db.end db.transactions begin time mark held.up.opens.kept) its-begin (omega arith)))
 
   pub rollback-may : MayDo w (rolls_back w h)
   rollback-may =
@@ -101,8 +116,11 @@ module _ (w : World) (session : ℕ) (h : Held) (sound : IsSound w) (is : held_i
         tables = subst (AreNumbered 1) (sym (tables-rollback rs db.end begin)) held.up.whole.log.tables;
         places = placed-rollback db.files rs db.end begin;
         fits = fits-told (length db.groups) rs (more rs db.end (rollback_said begin (pending rs))) (entries-rollback rs db.end begin) held.up.whole.fits.log;
+        marks = inl (rollback-marks begin (reverse (of_transaction begin (pending rs))));
       }) (each-without db begin) (opens-without rs db.end db.transactions held.up.opens begin (rollback_said begin (pending rs)) (pending-rollback rs db.end begin) (kept-rollback rs db.end db.transactions begin held.up.opens.kept)
       its-begin (few-rollback rs begin))
+      (stamp-left (more rs db.end (rollback_said begin (pending rs))) (db.end + length (rollback_said begin (pending rs))) (without_begin db.transactions begin)
+      (leaves-without rs db.end db.transactions held.up.opens begin (rollback_said begin (pending rs)) (pending-rollback rs db.end begin) (kept-rollback rs db.end db.transactions begin held.up.opens.kept) its-begin (few-rollback rs begin)))
 
   commit-opens : (now : ℕ) → OpensOwn w (commits w h now)
   commit-opens now = opens-fewer w h.database (commit_of w h now) h.transaction.begin held.up.named
@@ -207,8 +225,10 @@ begin-may w db mark sound its r =
       tables = subst (AreNumbered 1) (sym (tables-begun rs db.end)) r.whole.log.tables;
       places = (tt, tt);
       fits = fits-more (length db.groups) rs db.end (begin_said db.end) r.whole.fits.log (tables-begun rs db.end) (tt, tt);
+      marks = inl (tt, tt);
     }) (each-begun db (new_open w db mark) refl) (opens-begun rs db.end db.transactions r.opens (begin-below rs db.end r.whole.log.sound r.whole.log.counts) (omega (arith, positive)) w.session mark sound.seat none
     (numbers-before rs db.end db.transactions r.opens its.low))
+    (job-any db.job (leaves-begun rs db.end db.transactions r.opens (begin-below rs db.end r.whole.log.sound r.whole.log.counts) (omega (arith, positive)) w.session mark sound.seat none (numbers-before rs db.end db.transactions r.opens its.low)))
 
 pub begin-facts : (w : World) (line : ℕ) (transaction : Option NamedTransaction) (mark : Option Mark) (db : Database) → check_begin w line transaction ≡ Ok db → (outcome : Outcome) → DoesBegin w mark db outcome → Facts w NoMedium outcome
 begin-facts w line transaction mark db e outcome is =

@@ -17,6 +17,7 @@ use Rattle.bk_world.specs.Rows.{rows_changed, rows_of}
 use Rattle.bk_world.specs.Says.{begin_said, single_said, write_said}
 use Rattle.bk_world.specs.SoundLogs.{MayWrite, undoes, most_pending}
 use Rattle.bk_world.specs.Telling.{entries, row_at, rows, seen, tables}
+use Rattle.bk_machine.specs.JobLaws.{job-any, leaves-same}
 use Rattle.bk_machine.specs.Acts.{logged, said_time}
 use Rattle.bk_machine.specs.BeginLaws.{each-own}
 use Rattle.bk_machine.specs.Built.{IsBuilt, IsBuiltLog}
@@ -25,7 +26,7 @@ use Rattle.bk_machine.specs.FitLaws.{said-time}
 use Rattle.bk_machine.specs.MayDo.{MayDo}
 use Rattle.bk_machine.specs.NamedLaws.{of-named}
 use Rattle.bk_machine.specs.Seen.{visible, visible_by}
-use Rattle.bk_machine.specs.Sound.{AreNumbered, AreOpen, HasFew, has_begin}
+use Rattle.bk_machine.specs.Sound.{AreNumbered, AreOpen, HasFew, has_begin, LeavesStamp}
 use Rattle.bk_machine.specs.TargetLaws.{IsTarget, target-there, target-up}
 use Rattle.bk_machine.specs.HeldLaws.{begin-lies, open-begin, open-there}
 use Rattle.bk_machine.specs.UpLaws.{IsUp, begins-later, kept-more, may-open, may-tell}
@@ -140,6 +141,9 @@ module _ (rs : List Logged) (n : ℕ) (ts : List Open) (opens : AreOpen rs n ts)
             omega (arith, room, many));
       }
 
+  pub leaves-written : LeavesStamp (more rs n (write_said t.begin at before c)) (n + 1) ts
+  leaves-written = let many : length (pending (more rs n (write_said t.begin at before c))) ≡ length (pending rs) + 1 = ap length pending-written ∙ length-append (pending rs) (write ∷ []) in omega (arith, room, many)
+
 -- ---- a row
 
 -- where there may be more writes, there are few
@@ -180,7 +184,9 @@ module _ (w : World) (name : List ℕ) (to : Target) (its : IsTarget w name to) 
         fits = fits-more (length to.database.groups) rs n (single_said n at before (row_set to key value) time) r.whole.fits.log (tables-single rs n at before (row_set to key value) time begins.pending)
             (tt, (tt, (said-time w to.database now (length to.database.groups) r.whole.fits.log, tt)));
         places = (tt, ((to.table, subst (λ made. find (λ (m : TableSpec). m.number == to.table.number) made ≡ Some to.table) (sym (tables-begun rs n)) (numbered_own r), place.cell), (tt, tt)));
+        marks = inl (tt, (tt, (tt, tt)));
       }) (λ b. refl, (λ b. refl, (λ b. refl, tt))) (pending-single rs n at before (row_set to key value) time begins.pending) (omega (arith, left))
+      (leaves-same rs (more rs n (single_said n at before (row_set to key value) time)) (n + 3) to.database.transactions to.database.job (pending-single rs n at before (row_set to key value) time begins.pending) (omega (arith, left)))
 
   -- by the one that is open
   within : (r : IsUp w to.database) (t : Open) → own_open w to.database ≡ Some t → MayDo w (logged to.database.name (write_said t.begin at before (row_set to key value)) to.database.transactions)
@@ -197,7 +203,9 @@ module _ (w : World) (name : List ℕ) (to : Target) (its : IsTarget w name to) 
         tables = subst (AreNumbered 1) (sym (tables-written rs n t.begin at before (row_set to key value))) r.whole.log.tables;
         fits = fits-more (length to.database.groups) rs n (write_said t.begin at before (row_set to key value)) r.whole.fits.log (tables-written rs n t.begin at before (row_set to key value)) (tt, tt);
         places = ((to.table, numbered_own r, place.cell), tt);
+        marks = inl (tt, tt);
       }) (each-own to.database) (opens-written rs n to.database.transactions r.opens w.session t own at before (row_set to key value) fewer (room r))
+      (job-any to.database.job (leaves-written rs n to.database.transactions r.opens w.session t own at before (row_set to key value) fewer (room r)))
 
   abbrev act_of : Option Open → Rattle.bk_machine.specs.Acts.Act
   act_of o = logged to.database.name (row_said o to.database.end at before (row_set to key value) (said_time w to.database now)) to.database.transactions

@@ -3,7 +3,7 @@ use Rattle.std.specs.Prelude.{◌≡◌, ℕ, List, Ok}
 use Rattle.bk_world.specs.declared.reply.Reply.TheVariants.{Done}
 use Rattle.bk_world.specs.declared.rule.Rule.TheVariants.{NoSuchDatabase}
 use Rattle.bk_machine.specs.Acts.{dropped}
-use Rattle.bk_machine.specs.Checks.{Checked, ◌>>=◌, or_refuse, outside, unused}
+use Rattle.bk_machine.specs.Checks.{Checked, ◌>>=◌, or_refuse, outside, unused, without_job}
 use Rattle.bk_machine.specs.Outcome.{Outcome, in_one}
 use Rattle.bk_machine.specs.World.{World, Database, database_named}
 
@@ -12,6 +12,7 @@ check_drop_database w name = do
   _ ← outside w
   db ← or_refuse (database_named w.databases name) NoSuchDatabase
   _ ← unused db
+  _ ← without_job db
   Ok db
 
 abbrev pub DoesDropDatabase : Database → Outcome → Type 0

@@ -29,7 +29,7 @@ use Rattle.bk_world.specs.SoundLogs.{MayFollow}
 use Rattle.bk_world.specs.Telling.{model, time}
 use Rattle.bk_machine.specs.declared.history_row.HistoryRow.TheVariants.{Restore}
 use Rattle.bk_machine.specs.Acts.{Act, Recovery, latest, noted, replaced, restored, recovered, drawn, is_simple}
-use Rattle.bk_machine.specs.Checks.{Checked, ◌>>=◌, refuse_if, or_refuse, outside, unused, limit, used_up, is_name, is_path, most_branches, most_databases, paths_of, others, free_paths, different_paths}
+use Rattle.bk_machine.specs.Checks.{Checked, ◌>>=◌, refuse_if, or_refuse, outside, unused, without_job, limit, used_up, is_name, is_path, most_branches, most_databases, paths_of, others, free_paths, different_paths}
 use Rattle.bk_machine.specs.Outcome.{Outcome}
 use Rattle.bk_machine.specs.World.{World, Database, database_named, log_of}
 
@@ -118,10 +118,12 @@ check_moves header (m ∷ moves) = if names_file header m.name || same_name head
 
 -- Rules.
 
--- a session has an open transaction in the database, if it is there
+-- a session has an open transaction in the database, if it is there, or a backup of it runs
 abbrev pub check_unused : Option Database → Checked (Unit {0})
 check_unused None = Ok tt
-check_unused (Some db) = unused db
+check_unused (Some db) = do
+  _ ← unused db
+  without_job db
 
 -- a set of another family, unless the database may be replaced
 abbrev pub check_family : Option Database → Bool → Header → Checked (Unit {0})

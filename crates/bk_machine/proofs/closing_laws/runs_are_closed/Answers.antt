@@ -3,7 +3,6 @@ use Rattle.bk_machine.proofs.Loads.{acts-built}
 use Rattle.bk_machine.proofs.closing_laws.runs_are_closed.Goals as goal
 use Rattle.bk_machine.proofs.statements.Closing.{closing-idle, closing-well}
 use Rattle.bk_machine.proofs.statements.Counting.{closing-comes}
-use Rattle.bk_machine.proofs.statements.Idling.{no-job, no-job-run}
 
 pub returns-clause-comes : goal.returns-clause-comes
 returns-clause-comes c = closing-comes
@@ -18,4 +17,4 @@ pub returns-clause-built : goal.returns-clause-built
 returns-clause-built c = λ w acts sound built closing. acts-built w acts sound built (closing-well w acts closing sound).may ((closing-well w acts closing sound).plain built)
 
 pub returns-clause-idle : goal.returns-clause-idle
-returns-clause-idle c = λ w outcomes acts idle closing. closing-idle _ acts (no-job-run w outcomes (no-job w idle)) closing
+returns-clause-idle c = λ w outcomes acts idle closing. closing-idle _ acts closing

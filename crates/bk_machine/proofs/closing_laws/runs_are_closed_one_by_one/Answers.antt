@@ -1,8 +1,9 @@
-use Rattle.std.proofs.Common.{refl}
+use Rattle.std.proofs.Common.{inl, inr, refl}
 use Rattle.bk_machine.proofs.Acting.{act-sound, acts-sound}
 use Rattle.bk_machine.proofs.closing_laws.runs_are_closed_one_by_one.Goals as goal
-use Rattle.bk_machine.proofs.statements.Closing.{front-may}
+use Rattle.bk_machine.proofs.statements.Closing.{dropped-idle, front-may}
 use Rattle.bk_machine.proofs.statements.Counting.{first, rolled-fewer}
+use Rattle.bk_machine.proofs.statements.Jobless.{dropped-jobless, front-jobless, jobless-idle}
 use Rattle.bk_machine.proofs.statements.Transactions.{rollback-may, rollback-plain}
 use Rattle.bk_machine.specs.ClosingLaws.{closing-joined, closing-parts, first-alone, first-found, front-joined, none-open}
 use Rattle.bk_machine.specs.statements.Rollback.{rolls_back}
@@ -29,7 +30,16 @@ pub returns-clause-fewer : goal.returns-clause-fewer
 returns-clause-fewer c = λ w held sound first. rolled-fewer w held sound first.there
 
 pub returns-clause-none : goal.returns-clause-none
-returns-clause-none c = λ w none. none-open w.databases none
+returns-clause-none c = λ w none. (inl refl, dropped-idle w (none-open w.databases none))
+
+pub returns-clause-drops : goal.returns-clause-drops
+returns-clause-drops c = dropped-jobless
+
+pub returns-clause-jobless : goal.returns-clause-jobless
+returns-clause-jobless c = front-jobless
+
+pub returns-clause-closed : goal.returns-clause-closed
+returns-clause-closed c = jobless-idle
 
 pub returns-clause-front_may : goal.returns-clause-front_may
 returns-clause-front_may c = front-may
@@ -38,7 +48,7 @@ pub returns-clause-front_sound : goal.returns-clause-front_sound
 returns-clause-front_sound c = λ w acts sound front. acts-sound w acts sound (front-may w acts sound front)
 
 pub returns-clause-front_more : goal.returns-clause-front_more
-returns-clause-front_more c = λ w acts held front first. front-joined w acts _ front (held, first, refl, tt)
+returns-clause-front_more c = λ w acts held front first. front-joined w acts _ front (inr (held, first, refl), tt)
 
 pub returns-clause-joined : goal.returns-clause-joined
 returns-clause-joined c = closing-joined

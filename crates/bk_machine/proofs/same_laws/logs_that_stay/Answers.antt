@@ -1,5 +1,5 @@
 use Rattle.bk_machine.specs.SameLaws.{same-ended, same-on, same-opened}
-use Rattle.bk_machine.proofs.Same.{same-idle, same-medium_added, same-medium_changed, same-medium_made, same-medium_removed, same-noted, same-reflexive, same-restarted, same-sealed, same-seated, same-set_drawn, same-standby_removed, same-turned}
+use Rattle.bk_machine.proofs.Same.{same-idle, same-medium_added, same-medium_changed, same-medium_made, same-medium_removed, same-noted, same-reflexive, same-restarted, same-sealed, same-seated, same-set_drawn, same-standby_removed, same-turned, same-readied}
 use Rattle.bk_machine.proofs.same_laws.logs_that_stay.Goals as goal
 
 pub returns-clause-reflexive : goal.returns-clause-reflexive
@@ -13,6 +13,9 @@ returns-clause-idle c = same-idle
 
 pub returns-clause-turned : goal.returns-clause-turned
 returns-clause-turned c = same-turned
+
+pub returns-clause-readied : goal.returns-clause-readied
+returns-clause-readied c = same-readied
 
 pub returns-clause-medium_made : goal.returns-clause-medium_made
 returns-clause-medium_made c = same-medium_made

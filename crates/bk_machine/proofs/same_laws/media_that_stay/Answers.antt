@@ -1,4 +1,4 @@
-use Rattle.bk_machine.proofs.SameMedia.{media-ended, media-noted, media-opened, media-restarted, media-said, media-seated, media-set_drawn, media-turned}
+use Rattle.bk_machine.proofs.SameMedia.{media-ended, media-noted, media-opened, media-restarted, media-said, media-seated, media-set_drawn, media-turned, media-readied, media-job_set, media-jobs_dropped}
 use Rattle.bk_machine.proofs.same_laws.media_that_stay.Goals as goal
 use Rattle.bk_machine.specs.SettledLaws.{media-reflexive, media-symmetric, media-transitive}
 
@@ -16,6 +16,15 @@ returns-clause-turned c = media-turned
 
 pub returns-clause-seated : goal.returns-clause-seated
 returns-clause-seated c = media-seated
+
+pub returns-clause-readied : goal.returns-clause-readied
+returns-clause-readied c = media-readied
+
+pub returns-clause-job_set : goal.returns-clause-job_set
+returns-clause-job_set c = media-job_set
+
+pub returns-clause-jobs_dropped : goal.returns-clause-jobs_dropped
+returns-clause-jobs_dropped c = media-jobs_dropped
 
 pub returns-clause-set_drawn : goal.returns-clause-set_drawn
 returns-clause-set_drawn c = media-set_drawn

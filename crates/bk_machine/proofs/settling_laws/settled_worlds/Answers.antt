@@ -1,4 +1,5 @@
 use Rattle.bk_machine.specs.SettledLaws.{settled-before, settled-behind, settled-ended, settled-idle, settled-leaves-idle, settled-opened, settled-restarted}
+use Rattle.bk_machine.proofs.Settled.{settled-dropped}
 use Rattle.bk_machine.proofs.settling_laws.settled_worlds.Goals as goal
 
 pub returns-clause-idle : goal.returns-clause-idle
@@ -21,3 +22,6 @@ returns-clause-restarted c = settled-restarted
 
 pub returns-clause-leaves_idle : goal.returns-clause-leaves_idle
 returns-clause-leaves_idle c = settled-leaves-idle
+
+pub returns-clause-dropped : goal.returns-clause-dropped
+returns-clause-dropped c = settled-dropped
