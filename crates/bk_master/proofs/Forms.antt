@@ -15,7 +15,7 @@ use Rattle.bk_master.specs.declared.record.Entry.{Entry}
 use Rattle.bk_master.specs.declared.record.Own.{Own}
 use Rattle.bk_master.specs.declared.record.Record.{Record}
 use Rattle.bk_master.specs.declared.record.Unfinished.{Unfinished}
-use Rattle.bk_master.specs.Spelling.{HasPath, IsEntry, IsOwnPart, IsRecord, IsShort, IsShortPath, IsSmall, IsStaging, IsUnfinished, KeepsRecord, entry_bytes, entry_form, flag, flag_in, own_bytes, own_form, path_bytes, path_in, path_form, paths_bytes, read_record, record_bytes, record_form, staging_behind, staging_bytes, staging_form, text_bytes, unfinished_bytes, unfinished_form}
+use Rattle.bk_master.specs.Spelling.{HasPath, IsEntry, IsOwnPart, IsRecord, IsShort, IsShortPath, IsSmall, IsStaging, IsUnfinished, KeepsOwn, KeepsRecord, copying_bytes, entry_bytes, entry_form, flag, flag_in, own_bytes, own_form, path_bytes, path_in, path_form, paths_bytes, read_record, record_bytes, record_form, staging_behind, staging_bytes, staging_form, text_bytes, unfinished_bytes, unfinished_form}
 
 path_takes : (text : List ℕ) → IsString 0 100 text → (path_bytes (path_in text) ≡ text) × HasPath (path_in text)
 path_takes [] fits = (refl, tt)
@@ -67,13 +67,13 @@ staging_form-IsCodec = record { takes = takes; gives = gives }
         ap staging_form.reading (append_assoc (bytes_of 1 1) (guid_form.spelling set) rest) ∙ behind 1 (guid_form.spelling set ++ rest) (lit< tt) ∙ made
 
 own_form-IsCodec : IsCodec Own own_form
-unfolding own_form path_form staging_form
-own_form-IsCodec = converted-IsCodec _ _ _ IsOwnPart (followed-IsCodec _ _ (number-IsCodec 8) (λ _. followed-IsCodec _ _ (number-IsCodec 8) (λ _. followed-IsCodec _ _ path_form-IsCodec (λ _. staging_form-IsCodec)))) (record {
+unfolding own_form path_form staging_form guid_form
+own_form-IsCodec = converted-IsCodec _ _ _ IsOwnPart (followed-IsCodec _ _ (number-IsCodec 8) (λ _. followed-IsCodec _ _ (number-IsCodec 8) (λ _. followed-IsCodec _ _ path_form-IsCodec (λ _. followed-IsCodec _ _ staging_form-IsCodec (λ _. counted-IsCodec 2 _ guid_form-IsCodec))))) (record {
   takes = λ x o fits e.
-      subst (λ (y : Own). ((y.number, (y.counter, (y.making, y.staging))) ≡ x) × IsOwnPart y)
-      (same_Some (record { number = x.0; counter = x.1.0; making = x.1.1.0; staging = x.1.1.1 }) o e)
-      (refl, record { number = fits.0; counter = fits.1.0; path = fits.1.1.0; staging = fits.1.1.1 });
-  gives = λ o h. (refl, (h.number, (h.counter, (h.path, h.staging))));
+      subst (λ (y : Own). ((y.number, (y.counter, (y.making, (y.staging, y.copying)))) ≡ x) × IsOwnPart y)
+      (same_Some (record { number = x.0; counter = x.1.0; making = x.1.1.0; staging = x.1.1.1.0; copying = x.1.1.1.1 }) o e)
+      (refl, record { number = fits.0; counter = fits.1.0; path = fits.1.1.0; staging = fits.1.1.1.0; copying = fits.1.1.1.1 });
+  gives = λ o h. (refl, (h.number, (h.counter, (h.path, (h.staging, h.copying)))));
 })
 
 flag_takes : (n : ℕ) (b : Bool) → flag_in n ≡ Some b → (flag b ≡ n) × Unit {0}
@@ -105,7 +105,7 @@ unfinished_form-IsCodec = converted-IsCodec _ _ _ IsUnfinished (followed-IsCodec
 })
 
 record_form-IsCodec : IsCodec Record record_form
-unfolding record_form own_form path_form staging_form entry_form unfinished_form
+unfolding record_form own_form path_form staging_form guid_form entry_form unfinished_form
 record_form-IsCodec =
     converted-IsCodec _ _ _ IsRecord
     (followed-IsCodec _ _ own_form-IsCodec (λ _. followed-IsCodec _ _ (number-IsCodec 4) (λ _.
@@ -118,7 +118,7 @@ record_form-IsCodec =
     })
 
 spelled : (r : Record) → record_form.spelling r ≡ record_bytes r
-unfolding record_form own_form path_form staging_form entry_form unfinished_form record_bytes
+unfolding record_form own_form path_form staging_form guid_form entry_form unfinished_form record_bytes
 spelled r = refl
 
 -- what is spelled is read back
@@ -165,18 +165,25 @@ staging_short : (staging : Option Guid) → length (staging_bytes staging) ≤ 1
 staging_short None = omega (arith, length-bytes_of 1 0)
 staging_short (Some set) = omega (arith, length-append (bytes_of 1 1) (guid_bytes set), length-bytes_of 1 1, length-bytes_of 16 (guid_number set))
 
-own_short : (o : Own) → IsShort o.making → length (own_bytes o) ≤ 135
-own_short o short =
+copying_short : (sets : List Guid) → length sets ≤ 16 → length (copying_bytes sets) ≤ 258
+copying_short sets few =
+    let each = most_bytes guid_bytes (λ (s : Guid). Unit {0}) 16 sets (λ s _. omega (arith, length-bytes_of 16 (guid_number s))) (any sets) in
+    omega (arith, length-append (bytes_of 2 (length sets)) (flat_map guid_bytes sets), length-bytes_of 2 (length sets), each, few)
+
+own_short : (o : Own) → KeepsOwn o → length (own_bytes o) ≤ 393
+own_short o keeps =
     let path : List ℕ = path_bytes o.making in
-    let staging : List ℕ = staging_bytes o.staging in
+    let staging : List ℕ = staging_bytes o.staging ++ copying_bytes o.copying in
     omega (
       arith,
       length-append (bytes_of 8 o.number) (bytes_of 8 o.counter ++ ((bytes_of 2 (length path) ++ path) ++ staging)),
       length-append (bytes_of 8 o.counter) ((bytes_of 2 (length path) ++ path) ++ staging),
       length-append (bytes_of 2 (length path) ++ path) staging,
       length-append (bytes_of 2 (length path)) path,
-      path_short o.making short,
+      path_short o.making keeps.path,
+      length-append (staging_bytes o.staging) (copying_bytes o.copying),
       staging_short o.staging,
+      copying_short o.copying keeps.copying,
       length-bytes_of 8 o.number,
       length-bytes_of 8 o.counter,
       length-bytes_of 2 (length path),
@@ -206,7 +213,7 @@ record_fits r keeps =
       small,
       keeps.few,
       keeps.one,
-      own_short r.own keeps.path,
+      own_short r.own keeps.own,
       length-bytes_of 4 r.next,
       length-bytes_of 2 (length r.databases),
       length-bytes_of 2 (length r.unfinished),

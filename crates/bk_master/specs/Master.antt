@@ -41,7 +41,7 @@ pub record HoldsRecord (files : Files) (r : Record) : Type 0 where
 
 -- what an instance that was just made keeps beside its databases
 abbrev pub fresh_own : ℕ → Own
-fresh_own number = record { number = number; counter = 1; making = None; staging = None }
+fresh_own number = record { number = number; counter = 1; making = None; staging = None; copying = [] }
 
 -- the record of an instance that was just made
 abbrev pub fresh : ℕ → Record

@@ -1,5 +1,5 @@
 -- How an instance's record is spelled: its number and the counter of GUIDs in eight bytes each; the path of the medium that is being made behind a length of two bytes, 0 where none is; the GUID of
--- the set that is being staged behind a byte of 1, or a byte of 0 where none is; the number of the next store in four; how many databases there are in two, and of each the number of its store in four and in one byte whether it is stored, 1 or 0; and how many stores are being made or
+-- the set that is being staged behind a byte of 1, or a byte of 0 where none is; how many sets are being copied beside the sessions in two, and their GUIDs; the number of the next store in four; how many databases there are in two, and of each the number of its store in four and in one byte whether it is stored, 1 or 0; and how many stores are being made or
 -- removed in two, and of each its number in four, how many data files it has in two, and their paths, each behind a length of two. All numbers have the lowest byte first, and nothing stands behind them.
 use Rattle.std.specs.Prelude.{◌≤◌, ◌<◌, ◌^◌, ◌==◌, ℕ, zero, suc, Bool, true, false, List, [], ◌∷◌, ◌++◌, length, Option, Some, None, unwrap_or, if◌then◌else◌}
 use Rattle.std.specs.List.{AllByRecursion, flat_map}
@@ -27,9 +27,14 @@ IsShortPath path = (1 ≤ length path) × (length path ≤ 100)
 abbrev pub IsSmall : Unfinished → Type 0
 IsSmall u = (length u.paths ≤ 16) × AllByRecursion IsShortPath u.paths
 
+-- what an instance may keep beside its databases
+pub record KeepsOwn (o : Own) : Type 0 where
+  pub path : IsShort o.making
+  pub copying : length o.copying ≤ 16
+
 -- a record that an instance may keep
 pub record KeepsRecord (r : Record) : Type 0 where
-  pub path : IsShort r.own.making
+  pub own : KeepsOwn r.own
   pub few : length r.databases ≤ 16
   pub one : length r.unfinished ≤ 2
   pub small : AllByRecursion IsSmall r.unfinished
@@ -58,6 +63,7 @@ pub record IsOwnPart (o : Own) : Type 0 where
   pub counter : o.counter < 2 ^ 64
   pub path : HasPath o.making
   pub staging : IsStaging o.staging
+  pub copying : (length o.copying < 256 ^ 2) × AllByRecursion IsGuid o.copying
 
 pub record IsRecord (r : Record) : Type 0 where
   pub own : IsOwnPart r.own
@@ -92,8 +98,11 @@ abbrev pub staging_bytes : Option Guid → List ℕ
 staging_bytes None = bytes_of 1 0
 staging_bytes (Some set) = bytes_of 1 1 ++ guid_bytes set
 
+abbrev pub copying_bytes : List Guid → List ℕ
+copying_bytes sets = bytes_of 2 (length sets) ++ flat_map guid_bytes sets
+
 abbrev pub own_bytes : Own → List ℕ
-own_bytes o = bytes_of 8 o.number ++ (bytes_of 8 o.counter ++ (text_bytes (path_bytes o.making) ++ staging_bytes o.staging))
+own_bytes o = bytes_of 8 o.number ++ (bytes_of 8 o.counter ++ (text_bytes (path_bytes o.making) ++ (staging_bytes o.staging ++ copying_bytes o.copying)))
 
 -- the bytes of a record
 unfoldable pub record_bytes : Record → List ℕ
@@ -130,9 +139,9 @@ staging_form = record {
 }
 
 unfoldable pub own_form : Codec Own
-own_form = converted (followed (number 8) (λ _. followed (number 8) (λ _. followed path_form (λ _. staging_form))))
-    (λ x. Some (record { number = x.0; counter = x.1.0; making = x.1.1.0; staging = x.1.1.1 }))
-    (λ o. (o.number, (o.counter, (o.making, o.staging))))
+own_form = converted (followed (number 8) (λ _. followed (number 8) (λ _. followed path_form (λ _. followed staging_form (λ _. counted 2 guid_form)))))
+    (λ x. Some (record { number = x.0; counter = x.1.0; making = x.1.1.0; staging = x.1.1.1.0; copying = x.1.1.1.1 }))
+    (λ o. (o.number, (o.counter, (o.making, (o.staging, o.copying)))))
     IsOwnPart
 
 -- 1 or 0

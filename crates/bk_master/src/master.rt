@@ -47,6 +47,7 @@ fn first_record(alloc: Global, number: u64) -> Record
             counter: 1,
             making: None,
             staging: None,
+            copying: Sequence::new(Vec::new(alloc)),
         },
         next: 1,
         databases: Sequence::new(Vec::new(alloc)),

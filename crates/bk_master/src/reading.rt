@@ -1,5 +1,6 @@
 // Reading a record.
 ghost use Rattle.bk_bytes.specs.Codec.{Gives, counted, string, times};
+ghost use Rattle.bk_fields.specs.Guids.{guid_form};
 ghost use Rattle.bk_master.specs.Spelling.{entry_form, own_form, path_form, read_record, record_form, staging_form, unfinished_form};
 ghost use Rattle.bk_reading.specs.Reading.{Reads};
 
@@ -39,6 +40,36 @@ fn split_staging(bytes: &[u8]) -> Option<(Option<Guid>, &[u8])>
     }
 }
 
+fn read_set(bytes: &[u8]) -> Result<(Guid, &[u8]), Unread>
+    ensures { Reads (λ x. (x.0, x.1.now)) result (guid_form.reading bytes.now) }
+{
+    split_guid(bytes).ok_or(Unread::Unspelled)
+}
+
+fn read_so_many_sets(alloc: Global, count: u16, bytes: &[u8]) -> Result<(Vec<Guid>, &[u8]), Unread>
+    ensures { Reads (λ x. (x.0.items, x.1.now)) result ((times guid_form count).reading bytes.now) }
+{
+    let mut sets = Vec::new(alloc);
+    let mut rest = bytes;
+    for _ in 0..count {
+        let (set, after) = read_set(rest)?;
+        sets.push(set)?;
+        rest = after;
+    }
+    Ok((sets, rest))
+}
+
+#[tactic(auto, unfolding(bk_bytes::specs::Codec::list_at))]
+fn read_copying(alloc: Global, bytes: &[u8]) -> Result<(Sequence<Guid>, &[u8]), Unread>
+    ensures { Reads (λ x. (x.0, x.1.now)) result ((counted 2 guid_form).reading bytes.now) }
+{
+    let Some((count, rest)) = split_u16(bytes) else {
+        return Err(Unread::Unspelled);
+    };
+    let (sets, rest) = read_so_many_sets(alloc, count, rest)?;
+    Ok((Sequence::new(sets), rest))
+}
+
 #[tactic(auto, unfolding(crate::specs::Spelling::own_form))]
 fn read_own(alloc: Global, bytes: &[u8]) -> Result<(Own, &[u8]), Unread>
     ensures { Reads (λ x. (x.0, x.1.now)) result (own_form.reading bytes.now) }
@@ -53,11 +84,13 @@ fn read_own(alloc: Global, bytes: &[u8]) -> Result<(Own, &[u8]), Unread>
     let Some((staging, rest)) = split_staging(rest) else {
         return Err(Unread::Unspelled);
     };
+    let (copying, rest) = read_copying(alloc, rest)?;
     let own = Own {
         number,
         counter,
         making,
         staging,
+        copying,
     };
     Ok((own, rest))
 }

@@ -29,6 +29,8 @@ pub struct Own {
     pub making: Option<Text>,
     /// The set whose extents and log are being staged in a file of their own, if one is.
     pub staging: Option<Guid>,
+    /// The sets that are being copied beside the sessions, each into a file of its own: at most 16.
+    pub copying: Sequence<Guid>,
 }
 
 /// What an instance keeps of itself.

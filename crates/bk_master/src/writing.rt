@@ -3,7 +3,8 @@ ghost use Rattle.std.specs.Prelude.{◌≡◌, ◌≤◌, ◌<◌, ◌^◌, ◌+
 ghost use Rattle.std.specs.List.{AllByRecursion, flat_map};
 ghost use Rattle.bk_bytes.specs.Codec.{IsString};
 ghost use Rattle.bk_bytes.specs.Field.{bytes_of};
-ghost use Rattle.bk_master.specs.Spelling.{HasPath, IsEntry, IsOwnPart, IsShort, IsShortPath, IsSmall, IsStaging, IsUnfinished, KeepsRecord, entry_bytes, own_bytes, path_bytes, paths_bytes, read_record, record_bytes, staging_bytes, text_bytes, unfinished_bytes};
+ghost use Rattle.bk_fields.specs.Guids.{IsGuid, guid_bytes};
+ghost use Rattle.bk_master.specs.Spelling.{HasPath, IsEntry, IsOwnPart, IsShort, IsShortPath, IsSmall, IsStaging, IsUnfinished, KeepsOwn, KeepsRecord, copying_bytes, entry_bytes, own_bytes, path_bytes, paths_bytes, read_record, record_bytes, staging_bytes, text_bytes, unfinished_bytes};
 
 use crate::record::{Entry, Own, Record, Unfinished};
 use bk_bytes::{append_text, append_u8, append_u16, append_u32, append_u64};
@@ -36,8 +37,28 @@ fn append_staging(out: &mut Vec<u8>, staging: Option<Guid>) -> Result<(), AllocE
     Ok(())
 }
 
+fn append_set(out: &mut Vec<u8>, set: Guid) -> Result<(), AllocError>
+    ensures ok { OnOk result (out.new.items ≡ out.old.items ++ guid_bytes set) }
+    ensures fits { OnOk result (IsGuid set) }
+{
+    append_guid(out, set)?;
+    Ok(())
+}
+
+fn append_copying(out: &mut Vec<u8>, sets: &[Guid]) -> Result<(), AllocError>
+    requires few { length sets.now ≤ 16 }
+    ensures ok { OnOk result (out.new.items ≡ out.old.items ++ copying_bytes sets.now) }
+    ensures fits { OnOk result (AllByRecursion IsGuid sets.now) }
+{
+    append_u16(out, sets.len() as u16)?;
+    for set in sets {
+        append_set(out, *set)?;
+    }
+    Ok(())
+}
+
 fn append_own(out: &mut Vec<u8>, own: &Own) -> Result<(), AllocError>
-    requires { IsShort own.now.making }
+    requires { KeepsOwn own.now }
     ensures ok { OnOk result (out.new.items ≡ out.old.items ++ own_bytes own.now) }
     ensures fits { OnOk result (IsOwnPart own.now) }
 {
@@ -45,6 +66,7 @@ fn append_own(out: &mut Vec<u8>, own: &Own) -> Result<(), AllocError>
     append_u64(out, own.counter)?;
     append_path(out, &own.making)?;
     append_staging(out, own.staging)?;
+    append_copying(out, own.copying.as_slice())?;
     Ok(())
 }
 
