@@ -4,4 +4,5 @@ pub mod Staging
 pub mod Writing
 pub mod Stored
 pub mod Opening
+pub mod GuidNames
 pub mod Laws

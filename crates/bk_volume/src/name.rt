@@ -3,7 +3,7 @@ ghost use Rattle.std.specs.Prelude.{◌≡◌, ◌≢◌, List, ℕ, IfOk};
 ghost use Rattle.std.specs.String.{string_bytes};
 ghost use Rattle.std.specs.Int.{to_be_bytes, w128};
 ghost use Rattle.bk_bytes.specs.Field.{AreBytes};
-ghost use Rattle.bk_fields.specs.Guids.{guid_number};
+ghost use Rattle.bk_fields.specs.Guids.{IsGuid, guid_number};
 ghost use Rattle.bk_volume.specs.Names.{medium_file, staging_file, letter};
 ghost use Rattle.bk_ids.specs.declared.guid.Guid.{Guid};
 
@@ -44,12 +44,13 @@ pub fn staging_file(alloc: Global, set: Guid) -> Result<String, AllocError>
     Ok(name)
 }
 
-/// Different paths have different media's names. Their letter is `m`, that of staging files is `t`: so no medium's file is a
+/// Different paths have different media's names, and different sets different staging files. Their letter is `m`, that of staging files is `t`: so no medium's file is a
 /// staging file, nor is either one that begins with another letter, as each file of a database does.
 pub fn name_law()
     ensures different { (path other : List ℕ) → AreBytes path → AreBytes other → medium_file path ≡ medium_file other → path ≡ other }
     ensures media { (path : List ℕ) → letter (medium_file path) ≡ 109 }
     ensures staging { (set : Guid) → letter (staging_file set) ≡ 116 }
+    ensures sets { (set other : Guid) → IsGuid set → IsGuid other → staging_file set ≡ staging_file other → set ≡ other }
     ensures apart { (path : List ℕ) (set : Guid) → staging_file set ≢ medium_file path }
     ensures no_medium { (path name : List ℕ) → letter name ≢ 109 → name ≢ medium_file path }
     ensures no_staging { (set : Guid) (name : List ℕ) → letter name ≢ 116 → name ≢ staging_file set }

@@ -2,7 +2,7 @@
 ghost use Rattle.std.specs.Prelude.{◌≡◌, ◌≤◌, ◌<◌, ◌⊎◌, ◌+◌, ◌*◌, ◌++◌, ◌^◌, None, false, length, is_err, string_bytes, IfOk, OnOk, IsErr, IsErrOf};
 ghost use Rattle.bk_body.specs.Spelling.{extent_bytes};
 ghost use Rattle.bk_bytes.specs.Field.{bytes_of};
-ghost use Rattle.bk_device.specs.Calls.{contents};
+ghost use Rattle.bk_device.specs.Calls.{ChangesNothing, contents};
 ghost use Rattle.bk_device.specs.Counts.{HasCause};
 ghost use Rattle.bk_device.specs.Disk.{IsDurable};
 ghost use Rattle.bk_device.specs.Effects.{Effect, IsName};
@@ -63,6 +63,33 @@ impl Staged {
         Ok(Staged {
             name,
             extents: 0,
+            log: 0,
+            failed: false,
+        })
+    }
+
+    /// Takes up a set that was begun before, to which so many extents were added and no log. Changes nothing.
+    ///
+    /// Where its file hasn't just the bytes of so many extents, the call ends as if memory were wanting.
+    pub fn again<D: Device>(
+        alloc: Global,
+        dev: &mut D,
+        set: Guid,
+        extents: u32,
+    ) -> Result<Staged, WriteError>
+        ensures again { IfOk result (λ s. s ≡ record { name = staging_file set; extents = extents; log = 0; failed = false }) }
+        ensures staged { D.tells → IfOk result (λ s. IsStaged (D.disk dev.new) s) }
+        ensures effect { D.tells → ChangesNothing (D.disk dev.old) (D.disk dev.new) }
+        ensures cause { HasCause D.disk_faults D.tell_faults dev.old dev.new (IsErrOf result WriteError.Fault) }
+    {
+        let name = staging_file(alloc, set)?;
+        let len = dev.len(&name)?.unwrap_or(0);
+        if len != EXTENT_BYTES * u64::from(extents) {
+            return Err(WriteError::NoMemory);
+        }
+        Ok(Staged {
+            name,
+            extents,
             log: 0,
             failed: false,
         })
