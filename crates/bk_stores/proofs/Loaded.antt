@@ -62,7 +62,7 @@ opens-synced {a} number fixed tolds settled is effect =
 
 pub fresh-entries : (number : ℕ) → AreEntries (fresh number) []
 fresh-entries number = record {
-  keeps = record { path = tt; few = omega arith; one = omega arith; small = tt };
+  keeps = record { own = record { path = tt; copying = omega arith }; few = omega arith; one = omega arith; small = tt };
   count = refl;
   below = λ i e there. absurd (got-none i e there);
   under = λ k u there. absurd (got-none k u there);

@@ -10,7 +10,7 @@ use Rattle.bk_known.specs.declared.known.Known.{Known}
 use Rattle.bk_known.specs.Known.{known_bytes}
 use Rattle.bk_master.specs.declared.record.Entry.{Entry}
 use Rattle.bk_master.specs.declared.record.Record.{Record}
-use Rattle.bk_master.specs.Spelling.{IsShort, KeepsRecord}
+use Rattle.bk_master.specs.Spelling.{KeepsOwn, KeepsRecord}
 use Rattle.bk_paged.specs.Names.{IsOwn}
 use Rattle.bk_segments.specs.Files.{LogIs, Logged, AreDurable as LogsAreDurable, IsOwn as IsOfLog}
 use Rattle.bk_side.specs.Names.{side_file, IsOwn as IsOfSide}
@@ -86,7 +86,7 @@ parked-adds s then same slots few ready = record {
   below = begun-below s then [] same;
   few = subst (λ (sl : List (Option KeptStore)). length sl < 16) (sym slots) few;
   count = ap length slots ∙ ready.count ∙ sym (ap (λ (r : Record). length r.databases) same);
-  making = subst (λ (r : Record). IsShort r.own.making) (sym same) ready.keeps.path;
+  own = subst (λ (r : Record). KeepsOwn r.own) (sym same) ready.keeps.own;
 }
 
 -- or put in the place of one

@@ -13,7 +13,7 @@ use Rattle.bk_stores.specs.StandingLaws.{put-standing}
 use Rattle.bk_stores.specs.Stores.{AreEntries, AreStores, IsOurs, Kept, LeavesStores, sealed_at, fixed_of}
 
 rested-entries : (r : Record) (tolds : List Told) → AreEntries r tolds → AreEntries (rested r r.databases) tolds
-rested-entries r tolds is = entries-rest r (rested r r.databases) tolds (record { path = is.keeps.path; few = is.keeps.few; one = omega arith; small = tt }) refl (omega arith) refl is
+rested-entries r tolds is = entries-rest r (rested r r.databases) tolds (record { own = is.keeps.own; few = is.keeps.few; one = omega arith; small = tt }) refl (omega arith) refl is
 
 pub rested-crash : (s : Kept) (tolds : List Told) (next : Record) {a b : Disk} → next ≡ rested s.master.record s.master.record.databases → AreStores a s tolds → Effect IsOfMaster (λ image. HoldsRecord image s.master.record ⊎ HoldsRecord image next) a b
     → Effect IsOurs (LeavesStores (fixed_of s.master.record) (sealed_at s tolds) tolds) a b

@@ -6,7 +6,7 @@ use Rattle.bk_facts.specs.declared.facts.DataFile.{DataFile}
 use Rattle.bk_master.specs.declared.record.Entry.{Entry}
 use Rattle.bk_master.specs.declared.record.Record.{Record}
 use Rattle.bk_master.specs.declared.record.Unfinished.{Unfinished}
-use Rattle.bk_master.specs.Spelling.{IsShort, KeepsRecord}
+use Rattle.bk_master.specs.Spelling.{KeepsOwn, KeepsRecord}
 use Rattle.bk_paged.specs.Names.{names_of}
 use Rattle.bk_side.specs.Names.{IsData, data_file}
 use Rattle.bk_store.specs.Store.{Kept as KeptStore}
@@ -38,7 +38,7 @@ fresh-apart r tolds files small is shares = λ i e t at.
     }
 
 pub begun-keeps : (r : Record) (paths : List (List ℕ)) → AreSmall paths → KeepsRecord r → KeepsRecord (begun r paths)
-begun-keeps r paths small is = record { path = is.path; few = is.few; one = omega arith; small = ((small.few, small.short), tt) }
+begun-keeps r paths small is = record { own = is.own; few = is.few; one = omega arith; small = ((small.few, small.short), tt) }
 
 pub begun-entries : (r : Record) (tolds : List Told) (paths : List (List ℕ)) → r.next < 2 ^ 32 → AreSmall paths → AreEntries r tolds → SharesNone r.databases tolds (at_paths paths) → AreEntries (begun r paths) tolds
 begun-entries r tolds paths small short is shares = record {
@@ -66,12 +66,12 @@ at-more entries tolds x new i e t count at = elim (got-more entries x e i at.0) 
   ]
 ]
 
-pub added-keeps : (r : Record) (x : Entry) → length r.databases < 16 → IsShort r.own.making → KeepsRecord (rested r (r.databases ++ x ∷ []))
-added-keeps r x few short = record { path = short; few = omega (arith, few, length-append r.databases (x ∷ [])); one = omega arith; small = tt }
+pub added-keeps : (r : Record) (x : Entry) → length r.databases < 16 → KeepsOwn r.own → KeepsRecord (rested r (r.databases ++ x ∷ []))
+added-keeps r x few own = record { own = own; few = omega (arith, few, length-append r.databases (x ∷ [])); one = omega arith; small = tt }
 
 pub added-entries : (r : Record) (tolds : List Told) (x : Entry) (new : Told) → x.store < r.next → length r.databases < 16 → AreEntries r tolds → IsApart r.databases tolds x.store (its_files x new) → AreEntries (rested r (r.databases ++ x ∷ [])) (tolds ++ new ∷ [])
 added-entries r tolds x new below few is apart = record {
-  keeps = added-keeps r x few is.keeps.path;
+  keeps = added-keeps r x few is.keeps.own;
   count = length-append tolds (new ∷ []) ∙ ap (λ (m : ℕ). m + 1) is.count ∙ sym (length-append r.databases (x ∷ []));
   below = λ i e there. elim (got-more r.databases x e i there) [
     | inl old ↦ is.below i e old

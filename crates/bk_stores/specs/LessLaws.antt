@@ -58,7 +58,7 @@ at-less entries tolds at i e t inside within is = (sym (got-place entries at i i
 
 pub less-keeps : (r : Record) (at store : ℕ) (paths : List (List ℕ)) → AreSmall paths → at < length r.databases → KeepsRecord r → KeepsRecord (left_out r at store paths)
 less-keeps r at store paths short inside is = record {
-  path = is.path;
+  own = is.own;
   few = let size = length-less r.databases at inside in let few = is.few in omega (arith, size, few);
   one = omega arith;
   small = ((short.few, short.short), tt);

@@ -3,7 +3,7 @@ use Rattle.std.specs.Prelude.{Bool, ◌≡◌, ◌<◌, ◌∷◌, ◌++◌, ◌
 use Rattle.bk_device.specs.Disk.{Disk}
 use Rattle.bk_device.specs.Effects.{Effect}
 use Rattle.bk_master.specs.declared.record.Entry.{Entry}
-use Rattle.bk_master.specs.Spelling.{IsShort}
+use Rattle.bk_master.specs.Spelling.{KeepsOwn}
 use Rattle.bk_paged.specs.Names.{names_of}
 use Rattle.bk_store.specs.Store.{Kept as KeptStore}
 use Rattle.bk_store.specs.Told.{Told}
@@ -46,7 +46,7 @@ pub record Adds (s : Kept) (number : ℕ) : Type 0 where
   pub below : number < s.master.record.next
   pub few : length s.slots < 16
   pub count : length s.slots ≡ length s.master.record.databases
-  pub making : IsShort s.master.record.own.making
+  pub own : KeepsOwn s.master.record.own
 
 -- a database may be removed whose data files, if it has some, lie at these paths
 pub record MayRemove (s : Kept) (tolds : List Told) (at : ℕ) (told : Told) (paths : List (List ℕ)) : Type 0 where

@@ -18,6 +18,7 @@ quiet-same same is = record {
   is_record = holds_same (λ name own. same name) is.is_record;
   no_medium = is.no_medium;
   no_set = is.no_set;
+  no_copy = is.no_copy;
   none = is.none;
   each = λ i e there stored. quiet_same e.store same (is.each i e there stored);
 }

@@ -33,7 +33,7 @@ at-swapped entries tolds at e x t new here i f u is = elim (same-place at i) [
 
 pub swapped-keeps : (r : Record) (at : ℕ) (x : Entry) (store : ℕ) (paths : List (List ℕ)) → AreSmall paths → KeepsRecord r → KeepsRecord (swapped r at x store paths)
 swapped-keeps r at x store paths short is = record {
-  path = is.path;
+  own = is.own;
   few = let size = length-set r.databases at x in let few = is.few in omega (arith, size, few);
   one = omega arith;
   small = ((short.few, short.short), tt);

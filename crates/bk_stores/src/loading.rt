@@ -79,6 +79,7 @@ fn keeps(record: &Record) -> bool
 {
     let unfinished = record.unfinished.as_slice();
     is_making_short(&record.own.making)
+        && record.own.copying.as_slice().len() <= 16
         && record.databases.as_slice().len() <= 16
         && unfinished.len() <= 2
         && unfinished.iter().all(is_small)
@@ -184,7 +185,7 @@ impl Stores {
     /// that there were, and the record's own part, which is as it was. Where nothing is to be made or removed the files stay as they are.
     ///
     /// `NotAnInstance` is answered only where an instance is made and its control file holds no control, and `Broken` only where it is made and its control holds no record, or one that doesn't keep its limits:
-    /// 16 databases, and two stores that are being made or removed, each with 16 data files at paths of 1 to 100 bytes; each store with a number of its own below the next one. `NoMemory` may come after files
+    /// 16 databases, 16 sets that are being copied, and two stores that are being made or removed, each with 16 data files at paths of 1 to 100 bytes; each store with a number of its own below the next one. `NoMemory` may come after files
     /// were touched.
     pub fn load<D: Device>(alloc: Global, dev: &mut D, number: u64) -> Result<Stores, StoresError>
         ensures ready { IfOk result IsReady }

@@ -2,7 +2,7 @@
 ghost use Rattle.std.specs.Prelude.{◌≡◌, ◌⊎◌, List, false, IfErr, OnOk, IsErrOf};
 ghost use Rattle.bk_device.specs.Counts.{HasCause};
 ghost use Rattle.bk_device.specs.Effects.{Effect};
-ghost use Rattle.bk_master.specs.Spelling.{IsShort, KeepsRecord};
+ghost use Rattle.bk_master.specs.Spelling.{KeepsOwn, KeepsRecord};
 ghost use Rattle.bk_store.specs.Told.{Told};
 ghost use Rattle.bk_stores.specs.Errors.{IsTrouble};
 ghost use Rattle.bk_stores.specs.Records.{owned};
@@ -24,7 +24,7 @@ impl Stores {
         &self.master.record().own
     }
 
-    /// Makes this what the instance's record keeps beside its databases. A crash leaves the databases with what it kept before, or with this.
+    /// Makes this what the instance's record keeps beside its databases: a medium that is being made has a path of 1 to 100 bytes, and at most 16 sets are being copied. A crash leaves the databases with what it kept before, or with this.
     ///
     /// Only `Fault` and `NoMemory` are answered.
     pub fn put_own<D: Device>(
@@ -35,7 +35,7 @@ impl Stores {
     ) -> Result<(), StoresError>
         requires fit { self.old.master.failed ≡ false }
         requires keeps { KeepsRecord self.old.master.record }
-        requires short { IsShort own.making }
+        requires own { KeepsOwn own }
         requires standing { D.tells → AreStanding (D.disk dev.old) self.old }
         ensures fit { OnOk result (self.new.master.failed ≡ false) }
         ensures put { OnOk result (self.new.master.record ≡ owned self.old.master.record own) }

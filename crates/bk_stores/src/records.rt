@@ -7,7 +7,7 @@ ghost use Rattle.bk_stores.specs.declared.error.StoresError.TheVariants.{Fault};
 
 use crate::error::StoresError;
 use bk_facts::DataFile;
-use bk_ids::{Sequence, Text};
+use bk_ids::{Guid, Sequence, Text};
 use bk_master::{Entry, Own, Record, Unfinished};
 use bk_world::FileSpec;
 use std::alloc::{AllocError, Global};
@@ -55,6 +55,17 @@ fn copy_making(alloc: Global, making: &Option<Text>) -> Result<Option<Text>, All
     }
 }
 
+// The sets that are being copied, of their own.
+fn copy_sets(alloc: Global, sets: &[Guid]) -> Result<Vec<Guid>, AllocError>
+    ensures { IfOk result (λ copy. copy.items ≡ sets.now) }
+{
+    let mut copy = Vec::new(alloc);
+    for set in sets {
+        copy.push(*set)?;
+    }
+    Ok(copy)
+}
+
 // What a record keeps beside its databases, of its own.
 fn copy_own(alloc: Global, own: &Own) -> Result<Own, AllocError>
     ensures { IfOk result (λ copy. copy ≡ own.now) }
@@ -64,6 +75,7 @@ fn copy_own(alloc: Global, own: &Own) -> Result<Own, AllocError>
         counter: own.counter,
         making: copy_making(alloc, &own.making)?,
         staging: own.staging,
+        copying: Sequence::new(copy_sets(alloc, own.copying.as_slice())?),
     })
 }
 

@@ -16,7 +16,7 @@ returns-in_err-next-clause-crash g c t tolds is = effect_weaken (λ image here. 
 pub put-requires-clause-keeps : goal.put-requires-clause-keeps
 put-requires-clause-keeps g c =
     let next_is : c.in_ok-next.next ≡ owned c.args.self.now.master.record c.args.own = search rules in
-    subst KeepsRecord (sym next_is) (owned-keeps c.args.self.now.master.record c.args.own c.requires.short c.requires.keeps)
+    subst KeepsRecord (sym next_is) (owned-keeps c.args.self.now.master.record c.args.own c.requires.own c.requires.keeps)
 
 pub returns-in_err-put-clause-crash : goal.returns-in_err-put-clause-crash
 returns-in_err-put-clause-crash g c t tolds is =
@@ -26,7 +26,7 @@ returns-in_err-put-clause-crash g c t tolds is =
     let here = subst (λ (k : Kept). AreStores a k tolds) (sym c.self.view_is) is in
     let next_is : c.in_ok-next.next ≡ owned c.self.inside.master.record c.args.own = search rules in
     subst (λ (k : Kept). Effect IsOurs (λ image. LeavesStores (fixed_of k.master.record) (sealed_at k tolds) tolds image ⊎ LeavesStores (record (fixed_of k.master.record) { own = c.args.own }) (sealed_at k tolds) tolds image) a b) c.self.view_is
-    (owned-crash s c.args.own tolds c.in_ok-next.next c.requires.short next_is here (c.put.ensures.crash t))
+    (owned-crash s c.args.own tolds c.in_ok-next.next c.requires.own next_is here (c.put.ensures.crash t))
 
 pub returns-clause-stands : goal.returns-clause-stands
 returns-clause-stands g c t tolds is =
@@ -34,7 +34,7 @@ returns-clause-stands g c t tolds is =
     let s : Kept = record { master = c.self.inside.master; slots = c.self.inside.slots.items } in
     let here = subst (λ (k : Kept). AreStores a k tolds) (sym c.self.view_is) is in
     let next_is : c.in_ok-next.next ≡ owned c.self.inside.master.record c.args.own = search rules in
-    owned-stands s c.args.own tolds c.put.new.self c.requires.short (c.in_ok-put.ensures.put ∙ next_is) here (c.in_ok-put.ensures.stands t) (c.put.ensures.crash t)
+    owned-stands s c.args.own tolds c.put.new.self c.requires.own (c.in_ok-put.ensures.put ∙ next_is) here (c.in_ok-put.ensures.stands t) (c.put.ensures.crash t)
 
 pub returns-clause-crash : goal.returns-clause-crash
 returns-clause-crash g c t tolds is =
@@ -44,7 +44,7 @@ returns-clause-crash g c t tolds is =
     let here = subst (λ (k : Kept). AreStores a k tolds) (sym c.self.view_is) is in
     let next_is : c.in_ok-next.next ≡ owned c.self.inside.master.record c.args.own = search rules in
     subst (λ (k : Kept). Effect IsOurs (λ image. LeavesStores (fixed_of k.master.record) (sealed_at k tolds) tolds image ⊎ LeavesStores (record (fixed_of k.master.record) { own = c.args.own }) (sealed_at k tolds) tolds image) a b) c.self.view_is
-    (owned-crash s c.args.own tolds c.in_ok-next.next c.requires.short next_is here (c.put.ensures.crash t))
+    (owned-crash s c.args.own tolds c.in_ok-next.next c.requires.own next_is here (c.put.ensures.crash t))
 
 pub returns-clause-standing : goal.returns-clause-standing
 returns-clause-standing g c t =
