@@ -1,13 +1,14 @@
 -- Hosted databases behind acts of their world.
-use Rattle.std.proofs.Common.{◌≡◌, ℕ, zero, suc, ◌<◌, List, [], ◌∷◌, ◌++◌, map, length, get_or, Option, Some, refl, sym, ◌∙◌, ap, subst}
+use Rattle.std.proofs.Common.{◌≡◌, ℕ, zero, suc, ◌<◌, List, [], ◌∷◌, ◌++◌, map, length, get_or, Bool, Option, None, Some, refl, sym, ◌∙◌, ap, subst}
 use Rattle.std.specs.Prelude.{remove, set, slice_get}
 use Rattle.std.specs.List.{AllByRecursion, position}
 use Rattle.std.proofs.lemmas.List.{map-append}
 use Rattle.std.proofs.lemmas.List.Quantifiers.{position-Some}
 use Rattle.bk_ids.specs.declared.path.Branch.{Branch}
 use Rattle.bk_lemmas.specs.Lists.{all_at, all_both, all_mapped}
-use Rattle.bk_machine.specs.Acts.{Act, Recovery, based, based_on, created, done, dropped, goes_online, gone_on, gone_online, logged, medium_made, new_database, noted, says, seated, set_drawn, set_sealed, turned}
+use Rattle.bk_machine.specs.Acts.{Act, Recovery, based, based_on, created, done, dropped, goes_online, gone_on, job_set, jobs_dropped, readied, with_job, gone_online, logged, medium_made, new_database, noted, says, seated, set_drawn, set_sealed, turned}
 use Rattle.bk_machine.specs.declared.history_row.HistoryRow.{HistoryRow}
+use Rattle.bk_machine.specs.declared.job.Job.{Job}
 use Rattle.bk_machine.specs.MayDo.{HoldsOf, MayDo, MayLog, MayRecover, MaySay}
 use Rattle.bk_machine.specs.SaysLaws.{done-says}
 use Rattle.bk_machine.specs.Sound.{IsSound, IsWhole, IsWholeDatabase}
@@ -21,7 +22,7 @@ use Rattle.bk_world.specs.Records.{Counts, Logged, Said, checkpointed, more}
 use Rattle.bk_world.specs.SameLaws.{is_guid-refl}
 use Rattle.bk_world.specs.Says.{alone}
 use Rattle.bk_world.specs.Telling.{model}
-use Rattle.bk_hosted.specs.Hosted.{Hosted, Hosts, IsHosted, SaysNoCheckpoint, basing, creating, database_of, folding, names, noting, saying}
+use Rattle.bk_hosted.specs.Hosted.{Hosted, Hosts, IsHosted, SaysNoCheckpoint, basing, creating, database_of, folding, names, noting, running, saying}
 use Rattle.bk_hosted.specs.PlaceLaws.{all-more, all-removed, all-set, got-or, named-at, own-position, with-at, without-at}
 use Rattle.bk_hosted.specs.PointLaws.{checkpoint-is, folding-is, noting-is, saying-is}
 
@@ -190,6 +191,54 @@ hosts-based reads w name header hosted i h sound hosts place there =
     changed reads w (based name header) name hosted i h (basing header h) (based_on header) sound tt hosts place here.at (based-databases w name header) refl
     (record { log = ap (λ (history : RecordLines). log_below history h.spec.path (end_behind h.records)) (based-history w name header) ∙ here.is.log })
 
+-- ---- a backup of a database runs, or none does any more
+
+-- that moves neither the log nor its path
+hosted-running : (lines : RecordLines) (job : Option Job) (h : Hosted) → IsHosted lines h → IsHosted lines (running job h)
+unfolding log_of
+hosted-running lines job h is = record { log = is.log }
+
+job-history : (w : World) (name : List ℕ) (job : Option Job) → (done w (job_set name job)).history ≡ w.history
+unfolding done
+job-history w name job = refl
+
+job-databases : (w : World) (name : List ℕ) (job : Option Job) → (done w (job_set name job)).databases ≡ with_database w.databases name (with_job job)
+unfolding done
+job-databases w name job = refl
+
+pub hosts-job_set : (w : World) (name : List ℕ) (job : Option Job) (hosted : List Hosted) (i : ℕ) (h : Hosted) → Hosts w hosted → position (names name) hosted ≡ Some i → slice_get hosted i ≡ Some h
+    → Hosts (done w (job_set name job)) (set hosted i (running job h))
+hosts-job_set w name job hosted i h hosts place there =
+    let at : h ≡ get_or hosted i h = got-or hosted i h there in
+    let inside : i < length hosted = (position-Some (names name) hosted i h place).0 in
+    record {
+      same = job-databases w name job ∙ ap (λ dbs. with_database dbs name (with_job job)) hosts.same ∙ sym (with-at name (with_job job) hosted i h (running job h) place at refl);
+      each = subst (λ (lines : RecordLines). AllByRecursion (IsHosted lines) (set hosted i (running job h))) (sym (job-history w name job))
+          (all-set (IsHosted w.history) hosted i h (running job h) inside (λ is. hosted-running w.history job h (subst (IsHosted w.history) (sym at) is)) hosts.each);
+    }
+
+none-databases : (hosted : List Hosted) → map (with_job None) (map database_of hosted) ≡ map database_of (map (running None) hosted)
+none-databases [] = refl
+none-databases (h ∷ hosted) = ap (λ (dbs : List Database). with_job None (database_of h) ∷ dbs) (none-databases hosted)
+
+none-running : (lines : RecordLines) (hosted : List Hosted) → AllByRecursion (IsHosted lines) hosted → AllByRecursion (IsHosted lines) (map (running None) hosted)
+none-running lines [] all = tt
+none-running lines (h ∷ hosted) all = (hosted-running lines None h all.0, none-running lines hosted all.1)
+
+dropped-history : (w : World) → (done w jobs_dropped).history ≡ w.history
+unfolding done
+dropped-history w = refl
+
+without-jobs : (w : World) → (done w jobs_dropped).databases ≡ map (with_job None) w.databases
+unfolding done
+without-jobs w = refl
+
+pub hosts-jobs_dropped : (w : World) (hosted : List Hosted) → Hosts w hosted → Hosts (done w jobs_dropped) (map (running None) hosted)
+hosts-jobs_dropped w hosted hosts = record {
+  same = without-jobs w ∙ ap (map (with_job None)) hosts.same ∙ none-databases hosted;
+  each = subst (λ (lines : RecordLines). AllByRecursion (IsHosted lines) (map (running None) hosted)) (sym (dropped-history w)) (none-running w.history hosted hosts.each);
+}
+
 -- ---- databases come and go
 
 dropped-databases : (w : World) (name : List ℕ) → (done w (dropped name)).databases ≡ without_database w.databases name
@@ -230,6 +279,10 @@ same-hosts w v hosted history databases hosts = record { same = databases ∙ ho
 pub hosts-turned : (w : World) (name : Option (List ℕ)) (hosted : List Hosted) → Hosts w hosted → Hosts (done w (turned name)) hosted
 unfolding done
 hosts-turned w name hosted hosts = same-hosts w (done w (turned name)) hosted refl refl hosts
+
+pub hosts-readied : (w : World) (starts : Bool) (hosted : List Hosted) → Hosts w hosted → Hosts (done w (readied starts)) hosted
+unfolding done
+hosts-readied w starts hosted hosts = same-hosts w (done w (readied starts)) hosted refl refl hosts
 
 pub hosts-seated : (w : World) (session : ℕ) (hosted : List Hosted) → Hosts w hosted → Hosts (done w (seated session)) hosted
 unfolding done

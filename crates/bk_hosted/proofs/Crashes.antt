@@ -153,8 +153,8 @@ module _ (before cut : World) (h f : Hosted) (is : IsHosted cut.history h) (fron
   settling-is : database_of (settling f) ≡ record (database_of h) { job = None; transactions = []; end = end_behind left_log }
   settling-is =
       ap (λ (g : Hosted). database_of (settling g)) front.same
-      ∙ ap (λ k. record (database_of h) { kept = k; checkpoint = checkpoint_of h.points left_log; transactions = []; end = end_behind left_log }) (kept-same h.points left_log h.records has-same)
-      ∙ ap (λ c. record (database_of h) { checkpoint = c; transactions = []; end = end_behind left_log }) (checkpoint-same h.points left_log h.records has-same)
+      ∙ ap (λ k. record (database_of h) { kept = k; checkpoint = checkpoint_of h.points left_log; job = None; transactions = []; end = end_behind left_log }) (kept-same h.points left_log h.records has-same)
+      ∙ ap (λ c. record (database_of h) { checkpoint = c; job = None; transactions = []; end = end_behind left_log }) (checkpoint-same h.points left_log h.records has-same)
 
   -- nothing is lost of one that is being restored
   records-same : is_up h ≡ false → h.records ≡ f.records

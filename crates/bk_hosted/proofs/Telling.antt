@@ -1,7 +1,9 @@
 -- Of what a database says in one act of a statement, only the last record tells an entry.
-use Rattle.std.proofs.Common.{◌≡◌, ◌<◌, ℕ, zero, suc, List, [], ◌∷◌, length, take, Option, None, Some, refl, sym, subst, arith}
+use Rattle.std.proofs.Common.{◌≡◌, ◌<◌, inl, inr, ℕ, zero, suc, Bool, true, false, List, [], ◌∷◌, length, take, Option, None, Some, refl, sym, subst, arith}
 use Rattle.std.specs.Prelude.{reverse}
 use Rattle.std.specs.List.{AllByRecursion}
+use Rattle.bk_ids.specs.declared.guid.Guid.{Guid}
+use Rattle.bk_items.specs.declared.options.BackupOptions.{BackupOptions}
 use Rattle.bk_ids.specs.declared.record.Place.{Place}
 use Rattle.bk_items.specs.declared.item.ScriptEntry.{ScriptEntry}
 use Rattle.bk_items.specs.declared.item.ScriptItem.{ScriptItem}
@@ -10,14 +12,14 @@ use Rattle.bk_items.specs.declared.rows.RowStatement.{RowStatement}
 use Rattle.bk_items.specs.declared.rows.RowStatement.TheVariants.{Insert, Update, Delete, Select, BulkInsert}
 use Rattle.bk_lemmas.specs.Lists.{all_joined}
 use Rattle.bk_ids.specs.declared.record.Mark.{Mark}
-use Rattle.bk_machine.specs.Acts.{Act, done, said_time}
+use Rattle.bk_machine.specs.Acts.{Act, done, drawn, said_time}
 use Rattle.bk_machine.specs.CheckLaws.{comes-to}
-use Rattle.bk_machine.specs.Closing.{AreClosing}
+use Rattle.bk_machine.specs.Closing.{AreClosing, Closes}
 use Rattle.bk_machine.specs.Crash.{AreQuiet}
 use Rattle.bk_machine.specs.Machine.{ItemMay, May}
 use Rattle.bk_machine.specs.Outcome.{Outcome, refused}
-use Rattle.bk_machine.specs.World.{Held, World, log_of}
-use Rattle.bk_machine.specs.statements.Backup.{DoesBackup, check_backup, draws_set}
+use Rattle.bk_machine.specs.World.{Database, Held, World, log_of, session_numbered}
+use Rattle.bk_machine.specs.statements.Backup.{DoesBackup, check_backup, does_backup, draws_set}
 use Rattle.bk_machine.specs.statements.Begin.{DoesBegin, check_begin, mark_of}
 use Rattle.bk_machine.specs.statements.Checkpoint.{DoesCheckpoint, check_checkpoint}
 use Rattle.bk_machine.specs.statements.Catalog.{DoesSelectCatalog, check_catalog}
@@ -26,6 +28,7 @@ use Rattle.bk_machine.specs.statements.CreateDatabase.{DoesCreateDatabase, check
 use Rattle.bk_machine.specs.statements.CreateTable.{DoesCreateTable, check_create_table}
 use Rattle.bk_machine.specs.statements.Delete.{DoesDelete, check_delete}
 use Rattle.bk_machine.specs.statements.DropDatabase.{DoesDropDatabase, check_drop_database}
+use Rattle.bk_machine.specs.statements.Job.{DoesStep, DoesWait, check_job}
 use Rattle.bk_machine.specs.statements.Insert.{DoesInsert, check_insert}
 use Rattle.bk_machine.specs.statements.Query.{DoesQuery, check_query}
 use Rattle.bk_machine.specs.statements.Restore.{DoesRestore, check_restore}
@@ -111,6 +114,11 @@ draws-last : (before : Option Reading) (path : List ℕ) → TellsLast (draws_se
 draws-last None path = tt
 draws-last (Some reading) path = tt
 
+-- a backup, or one that only starts
+backup-tells : (starts : Bool) (w : World) (path : List ℕ) (options : BackupOptions) (set : Guid) (time : ℕ) (db : Database) → Tell (does_backup starts w path options set time db)
+backup-tells true w path options set time db = (draws-last (medium_at w.media path) path, (one-last _, (tt, (tt, tt))))
+backup-tells false w path options set time db = (draws-last (medium_at w.media path) path, (one-last _, (one-last _, (tt, (tt, (tt, tt))))))
+
 -- the row of a commit tells nothing
 marks-tell : (name : List ℕ) (lsn time : ℕ) (mark : Option Mark) → AllByRecursion TellsLast (notes_mark name lsn time mark)
 marks-tell name lsn time None = tt
@@ -123,7 +131,7 @@ item-tells w line (Use name) now = comes-to Tell (check_use w name) DoesUse refu
 item-tells w line (CreateTable name group) now = comes-to Tell (check_create_table w line name group) (DoesCreateTable w name now) refusals-tell (λ found e o does. told _ o does (one-last _, tt))
 item-tells w line (Rows table statement) now = rows-tell w line table statement now
 item-tells w line (BackupDatabase name units disk options) now = comes-to Tell (check_backup w line name units disk options) (DoesBackup w disk options now) refusals-tell
-    (λ found e o does. told _ o does (draws-last (medium_at w.media disk) disk, (one-last _, (one-last _, (tt, (tt, (tt, tt)))))))
+    (λ found e o does. told _ o does (backup-tells (session_numbered w.sessions w.session).starts w disk options (drawn w w.counter) (said_time w found now) found))
 item-tells w line (RestoreDatabase name units disk options) now = comes-to Tell (check_restore w line name units disk options) (DoesRestore w name options now) refusals-tell
     (λ found e o does. told _ o does.4 (tt, (tt, (tt, (tt, tt)))))
 item-tells w line (BackupLog name disk options) now = λ outcome is. told _ outcome is tt
@@ -136,9 +144,9 @@ item-tells w line Checkpoint now = comes-to Tell (check_checkpoint w) (DoesCheck
 item-tells w line (SetRecovery name model) now = λ outcome is. told _ outcome is tt
 item-tells w line (SelectCatalog catalog) now = comes-to Tell (check_catalog w line catalog) DoesSelectCatalog refusals-tell (λ found e o does. told _ o does tt)
 item-tells w line (Session number) now = comes-to Tell (check_session line number) DoesSession refusals-tell (λ found e o does. told _ o does (tt, tt))
-item-tells w line Start now = λ outcome is. told _ outcome is tt
-item-tells w line (Step count) now = λ outcome is. told _ outcome is tt
-item-tells w line Wait now = λ outcome is. told _ outcome is tt
+item-tells w line Start now = λ outcome is. told _ outcome is (tt, tt)
+item-tells w line (Step count) now = comes-to Tell (check_job w) (DoesStep count) refusals-tell (λ found e o does. told _ o does (tt, tt))
+item-tells w line Wait now = comes-to Tell (check_job w) (DoesWait w now) refusals-tell (λ found e o does. told _ o does (tt, (one-last _, (tt, (tt, (tt, tt))))))
 item-tells w line (Syntax at) now = λ outcome is. told _ outcome is tt
 item-tells w line TooLong now = λ outcome is. told _ outcome is tt
 
@@ -150,4 +158,8 @@ statement-tells w s now outcome may = item-tells w s.line s.item now outcome may
 
 pub closing-tells : (w : World) (acts : List Act) → AreClosing w acts → AllByRecursion TellsLast acts
 closing-tells w [] closing = tt
-closing-tells w (act ∷ acts) (held, first, is, rest) = (subst TellsLast (sym is) (rolls-last w held), closing-tells (done w act) acts rest)
+closing-tells w (act ∷ acts) (closes, rest) = (by closes, closing-tells (done w act) acts rest)
+  where
+    by : Closes w act → TellsLast act
+    by (inl is) = subst TellsLast (sym is) tt
+    by (inr (held, first, is)) = subst TellsLast (sym is) (rolls-last w held)

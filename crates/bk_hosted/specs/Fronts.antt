@@ -39,9 +39,9 @@ abbrev pub settled_by : Bool → List Logged → List Logged
 settled_by true rs = settled rs
 settled_by false rs = rs
 
--- a database with its log so, in which nothing is open
+-- a database with its log so, of which no backup runs and in which nothing is open
 abbrev pub settling : Hosted → Hosted
-settling h = record h { records = settled_by (is_up h) h.records; transactions = [] }
+settling h = record h { records = settled_by (is_up h) h.records; job = None; transactions = [] }
 
 -- of what a database says in one act, only the last record may tell an entry: an act that is cut inside tells none
 abbrev pub TellsLast : Act → Type 0

@@ -1,10 +1,11 @@
--- The databases of a world as an instance hosts them: of each its description and points, which its store's note keeps, the records of its log, and what is open in it.
+-- The databases of a world as an instance hosts them: of each its description and points, which its store's note keeps, the records of its log, and, in memory alone, the backup that runs and what is open in it.
 -- SQL Server: "Database Files and Filegroups"; "Transaction Log Architecture and Management Guide", log truncation.
-use Rattle.std.specs.Prelude.{◌≡◌, ℕ, ◌==◌, ◌&&◌, ◌||◌, Bool, true, false, not, List, [], ◌∷◌, map, None, Some, if◌then◌else◌}
+use Rattle.std.specs.Prelude.{◌≡◌, ℕ, ◌==◌, ◌&&◌, ◌||◌, Bool, true, false, not, List, [], ◌∷◌, map, Option, None, Some, if◌then◌else◌}
 use Rattle.std.specs.List.{AllByRecursion, list_any}
 use Rattle.bk_ids.specs.Name.{same_name}
 use Rattle.bk_known.specs.declared.known.DatabaseSpec.{DatabaseSpec}
 use Rattle.bk_machine.specs.Acts.{Act, Recovery, common_base, creation_said, file_units, forked, is_simple, kept_after, online_files, online_units, recovered, restored, units_in}
+use Rattle.bk_machine.specs.declared.job.Job.{Job}
 use Rattle.bk_machine.specs.World.{World, Database, log_of}
 use Rattle.bk_machine.specs.statements.Restore.{base_of, is_online}
 use Rattle.bk_points.specs.declared.points.Points.{Points}
@@ -29,6 +30,7 @@ pub record Hosted : Type 0 where
   pub spec : DatabaseSpec
   pub points : Points
   pub records : List Logged
+  pub job : Option Job
   pub transactions : List Open
 
 -- a deed is a checkpoint's
@@ -52,7 +54,7 @@ checkpoint_of points rs = if has_checkpoint points.next_checkpoint rs then point
 abbrev pub kept_of : Points → List Logged → ℕ
 kept_of points rs = if has_checkpoint points.next_checkpoint rs then points.next_kept else points.kept
 
--- the database of a world that it is: it goes on behind its log, and no job runs in it
+-- the database of a world that it is: it goes on behind its log
 abbrev pub database_of : Hosted → Database
 database_of h = record {
   name = h.spec.name;
@@ -71,7 +73,7 @@ database_of h = record {
   base = h.points.base;
   status = h.points.status;
   units = h.points.units;
-  job = None;
+  job = h.job;
   transactions = h.transactions;
 }
 
@@ -97,6 +99,10 @@ names name h = same_name h.spec.name name
 -- it says this at its end, and then these transactions are open
 abbrev pub saying : List Said → List Open → Hosted → Hosted
 saying said transactions h = record h { records = more h.records (end_behind h.records) said; transactions = transactions }
+
+-- this backup of it runs, or none
+abbrev pub running : Option Job → Hosted → Hosted
+running job h = record h { job = job }
 
 -- what the live log holds behind a checkpoint at its end
 abbrev pub kept_next : Hosted → ℕ
@@ -148,7 +154,7 @@ abbrev pub created_spec : Creation → DatabaseSpec
 created_spec c = record { name = c.name; family = c.family; path = (record { guid = c.branch; start = 1 }) ∷ []; storage = c.storage }
 
 abbrev pub creating : Creation → Hosted
-creating c = record { spec = created_spec c; points = first_points c.storage.files; records = numbered 1 (creation_said c); transactions = [] }
+creating c = record { spec = created_spec c; points = first_points c.storage.files; records = numbered 1 (creation_said c); job = None; transactions = [] }
 
 -- ---- a restore
 
@@ -185,6 +191,7 @@ parking rs name header = record {
   spec = record { name = name; family = header.family; path = header.path; storage = set_storage header };
   points = parked_points header;
   records = rs;
+  job = None;
   transactions = [];
 }
 
@@ -213,5 +220,6 @@ restoring rs name header r = record {
   spec = record { name = name; family = header.family; path = forked header.path r.at r.branch; storage = set_storage header };
   points = online_points header rs;
   records = more rs r.at r.said;
+  job = None;
   transactions = [];
 }

@@ -1,8 +1,9 @@
-ghost use Rattle.std.specs.Prelude.{◌≡◌, ℕ, true, List, [], ◌∷◌, ◌++◌, Option, None, Some, remove, set, slice_get};
+ghost use Rattle.std.specs.Prelude.{◌≡◌, ℕ, Bool, true, List, [], ◌∷◌, ◌++◌, Option, None, Some, map, remove, set, slice_get};
 ghost use Rattle.std.specs.List.{position};
-ghost use Rattle.bk_hosted.specs.Hosted.{Hosted, Hosts, SaysNoCheckpoint, basing, bringing_up, creating, folding, is_up, names, noting, parking, restoring, saying, set_log};
-ghost use Rattle.bk_machine.specs.Acts.{Recovery, based, created, done, done_all, dropped, logged, medium_made, noted, replaced, seated, set_drawn, set_sealed, turned};
+ghost use Rattle.bk_hosted.specs.Hosted.{Hosted, Hosts, SaysNoCheckpoint, basing, bringing_up, creating, folding, is_up, names, noting, parking, restoring, running, saying, set_log};
+ghost use Rattle.bk_machine.specs.Acts.{Recovery, based, created, done, done_all, dropped, job_set, jobs_dropped, logged, medium_made, noted, readied, replaced, seated, set_drawn, set_sealed, turned};
 ghost use Rattle.bk_machine.specs.declared.history_row.HistoryRow.{HistoryRow};
+ghost use Rattle.bk_machine.specs.declared.job.Job.{Job};
 ghost use Rattle.bk_machine.specs.MayDo.{MayDo, MayDoAll};
 ghost use Rattle.bk_machine.specs.Sound.{IsSound, IsSoundSet};
 ghost use Rattle.bk_machine.specs.World.{World, ended, opened};
@@ -19,7 +20,7 @@ use bk_machine::{
 };
 
 /// An act of a sound world does to its hosted databases what it does to the world: what one says comes behind its records, also where that is a front of what it may say, a checkpoint once it is noted as the next one. That by itself changes
-/// nothing, nor does taking in what was noted; one is based on a set; one comes or goes. Acts on sessions, media and msdb leave them, and so do the beginning and the end of a run.
+/// nothing, nor does taking in what was noted; one is based on a set; a backup of one runs or doesn't any more; one comes or goes. Acts on sessions, media and msdb leave them, and so do the beginning and the end of a run.
 pub fn hosted_databases_follow_acts()
     ensures said { (w : World) (name : List ℕ) (said : List Said) (transactions : List Open) (hosted : List Hosted) (i : ℕ) (h : Hosted) → IsSound w → Hosts w hosted
         → position (names name) hosted ≡ Some i → slice_get hosted i ≡ Some h → MayDo w (logged name said transactions) → SaysNoCheckpoint said
@@ -41,6 +42,10 @@ pub fn hosted_databases_follow_acts()
     ensures created { (w : World) (c : Creation) (hosted : List Hosted) → IsSound w → MayDo w (created c) → Hosts w hosted → Hosts (done w (created c)) (hosted ++ creating c ∷ []) }
     ensures dropped { (w : World) (name : List ℕ) (hosted : List Hosted) (i : ℕ) (h : Hosted) → IsSound w → Hosts w hosted
         → position (names name) hosted ≡ Some i → slice_get hosted i ≡ Some h → Hosts (done w (dropped name)) (remove hosted i) }
+    ensures readied { (w : World) (starts : Bool) (hosted : List Hosted) → Hosts w hosted → Hosts (done w (readied starts)) hosted }
+    ensures job_set { (w : World) (name : List ℕ) (job : Option Job) (hosted : List Hosted) (i : ℕ) (h : Hosted) → Hosts w hosted
+        → position (names name) hosted ≡ Some i → slice_get hosted i ≡ Some h → Hosts (done w (job_set name job)) (set hosted i (running job h)) }
+    ensures jobs_dropped { (w : World) (hosted : List Hosted) → Hosts w hosted → Hosts (done w jobs_dropped) (map (running None) hosted) }
     ensures turned { (w : World) (name : Option (List ℕ)) (hosted : List Hosted) → Hosts w hosted → Hosts (done w (turned name)) hosted }
     ensures seated { (w : World) (session : ℕ) (hosted : List Hosted) → Hosts w hosted → Hosts (done w (seated session)) hosted }
     ensures medium_made { (w : World) (path : List ℕ) (hosted : List Hosted) → Hosts w hosted → Hosts (done w (medium_made path)) hosted }

@@ -1,4 +1,4 @@
-use Rattle.bk_hosted.proofs.Acts.{hosts-based, hosts-checkpoint, hosts-created, hosts-drawn, hosts-dropped, hosts-ended, hosts-folded, hosts-medium, hosts-noted, hosts-opened, hosts-row, hosts-said, hosts-sealed, hosts-seated, hosts-turned}
+use Rattle.bk_hosted.proofs.Acts.{hosts-based, hosts-checkpoint, hosts-created, hosts-drawn, hosts-dropped, hosts-ended, hosts-folded, hosts-job_set, hosts-jobs_dropped, hosts-medium, hosts-noted, hosts-opened, hosts-readied, hosts-row, hosts-said, hosts-sealed, hosts-seated, hosts-turned}
 use Rattle.bk_hosted.proofs.Sayings.{hosts-saying, says-grows}
 use Rattle.bk_hosted.proofs.act_laws.hosted_databases_follow_acts.Goals as goal
 
@@ -28,6 +28,15 @@ returns-clause-created c = hosts-created c.acts_keep_what_is_read.ensures.act
 
 pub returns-clause-dropped : goal.returns-clause-dropped
 returns-clause-dropped c = hosts-dropped c.acts_keep_what_is_read.ensures.act
+
+pub returns-clause-readied : goal.returns-clause-readied
+returns-clause-readied c = hosts-readied
+
+pub returns-clause-job_set : goal.returns-clause-job_set
+returns-clause-job_set c = hosts-job_set
+
+pub returns-clause-jobs_dropped : goal.returns-clause-jobs_dropped
+returns-clause-jobs_dropped c = hosts-jobs_dropped
 
 pub returns-clause-turned : goal.returns-clause-turned
 returns-clause-turned c = hosts-turned
