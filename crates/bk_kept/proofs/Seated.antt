@@ -7,34 +7,56 @@ use Rattle.std.proofs.lemmas.Bool.{lt-ltb}
 use Rattle.std.proofs.lemmas.Bool.Decides.{nat_tests}
 use Rattle.std.proofs.lemmas.List.Quantifiers.{position-Some}
 use Rattle.bk_machine.specs.Acts.{turned, seated, done}
-use Rattle.bk_machine.specs.World.{World, current_name, session_numbered, with_session}
+use Rattle.bk_machine.specs.World.{Session, World, current_name, session_numbered, with_session}
 use Rattle.bk_kept.specs.declared.kept.Kept.{Kept}
 use Rattle.bk_kept.specs.declared.kept.Session.{Session as KeptSession}
 use Rattle.bk_kept.specs.Keeps.{Keeps, Sees, session_of}
-use Rattle.bk_kept.specs.SessionLaws.{named, set-so}
 
 -- the test for a number
 abbrev pub seats : ℕ → KeptSession → Bool
 seats n s = s.number == n
 
-with-here : (n : ℕ) (ss : List KeptSession) (i : ℕ) (x : KeptSession) (name : Option (List ℕ)) → i < length ss → seats n (get_or ss i x) ≡ true
-    → ((k : ℕ) → k < i → seats n (get_or ss k x) ≡ false) → map session_of (set ss i (record (get_or ss i x) { current = name })) ≡ with_session (map session_of ss) (named n name)
-with-here n [] i x name lt here before = absurd (omega (arith, lt))
-with-here n (s ∷ ss) zero x name lt here before =
-    let own : (s.number == n) ≡ true = here in
-    let same : s.number ≡ n = grind (arith, nat_tests, own) in
-    ap (λ k. named k name ∷ map session_of ss) same ∙ sym (ap (λ t. cond t (named n name ∷ map session_of ss) (session_of s ∷ with_session (map session_of ss) (named n name))) own)
-with-here n (s ∷ ss) (suc i) x name lt here before =
-    let other : (s.number == n) ≡ false = before 0 (omega arith) in
-    let rest : map session_of (set ss i (record (get_or ss i x) { current = name })) ≡ with_session (map session_of ss) (named n name) =
-    with-here n ss i x name (omega (arith, lt)) here (λ k h. before (suc k) (omega (arith, h))) in
-    rw (other, ← rest) refl
+-- a session's number is the one that it is asked for by
+numbered-so : (ss : List Session) (n : ℕ) → (session_numbered ss n).number ≡ n
+numbered-so [] n = refl
+numbered-so (s ∷ ss) n = by (s.number == n) refl (numbered-so ss n)
+  where
+    by : (t : Bool) → (s.number == n) ≡ t → (session_numbered ss n).number ≡ n → (cond t s (session_numbered ss n)).number ≡ n
+    by true is later = grind (arith, nat_tests, is)
+    by false isnt later = later
 
-pub with-at : (n : ℕ) (ss : List KeptSession) (i : ℕ) (x : KeptSession) (name : Option (List ℕ)) → position (seats n) ss ≡ Some i → x ≡ get_or ss i x
-    → map session_of (set ss i (record x { current = name })) ≡ with_session (map session_of ss) (named n name)
-with-at n ss i x name is at =
-    let found = position-Some (seats n) ss i x is in
-    ap (λ (s : KeptSession). map session_of (set ss i (record s { current = name }))) at ∙ with-here n ss i x name found.0 found.1 found.2
+-- what there is to say of a session changes, but not its number
+module _ (n : ℕ) (change : Session → Session) (stays : (s : Session) → (change s).number ≡ s.number) where
+  -- behind one of another number
+  behind : (s : KeptSession) (ss : List KeptSession) → (s.number == n) ≡ false
+      → with_session (map session_of (s ∷ ss)) (change (session_numbered (map session_of (s ∷ ss)) n)) ≡ session_of s ∷ with_session (map session_of ss) (change (session_numbered (map session_of ss) n))
+  behind s ss other =
+      let put : Session = change (session_numbered (map session_of ss) n) in
+      let called : put.number ≡ n = stays (session_numbered (map session_of ss) n) ∙ numbered-so (map session_of ss) n in
+      let test : (s.number == put.number) ≡ false = ap (λ k. s.number == k) called ∙ other in
+      ap (λ t. with_session (session_of s ∷ map session_of ss) (change (cond t (session_of s) (session_numbered (map session_of ss) n)))) other
+      ∙ ap (λ t. cond t (put ∷ map session_of ss) (session_of s ∷ with_session (map session_of ss) put)) test
+
+  -- and at its place, where what is kept of it changes in the same way
+  with-here : (new : KeptSession → KeptSession) → ((s : KeptSession) → session_of (new s) ≡ change (session_of s)) → (ss : List KeptSession) (i : ℕ) (x : KeptSession) → i < length ss → seats n (get_or ss i x) ≡ true
+      → ((k : ℕ) → k < i → seats n (get_or ss k x) ≡ false) → map session_of (set ss i (new (get_or ss i x))) ≡ with_session (map session_of ss) (change (session_numbered (map session_of ss) n))
+  with-here new is [] i x lt here before = absurd (omega (arith, lt))
+  with-here new is (s ∷ ss) zero x lt here before =
+      let own : (s.number == n) ≡ true = here in
+      let put : Session = change (session_of s) in
+      let called : put.number ≡ s.number = stays (session_of s) in
+      let test : (s.number == put.number) ≡ true = grind (arith, nat_tests, called) in
+      ap (λ (v : Session). v ∷ map session_of ss) (is s)
+      ∙ sym (ap (λ t. cond t (put ∷ map session_of ss) (session_of s ∷ with_session (map session_of ss) put)) test)
+      ∙ sym (ap (λ t. with_session (session_of s ∷ map session_of ss) (change (cond t (session_of s) (session_numbered (map session_of ss) n)))) own)
+  with-here new is (s ∷ ss) (suc i) x lt here before =
+      ap (λ (vs : List Session). session_of s ∷ vs) (with-here new is ss i x (omega (arith, lt)) here (λ k h. before (suc k) (omega (arith, h)))) ∙ sym (behind s ss (before 0 (omega arith)))
+
+  pub with-at : (new : KeptSession → KeptSession) → ((s : KeptSession) → session_of (new s) ≡ change (session_of s)) → (ss : List KeptSession) (i : ℕ) (x : KeptSession) → position (seats n) ss ≡ Some i → x ≡ get_or ss i x
+      → map session_of (set ss i (new x)) ≡ with_session (map session_of ss) (change (session_numbered (map session_of ss) n))
+  with-at new is ss i x place at =
+      let found = position-Some (seats n) ss i x place in
+      ap (λ (s : KeptSession). map session_of (set ss i (new s))) at ∙ with-here new is ss i x found.0 found.1 found.2
 
 none-rest : (p : KeptSession → Bool) (s : KeptSession) (ss : List KeptSession) → p s ≡ false → position p (s ∷ ss) ≡ None → position p ss ≡ None
 none-rest p s ss other none = later (ltb (position_or_len p ss) (length ss)) refl (rw other at none)
@@ -57,17 +79,21 @@ none-here p s ss none = by (p s) refl
         let found : Some 0 ≡ None = sym (ap (λ t. cond t (Some 0) None) first) ∙ (rw e at none) in
         absurd (cc (found))
 
-pub with-none : (n : ℕ) (ss : List KeptSession) (new : KeptSession) → new.number ≡ n → position (seats n) ss ≡ None → map session_of (ss ++ new ∷ []) ≡ with_session (map session_of ss) (named n new.current)
-with-none n [] new own none = ap (λ k. named k new.current ∷ []) own
-with-none n (s ∷ ss) new own none =
+-- a session of which there was nothing to say
+abbrev pub first_said : ℕ → Session
+first_said n = record { number = n; current = None; starts = false }
+
+pub with-none : (n : ℕ) (change : Session → Session) (stays : (s : Session) → (change s).number ≡ s.number) (ss : List KeptSession) (new : KeptSession) → session_of new ≡ change (first_said n) → position (seats n) ss ≡ None
+    → map session_of (ss ++ new ∷ []) ≡ with_session (map session_of ss) (change (session_numbered (map session_of ss) n))
+with-none n change stays [] new is none = ap (λ (v : Session). v ∷ []) is
+with-none n change stays (s ∷ ss) new is none =
     let other : (s.number == n) ≡ false = none-here (seats n) s ss none in
-    let rest : map session_of (ss ++ new ∷ []) ≡ with_session (map session_of ss) (named n new.current) = with-none n ss new own (none-rest (seats n) s ss other none) in
-    rw (other, ← rest) refl
+    ap (λ (vs : List Session). session_of s ∷ vs) (with-none n change stays ss new is (none-rest (seats n) s ss other none)) ∙ sym (behind n change stays s ss other)
 
 -- what is kept behind an act on sessions
 
 pub keeps-turned : (w : World) (k new : Kept) (name : Option (List ℕ)) → Keeps w k → new.number ≡ k.number → new.counter ≡ k.counter → new.session ≡ k.session → new.databases ≡ k.databases
-    → map session_of new.sessions.items ≡ with_session (map session_of k.sessions.items) (named k.session name) → Keeps (done w (turned name)) new
+    → map session_of new.sessions.items ≡ with_session (map session_of k.sessions.items) (record (session_numbered (map session_of k.sessions.items) k.session) { current = name }) → Keeps (done w (turned name)) new
 unfolding done
 keeps-turned w k new name keeps number counter session databases sessions = record {
   number = keeps.number ∙ sym number;
@@ -76,7 +102,6 @@ keeps-turned w k new name keeps number counter session databases sessions = reco
   sessions =
       ap (λ ss. with_session ss (record (session_numbered ss w.session) { current = name })) keeps.sessions
       ∙ ap (λ n. with_session (map session_of k.sessions.items) (record (session_numbered (map session_of k.sessions.items) n) { current = name })) keeps.session
-      ∙ ap (with_session (map session_of k.sessions.items)) (set-so k.sessions.items k.session name)
       ∙ sym sessions;
   databases = rw databases keeps.databases;
   kept = rw databases keeps.kept;
@@ -101,7 +126,7 @@ pub keeps-seated : (w : World) (k : Kept) (session : ℕ) → Keeps w k → Keep
 unfolding done
 keeps-seated w k session keeps = record { number = keeps.number; counter = keeps.counter; session = refl; sessions = keeps.sessions; databases = keeps.databases; kept = keeps.kept }
 
--- the current name
+-- the current session
 
 -- the name of a session that may be there
 abbrev pub name_in : Option KeptSession → Option (List ℕ)
@@ -122,3 +147,23 @@ pub name-is : (w : World) (k : Kept) (found : Option (Bor KeptSession)) → opti
 name-is w k found is sees =
     ap name_in is ∙ first-seat k.sessions.items k.session
     ∙ sym (ap (λ ss. (session_numbered ss w.session).current) sees.sessions ∙ ap (λ n. (session_numbered (map session_of k.sessions.items) n).current) sees.session)
+
+-- whether the next backup of a session that may be there only starts
+abbrev pub starts_in : Option KeptSession → Bool
+starts_in None = false
+starts_in (Some s) = s.starts
+
+first-starts : (ss : List KeptSession) (n : ℕ) → starts_in (find (seats n) ss) ≡ (session_numbered (map session_of ss) n).starts
+first-starts [] n = refl
+first-starts (s ∷ ss) n = by (s.number == n) (first-starts ss n)
+  where
+    by : (t : Bool) → starts_in (find (seats n) ss) ≡ (session_numbered (map session_of ss) n).starts
+        → starts_in (cond t (Some s) (find (seats n) ss)) ≡ (cond t (session_of s) (session_numbered (map session_of ss) n)).starts
+    by true later = refl
+    by false later = later
+
+pub starts-is : (w : World) (k : Kept) (found : Option (Bor KeptSession)) → option_map (λ s. s.now) found ≡ find (seats k.session) k.sessions.items → Sees w k
+    → starts_in (option_map (λ s. s.now) found) ≡ (session_numbered w.sessions w.session).starts
+starts-is w k found is sees =
+    ap starts_in is ∙ first-starts k.sessions.items k.session
+    ∙ sym (ap (λ ss. (session_numbered ss w.session).starts) sees.sessions ∙ ap (λ n. (session_numbered (map session_of k.sessions.items) n).starts) sees.session)

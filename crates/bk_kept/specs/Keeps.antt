@@ -1,5 +1,5 @@
 -- Which worlds the databases that are kept stand for, and those that are seen of them.
-use Rattle.std.specs.Prelude.{◌≡◌, false, true, List, map, None}
+use Rattle.std.specs.Prelude.{◌≡◌, true, List, map}
 use Rattle.std.specs.List.{AllByRecursion}
 use Rattle.bk_machine.specs.World.{World, Database, Session}
 use Rattle.bk_machine.specs.statements.Restore.{is_online}
@@ -9,7 +9,7 @@ use Rattle.bk_kept.specs.declared.kept.Database.{Database as KeptDatabase}
 use Rattle.bk_kept.specs.declared.kept.Kept.{Kept}
 use Rattle.bk_kept.specs.declared.kept.Session.{Session as KeptSession}
 
--- the database of the world that one in memory is: no job runs in it
+-- the database of the world that one in memory is
 abbrev pub database_of : KeptDatabase → Database
 database_of d = record {
   name = d.name;
@@ -28,13 +28,13 @@ database_of d = record {
   base = d.base;
   status = d.status;
   units = d.units;
-  job = None;
+  job = d.job;
   transactions = d.transactions;
 }
 
--- the session of the world that one in memory is: its backups don't only start
+-- the session of the world that one in memory is
 abbrev pub session_of : KeptSession → Session
-session_of s = record { number = s.number; current = s.current; starts = false }
+session_of s = record { number = s.number; current = s.current; starts = s.starts }
 
 -- what is kept of a database's log is what the log shows
 abbrev pub ShowsLog : RecordLines → KeptDatabase → Type 0

@@ -6,6 +6,6 @@ pub mod Stored
 pub mod StoredLaws
 pub mod SetLaws
 pub mod BuiltLaws
-pub mod SessionLaws
+pub mod Jobs
 pub mod Views
 pub mod ViewsLaws

@@ -6,6 +6,7 @@ ghost use Rattle.std.specs.Option.{option_map};
 ghost use Rattle.bk_ids.specs.Name.{same_name};
 
 use crate::views::{DatabaseView, InstanceView};
+use bk_machine::Job;
 
 // The first database of a name, in any case of ASCII letters.
 fn first_named<'a>(databases: &'a [DatabaseView<'a>], name: &str) -> Option<&'a DatabaseView<'a>>
@@ -20,6 +21,7 @@ impl<'a> InstanceView<'a> {
     ghost use Rattle.std.specs.Prelude.{◌≡◌, IfSome};
     ghost use Rattle.std.specs.Option.{option_map};
     ghost use Rattle.bk_machine.specs.World.{World, database_named, current_database};
+    ghost use Rattle.bk_machine.specs.Writes.{current_job};
     ghost use Rattle.bk_kept.specs.Keeps.{IsSeenOf, Sees, database_of};
 
     /// The database of this name, in any case of ASCII letters.
@@ -37,5 +39,13 @@ impl<'a> InstanceView<'a> {
     {
         let name = self.current()?;
         self.named(name.as_str())
+    }
+
+    /// The backup of the current session's current database, if one runs.
+    pub fn job(&'a self) -> Option<&'a Job>
+        ensures { (w : World) → Sees w self.now → option_map (λ job. job.now) result ≡ current_job w }
+    {
+        let database = self.current_database()?;
+        database.job.as_ref()
     }
 }

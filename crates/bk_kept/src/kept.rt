@@ -1,6 +1,7 @@
 //! What an instance keeps in memory.
 
 use bk_ids::{Guid, Lsn, Name, Path, Sequence, Text};
+use bk_machine::Job;
 use bk_shown::Shown;
 use bk_world::{Base, FileSpec, Open, Status, Unit};
 
@@ -30,6 +31,8 @@ pub struct Database {
     pub base: Option<Base>,
     pub status: Status,
     pub units: Sequence<Unit>,
+    /// The backup of it that runs beside the sessions.
+    pub job: Option<Job>,
     /// What is open in it, in the order in which it began.
     pub transactions: Sequence<Open>,
     /// What its log shows, up to its end.
@@ -43,6 +46,8 @@ pub struct Session {
     pub number: u8,
     /// The name of its current database, as it was asked for.
     pub current: Option<Text>,
+    /// Whether its next backup only starts.
+    pub starts: bool,
 }
 
 /// What an instance keeps in memory.
@@ -54,7 +59,7 @@ pub struct Kept {
     pub counter: u64,
     /// The current session, from 1.
     pub session: u8,
-    /// The sessions in which a database was named, or none is any more.
+    /// The sessions in which a database was named, or none is any more, or of whose next backup it was said whether it only starts.
     pub sessions: Vec<Session>,
     /// Its databases, in the order in which they were made.
     pub databases: Vec<Database>,

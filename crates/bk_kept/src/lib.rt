@@ -14,7 +14,7 @@ mod views;
 pub use copying::{copy_file, copy_groups};
 pub use kept::{Database, Kept, Session};
 pub use numbers::{leave_numbers, used_up};
-pub use sessions::set_current;
+pub use sessions::{set_current, set_starts};
 pub use telling::is_simple;
 pub use transactions::{copy_transactions, least_open};
 pub use views::{DatabaseView, InstanceView};

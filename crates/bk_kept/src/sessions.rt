@@ -1,9 +1,9 @@
 //! Sessions.
 
-ghost use Rattle.std.specs.Prelude.{◌≡◌, ◌==◌, ◌<◌, false, length, map, IfSome, OnOk, OnErr};
+ghost use Rattle.std.specs.Prelude.{◌≡◌, ◌==◌, ◌<◌, length, map, IfSome, OnOk, OnErr};
 ghost use Rattle.std.specs.List.{find, position};
 ghost use Rattle.std.specs.Option.{option_map};
-ghost use Rattle.bk_machine.specs.World.{with_session};
+ghost use Rattle.bk_machine.specs.World.{session_numbered as numbered, with_session};
 ghost use Rattle.bk_kept.specs.Keeps.{session_of};
 
 use crate::kept::{Kept, Session};
@@ -32,7 +32,7 @@ pub fn set_current(
     number: u8,
     name: Option<Text>,
 ) -> Result<(), AllocError>
-    ensures ok { OnOk result (map session_of sessions.new.items ≡ with_session (map session_of sessions.old.items) (record { number = number; current = name; starts = false })) }
+    ensures ok { OnOk result (map session_of sessions.new.items ≡ with_session (map session_of sessions.old.items) (record (numbered (map session_of sessions.old.items) number) { current = name })) }
     ensures err { OnErr result (sessions.new.items ≡ sessions.old.items) }
 {
     match seat_of(sessions, number) {
@@ -40,6 +40,23 @@ pub fn set_current(
         None => sessions.push(Session {
             number,
             current: name,
+            starts: false,
+        })?,
+    }
+    Ok(())
+}
+
+/// Sets whether a session's next backup only starts. `AllocError` leaves the sessions as they were.
+pub fn set_starts(sessions: &mut Vec<Session>, number: u8, starts: bool) -> Result<(), AllocError>
+    ensures ok { OnOk result (map session_of sessions.new.items ≡ with_session (map session_of sessions.old.items) (record (numbered (map session_of sessions.old.items) number) { starts = starts })) }
+    ensures err { OnErr result (sessions.new.items ≡ sessions.old.items) }
+{
+    match seat_of(sessions, number) {
+        Some(at) => sessions[at].starts = starts,
+        None => sessions.push(Session {
+            number,
+            current: None,
+            starts,
         })?,
     }
     Ok(())
@@ -77,7 +94,7 @@ impl Kept {
 impl<'a> InstanceView<'a> {
     ghost use Rattle.std.specs.Prelude.{◌≡◌};
     ghost use Rattle.std.specs.Option.{option_map};
-    ghost use Rattle.bk_machine.specs.World.{World, current_name};
+    ghost use Rattle.bk_machine.specs.World.{World, current_name, session_numbered as numbered};
     ghost use Rattle.bk_kept.specs.Keeps.{Sees};
 
     /// The name of the current session's current database, as it was asked for.
@@ -86,5 +103,15 @@ impl<'a> InstanceView<'a> {
     {
         let session = session_numbered(self.sessions, self.session)?;
         session.current.as_ref()
+    }
+
+    /// Whether the current session's next backup only starts.
+    pub fn starts(&self) -> bool
+        ensures { (w : World) → Sees w self.now → result ≡ (numbered w.sessions w.session).starts }
+    {
+        match session_numbered(self.sessions, self.session) {
+            Some(session) => session.starts,
+            None => false,
+        }
     }
 }

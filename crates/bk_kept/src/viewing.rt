@@ -29,6 +29,7 @@ impl Database {
             base: self.base,
             status: &self.status,
             units: &self.units,
+            job: &self.job,
             transactions: &self.transactions,
             shown: &self.shown,
         }

@@ -5,6 +5,7 @@ ghost use Rattle.bk_kept.specs.declared.kept.Kept.{Kept};
 
 use crate::kept::Session;
 use bk_ids::{Guid, Lsn, Name, Path, Sequence, Text};
+use bk_machine::Job;
 use bk_shown::Shown;
 use bk_world::{Base, FileSpec, Open, Status, Unit};
 use std::marker::Model;
@@ -35,6 +36,8 @@ pub struct DatabaseView<'a> {
     pub base: Option<Base>,
     pub status: &'a Status,
     pub units: &'a Sequence<Unit>,
+    /// The backup of it that runs beside the sessions.
+    pub job: &'a Option<Job>,
     /// What is open in it, in the order in which it began.
     pub transactions: &'a Sequence<Open>,
     /// What its log shows, up to its end.
@@ -60,6 +63,7 @@ impl<'a> Model for DatabaseView<'a> {
       base = d.base;
       status = d.status.now;
       units = d.units.now;
+      job = d.job.now;
       transactions = d.transactions.now;
       shown = d.shown.now;
     } };
@@ -74,7 +78,7 @@ pub struct InstanceView<'a> {
     pub counter: u64,
     /// The current session, from 1.
     pub session: u8,
-    /// The sessions in which a database was named, or none is any more.
+    /// The sessions in which a database was named, or none is any more, or of whose next backup it was said whether it only starts.
     pub sessions: &'a Vec<Session>,
     /// Its databases, in the order in which they were made.
     pub databases: Vec<DatabaseView<'a>>,
