@@ -1,2 +1,3 @@
 pub mod InUse
 pub mod Undone
+pub mod Written

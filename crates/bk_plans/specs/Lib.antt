@@ -5,5 +5,6 @@ pub mod Planning
 pub mod Planned
 pub mod PlanLaws
 pub mod SaidLaws
+pub mod JobLaws
 pub mod Undoing
 pub mod UndoingLaws

@@ -1,10 +1,10 @@
 -- Plans of statements that are refused, that only answer, that turn to a database or a session, or that store one act.
-use Rattle.std.proofs.Common.{◌≡◌, ℕ, List, [], ◌∷◌, Option, Result, Ok, Err, refl, sym, subst}
+use Rattle.std.proofs.Common.{◌≡◌, ℕ, Bool, List, [], ◌∷◌, Option, Result, Ok, Err, refl, sym, ap, subst}
 use Rattle.std.specs.Prelude.{IfOk}
 use Rattle.bk_acts.specs.declared.act.StoredAct.{StoredAct}
 use Rattle.bk_acts.specs.Meaning.{Means}
 use Rattle.bk_items.specs.declared.item.ScriptEntry.{ScriptEntry}
-use Rattle.bk_machine.specs.Acts.{Act, seated, turned}
+use Rattle.bk_machine.specs.Acts.{Act, readied, seated, turned}
 use Rattle.bk_machine.specs.Checks.{Checked}
 use Rattle.bk_machine.specs.Machine.{May}
 use Rattle.bk_machine.specs.MayDo.{MayDoAll}
@@ -17,12 +17,12 @@ use Rattle.bk_world.specs.declared.rule.Rule.{Rule}
 use Rattle.bk_kept.specs.declared.kept.Kept.{Kept}
 use Rattle.bk_plans.specs.declared.parts.Part.{Part}
 use Rattle.bk_plans.specs.declared.parts.Plan.{Plan}
-use Rattle.bk_plans.specs.declared.parts.Plan.TheVariants.{Refused, Answered, Turned, Seated, Parts}
+use Rattle.bk_plans.specs.declared.parts.Plan.TheVariants.{Refused, Answered, Turned, Seated, Parts, Readied}
 use Rattle.bk_plans.specs.declared.refusal.Refusal.{Refusal}
 use Rattle.bk_plans.specs.declared.refusal.Refusal.TheVariants.{Broken, NoMemory}
 use Rattle.bk_plans.specs.Checking.{IsRefused}
 use Rattle.bk_kept.specs.Keeps.{Sees}
-use Rattle.bk_plans.specs.Planned.{IsOne, IsRefusedBy}
+use Rattle.bk_plans.specs.Planned.{IsOne, IsReadied, IsRefusedBy}
 use Rattle.bk_plans.specs.Planning.{AreParts, Plans}
 use Rattle.bk_kept.specs.Views.{IsSeen}
 use Rattle.bk_kept.specs.ViewsLaws.{seen-sees}
@@ -74,6 +74,20 @@ module _ (k : Kept) (Known : World → Type 0) (s : ScriptEntry) (now : ℕ) whe
   pub plans-seated : (session : ℕ) → InEach k Known (λ w. May w s now (in_one (seated session) reply.Nothing)) → Plans k Known s now (Seated session)
   plans-seated session may = record { outcome = in_one (seated session) reply.Nothing; replies = refl; may = may; acts = λ w sound sees known. refl }
 
+  -- a line behind which the session's next backup only starts, or it doesn't any more
+  pub plans-readied : (starts : Bool) (answer : Reply) (plan : Plan) → IsReadied starts answer plan → InEach k Known (λ w. May w s now (in_one (readied starts) answer)) → Plans k Known s now plan
+  plans-readied starts answer (Readied parts ready said) is may = record {
+    outcome = in_one (readied starts) answer;
+    replies = sym is.2;
+    may = may;
+    acts = λ w sound sees known. record { front = []; parts_are = subst (λ (ps : List Part). AreParts w ps []) (sym is.0) tt; are = ap (λ (b : Bool). readied b ∷ []) (sym is.1) };
+  }
+  plans-readied starts answer (Refused rule) is may = absurd is
+  plans-readied starts answer (Answered reply) is may = absurd is
+  plans-readied starts answer (Turned name) is may = absurd is
+  plans-readied starts answer (Seated session) is may = absurd is
+  plans-readied starts answer (Parts parts said) is may = absurd is
+
   -- a statement that a check refuses
   pub plans-refusal : {A : Type 0} (check : World → Checked A) (refusal : Refusal) (plan : Plan) → IsRefusedBy refusal plan
       → InEach k Known (λ w. IsRefused refusal (check w)) → ((w : World) (rule : Rule) → check w ≡ Err rule → May w s now (refused rule)) → Plans k Known s now plan
@@ -99,6 +113,7 @@ module _ (k : Kept) (Known : World → Type 0) (s : ScriptEntry) (now : ℕ) whe
   plans-one stored act answer (Answered reply) is means law may stores = absurd is
   plans-one stored act answer (Turned name) is means law may stores = absurd is
   plans-one stored act answer (Seated session) is means law may stores = absurd is
+  plans-one stored act answer (Readied parts starts said) is means law may stores = absurd is
 
 -- what holds of each result holds of the one that came out, if one did
 pub if-ok : {A E : Type 0} (P Q : A → Type 0) (result : Result A E) → ((a : A) → P a → Q a) → IfOk result P → IfOk result Q

@@ -1,5 +1,5 @@
 -- What plans of one part are.
-use Rattle.std.specs.Prelude.{◌≡◌, ℕ, List, [], ◌∷◌}
+use Rattle.std.specs.Prelude.{◌≡◌, ℕ, Bool, List, [], ◌∷◌}
 use Rattle.bk_acts.specs.declared.act.StoredAct.{StoredAct}
 use Rattle.bk_acts.specs.declared.act.StoredAct.TheVariants.{Checkpointed, Logged}
 use Rattle.bk_acts.specs.Meaning.{Spell}
@@ -13,7 +13,7 @@ use Rattle.bk_world.specs.declared.transaction.Open.{Open}
 use Rattle.bk_kept.specs.declared.kept.Database.{Database as KeptDatabase}
 use Rattle.bk_plans.specs.declared.parts.Part.TheVariants.{Stored}
 use Rattle.bk_plans.specs.declared.parts.Plan.{Plan}
-use Rattle.bk_plans.specs.declared.parts.Plan.TheVariants.{Refused, Parts}
+use Rattle.bk_plans.specs.declared.parts.Plan.TheVariants.{Refused, Parts, Readied}
 use Rattle.bk_plans.specs.declared.refusal.Refusal.{Refusal}
 use Rattle.bk_plans.specs.declared.refusal.Refusal.TheVariants.{Broken, NoMemory}
 use Rattle.bk_kept.specs.Keeps.{ShowsLog, database_of}
@@ -27,6 +27,11 @@ IsRefusedBy NoMemory plan = ⊥
 abbrev pub IsOne : StoredAct → Reply → Plan → Type 0
 IsOne stored reply (Parts parts answer) = (parts.items ≡ Stored stored ∷ []) × (answer ≡ reply)
 IsOne stored reply _ = ⊥
+
+-- a plan has no parts, and says whether the current session's next backup only starts
+abbrev pub IsReadied : Bool → Reply → Plan → Type 0
+IsReadied starts reply (Readied parts ready answer) = (parts.items ≡ []) × (ready ≡ starts) × (answer ≡ reply)
+IsReadied starts reply _ = ⊥
 
 -- a plan stores one act of which this is known, and replies
 abbrev pub StoresOne : (StoredAct → Type 0) → Reply → Plan → Type 0

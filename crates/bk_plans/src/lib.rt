@@ -3,6 +3,7 @@
 #![tactic(auto)]
 
 mod finding;
+mod jobs;
 mod marking;
 mod parts;
 mod paths;
@@ -12,6 +13,7 @@ mod rules;
 mod undoing;
 
 pub use finding::{current_or_refuse, named_or_refuse};
+pub use jobs::{Running, job_or_refuse, unwritten, without_job};
 pub use marking::marked;
 pub use parts::{Part, Plan};
 pub use paths::{in_use, is_in_use, is_in_use_by_others, taken};
