@@ -6,3 +6,4 @@ pub mod PlannedBegin
 pub mod Marks
 pub mod PlannedEnds
 pub mod PlannedCheckpoint
+pub mod PlannedJob

@@ -31,7 +31,7 @@ use Rattle.bk_plans.specs.Planned.{IsOne, IsRefusedBy}
 use Rattle.bk_plans.specs.Planning.{AreParts, Plans}
 use Rattle.bk_plans.specs.declared.parts.Part.{Part}
 use Rattle.bk_plans.specs.declared.parts.Part.TheVariants.{Stored}
-use Rattle.bk_plans.specs.declared.parts.Plan.TheVariants.{Refused, Answered, Turned, Seated, Parts}
+use Rattle.bk_plans.specs.declared.parts.Plan.TheVariants.{Refused, Answered, Turned, Seated, Parts, Readied}
 use Rattle.bk_planning.specs.Marking.{IsCommit, NotesMark, mark_part, marked_row}
 use Rattle.bk_world.specs.declared.msdb.MarkRow.{MarkRow}
 use Rattle.bk_plans.specs.SaidLaws.{done-said, plans-said, says-now}
@@ -159,6 +159,7 @@ module _ (k : Kept) (line now : ℕ) where
       commit-planned (Answered answer) is = absurd is
       commit-planned (Turned name) is = absurd is
       commit-planned (Seated session) is = absurd is
+      commit-planned (Readied parts starts answer) is = absurd is
 
     pub rollback-planned : (plan : Plan) → IsOne stored Done plan → SaysOf h.database.now (rollback_said h.transaction.now.begin) (without_begin h.database.now.transactions h.transaction.now.begin) stored → Plans k (λ w. Unit {0}) (record { item = script.Rollback; line = line }) now plan
     unfolding May check_rollback

@@ -12,7 +12,7 @@ use bk_acts::StoredAct;
 use bk_ids::Text;
 use bk_kept::{DatabaseView, InstanceView};
 use bk_machine::statements_do_what_they_may;
-use bk_plans::{Plan, Refusal, named_or_refuse, outside, refused, stored, unused};
+use bk_plans::{Plan, Refusal, named_or_refuse, outside, refused, stored, unused, without_job};
 use bk_world::Reply;
 use std::alloc::{AllocError, Global};
 
@@ -27,6 +27,7 @@ fn check_drop_database<'a>(
     outside(kept)?;
     let database = named_or_refuse(kept, name.as_str())?;
     unused(database)?;
+    without_job(database)?;
     Ok(database)
 }
 

@@ -8,6 +8,7 @@ mod commit;
 mod create_table;
 mod drop_database;
 mod ending;
+mod job;
 mod planning;
 mod rollback;
 mod session;

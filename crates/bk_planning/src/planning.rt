@@ -9,6 +9,7 @@ use crate::checkpoint::plan_checkpoint;
 use crate::commit::plan_commit;
 use crate::create_table::plan_create_table;
 use crate::drop_database::plan_drop_database;
+use crate::job::{plan_start, plan_step};
 use crate::rollback::plan_rollback;
 use crate::session::plan_session;
 use crate::use_database::plan_use;
@@ -52,6 +53,8 @@ pub fn plan(
         ScriptItem::Rollback => plan_rollback(kept, alloc),
         ScriptItem::Checkpoint => plan_checkpoint(kept, alloc, now),
         ScriptItem::Session { number } => plan_session(kept, line, *number),
+        ScriptItem::Start => plan_start(kept, alloc),
+        ScriptItem::Step { count } => plan_step(kept, alloc, *count),
         ScriptItem::Syntax { line } => Ok(Plan::Refused {
             rule: Rule::Syntax { line: *line },
         }),

@@ -27,6 +27,8 @@ record IsOther (item : ScriptItem) : Type 0 where
   rollback : item ≡ script.Rollback → ⊥
   checkpoint : item ≡ script.Checkpoint → ⊥
   session : (a : ℕ) → item ≡ script.Session a → ⊥
+  start : item ≡ script.Start → ⊥
+  step : (a : ℕ) → item ≡ script.Step a → ⊥
   syntax_it : (a : ℕ) → item ≡ script.Syntax a → ⊥
   long : item ≡ script.TooLong → ⊥
 
@@ -49,9 +51,9 @@ module _ (w : World) (line now : ℕ) where
   unbuilt (script.DropDatabase a) other plain = absurd (other.drop a refl)
   unbuilt (script.SelectCatalog a) other plain = absurd plain
   unbuilt (script.Session a) other plain = absurd (other.session a refl)
-  unbuilt (script.Start) other plain = refl
-  unbuilt (script.Step a) other plain = refl
-  unbuilt (script.Wait) other plain = refl
+  unbuilt (script.Start) other plain = absurd (other.start refl)
+  unbuilt (script.Step a) other plain = absurd (other.step a refl)
+  unbuilt (script.Wait) other plain = absurd plain
   unbuilt (script.Syntax a) other plain = absurd (other.syntax_it a refl)
   unbuilt (script.TooLong) other plain = absurd (other.long refl)
 
@@ -97,6 +99,18 @@ returns-in-Session-clause-plans c =
     (λ plan plans plain. subst (λ (i : ScriptItem). Plans c.args.kept.now (λ w. Unit {0}) (record { item = i; line = c.args.statement.now.line }) c.args.now plan) (sym c.in-Session.is) (plans c.args.now))
     c.plan_session.ensures.plans
 
+pub returns-in-Start-clause-plans : goal.returns-in-Start-clause-plans
+returns-in-Start-clause-plans c =
+    if-plan _ _ c.plan_start.result
+    (λ plan plans plain. subst (λ (i : ScriptItem). Plans c.args.kept.now (λ w. Unit {0}) (record { item = i; line = c.args.statement.now.line }) c.args.now plan) (sym c.in-Start.is) (plans c.args.statement.now.line c.args.now))
+    c.plan_start.ensures.plans
+
+pub returns-in-Step-clause-plans : goal.returns-in-Step-clause-plans
+returns-in-Step-clause-plans c =
+    if-plan _ _ c.plan_step.result
+    (λ plan plans plain. subst (λ (i : ScriptItem). Plans c.args.kept.now (λ w. Unit {0}) (record { item = i; line = c.args.statement.now.line }) c.args.now plan) (sym c.in-Step.is) (plans c.args.statement.now.line c.args.now))
+    c.plan_step.ensures.plans
+
 pub returns-in-Syntax-clause-plans : goal.returns-in-Syntax-clause-plans
 unfolding May
 returns-in-Syntax-clause-plans c = λ plain.
@@ -126,6 +140,8 @@ returns-in_default c = record {
         rollback = c.in_default.not-Rollback;
         checkpoint = c.in_default.not-Checkpoint;
         session = c.in_default.not-Session;
+        start = c.in_default.not-Start;
+        step = c.in_default.not-Step;
         syntax_it = c.in_default.not-Syntax;
         long = c.in_default.not-TooLong;
       }) plain);
