@@ -6,3 +6,5 @@ pub mod Recoveries
 pub mod MovedSets
 pub mod Backed
 pub mod PlannedRestore
+pub mod Extents
+pub mod PlannedWait

@@ -1,36 +1,33 @@
 -- A database of a sound world fits a set: its header keeps a set's conditions.
-use Rattle.std.proofs.Common.{◌≡◌, ◌<◌, ◌≤◌, ℕ, ◌+◌, true, List, [], ◌∷◌, length, map, refl, arith}
+use Rattle.std.proofs.Common.{◌≡◌, ◌<◌, ◌≤◌, ℕ, ◌+◌, true, List, [], ◌∷◌, length, map, None, refl, sym, subst, arith}
 use Rattle.std.specs.Prelude.{nat_le, nat_lt}
 use Rattle.std.specs.List.{AllByRecursion}
 use Rattle.std.proofs.lemmas.Bool.{and_parts, ltb-true, leb-true}
 use Rattle.std.proofs.lemmas.List.{length-map}
 use Rattle.std.proofs.lemmas.List.Elements.{All-from_recursion}
 use Rattle.std.proofs.lemmas.List.Sums.{sum_by-cons}
-use Rattle.bk_ids.specs.declared.guid.Guid.{Guid}
 use Rattle.bk_ids.specs.declared.path.Branch.{Branch}
 use Rattle.bk_ids.specs.Path.{IsPath}
-use Rattle.bk_header.specs.Conditions.{AreNumbered as AreFilesNumbered, HasPath, KeepFiles, KeepsConditions, KeepsPath, total_extents}
-use Rattle.bk_items.specs.declared.options.BackupOptions.{BackupOptions}
+use Rattle.bk_header.specs.Conditions.{AreNumbered as AreFilesNumbered, HasItsBase, HasPath, IsExpiry, IsRange, KeepFiles, KeepsConditions, KeepsPath, total_extents}
 use Rattle.bk_kept.specs.Keeps.{database_of}
 use Rattle.bk_kept.specs.declared.kept.Database.{Database as KeptDatabase}
 use Rattle.bk_lemmas.specs.Lists.{all_mapped}
 use Rattle.bk_machine.specs.Checks.{is_path}
 use Rattle.bk_machine.specs.Files.{AreDataFiles, CountFrom, extents_in}
 use Rattle.bk_machine.specs.Fits.{FitsStorage}
-use Rattle.bk_machine.specs.World.{World, least_begin}
-use Rattle.bk_machine.specs.statements.Backup.{full_header}
+use Rattle.bk_machine.specs.World.{World, log_of}
+use Rattle.bk_machine.specs.declared.job.Job.{Job}
+use Rattle.bk_machine.specs.statements.Backup.{set_header}
 use Rattle.bk_media_plans.specs.Sets.{MayMakeSet}
 use Rattle.bk_world.specs.declared.database.FileSpec.{FileSpec}
+use Rattle.bk_world.specs.Telling.{model}
 use Rattle.bk_world.specs.declared.header.HeaderFile.{HeaderFile}
-use Rattle.bk_world.specs.declared.transaction.Open.{Open}
+use Rattle.bk_world.specs.declared.header.SetKind.{SetKind}
+use Rattle.bk_world.specs.declared.header.SetKind.TheVariants.{Full}
 
 -- a data file as a full set's header names it
 abbrev pub in_full : FileSpec → HeaderFile
 in_full file = record { spec = file; in_set = true }
-
-least-below : (ts : List Open) (n : ℕ) → least_begin ts n ≤ n
-least-below [] n = omega arith
-least-below (t ∷ ts) n = omega (arith, least-below ts n)
 
 path-keeps : (end last : ℕ) (path : List Branch) → end ≤ last → IsPath path → AllByRecursion (λ (b : Branch). b.start < end) path → KeepsPath last path
 path-keeps end last [] le is below = absurd is
@@ -70,21 +67,22 @@ some-group : (groups : ℕ) (files : List FileSpec) → 0 < length files → All
 some-group groups [] some all = absurd (omega (arith, some))
 some-group groups (f ∷ files) some all = omega (arith, all.0)
 
-pub header-keeps : (w : World) (d : KeptDatabase) (options : BackupOptions) (set : Guid) (time : ℕ) → MayMakeSet w d options time → KeepsConditions (full_header w (database_of d) options set time)
-unfolding full_header
-header-keeps w d options set time may =
+range-of : (kind : SetKind) (first checkpoint last : ℕ) → kind ≡ Full → first ≤ checkpoint → checkpoint < last → IsRange kind first checkpoint last
+range-of kind first checkpoint last is one other = subst (λ (k : SetKind). IsRange k first checkpoint last) (sym is) (one, other)
+
+pub header-keeps : (w : World) (d : KeptDatabase) (job : Job) (last time : ℕ) → MayMakeSet w d job last time → KeepsConditions (set_header (model (log_of w.history (database_of d))) (database_of d) job last time)
+header-keeps w d job last time may =
     let storage : FitsStorage (record { groups = d.groups; files = d.files; log_name = d.log_name; log_path = d.log_path }) = may.whole.fits.storage in
     let log_path = path-length d.log_path storage.log_path in
-    let first : least_begin d.transactions d.shown.«end» ≤ d.shown.«end» = least-below d.transactions d.shown.«end» in
     record {
       version = refl;
-      range = (first, omega arith);
-      base_there = tt;
-      start = may.timely;
+      range = range-of job.kind job.first job.checkpoint last may.kind may.first may.checkpoint;
+      base_there = subst (λ (k : SetKind). HasItsBase k None) (sym may.kind) tt;
+      start = may.start;
       finish = may.timely;
-      expiry = tt;
+      expiry = subst IsExpiry (sym may.expiry) tt;
       name_short = omega (arith, may.name);
-      path = path-keeps d.shown.«end» (d.shown.«end» + 2) d.path (omega arith) may.whole.path may.whole.starts;
+      path = path-keeps d.shown.«end» last d.path may.ends may.whole.path may.whole.starts;
       path_short = may.whole.fits.branches;
       groups_some = some-group (length d.groups) d.files storage.files.some storage.files.grouped;
       groups_few = storage.groups;

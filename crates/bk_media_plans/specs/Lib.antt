@@ -5,3 +5,4 @@ pub mod Found
 pub mod Moves
 pub mod Restoring
 pub mod RestorePlans
+pub mod Waits

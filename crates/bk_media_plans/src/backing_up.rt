@@ -1,6 +1,6 @@
 //! The check of `BACKUP DATABASE`.
 
-ghost use Rattle.std.specs.Prelude.{◌≡◌, nat_le, true, false, length, Ok, Option, IfOk};
+ghost use Rattle.std.specs.Prelude.{◌≡◌, nat_le, true, false, length, None, Ok, Option, IfOk};
 ghost use Rattle.bk_machine.specs.Checks as checks;
 ghost use Rattle.bk_machine.specs.World.{World};
 ghost use Rattle.bk_machine.specs.statements.Backup as backup;
@@ -11,8 +11,11 @@ ghost use Rattle.bk_plans.specs.Checking.{IsCheck};
 use bk_ids::{Sequence, Text};
 use bk_items::{BackupOptions, UnitName};
 use bk_kept::{DatabaseView, InstanceView, used_up};
-use bk_plans::{Refusal, is_path, limit, named_or_refuse, online, outside, refuse_if};
+use bk_plans::{
+    Refusal, is_path, limit, named_or_refuse, online, outside, refuse_if, unwritten, without_job,
+};
 use bk_world::Rule;
+use std::alloc::Global;
 
 // How many bytes the name of a set has at most.
 const MOST_SET_NAME_BYTES: usize = 65_535;
@@ -87,6 +90,7 @@ fn room_or_refuse(room: Result<Option<u64>, Rule>) -> Result<Option<u64>, Refusa
 #[tactic(auto, unfolding(bk_machine::specs::statements::Backup::check_backup))]
 pub(crate) fn check_backup<'a>(
     kept: &'a InstanceView<'a>,
+    alloc: Global,
     line: u32,
     name: &Text,
     units: &Sequence<UnitName>,
@@ -100,6 +104,7 @@ pub(crate) fn check_backup<'a>(
     ensures shows { (w : World) → Sees w kept.now → IfOk result (λ b. ShowsLog w.history b.database.now) }
     ensures path { IfOk result (λ b. checks.is_path disk.now ≡ true) }
     ensures left { IfOk result (λ b. checks.used_up b.database.now.shown.«end» ≡ false) }
+    ensures idle { IfOk result (λ b. b.database.now.job ≡ None) }
 {
     refuse_if(
         !(is_whole_backup(units, options) && is_path(disk.as_str())),
@@ -108,6 +113,8 @@ pub(crate) fn check_backup<'a>(
     outside(kept)?;
     let named = named_or_refuse(kept, name.as_str())?;
     let database = online(named)?;
+    without_job(database)?;
+    unwritten(kept, alloc, disk)?;
     let sets = room_or_refuse(room)?;
     limit(used_up(database.shown.end()) || used_up(kept.counter))?;
     Ok(Backing { database, sets })

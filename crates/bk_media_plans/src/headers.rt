@@ -1,20 +1,19 @@
-//! The header of the set that a full backup of a database makes.
+//! The header of the set that a job finishes.
 
 ghost use Rattle.std.specs.Prelude.{◌≡◌, ◌<◌, ◌+◌, ◌^◌, true, map, IfOk, IsErrOf};
 ghost use Rattle.bk_header.specs.Conditions.{KeepsConditions};
 ghost use Rattle.bk_machine.specs.World.{World};
 ghost use Rattle.bk_machine.specs.statements.Backup as backup;
-ghost use Rattle.bk_media_plans.specs.Backups.{IsFullHeader};
-ghost use Rattle.bk_media_plans.specs.Sets.{MayMakeSet};
+ghost use Rattle.bk_media_plans.specs.Backups.{IsFullHeader, IsSetHeader};
+ghost use Rattle.bk_media_plans.specs.Sets.{MayFinish, MayMakeSet};
 ghost use Rattle.bk_shown.specs.declared.error.TakeError.TheVariants.{Unfit};
 
-use crate::backing_up::is_on;
 use bk_header::keeps;
-use bk_ids::{Guid, Lsn, Sequence, Text};
-use bk_items::BackupOptions;
+use bk_ids::{Lsn, Sequence};
 use bk_kept::{DatabaseView, copy_file, copy_groups};
+use bk_machine::Job;
 use bk_shown::TakeError;
-use bk_world::{Base, FileSpec, Header, HeaderFile, SetKind};
+use bk_world::{Base, FileSpec, Header, HeaderFile};
 use std::alloc::{AllocError, Global};
 
 // The data files of a database as a full set's header names them.
@@ -39,48 +38,36 @@ fn base_lsn(base: Option<Base>) -> Lsn
     }
 }
 
-// The name of a set, empty where none is given.
-fn set_name(alloc: Global, name: &Option<Text>) -> Result<Text, AllocError>
-    ensures { IfOk result (λ text. text ≡ backup.set_name name.now) }
-{
-    match name {
-        Some(name) => name.copy(alloc),
-        None => Ok(Text::new(String::new(alloc))),
-    }
-}
-
-// The header of a full backup, by its options, of a database whose checkpoint is its end, and whose stamp comes next.
-pub(crate) fn header_of(
+// The header of the set that a job finishes at a time, of its database as it is then, whose stamp comes just below `last`.
+pub(crate) fn set_header(
     alloc: Global,
     database: &DatabaseView<'_>,
-    options: &BackupOptions,
-    set: Guid,
+    job: &Job,
+    last: Lsn,
     time: u64,
 ) -> Result<Header, AllocError>
-    requires { database.now.shown.«end» + 2 < 2 ^ 64 }
-    ensures { IfOk result (IsFullHeader database.now options.now set time) }
+    ensures { IfOk result (IsSetHeader database.now job.now last time) }
 {
-    let end = database.shown.end();
     Ok(Header {
         version: 1,
-        kind: SetKind::Full,
+        kind: job.kind,
         model: database.shown.model(),
-        copy_only: false,
+        copy_only: job.copy_only,
         bulk: false,
         begins_chain: false,
-        checksums: is_on(options.checksum),
-        set,
+        checksums: job.checksums,
+        set: job.set,
         family: database.family,
-        first: database.least_begin(end),
-        checkpoint: end,
-        last: end + 2,
+        first: job.first,
+        checkpoint: job.checkpoint,
+        last,
         database_backup: base_lsn(database.base),
         base: None,
-        start: time,
+        start: job.start,
         finish: time,
-        expiry: None,
+        expiry: job.expiry,
         database: database.name.copy(alloc)?,
-        name: set_name(alloc, &options.name)?,
+        name: job.name.copy(alloc)?,
         path: database.path.copy(alloc)?,
         groups: copy_groups(alloc, database.groups.as_slice())?,
         files: header_files(alloc, database.files.as_slice())?,
@@ -89,24 +76,37 @@ pub(crate) fn header_of(
     })
 }
 
-// That header, where it keeps the conditions of a set. `Unfit` comes only where the database or the set's name fits no set.
+// That header, where it keeps the conditions of a set. `Unfit` comes only where the database or the job fits no set.
 pub(crate) fn kept_header(
     alloc: Global,
     database: &DatabaseView<'_>,
-    options: &BackupOptions,
-    set: Guid,
+    job: &Job,
+    last: Lsn,
     time: u64,
 ) -> Result<Header, TakeError>
-    requires { database.now.shown.«end» + 2 < 2 ^ 64 }
-    ensures header { IfOk result (IsFullHeader database.now options.now set time) }
+    ensures header { IfOk result (IsSetHeader database.now job.now last time) }
     ensures keeps { IfOk result KeepsConditions }
-    ensures unfit { IsErrOf result Unfit → (w : World) → MayMakeSet w database.now options.now time → ⊥ }
+    ensures unfit { IsErrOf result Unfit → (w : World) → MayMakeSet w database.now job.now last time → ⊥ }
 {
-    let header = header_of(alloc, database, options, set, time)?;
+    let header = set_header(alloc, database, job, last, time)?;
     if keeps(&header) {
         Ok(header)
     } else {
         drop(header);
         Err(TakeError::Unfit)
     }
+}
+
+// The header of the set of a job that finishes at its start: its stamp comes right behind the checkpoint at the database's end. `Unfit` comes only where the database or the job fits no set.
+pub(crate) fn full_header(
+    alloc: Global,
+    database: &DatabaseView<'_>,
+    job: &Job,
+) -> Result<Header, TakeError>
+    requires { database.now.shown.«end» + 2 < 2 ^ 64 }
+    ensures header { IfOk result (IsFullHeader database.now job.now) }
+    ensures keeps { IfOk result KeepsConditions }
+    ensures unfit { IsErrOf result Unfit → (w : World) → MayFinish w database.now job.now → ⊥ }
+{
+    kept_header(alloc, database, job, database.shown.end() + 2, job.start)
 }

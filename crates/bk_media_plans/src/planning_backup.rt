@@ -1,27 +1,29 @@
-//! The plan of a full backup.
+//! The plan of a full backup, and of one that only starts.
 
 ghost use Rattle.std.specs.Prelude.{◌≡◌, ◌<◌, ◌+◌, ◌∷◌, ◌++◌, [], ◌^◌, true, false, IfOk, IsErrOf, OnOk};
 ghost use Rattle.bk_items.specs.declared.item.ScriptItem.TheVariants as script;
 ghost use Rattle.bk_machine.specs.Checks as checks;
-ghost use Rattle.bk_kept.specs.Keeps.{Sees};
+ghost use Rattle.bk_kept.specs.Keeps.{Sees, database_of};
 ghost use Rattle.bk_machine.specs.Sound.{IsSound};
 ghost use Rattle.bk_machine.specs.World.{World};
-ghost use Rattle.bk_machine.specs.statements.Backup.{ShowsRoom};
-ghost use Rattle.bk_media_plans.specs.Sets.{MayMakeSet};
+ghost use Rattle.bk_machine.specs.statements.Backup.{ShowsRoom, full_job};
+ghost use Rattle.bk_plans.specs.declared.parts.Part.TheVariants.{JobBegun};
+ghost use Rattle.bk_media_plans.specs.Sets.{MayFinish};
 ghost use Rattle.bk_shown.specs.declared.error.TakeError.TheVariants.{Unfit};
-ghost use Rattle.bk_media_plans.specs.Backups.{BasesOne, HasRoom, IsBackup, IsBackupPlan, IsBackupReply, IsStamp, MarksOne, NotesOne, SealsOne, StampsOne, draws_part, position_behind};
+ghost use Rattle.bk_media_plans.specs.Backups.{BasesOne, HasRoom, IsBackup, IsBackupPlan, IsBackupReply, IsStamp, IsStartPlan, MarksOne, NotesOne, PlansChecked, PlansJob, SealsOne, StampsOne, draws_part, position_behind};
 ghost use Rattle.bk_plans.specs.Planned.{IsRefusedBy};
 ghost use Rattle.bk_plans.specs.Planning.{KeepsPlan, Plans};
 ghost use Rattle.bk_world.specs.Medium.{medium_at};
 
-use crate::backing_up::check_backup;
-use crate::headers::{header_of, kept_header};
+use crate::backing_up::{Backing, check_backup};
+use crate::headers::{full_header, set_header};
+use crate::jobs::full_job;
 use bk_acts::StoredAct;
 use bk_ids::{Body, Guid, Sequence, Text};
 use bk_items::{BackupOptions, UnitName};
 use bk_kept::{DatabaseView, InstanceView, copy_transactions};
 use bk_machine::{
-    HistoryRow, acts_keep_worlds_sound, statements_do_what_they_may, what_is_said_comes_last,
+    HistoryRow, Job, acts_keep_worlds_sound, statements_do_what_they_may, what_is_said_comes_last,
 };
 use bk_plans::{Part, Plan, Refusal, logged, marked, refused, said_time, say_one};
 use bk_shown::TakeError;
@@ -113,22 +115,19 @@ fn push_stamp(
     Ok(())
 }
 
-// One part more: the set is sealed on the medium. `Unfit` comes only where the database or the set's name fits no set.
+// One part more: the set of a job is sealed on its medium. `Unfit` comes only where the database or the job fits no set.
 fn push_set(
     alloc: Global,
     parts: &mut Vec<Part>,
     database: &DatabaseView<'_>,
-    disk: &Text,
-    options: &BackupOptions,
-    set: Guid,
-    time: u64,
+    job: &Job,
 ) -> Result<(), TakeError>
     requires { database.now.shown.«end» + 2 < 2 ^ 64 }
-    ensures seals { OnOk result (SealsOne database.now disk.now options.now set time parts.old.items parts.new.items) }
-    ensures unfit { IsErrOf result Unfit → (w : World) → MayMakeSet w database.now options.now time → ⊥ }
+    ensures seals { OnOk result (SealsOne database.now job.now parts.old.items parts.new.items) }
+    ensures unfit { IsErrOf result Unfit → (w : World) → MayFinish w database.now job.now → ⊥ }
 {
-    let path = disk.copy(alloc)?;
-    let header = kept_header(alloc, database, options, set, time)?;
+    let path = job.medium.copy(alloc)?;
+    let header = full_header(alloc, database, job)?;
     push(parts, Part::SetSealed { path, header })?;
     Ok(())
 }
@@ -137,7 +136,7 @@ fn push_set(
 const MOST_SETS: u64 = 65_535;
 
 // The position of the next set on a medium that has room for one, from 1.
-fn next_position(sets: Option<u64>) -> u32
+pub(crate) fn next_position(sets: Option<u64>) -> u32
     ensures { HasRoom sets → result ≡ position_behind sets }
 {
     match sets {
@@ -146,21 +145,19 @@ fn next_position(sets: Option<u64>) -> u32
     }
 }
 
-// One part more: the set's row comes to backupset. `Unfit` comes only where the database or the set's name fits no set.
+// One part more: the set's row comes to backupset. `Unfit` comes only where the database or the job fits no set.
 fn push_row(
     alloc: Global,
     parts: &mut Vec<Part>,
     database: &DatabaseView<'_>,
     sets: Option<u64>,
-    options: &BackupOptions,
-    set: Guid,
-    time: u64,
+    job: &Job,
 ) -> Result<(), TakeError>
     requires { database.now.shown.«end» + 2 < 2 ^ 64 }
-    ensures notes { OnOk result (NotesOne database.now sets options.now set time parts.old.items parts.new.items) }
-    ensures unfit { IsErrOf result Unfit → (w : World) → MayMakeSet w database.now options.now time → ⊥ }
+    ensures notes { OnOk result (NotesOne database.now sets job.now parts.old.items parts.new.items) }
+    ensures unfit { IsErrOf result Unfit → (w : World) → MayFinish w database.now job.now → ⊥ }
 {
-    let header = kept_header(alloc, database, options, set, time)?;
+    let header = full_header(alloc, database, job)?;
     let row = BackupRow {
         position: next_position(sets),
         header,
@@ -179,80 +176,152 @@ fn push_base(
     alloc: Global,
     parts: &mut Vec<Part>,
     database: &DatabaseView<'_>,
-    options: &BackupOptions,
-    set: Guid,
-    time: u64,
+    job: &Job,
 ) -> Result<(), AllocError>
     requires { database.now.shown.«end» + 2 < 2 ^ 64 }
-    ensures { OnOk result (BasesOne database.now options.now set time parts.old.items parts.new.items) }
+    ensures { OnOk result (BasesOne database.now job.now parts.old.items parts.new.items) }
 {
     let name = database.name.copy(alloc)?;
-    let header = header_of(alloc, database, options, set, time)?;
+    let last = database.shown.end() + 2;
+    let header = set_header(alloc, database, job, last, job.start)?;
     push(parts, Part::Stored(StoredAct::Based { name, header }))?;
     Ok(())
 }
 
-// The parts of a backup of a database by which a set of this GUID is made at a time. `Unfit` comes only where the database or the set's name fits no set.
+// The parts of a backup of a database by which the set of a job is made at once. `Unfit` comes only where the database or the job fits no set.
 fn backup_parts(
     alloc: Global,
     database: &DatabaseView<'_>,
-    disk: &Text,
     sets: Option<u64>,
-    options: &BackupOptions,
-    set: Guid,
-    time: u64,
+    job: &Job,
 ) -> Result<Vec<Part>, TakeError>
     requires left { checks.used_up database.now.shown.«end» ≡ false }
-    ensures parts { IfOk result (λ parts. IsBackup database.now disk.now sets options.now set time parts.items) }
-    ensures unfit { IsErrOf result Unfit → (w : World) → MayMakeSet w database.now options.now time → ⊥ }
+    ensures parts { IfOk result (λ parts. IsBackup database.now sets job.now parts.items) }
+    ensures unfit { IsErrOf result Unfit → (w : World) → MayFinish w database.now job.now → ⊥ }
 {
     let mut parts = Vec::new(alloc);
-    push_draw(alloc, &mut parts, disk, sets)?;
-    push_mark(alloc, &mut parts, database, time)?;
-    push_stamp(alloc, &mut parts, database, set, time)?;
-    push_set(alloc, &mut parts, database, disk, options, set, time)?;
-    push_row(alloc, &mut parts, database, sets, options, set, time)?;
-    push_base(alloc, &mut parts, database, options, set, time)?;
+    push_draw(alloc, &mut parts, &job.medium, sets)?;
+    push_mark(alloc, &mut parts, database, job.start)?;
+    push_stamp(alloc, &mut parts, database, job.set, job.start)?;
+    push_set(alloc, &mut parts, database, job)?;
+    push_row(alloc, &mut parts, database, sets, job)?;
+    push_base(alloc, &mut parts, database, job)?;
     Ok(parts)
 }
 
 // The reply to a backup of a database.
-fn reply_to(database: &DatabaseView<'_>, sets: Option<u64>) -> Reply
+fn reply_to(database: &DatabaseView<'_>, sets: Option<u64>, job: &Job) -> Reply
     requires { database.now.shown.«end» + 2 < 2 ^ 64 }
-    ensures { IsBackupReply database.now sets result }
+    ensures { IsBackupReply database.now sets job.now result }
 {
-    let end = database.shown.end();
     Reply::SetMade {
         position: next_position(sets),
-        first: database.least_begin(end),
-        checkpoint: end,
-        last: end + 2,
+        first: job.first,
+        checkpoint: job.checkpoint,
+        last: database.shown.end() + 2,
     }
 }
 
-// The plan of a backup at a time. `Unfit` comes only where the database or the set's name fits no set.
+// The plan of a backup that is done at once. `Unfit` comes only where the database or the job fits no set.
 fn backup(
-    kept: &InstanceView<'_>,
     alloc: Global,
     database: &DatabaseView<'_>,
-    disk: &Text,
     sets: Option<u64>,
+    job: &Job,
+) -> Result<Plan, TakeError>
+    requires path { checks.is_path job.now.medium ≡ true }
+    requires left { checks.used_up database.now.shown.«end» ≡ false }
+    ensures parts { IfOk result (IsBackupPlan database.now sets job.now) }
+    ensures keeps { IfOk result KeepsPlan }
+    ensures unfit { IsErrOf result Unfit → (w : World) → MayFinish w database.now job.now → ⊥ }
+{
+    let parts = backup_parts(alloc, database, sets, job)?;
+    let reply = reply_to(database, sets, job);
+    Ok(Plan::Parts { parts, reply })
+}
+
+// One part more: the backup of the database starts by this job.
+fn push_job(
+    alloc: Global,
+    parts: &mut Vec<Part>,
+    database: &DatabaseView<'_>,
+    job: &Job,
+) -> Result<(), AllocError>
+    ensures { OnOk result (parts.new.items ≡ parts.old.items ++ JobBegun database.now.name job.now ∷ []) }
+{
+    let name = database.name.copy(alloc)?;
+    let job = job.copy(alloc)?;
+    push(parts, Part::JobBegun { name, job })?;
+    Ok(())
+}
+
+// The plan of a backup that only starts, behind which the session's next one doesn't.
+fn start(
+    alloc: Global,
+    database: &DatabaseView<'_>,
+    sets: Option<u64>,
+    job: &Job,
+) -> Result<Plan, AllocError>
+    requires path { checks.is_path job.now.medium ≡ true }
+    ensures parts { IfOk result (IsStartPlan database.now sets job.now) }
+    ensures keeps { IfOk result KeepsPlan }
+{
+    let mut parts = Vec::new(alloc);
+    push_draw(alloc, &mut parts, &job.medium, sets)?;
+    push_mark(alloc, &mut parts, database, job.start)?;
+    push_job(alloc, &mut parts, database, job)?;
+    Ok(Plan::Readied {
+        parts,
+        starts: false,
+        reply: Reply::JobStarted,
+    })
+}
+
+// The plan of a backup by this job, which only starts, or is done at once. `Unfit` comes only where the database or the job fits no set.
+fn plan_job(
+    alloc: Global,
+    database: &DatabaseView<'_>,
+    sets: Option<u64>,
+    job: &Job,
+    starts: bool,
+) -> Result<Plan, TakeError>
+    requires path { checks.is_path job.now.medium ≡ true }
+    requires left { checks.used_up database.now.shown.«end» ≡ false }
+    ensures plans { IfOk result (PlansJob starts database.now sets job.now) }
+    ensures keeps { IfOk result KeepsPlan }
+    ensures unfit { IsErrOf result Unfit → (w : World) → MayFinish w database.now job.now → ⊥ }
+{
+    if starts {
+        Ok(start(alloc, database, sets, job)?)
+    } else {
+        backup(alloc, database, sets, job)
+    }
+}
+
+// The plan of a backup that is checked, at a time. `Unfit` comes only where the database or the set's name fits no set.
+fn plan_checked(
+    kept: &InstanceView<'_>,
+    alloc: Global,
+    backing: &Backing<'_>,
+    disk: &Text,
     options: &BackupOptions,
     time: u64,
 ) -> Result<Plan, TakeError>
     requires path { checks.is_path disk.now ≡ true }
-    requires left { checks.used_up database.now.shown.«end» ≡ false }
-    ensures parts { IfOk result (IsBackupPlan database.now disk.now sets options.now (record { high = kept.now.number; low = kept.now.counter }) time) }
+    requires left { checks.used_up backing.now.database.now.shown.«end» ≡ false }
+    ensures plans { IfOk result (PlansChecked kept.now backing.now.database.now backing.now.sets (full_job (database_of backing.now.database.now) options.now disk.now (record { high = kept.now.number; low = kept.now.counter }) time)) }
     ensures keeps { IfOk result KeepsPlan }
-    ensures unfit { IsErrOf result Unfit → (w : World) → MayMakeSet w database.now options.now time → ⊥ }
+    ensures unfit { IsErrOf result Unfit → (w : World) → MayFinish w backing.now.database.now (full_job (database_of backing.now.database.now) options.now disk.now (record { high = kept.now.number; low = kept.now.counter }) time) → ⊥ }
 {
     let set = Guid {
         high: kept.number,
         low: kept.counter,
     };
-    let parts = backup_parts(alloc, database, disk, sets, options, set, time)?;
-    let reply = reply_to(database, sets);
-    Ok(Plan::Parts { parts, reply })
+    let database = backing.database;
+    let job = full_job(alloc, database, options, disk, set, time)?;
+    let plan = plan_job(alloc, database, backing.sets, &job, kept.starts());
+    drop(job);
+    plan
 }
 
 // The plan of a backup that is refused.
@@ -286,11 +355,10 @@ pub fn plan_backup(
     statements_do_what_they_may();
     acts_keep_worlds_sound();
     what_is_said_comes_last();
-    match check_backup(kept, line, database, units, disk, options, room) {
+    match check_backup(kept, alloc, line, database, units, disk, options, room) {
         Ok(backing) => {
-            let database = backing.database;
-            let time = said_time(database, now);
-            backup(kept, alloc, database, disk, backing.sets, options, time)
+            let time = said_time(backing.database, now);
+            plan_checked(kept, alloc, &backing, disk, options, time)
         }
         Err(refusal) => refusing(refusal),
     }

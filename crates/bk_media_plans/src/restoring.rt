@@ -16,19 +16,24 @@ use crate::moving::check_moves;
 use bk_ids::Text;
 use bk_items::RestoreOptions;
 use bk_kept::{DatabaseView, InstanceView, used_up};
-use bk_plans::{MOST_DATABASES, Refusal, in_use, is_in_use_by_others, limit, refuse_if, unused};
+use bk_plans::{
+    MOST_DATABASES, Refusal, in_use, is_in_use_by_others, limit, refuse_if, unused, without_job,
+};
 use bk_world::{Header, HeaderFile, Limit, Rule, Status};
 use std::alloc::Global;
 
 // How many branches a path has before no more are added.
 const MOST_BRANCHES: usize = 64;
 
-// The database isn't there, or no session has an open transaction in it.
+// The database isn't there, or no session has an open transaction in it and no backup of it runs.
 fn check_unused(named: Option<&DatabaseView<'_>>) -> Result<(), Refusal>
     ensures { IsCheck (λ u. u) result (restore.check_unused (option_map (λ d. database_of d.now) named.entry)) }
 {
     match named {
-        Some(database) => unused(database),
+        Some(database) => {
+            unused(database)?;
+            without_job(database)
+        }
         None => Ok(()),
     }
 }

@@ -11,10 +11,10 @@ returns-in-Ok-clause-plans c =
       log = c.what_is_said_comes_last.ensures.log;
     } in
     let b = c.in-Ok.backing in
-    if-plan _ _ c.backup.result
-    (λ plan is. backup-made c.args.kept.now c.args.line c.args.now c.args.database.now c.args.units.now c.args.disk.now c.args.options.now c.args.room laws b.database.now b.sets c.said_time-time.result plan
-    c.in-Ok.ensures.room is c.in-Ok.ensures.check c.in-Ok.ensures.shows (λ w shows. c.said_time-time.ensures w shows))
-    c.backup.ensures.parts
+    if-plan _ _ c.plan_checked.result
+    (λ plan is. backup-made c.args.kept.now c.args.line c.args.now c.args.database.now c.args.units.now c.args.disk.now c.args.options.now c.args.room laws b.database.now b.sets c.said_time-time.result
+    c.in-Ok.ensures.room c.in-Ok.ensures.check c.in-Ok.ensures.shows (λ w shows. c.said_time-time.ensures w shows) plan is)
+    c.plan_checked.ensures.plans
 
 pub returns-in-Err-clause-plans : goal.returns-in-Err-clause-plans
 returns-in-Err-clause-plans c =
@@ -24,6 +24,6 @@ returns-in-Err-clause-plans c =
 
 pub returns-in-Ok-clause-unfit : goal.returns-in-Ok-clause-unfit
 returns-in-Ok-clause-unfit c = λ unfit w sound sees known.
-    c.backup.ensures.unfit unfit w
-    (may-make w c.args.line c.args.database.now c.args.units.now c.args.disk.now c.args.options.now c.args.now c.in-Ok.backing.database.now c.said_time-time.result sound (c.in-Ok.ensures.check w sees known) (c.in-Ok.ensures.shows w sees)
+    c.plan_checked.ensures.unfit unfit w
+    (may-make w c.args.line c.args.database.now c.args.units.now c.args.disk.now c.args.options.now c.args.now c.in-Ok.backing.database.now _ c.said_time-time.result sound (c.in-Ok.ensures.check w sees known) (c.in-Ok.ensures.shows w sees)
     (c.said_time-time.ensures w (c.in-Ok.ensures.shows w sees)))
