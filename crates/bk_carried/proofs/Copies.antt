@@ -1,8 +1,8 @@
 -- What a backup copied, as of its end.
-use Rattle.std.proofs.Common.{◌≡◌, ◌≤◌, ℕ, ◌-◌, false, List, [], ◌∷◌, ◌++◌, length, map, None, refl, sym, ◌∙◌, ap, subst, arith}
+use Rattle.std.proofs.Common.{◌≡◌, ◌≤◌, ℕ, ◌-◌, false, List, [], ◌∷◌, ◌++◌, length, map, None, refl, sym, ◌∙◌, ap, subst, append_assoc, arith}
 use Rattle.std.specs.List.{AllByRecursion, list_any}
 use Rattle.std.proofs.lemmas.Bool.{or_from}
-use Rattle.std.proofs.lemmas.List.{length-drop, length-map, map-append, take_all}
+use Rattle.std.proofs.lemmas.List.{append-nil, length-drop, length-map, map-append, take_all}
 use Rattle.bk_body.specs.Body.{Body, Extent}
 use Rattle.bk_ids.specs.declared.record.Rec.{Rec}
 use Rattle.bk_lemmas.specs.Lists.{all_mapped}
@@ -16,7 +16,7 @@ use Rattle.bk_redo.specs.declared.place.PageAt.{PageAt}
 use Rattle.bk_redo.specs.Effects.{fills}
 use Rattle.bk_redo.specs.PageStates.{page_of}
 use Rattle.bk_shown.specs.Shown.{ArePlaced, IsPlaced}
-use Rattle.bk_restored.specs.StoreCopying.{page_of_extent}
+use Rattle.bk_restored.specs.StoreCopying.{ArePages, page_of_extent}
 use Rattle.bk_restored.specs.StoreTold.{Told, files_of}
 use Rattle.bk_undo.specs.Spelled.{spelled}
 use Rattle.bk_world.specs.Lines.{RecordLines, log_below}
@@ -68,6 +68,20 @@ stored-later rs front back since at page path all splits late is =
 pub copied : (rs : List Logged) (since : ℕ) (e : Extent) → IsPath (map spelled rs) → AllByRecursion IsPlain rs → WasRead rs since e → IsCopied (map spelled rs) since e
 copied rs since e path all read = λ i low. stored-later rs read.front read.back since (page_of_extent e.file e.extent i) (page_part e.bytes i) path all read.splits read.late (read.pages.pages i low)
 
+-- what was read of records was read of these with more behind them
+pub read-later : (rs more : List Logged) (since : ℕ) (e : Extent) → WasRead rs since e → WasRead (rs ++ more) since e
+read-later rs more since e read = record {
+  front = read.front;
+  back = read.back ++ more;
+  splits = ap (λ (xs : List Logged). xs ++ more) read.splits ∙ append_assoc read.front read.back more;
+  late = read.late;
+  pages = read.pages;
+}
+
+-- what is as of the end of records is read now
+pub read-now : (rs : List Logged) (since : ℕ) (e : Extent) → since ≤ length rs → ArePages (map spelled rs) e.file e.extent 8 e.bytes → WasRead rs since e
+read-now rs since e late pages = record { front = rs; back = []; splits = sym (append-nil rs); late = late; pages = pages }
+
 -- the bytes from the first number to the end are the rest of the path
 whole-log : (records : List Rec) (first last : ℕ) (bytes : List ℕ) → 1 ≤ first → first ≤ last → last ≡ end_of records → IsLog bytes (from_to first last records) None → IsLog bytes (kept_from first records) None
 whole-log records first last bytes some order ends log =
@@ -84,10 +98,10 @@ holds-copied told body copy =
       tables = copy.tables;
       path = copy.path;
       placed = subst (λ (files : List FileSpec). ArePlaced files [] told.records) (sym copy.header.files) copy.placed;
-      log = whole-log records body.header.first body.header.last body.log copy.header.some (omega (arith, copy.header.order, copy.header.inside)) ends copy.log;
+      log = whole-log records body.header.first body.header.last body.log copy.header.some (let a = copy.header.order in let b = copy.header.inside in omega (arith, a, b)) ends copy.log;
       some = copy.header.some;
       order = copy.header.order;
-      inside = copy.header.inside;
+      inside = let below = copy.header.inside in omega (arith, below);
       begun = copy.header.begun;
       there = copy.there;
       pages = all_mapped (WasRead told.records body.header.checkpoint) (IsCopied records body.header.checkpoint) (λ e read. copied told.records body.header.checkpoint e copy.path all read) body.extents copy.read;

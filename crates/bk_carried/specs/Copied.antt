@@ -1,6 +1,6 @@
 -- What a full backup copies of a database while it goes on.
 -- SQL Server: "Full Database Backups"; BACKUP (Transact-SQL).
-use Rattle.std.specs.Prelude.{◌≡◌, ◌≤◌, ℕ, true, List, [], ◌++◌, length, map, None}
+use Rattle.std.specs.Prelude.{◌≡◌, ◌≤◌, ◌<◌, ℕ, true, List, [], ◌++◌, length, map, None}
 use Rattle.std.specs.List.{AllByRecursion}
 use Rattle.bk_body.specs.Body.{Body, Extent}
 use Rattle.bk_body.specs.Conditions.{has_extent}
@@ -34,7 +34,7 @@ pub record IsHeaderOf (told : Told) (header : Header) : Type 0 where
   pub ends : header.last ≡ end_behind told.records
   pub some : 1 ≤ header.first
   pub order : header.first ≤ header.checkpoint
-  pub inside : header.checkpoint ≤ header.last
+  pub inside : header.checkpoint < header.last
   pub begun : AllByRecursion (λ (w : Pending). header.first ≤ w.begin) (pending told.records)
 
 -- A set was made of a database whose records are a path, each in its place: its parts are what the store gave, each extent once the checkpoint was said.

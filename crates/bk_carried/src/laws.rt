@@ -1,12 +1,12 @@
 //! Laws of sets that hold what their path shows.
 
-ghost use Rattle.std.specs.Prelude.{◌≡◌, ◌≤◌, ◌<◌, ℕ, ◌+◌, ◌*◌, List, [], None, Some, true, length, map, slice_get};
+ghost use Rattle.std.specs.Prelude.{◌≡◌, ◌≤◌, ◌<◌, ℕ, ◌+◌, ◌*◌, ◌++◌, List, [], None, Ok, Some, true, length, map, slice_get};
 ghost use Rattle.std.specs.List.{AllByRecursion};
 ghost use Rattle.bk_body.specs.Body.{Body, Extent};
 ghost use Rattle.bk_body.specs.Conditions.{ExtentsRise, IsBody, has_extent, holds_extent};
 ghost use Rattle.bk_carried.specs.Arrived.{IsFor, MayName, arrived, known_of};
 ghost use Rattle.bk_carried.specs.Carried.{Carries, IsCopied, data_extents, given, id_of, is_there, page_part};
-ghost use Rattle.bk_carried.specs.Copied.{IsCopy, IsHeaderOf, WasRead, backed_up};
+ghost use Rattle.bk_carried.specs.Copied.{IsCopy, IsHeaderOf, WasRead, backed_up, said_last};
 ghost use Rattle.bk_filling.specs.Filling.{MayFill, names_of};
 ghost use Rattle.bk_filling.specs.Records.{Spell};
 ghost use Rattle.bk_header.specs.Conditions.{AreNumbered};
@@ -20,6 +20,7 @@ ghost use Rattle.bk_machine.specs.Acts.{Recovery};
 ghost use Rattle.bk_machine.specs.Sound.{IsSound, IsSoundSet};
 ghost use Rattle.bk_machine.specs.World.{Database, World, database_named, log_of};
 ghost use Rattle.bk_machine.specs.statements.Backup.{full_header};
+ghost use Rattle.bk_machine.specs.statements.Job.{Running, check_job, job_header};
 ghost use Rattle.bk_page.specs.Page.{fresh_page};
 ghost use Rattle.bk_paths.specs.Paths.{IsPath};
 ghost use Rattle.bk_record.specs.Log.{IsLog};
@@ -27,10 +28,11 @@ ghost use Rattle.bk_restored.specs.Restored.{SufficesTold};
 ghost use Rattle.bk_restored.specs.RestoringArriving.{Kept};
 ghost use Rattle.bk_shown.specs.Shown.{ArePlaced};
 ghost use Rattle.bk_side.specs.Names.{AreDifferent};
+ghost use Rattle.bk_restored.specs.StoreCopying.{ArePages};
 ghost use Rattle.bk_restored.specs.StoreTold.{Told, data_file, files_of};
 ghost use Rattle.bk_undo.specs.Spelled.{spelled};
 ghost use Rattle.bk_world.specs.Lines.{RecordLines, log_below};
-ghost use Rattle.bk_world.specs.Records.{Logged};
+ghost use Rattle.bk_world.specs.Records.{Logged, stamped};
 ghost use Rattle.bk_world.specs.declared.database.FileSpec.{FileSpec};
 ghost use Rattle.bk_world.specs.declared.database.Status.TheVariants.{Online};
 ghost use Rattle.bk_world.specs.declared.header.HeaderFile.{HeaderFile};
@@ -48,8 +50,16 @@ pub fn backups_carry()
 
 /// The header of a full backup in a sound world is of its database as it is once the checkpoint and the stamp are said.
 pub fn full_headers_are_of_databases()
-    ensures { (w : World) (db : Database) (options : BackupOptions) (set : Guid) (time : ℕ) (told : Told) → IsSound w → database_named w.databases db.name ≡ Some db → db.status ≡ Online → files_of told ≡ db.files
-        → told.records ≡ backed_up (log_of w.history db) (full_header w db options set time) → IsHeaderOf told (full_header w db options set time) }
+    ensures { (w : World) (db : Database) (options : BackupOptions) (path : List ℕ) (set : Guid) (time : ℕ) (told : Told) → IsSound w → database_named w.databases db.name ≡ Some db → db.status ≡ Online → files_of told ≡ db.files
+        → told.records ≡ backed_up (log_of w.history db) (full_header w db options path set time) → IsHeaderOf told (full_header w db options path set time) }
+{}
+
+/// The header of the set that a job of a sound world finishes is of its database once the stamp is said. What was read of that goes on being so whatever is said later, and what is read now is as of its end.
+pub fn job_headers_are_of_databases()
+    ensures header { (w : World) (r : Running) (time : ℕ) (told : Told) → IsSound w → check_job w ≡ Ok r → files_of told ≡ r.database.files
+        → told.records ≡ said_last (log_of w.history r.database) (stamped time r.job.set) → IsHeaderOf told (job_header w r time) }
+    ensures later { (rs more : List Logged) (since : ℕ) (e : Extent) → WasRead rs since e → WasRead (rs ++ more) since e }
+    ensures read { (rs : List Logged) (since : ℕ) (e : Extent) → since ≤ length rs → ArePages (map spelled rs) e.file e.extent 8 e.bytes → WasRead rs since e }
 {}
 
 /// A set goes on carrying its log where that reads the same.
