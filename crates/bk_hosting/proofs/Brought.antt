@@ -11,6 +11,7 @@ use Rattle.bk_hosted.specs.Hosted.{Hosted, folded, has_checkpoint, is_up}
 use Rattle.bk_hosted.specs.PointLaws.{has-below}
 use Rattle.bk_ids.specs.declared.record.Rec.{Rec}
 use Rattle.bk_known.specs.declared.known.Known.{Known}
+use Rattle.bk_machine.specs.declared.job.Job.{Job}
 use Rattle.bk_points.specs.declared.points.Points.{Points}
 use Rattle.bk_points.specs.Points.{IsPoints, points_bytes}
 use Rattle.bk_stores.specs.Reopening.{settled}
@@ -66,7 +67,7 @@ folded-none points rs next kept counts =
 
 -- what is kept in memory of a database with these points
 abbrev pub state_at : Points → State
-state_at points = record { points = points; transactions = []; known = None }
+state_at points = record { points = points; job = None; transactions = []; known = None }
 
 -- ---- the database
 
@@ -97,7 +98,7 @@ module _ (told : Told) (r : Logged) (points : Points) (h : Hosted) (is : IsUpAs 
   up-state b s store =
       let counts : Counts 1 h.records (end_behind h.records) = subst (λ (rs : List Logged). Counts 1 rs (end_behind rs)) is.records (shown-log (files_of new) new.records s.shown store.shows).counts in
       let none : folded h.points h.records ≡ points = ap (λ (p : Points). folded p h.records) (sym is.points_are) ∙ folded-none points h.records is.none_next is.none_kept counts in
-      ap state_at (sym none) ∙ ap (λ ts. record (state_at (folded h.points h.records)) { transactions = ts }) (sym is.idle) ∙ sym (state-up h is.up)
+      ap state_at (sym none) ∙ ap (λ (o : Option Job). record (state_at (folded h.points h.records)) { job = o }) (sym is.runs) ∙ ap (λ ts. record (state_at (folded h.points h.records)) { job = h.job; transactions = ts }) (sym is.idle) ∙ sym (state-up h is.up)
 
 -- ---- all of them
 

@@ -1,5 +1,5 @@
 -- What a crash leaves of hosted databases, from what it leaves of their stores.
-use Rattle.std.proofs.Common.{◌≡◌, ◌≤◌, ◌<◌, ℕ, zero, suc, Bool, true, false, List, [], ◌∷◌, drop, length, map, take, Some, refl, sym, ap, subst, ◌∙◌, arith}
+use Rattle.std.proofs.Common.{◌≡◌, ◌≤◌, ℕ, zero, suc, Bool, true, false, List, [], ◌∷◌, drop, length, map, take, Some, refl, sym, ap, subst, ◌∙◌, arith}
 use Rattle.std.specs.Prelude.{slice_get}
 use Rattle.std.specs.List.{AllByRecursion, AllZip}
 use Rattle.std.proofs.lemmas.List.{take-append-drop}
@@ -12,7 +12,6 @@ use Rattle.bk_master.specs.declared.record.Record.{Record}
 use Rattle.bk_store.specs.Told.{Told, front_of}
 use Rattle.bk_stores.specs.Stores.{AreEntries, Fixed, HoldsEntry, IsAt, LeavesEntry, LeavesStores, at_paths, files_by, its_files}
 use Rattle.bk_stores.specs.Beside.{AreApart}
-use Rattle.bk_world.specs.Records.{Logged}
 use Rattle.bk_hosting.specs.Hosting.{AreOf, HasRecord, LosesWaiting, LeavesHosted, Tells}
 
 -- ---- records

@@ -16,3 +16,4 @@ mod Loaded
 mod Asked
 mod CopiedStores
 mod CopiedHosted
+mod Dropped

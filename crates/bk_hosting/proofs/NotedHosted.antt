@@ -1,5 +1,5 @@
 -- Hosted databases of which one is given other points in its note.
-use Rattle.std.proofs.Common.{◌≡◌, ◌≤◌, ◌⊎◌, ℕ, false, cond, zero, suc, List, [], ◌∷◌, map, drop, Some, refl, inl, inr, sym, ap, subst, ◌∙◌, arith}
+use Rattle.std.proofs.Common.{◌≡◌, ◌≤◌, ◌⊎◌, ℕ, false, cond, List, drop, Some, refl, inl, inr, sym, ap, subst, ◌∙◌, arith}
 use Rattle.std.specs.Prelude.{set, slice_get}
 use Rattle.std.specs.List.{AllByRecursion, AllZip}
 use Rattle.bk_device.specs.Compose.{effect_weaken}

@@ -1,13 +1,12 @@
 -- Hosted databases of which one is being restored.
-use Rattle.std.proofs.Common.{◌≡◌, ◌<◌, ◌≤◌, ◌⊎◌, ◌+◌, ◌-◌, take, ℕ, Bool, true, false, List, [], ◌∷◌, ◌++◌, length, map, Option, Some, None, refl, inl, inr, sym, ap, subst, ◌∙◌, arith}
+use Rattle.std.proofs.Common.{◌≡◌, ◌≤◌, ◌⊎◌, ◌+◌, ◌-◌, take, ℕ, Bool, false, List, length, map, Option, Some, None, refl, inl, inr, sym, ap, subst, ◌∙◌, arith}
 use Rattle.std.specs.Prelude.{set, slice_get}
-use Rattle.std.specs.List.{AllByRecursion, AllZip}
+use Rattle.std.specs.List.{AllZip}
 use Rattle.std.proofs.Math.Seq.{take-length}
 use Rattle.bk_device.specs.Compose.{effect_weaken}
 use Rattle.bk_device.specs.Disk.{Disk}
 use Rattle.bk_device.specs.Effects.{Effect}
 use Rattle.bk_hosted.specs.Hosted.{Hosted, is_up}
-use Rattle.bk_known.specs.declared.known.AsOf.{AsOf}
 use Rattle.bk_known.specs.declared.known.Known.{Known}
 use Rattle.bk_known.specs.Known.{KeepsKnown}
 use Rattle.bk_points.specs.declared.points.Points.{Points}
@@ -17,10 +16,9 @@ use Rattle.bk_store.specs.Told.{Told, below}
 use Rattle.bk_stores.specs.ListLaws.{got-inside, got-one, got-other, got-set, same-place}
 use Rattle.bk_stores.specs.Making.{Swaps, sealed_swapped, set_stored}
 use Rattle.bk_stores.specs.Parking.{IsParked}
-use Rattle.bk_stores.specs.Stores.{AreStores, Fixed, IsOurs, fixed_of, sealed_at, sealed_of, Kept as KeptStores}
+use Rattle.bk_stores.specs.Stores.{AreStores, Fixed, IsOurs, fixed_of, sealed_at, sealed_of}
 use Rattle.bk_world.specs.declared.database.FileSpec.{FileSpec}
 use Rattle.bk_world.specs.Cut.{end_behind}
-use Rattle.bk_world.specs.Records.{Logged}
 use Rattle.bk_world.specs.Telling as telling
 use Rattle.bk_hosting.specs.declared.hosting.State.{State}
 use Rattle.bk_hosting.specs.Hosting.{AreOf, HasRecord, IsHosting, IsNoteOf, Kept, LeavesEither, Tells, WaitsBehind, known_at, known_by, own_of, points_by, state_of}
@@ -31,8 +29,8 @@ use Rattle.bk_hosting.proofs.MadeHosted.{all-of-it}
 use Rattle.bk_hosting.proofs.SaidHosted.{Placed, may-lose, placed-of}
 
 -- what is kept of one
-pub state-down : (h : Hosted) → is_up h ≡ false → state_of h ≡ record { points = h.points; transactions = h.transactions; known = Some (known_at h) }
-state-down h down = ap (λ b. record { points = points_by b h; transactions = h.transactions; known = known_by b h }) down
+pub state-down : (h : Hosted) → is_up h ≡ false → state_of h ≡ record { points = h.points; job = h.job; transactions = h.transactions; known = Some (known_at h) }
+state-down h down = ap (λ b. record { points = points_by b h; job = h.job; transactions = h.transactions; known = known_by b h }) down
 
 -- all records are below the end
 below-end : (known : Known) (h : Hosted) → known ≡ known_at h → below known.as_of.from h.records ≡ h.records

@@ -1,5 +1,5 @@
 -- Hosted databases behind what one of them says.
-use Rattle.std.proofs.Common.{◌≡◌, ◌≤◌, ◌<◌, ℕ, zero, suc, Bool, true, false, List, [], ◌∷◌, ◌++◌, drop, length, map, Option, Some, None, refl, sym, ap, subst, ◌∙◌, arith}
+use Rattle.std.proofs.Common.{◌≡◌, ◌≤◌, ℕ, zero, suc, Bool, true, false, List, [], ◌∷◌, ◌++◌, drop, length, map, Option, Some, None, refl, sym, ap, subst, ◌∙◌, arith}
 use Rattle.std.specs.Prelude.{◌==◌, ◌||◌, get_or, set, slice_get}
 use Rattle.std.specs.List.{AllByRecursion, AllZip}
 use Rattle.std.proofs.lemmas.Bool.Decides.{nat_tests}
@@ -103,13 +103,13 @@ slot-of a x hosted at h is here opened =
     record { told = one.told; there = one.there; tell = one.tell; store = opened.0; filled = opened.1; up = waits.0; first = waits.1; waits = waits.2 }
 
 -- what is kept of one that can be used
-pub state-up : (h : Hosted) → is_up h ≡ true → state_of h ≡ record { points = folded h.points h.records; transactions = h.transactions; known = None }
-state-up h up = ap (λ b. record { points = points_by b h; transactions = h.transactions; known = known_by b h }) up
+pub state-up : (h : Hosted) → is_up h ≡ true → state_of h ≡ record { points = folded h.points h.records; job = h.job; transactions = h.transactions; known = None }
+state-up h up = ap (λ b. record { points = points_by b h; job = h.job; transactions = h.transactions; known = known_by b h }) up
 
 said-state : (h : Hosted) (said : List Said) (ts : List Open) → is_up h ≡ true → SaysNoCheckpoint said → record (state_of h) { transactions = ts } ≡ state_of (saying said ts h)
 said-state h said ts up none =
     ap (λ (s : State). record s { transactions = ts }) (state-up h up)
-    ∙ ap (λ (p : Points). record { points = p; transactions = ts; known = None }) (sym (folded-said h.points h.records (end_behind h.records) said none)) ∙ sym (state-up (saying said ts h) up)
+    ∙ ap (λ (p : Points). record { points = p; job = h.job; transactions = ts; known = None }) (sym (folded-said h.points h.records (end_behind h.records) said none)) ∙ sym (state-up (saying said ts h) up)
 
 -- how many records are durable of what a store stands for
 pub all-sealed : (s : KeptStore) (told : Told) (a : Disk) → IsStore a s told → s.paged.log.stored ≡ s.paged.log.«end» → sealed_in s ≡ length told.records

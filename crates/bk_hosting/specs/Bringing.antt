@@ -1,6 +1,6 @@
 -- Hosted databases that are brought up of a set on a medium.
 -- SQL Server: RESTORE (Transact-SQL), WITH RECOVERY; "Complete Database Restores (Full Recovery Model)".
-use Rattle.std.specs.Prelude.{◌≡◌, ℕ, false, true, List, [], Some, slice_get}
+use Rattle.std.specs.Prelude.{◌≡◌, ℕ, false, true, List, [], None, Some, slice_get}
 use Rattle.std.specs.List.{AllByRecursion}
 use Rattle.bk_device.specs.Disk.{Disk}
 use Rattle.bk_facts.specs.declared.facts.DataFile.{DataFile}
@@ -33,7 +33,7 @@ pub record ComesUp (disk : Disk) (x : Kept) (hosted : List Hosted) (at : ℕ) (n
   pub makes : MakesNext disk x.stores name stored files checkpoint (points_bytes points) known told
   pub ends : EndsWith told r last
 
--- What it is then: it can be used, with the set's records, all that was pending undone, and that record behind them. Nothing is open in it, and these are its points, with no checkpoint to come.
+-- What it is then: it can be used, with the set's records, all that was pending undone, and that record behind them. Nothing is open in it, no backup of it runs, and these are its points, with no checkpoint to come.
 pub record IsUpAs (told : Told) (r : Logged) (points : Points) (h : Hosted) : Type 0 where
   pub spec : told.spec ≡ h.spec
   pub records : (said (settled told) r).records ≡ h.records
@@ -41,4 +41,5 @@ pub record IsUpAs (told : Told) (r : Logged) (points : Points) (h : Hosted) : Ty
   pub none_next : points.next_checkpoint ≡ 0
   pub none_kept : points.next_kept ≡ 0
   pub up : is_up h ≡ true
+  pub runs : h.job ≡ None
   pub idle : h.transactions ≡ []

@@ -8,7 +8,6 @@ use Rattle.bk_hosted.specs.Hosted.{Hosted, SaysNoCheckpoint, first_points, folde
 use Rattle.bk_known.specs.declared.known.Known.{Known}
 use Rattle.bk_ids.specs.declared.record.Rec.{Rec}
 use Rattle.bk_machine.specs.Sound.{has_begin}
-use Rattle.bk_master.specs.declared.record.Entry.{Entry}
 use Rattle.bk_master.specs.declared.record.Own.{Own}
 use Rattle.bk_master.specs.declared.record.Record.{Record}
 use Rattle.bk_points.specs.declared.points.Points.{Points}
@@ -52,9 +51,9 @@ abbrev pub known_by : Bool → Hosted → Option Known
 known_by true h = None
 known_by false h = Some (known_at h)
 
--- what is kept of it in memory beside its store: its points, what is open, and while it is being restored what is known of it
+-- what is kept of it in memory beside its store: its points, the backup that runs, what is open, and while it is being restored what is known of it
 abbrev pub state_of : Hosted → State
-state_of h = record { points = points_by (is_up h) h; transactions = h.transactions; known = known_by (is_up h) h }
+state_of h = record { points = points_by (is_up h) h; job = h.job; transactions = h.transactions; known = known_by (is_up h) h }
 
 -- A database whose store is open can be used, its first record is durable, and what isn't waits. In one whose store isn't nothing is open.
 abbrev pub WaitsBehind : Option KeptStore → Hosted → Type 0

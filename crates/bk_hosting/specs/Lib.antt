@@ -8,6 +8,8 @@ pub mod Loading
 pub mod Asking
 pub mod Copying
 pub mod AskLaws
+pub mod Jobs
+pub mod JobLaws
 pub use Rattle.bk_stores.specs.ArrivingExtents
 pub use Rattle.bk_stores.specs.ArrivingSets
 pub use Rattle.bk_stores.specs.RestoringArriving

@@ -30,4 +30,4 @@ ArePathsAt slots at paths = (slot : Option KeptStore) × (slice_get slots at ≡
 
 -- a database as it is made, at a time, on a branch
 abbrev pub newly : DatabaseSpec → ℕ → Guid → Hosted
-newly spec time branch = record { spec = spec; points = first_points spec.storage.files; records = founding time spec.family branch ∷ []; transactions = [] }
+newly spec time branch = record { spec = spec; points = first_points spec.storage.files; records = founding time spec.family branch ∷ []; job = None; transactions = [] }

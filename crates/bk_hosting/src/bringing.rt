@@ -54,11 +54,12 @@ impl Hosting {
     // Keeps these points of the database at this place, whose store is open, and in which nothing is.
     fn put_points(&mut self, alloc: Global, at: usize, points: Points)
         requires inside { at < length self.old.states }
-        ensures states { self.new.states ≡ set self.old.states at (record { points = points; transactions = []; known = None }) }
+        ensures states { self.new.states ≡ set self.old.states at (record { points = points; job = None; transactions = []; known = None }) }
         ensures stores { self.new.stores ≡ self.old.stores }
     {
         self.states[at] = State {
             points,
+            job: None,
             transactions: Sequence::new(Vec::new(alloc)),
             known: None,
         };

@@ -3,6 +3,7 @@ ghost use Rattle.bk_hosting.specs.Hosting.{Kept};
 
 use bk_ids::Sequence;
 use bk_known::Known;
+use bk_machine::Job;
 use bk_points::Points;
 use bk_stores::Stores;
 use bk_world::Open;
@@ -13,6 +14,8 @@ use std::marker::Model;
 pub struct State {
     /// The points of its log, its base, its status and its units of restore.
     pub points: Points,
+    /// The backup that runs beside the sessions.
+    pub job: Option<Job>,
     /// What is open in it, in the order in which it began.
     pub transactions: Sequence<Open>,
     /// What is known of it as of its end, while it is being restored: its store isn't open then.

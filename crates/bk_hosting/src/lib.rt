@@ -6,6 +6,7 @@ mod bringing;
 mod checkpointing;
 mod copying;
 mod hosting;
+mod jobs;
 mod loading;
 mod logging;
 mod making;

@@ -35,7 +35,7 @@ fn read_at<D: Device>(
 ) -> Result<State, StoresError>
     requires opened { IsSealedAt stores.now.slots at }
     requires standing { D.tells → AreStanding (D.disk dev.old) stores.now }
-    ensures state { D.tells → (tolds : List Told) (told : Told) (h : Hosted) → AreStores (D.disk dev.old) stores.now tolds → slice_get tolds at ≡ Some told → Tells told h → IfOk result (λ s. s ≡ record { points = folded h.points h.records; transactions = []; known = None }) }
+    ensures state { D.tells → (tolds : List Told) (told : Told) (h : Hosted) → AreStores (D.disk dev.old) stores.now tolds → slice_get tolds at ≡ Some told → Tells told h → IfOk result (λ s. s ≡ record { points = folded h.points h.records; job = None; transactions = []; known = None }) }
     ensures standing { D.tells → AreStanding (D.disk dev.new) stores.now }
     ensures stands { D.tells → (tolds : List Told) → AreStores (D.disk dev.old) stores.now tolds → AreStores (D.disk dev.new) stores.now tolds }
     ensures effect { D.tells → ChangesNothing (D.disk dev.old) (D.disk dev.new) }
@@ -66,7 +66,7 @@ fn noted_at<D: Device>(
     requires unstored { (e : Entries) × (slice_get stores.now.master.record.databases at ≡ Some e) × (e.is_stored ≡ false) }
     requires inside { at < length stores.now.slots }
     requires standing { D.tells → AreStanding (D.disk dev.old) stores.now }
-    ensures state { D.tells → (tolds : List Told) (told : Told) (h : Hosted) → AreStores (D.disk dev.old) stores.now tolds → slice_get tolds at ≡ Some told → Tells told h → is_up h ≡ false → h.transactions ≡ [] → IfOk result (λ s. s ≡ state_of h) }
+    ensures state { D.tells → (tolds : List Told) (told : Told) (h : Hosted) → AreStores (D.disk dev.old) stores.now tolds → slice_get tolds at ≡ Some told → Tells told h → is_up h ≡ false → h.job ≡ None → h.transactions ≡ [] → IfOk result (λ s. s ≡ state_of h) }
     ensures effect { D.tells → ChangesNothing (D.disk dev.old) (D.disk dev.new) }
     ensures broken { D.tells → IsErrOf result StoresError.Broken → (tolds : List Told) (told : Told) (h : Hosted) → AreStores (D.disk dev.old) stores.now tolds → slice_get tolds at ≡ Some told → Tells told h → is_up h ≡ false → ⊥ }
     ensures not_an_instance { IsErrOf result StoresError.NotAnInstance → ⊥ }
@@ -79,6 +79,7 @@ fn noted_at<D: Device>(
     }
     Ok(State {
         points,
+        job: None,
         transactions: Sequence::new(Vec::new(alloc)),
         known: Some(known),
     })

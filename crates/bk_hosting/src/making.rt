@@ -23,7 +23,7 @@ use std::alloc::{AllocError, Global};
 
 // What is kept of a database that was just made with these files.
 pub(crate) fn first_state(alloc: Global, files: &[FileSpec]) -> Result<State, AllocError>
-    ensures { IfOk result (λ s. s ≡ record { points = first_points files.now; transactions = []; known = None }) }
+    ensures { IfOk result (λ s. s ≡ record { points = first_points files.now; job = None; transactions = []; known = None }) }
 {
     let mut units = Vec::new(alloc);
     for file in files {
@@ -45,6 +45,7 @@ pub(crate) fn first_state(alloc: Global, files: &[FileSpec]) -> Result<State, Al
             status: Status::Online,
             units: Sequence::new(units),
         },
+        job: None,
         transactions: Sequence::new(Vec::new(alloc)),
         known: None,
     })
@@ -68,7 +69,7 @@ fn are_small(paths: &[Text]) -> bool
 impl Hosting {
     // What is kept of one more database with these files, where there is room for it, and no open store has one of them.
     fn room_for(&self, alloc: Global, files: &[FileSpec]) -> Result<State, StoresError>
-        ensures state { IfOk result (λ s. s ≡ record { points = first_points files.now; transactions = []; known = None }) }
+        ensures state { IfOk result (λ s. s ≡ record { points = first_points files.now; job = None; transactions = []; known = None }) }
         ensures few { OnOk result (length self.now.stores.slots < 16) }
         ensures unused { OnOk result (AreUnused self.now.stores.slots (at_paths (map (λ f. f.path) files.now))) }
         ensures memory { IfErr result (λ e. e ≡ StoresError.NoMemory) }

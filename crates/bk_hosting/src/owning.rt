@@ -3,7 +3,7 @@ ghost use Rattle.std.specs.Prelude.{◌≡◌, ◌⊎◌, List, IfErr, OnOk, IsE
 ghost use Rattle.bk_device.specs.Counts.{HasCause};
 ghost use Rattle.bk_device.specs.Effects.{Effect};
 ghost use Rattle.bk_hosted.specs.Hosted.{Hosted};
-ghost use Rattle.bk_master.specs.Spelling.{IsShort};
+ghost use Rattle.bk_master.specs.Spelling.{KeepsOwn};
 ghost use Rattle.bk_stores.specs.Errors.{IsTrouble};
 ghost use Rattle.bk_stores.specs.Standing.{AreStanding};
 ghost use Rattle.bk_stores.specs.Stores.{IsOurs, TouchesOurs};
@@ -16,7 +16,7 @@ use bk_stores::StoresError;
 use std::alloc::Global;
 
 impl Hosting {
-    /// Makes this what the instance keeps of itself; the path of a medium that is being made has 1 to 100 bytes. A crash leaves the databases, but for what waits, with what it kept before, or with this.
+    /// Makes this what the instance keeps of itself; the path of a medium that is being made has 1 to 100 bytes, and at most 16 sets are being copied beside the sessions. A crash leaves the databases, but for what waits, with what it kept before, or with this.
     ///
     /// Only `Fault` and `NoMemory` are answered.
     pub fn put_own<D: Device>(
@@ -26,7 +26,7 @@ impl Hosting {
         own: Own,
     ) -> Result<(), StoresError>
         requires ready { IsReady self.old }
-        requires short { IsShort own.making }
+        requires own { KeepsOwn own }
         requires standing { D.tells → AreStanding (D.disk dev.old) self.old.stores }
         ensures ready { OnOk result (IsReady self.new) }
         ensures own { OnOk result (own_of self.new ≡ own) }

@@ -59,6 +59,7 @@ impl Hosting {
         self.stores.park_new(alloc, dev, &known, &note)?;
         self.states.push(State {
             points,
+            job: None,
             transactions: Sequence::new(Vec::new(alloc)),
             known: Some(known),
         })?;
@@ -97,6 +98,7 @@ impl Hosting {
         self.stores.park_at(alloc, dev, at, &known, &note, &paths)?;
         let state = State {
             points,
+            job: None,
             transactions: Sequence::new(Vec::new(alloc)),
             known: Some(known),
         };

@@ -102,7 +102,7 @@ pub(crate) fn read_state<D: Device>(
 ) -> Result<State, StoresError>
     requires sealed { IsSealed store.now }
     requires standing { D.tells → Standing (D.disk dev.old) store.now.paged }
-    ensures state { D.tells → (told : Told) (h : Hosted) → IsStore (D.disk dev.old) store.now told → Tells told h → IfOk result (λ s. s ≡ record { points = folded h.points h.records; transactions = []; known = None }) }
+    ensures state { D.tells → (told : Told) (h : Hosted) → IsStore (D.disk dev.old) store.now told → Tells told h → IfOk result (λ s. s ≡ record { points = folded h.points h.records; job = None; transactions = []; known = None }) }
     ensures effect { D.tells → ChangesNothing (D.disk dev.old) (D.disk dev.new) }
     ensures broken { D.tells → IsErrOf result StoresError.Broken → (told : Told) (h : Hosted) → IsStore (D.disk dev.old) store.now told → Tells told h → ⊥ }
     ensures not_an_instance { IsErrOf result StoresError.NotAnInstance → ⊥ }
@@ -113,6 +113,7 @@ pub(crate) fn read_state<D: Device>(
     take_in(&mut points, reached);
     Ok(State {
         points,
+        job: None,
         transactions: Sequence::new(Vec::new(alloc)),
         known: None,
     })

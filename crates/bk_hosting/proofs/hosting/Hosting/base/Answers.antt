@@ -49,7 +49,7 @@ returns-clause-stands g c = λ tells hosted h is here.
     })
     (ap (λ (p : Points). set c.self.inside.states.items c.args.at (record c.index_mut.result.now { points = p })) points
     ∙ ap (λ (s : State). set c.self.inside.states.items c.args.at (record s { points = new })) (state ∙ state-up h up)
-    ∙ ap (λ (p : Points). set c.self.inside.states.items c.args.at (record { points = p; transactions = h.transactions; known = None })) (sym still)
+    ∙ ap (λ (p : Points). set c.self.inside.states.items c.args.at (record { points = p; job = h.job; transactions = h.transactions; known = None })) (sym still)
     ∙ ap (λ (s : State). set c.self.inside.states.items c.args.at s) (sym (state-up (pointed new h) up)))
 
 pub returns-clause-crash : goal.returns-clause-crash

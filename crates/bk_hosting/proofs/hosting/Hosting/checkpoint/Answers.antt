@@ -1,4 +1,4 @@
-use Rattle.std.proofs.Common.{rules, true, None, inl, ◌≡◌, ◌<◌, ◌∙◌, List, Some, length, refl, sym, ap, subst, set}
+use Rattle.std.proofs.Common.{rules, true, None, inl, ◌≡◌, ◌∙◌, List, Some, refl, sym, ap, subst, set}
 use Rattle.std.specs.Prelude.{slice_get}
 use Rattle.bk_device.specs.Compose.{effect_weaken, effect_then}
 use Rattle.bk_device.specs.Effects.{Effect}
@@ -152,10 +152,11 @@ returns-clause-stands g c = λ tells hosted h is here.
     let awaited : c.index_mut-2.result.now ≡ record c.index_mut.result.now { points = c.await_checkpoint.new.points } = search rules in
     let folds = taken-in h c.args.time c.args.kept c.index_mut-2.result.now.points c.fold.new.points counts c.fold.ensures (ap (λ (s : State). s.points) awaited ∙ points) in
     let opens : c.index_mut-2.result.now.transactions ≡ h.transactions = ap (λ (s : State). s.transactions) awaited ∙ ap (λ (s : State). s.transactions) state in
+    let runs : c.index_mut-2.result.now.job ≡ h.job = ap (λ (s : State). s.job) awaited ∙ ap (λ (s : State). s.job) state in
     let first : State = record c.index_mut.result.now { points = c.await_checkpoint.new.points } in
     let one : State = record c.index_mut-2.result.now { points = c.fold.new.points } in
     let none : c.index_mut-2.result.now.known ≡ None = ap (λ (s : State). s.known) awaited ∙ ap (λ (s : State). s.known) (state ∙ state-up h up) in
-    let last-state : one ≡ record { points = folded (awaiting h.points h.records c.args.kept) (behind h c.args.time).records; transactions = h.transactions; known = None } = λ i. record { points = folds i; transactions = opens i; known = none i } in
+    let last-state : one ≡ record { points = folded (awaiting h.points h.records c.args.kept) (behind h c.args.time).records; job = h.job; transactions = h.transactions; known = None } = λ i. record { points = folds i; job = runs i; transactions = opens i; known = none i } in
     let state-is : one ≡ state_of (behind (to_check h c.args.kept) c.args.time) = last-state ∙ sym (state-up (behind (to_check h c.args.kept) c.args.time) up) in
     let final : Kept = record { stores = c.mark_on.new.stores; states = set (set items c.args.at first) c.args.at one } in
     subst (λ (hs : List Hosted). IsHosting (g.D.Device.disk c.mark_on.new.dev) final hs) (set-set hosted c.args.at (to_check h c.args.kept) (checked h c.args.time c.args.kept))

@@ -37,7 +37,7 @@ returns-clause-stands g c = λ tells hosted is none.
     let x : Kept = record { stores = c.self.inside.stores; states = c.self.inside.states.items } in
     let is' : IsHosting a x hosted = subst (λ (k : Kept). IsHosting a k hosted) (sym c.self.view_is) is in
     let opens = c.in_ok-create.ensures.opens in
-    let state : c.in_ok-state.state ≡ record { points = first_points c.args.spec.storage.files; transactions = []; known = None } = search rules in
+    let state : c.in_ok-state.state ≡ record { points = first_points c.args.spec.storage.files; job = None; transactions = []; known = None } = search rules in
     let pushed : c.push.new.self.items ≡ c.self.inside.states.items ++ c.in_ok-state.state ∷ [] = search rules in
     made-hosting a (g.D.Device.disk c.create.new.dev) x (record { stores = c.create.new.self; states = c.push.new.self.items }) hosted c.args.spec c.args.time c.args.branch opens.0 is' opens.1 opens.2 c.in_ok-create.ensures.fixed
     (c.in_ok-create.ensures.stands tells is'.tolds is'.stores (shares-none a x hosted c.args.spec is' none))

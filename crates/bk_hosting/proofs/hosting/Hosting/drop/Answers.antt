@@ -1,4 +1,4 @@
-use Rattle.std.proofs.Common.{rules, ◌≡◌, ◌<◌, ◌∙◌, length, inl, sym, ap, subst, remove}
+use Rattle.std.proofs.Common.{rules, ◌≡◌, ◌<◌, length, inl, sym, ap, subst, remove}
 use Rattle.bk_device.specs.Compose.{effect_weaken}
 use Rattle.bk_stores.specs.ListLaws.{got}
 use Rattle.bk_stores.specs.Standing.{AreStanding}

@@ -10,7 +10,6 @@ use Rattle.bk_stores.specs.declared.error.StoresError.TheVariants.{Broken}
 use Rattle.bk_stores.specs.QuietLaws.{quiet-moved}
 use Rattle.bk_stores.specs.Stores.{Fixed, IsOurs, fixed_of}
 use Rattle.bk_hosting.specs.declared.hosting.State.{State}
-use Rattle.bk_hosting.specs.Hosting.{own_of}
 use Rattle.bk_hosting.specs.Loading.{IsOpening, IsPartly, LeavesUndoing}
 use Rattle.bk_hosting.proofs.Loaded.{Held, held, loaded-opening, loaded-partly, loaded-undoing}
 use Rattle.bk_hosting.proofs.hosting.Hosting.load.Goals as goal

@@ -1,11 +1,10 @@
-use Rattle.std.proofs.Common.{rules, true, map, ◌≡◌, ◌<◌, ◌∙◌, ℕ, [], ◌∷◌, ◌++◌, Some, length, set, sym, ap, subst, arith, false, None}
+use Rattle.std.proofs.Common.{rules, true, ◌≡◌, ◌<◌, ◌∙◌, ℕ, [], ◌∷◌, ◌++◌, Some, length, set, sym, ap, subst, false, None}
 use Rattle.std.specs.Prelude.{slice_get, IsErrOf}
 use Rattle.bk_device.specs.Compose.{effect_then_nothing, effect_then}
 use Rattle.bk_device.specs.Effects.{Effect}
 use Rattle.bk_device.specs.Laws.{nothing_then}
 use Rattle.bk_hosted.specs.Fronts.{settling}
 use Rattle.bk_hosted.specs.Hosted.{folded, is_up}
-use Rattle.bk_master.specs.declared.record.Entry.{Entry}
 use Rattle.bk_stores.specs.Reopening.{settled as settled_told}
 use Rattle.bk_machine.specs.statements.Restore.{is_online}
 use Rattle.bk_stores.specs.TouchLaws.{nothing-touched}
@@ -176,7 +175,7 @@ returns-then-not-is_online-clause-broken g c = λ tells broken hosted is.
     let after : AreStores b c.open.new.self (set is'.tolds c.len-at.result (settled_told next.told)) = c.in_ok-open.ensures.stands tells is'.tolds next.told is'.stores there in
     let put : slice_get (set is'.tolds c.len-at.result (settled_told next.told)) c.len-at.result ≡ Some (settled_told next.told) = got-set is'.tolds c.len-at.result (settled_told next.told) (got-inside is'.tolds c.len-at.result next.told there) in
     let tell : Tells (settled_told next.told) (settling next.h) = settled-tells next.told next.h up next.tell in
-    let state : c.in_ok-state.state ≡ record { points = folded next.h.points (settling next.h).records; transactions = []; known = None } = c.in_ok-state.ensures.state tells (set is'.tolds c.len-at.result (settled_told next.told)) (settled_told next.told) (settling next.h) after put tell in
+    let state : c.in_ok-state.state ≡ record { points = folded next.h.points (settling next.h).records; job = None; transactions = []; known = None } = c.in_ok-state.ensures.state tells (set is'.tolds c.len-at.result (settled_told next.told)) (settled_told next.told) (settling next.h) after put tell in
     let no : c.is_online.result ≡ false = search rules in
     let online : c.is_online.result ≡ is_online c.in_ok-state.state.points.status = search rules in
     let both : false ≡ true = sym no ∙ online ∙ ap (λ (s : State). is_online s.points.status) state ∙ up in

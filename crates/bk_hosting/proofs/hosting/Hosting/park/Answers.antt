@@ -1,12 +1,11 @@
-use Rattle.std.proofs.Common.{rules, ◌≡◌, ◌≤◌, ◌∙◌, ℕ, false, List, [], ◌∷◌, ◌++◌, length, None, Some, inl, refl, sym, ap, subst}
+use Rattle.std.proofs.Common.{rules, ◌≡◌, ◌≤◌, ◌∙◌, ℕ, false, List, [], ◌∷◌, ◌++◌, length, None, Some, inl, sym, ap, subst}
 use Rattle.bk_device.specs.Compose.{effect_weaken}
-use Rattle.bk_hosted.specs.Hosted.{Hosted}
 use Rattle.bk_points.specs.Points.{points_bytes}
 use Rattle.bk_stores.specs.Parking.{IsParked}
 use Rattle.bk_stores.specs.Stores.{Fixed, fixed_of}
 use Rattle.bk_stores.specs.TouchLaws.{none-touched}
 use Rattle.bk_hosting.specs.declared.hosting.State.{State}
-use Rattle.bk_hosting.specs.Hosting.{IsHosting, Kept, LeavesEither, Tells, known_at, state_of}
+use Rattle.bk_hosting.specs.Hosting.{IsHosting, Kept, LeavesEither, Tells, state_of}
 use Rattle.bk_hosting.proofs.Checked.{as-viewed, rest-hosted}
 use Rattle.bk_hosting.proofs.MadeHosted.{more-crash, more-hosting, stored-more}
 use Rattle.bk_hosting.proofs.Parked.{parked-tells, state-down, told-parked, told_of}
@@ -63,10 +62,11 @@ returns-clause-stands g c = λ tells hosted h is parks.
     let parked : IsParked c.args.known (points_bytes c.args.points) (told_of h) = told-parked c.args.known c.args.points h parks c.requires.keeps c.in_ok-note.ensures.spelled (let short = c.in_ok-note.ensures.short in let is_note : c.in_ok-note.note.items ≡ points_bytes c.args.points = search rules in subst (λ (bs : List ℕ). length bs ≤ 12288) is_note short) in
     let parked-parks : IsParked c.args.known c.deref.result.now (told_of h) = subst (λ (bs : List ℕ). IsParked c.args.known bs (told_of h)) (sym note) parked in
     let tell : Tells (told_of h) h = parked-tells c.args.known c.args.points h parks c.in_ok-note.ensures.spelled in
-    let put : State = record { points = c.args.points; transactions = []; known = Some c.args.known } in
+    let put : State = record { points = c.args.points; job = None; transactions = []; known = Some c.args.known } in
     let pushed : c.push.new.self.items ≡ c.self.inside.states.items ++ put ∷ [] = search rules in
-    let state : put ≡ state_of h = ap (λ p. record { points = p; transactions = []; known = Some c.args.known }) parks.points_are ∙ ap (λ ts. record { points = h.points; transactions = ts; known = Some c.args.known }) (sym parks.idle)
-    ∙ ap (λ k. record { points = h.points; transactions = h.transactions; known = Some k }) parks.known_is ∙ sym (state-down h parks.down) in
+    let state : put ≡ state_of h = ap (λ p. record { points = p; job = None; transactions = []; known = Some c.args.known }) parks.points_are ∙ ap (λ o. record { points = h.points; job = o; transactions = []; known = Some c.args.known }) (sym parks.runs)
+    ∙ ap (λ ts. record { points = h.points; job = h.job; transactions = ts; known = Some c.args.known }) (sym parks.idle)
+    ∙ ap (λ k. record { points = h.points; job = h.job; transactions = h.transactions; known = Some k }) parks.known_is ∙ sym (state-down h parks.down) in
     more-hosting a (g.D.Device.disk c.park_new.new.dev) x hosted is' (told_of h) h tell parks.some (record { stores = c.park_new.new.self; states = c.push.new.self.items }) None c.in_ok-park_new.ensures.slots
     (ap (λ (f : Fixed). f.stored) c.in_ok-park_new.ensures.fixed ∙ stored-more (fixed_of x.stores.master.record) hosted false h is'.stored (sym parks.down))
     (c.in_ok-park_new.ensures.stands tells is'.tolds (told_of h) is'.stores parked-parks) (parks.down, parks.idle) (pushed ∙ ap (λ (s : State). c.self.inside.states.items ++ s ∷ []) state)

@@ -1,13 +1,12 @@
-use Rattle.std.proofs.Common.{rules, ◌≡◌, ◌≤◌, ◌∙◌, ℕ, false, List, [], length, None, Some, inl, refl, set, sym, ap, subst}
+use Rattle.std.proofs.Common.{rules, ◌≡◌, ◌≤◌, ◌∙◌, ℕ, false, List, [], length, None, Some, inl, set, sym, ap, subst}
 use Rattle.bk_device.specs.Compose.{effect_weaken}
-use Rattle.bk_hosted.specs.Hosted.{Hosted}
 use Rattle.bk_points.specs.Points.{points_bytes}
 use Rattle.bk_stores.specs.Parking.{IsParked}
 use Rattle.bk_stores.specs.Standing.{AreStanding}
 use Rattle.bk_stores.specs.Stores.{Fixed, fixed_of}
 use Rattle.bk_stores.specs.TouchLaws.{none-touched}
 use Rattle.bk_hosting.specs.declared.hosting.State.{State}
-use Rattle.bk_hosting.specs.Hosting.{IsHosting, Kept, LeavesEither, Tells, known_at, state_of}
+use Rattle.bk_hosting.specs.Hosting.{IsHosting, Kept, LeavesEither, Tells, state_of}
 use Rattle.bk_hosting.specs.Making.{ArePathsAt}
 use Rattle.bk_hosting.proofs.Checked.{as-viewed, rest-hosted}
 use Rattle.bk_hosting.proofs.DroppedHosted.{may-remove, others-unused, paths-there}
@@ -69,9 +68,10 @@ returns-clause-stands g c = λ tells hosted old h is here parks.
     let named : c.deref-2.result.now ≡ c.in_ok-paths.paths.items = search rules in
     let found = paths-there c.args.self.now c.self.inside.stores c.args.at c.in_ok-paths.paths.items (ap (λ (k : Kept). k.stores) c.self.view_is) c.in_ok-paths.ensures.paths in
     let may = may-remove a x hosted c.args.at old c.deref-2.result.now is' here (subst (ArePathsAt c.self.inside.stores.slots c.args.at) (sym named) found) in
-    let put : State = record { points = c.args.points; transactions = []; known = Some c.args.known } in
-    let state : put ≡ state_of h = ap (λ p. record { points = p; transactions = []; known = Some c.args.known }) parks.points_are ∙ ap (λ ts. record { points = h.points; transactions = ts; known = Some c.args.known }) (sym parks.idle)
-    ∙ ap (λ k. record { points = h.points; transactions = h.transactions; known = Some k }) parks.known_is ∙ sym (state-down h parks.down) in
+    let put : State = record { points = c.args.points; job = None; transactions = []; known = Some c.args.known } in
+    let state : put ≡ state_of h = ap (λ p. record { points = p; job = None; transactions = []; known = Some c.args.known }) parks.points_are ∙ ap (λ o. record { points = h.points; job = o; transactions = []; known = Some c.args.known }) (sym parks.runs)
+    ∙ ap (λ ts. record { points = h.points; job = h.job; transactions = ts; known = Some c.args.known }) (sym parks.idle)
+    ∙ ap (λ k. record { points = h.points; job = h.job; transactions = h.transactions; known = Some k }) parks.known_is ∙ sym (state-down h parks.down) in
     let kept : c.put_state.new.states.items ≡ set c.self.inside.states.items c.args.at put = search rules in
     put-hosting a (g.D.Device.disk c.park_at.new.dev) x hosted c.args.at old h may.0 (told_of h) None is' here may.1 tell parks.some (record { stores = c.park_at.new.self; states = c.put_state.new.states.items }) c.in_ok-park_at.ensures.slots
     (ap (λ (f : Fixed). f.stored) c.in_ok-park_at.ensures.fixed ∙ stored-set a (g.D.Device.disk c.park_at.new.dev) x hosted c.args.at old h may.0 (told_of h) None is' here may.1 tell parks.some (fixed_of x.stores.master.record) false is'.stored (sym parks.down))

@@ -1,4 +1,4 @@
-use Rattle.std.proofs.Common.{rules, arith, ◌≡◌, ◌<◌, ◌∙◌, ℕ, false, List, [], ◌∷◌, ◌++◌, None, Some, length, set, sym, refl, ap, subst}
+use Rattle.std.proofs.Common.{rules, arith, ◌≡◌, ◌<◌, ◌∙◌, ℕ, false, [], ◌∷◌, ◌++◌, None, Some, length, sym, refl, ap, subst}
 use Rattle.std.specs.Prelude.{slice_get, IsErrOf}
 use Rattle.bk_device.specs.Compose.{effect_then_nothing}
 use Rattle.bk_hosted.specs.Fronts.{settling}
@@ -10,8 +10,7 @@ use Rattle.bk_stores.specs.Standing.{AreStanding}
 use Rattle.bk_stores.specs.Stores.{AreStores}
 use Rattle.bk_hosting.specs.declared.hosting.State.{State}
 use Rattle.bk_hosting.specs.Hosting.{Kept, Tells, state_of}
-use Rattle.bk_hosting.specs.Loading.{IsOpening, IsPartly, LeavesUndoing}
-use Rattle.bk_hosting.proofs.Checked.{as-viewed}
+use Rattle.bk_hosting.specs.Loading.{IsOpening, IsPartly}
 use Rattle.bk_hosting.proofs.Opening.{next-at, opening-next, parked-tells, partly-next, rest-undoing, standing-still, stores-still, there-stored}
 use Rattle.bk_hosting.proofs.hosting.Hosting.read_parked.Goals as goal
 
@@ -72,7 +71,7 @@ returns-clause-stands g c = λ tells hosted is.
     let at : c.len-at.result ≡ length x.states = search rules in
     let tell : Tells next.told (settling next.h) = parked-tells next.told next.h down next.tell in
     let there : slice_get is'.tolds c.len-at.result ≡ Some next.told = ap (λ (n : ℕ). slice_get is'.tolds n) at ∙ next.there in
-    let state : c.in_ok-state.state ≡ state_of (settling next.h) = c.in_ok-state.ensures.state tells is'.tolds next.told (settling next.h) is'.stores there tell down refl in
+    let state : c.in_ok-state.state ≡ state_of (settling next.h) = c.in_ok-state.ensures.state tells is'.tolds next.told (settling next.h) is'.stores there tell down refl refl in
     let pushed : c.push.new.self.items ≡ c.self.inside.states.items ++ c.in_ok-state.state ∷ [] = search rules in
     let b = g.D.Device.disk c.noted_at.new.dev in
     let still : AreStores b x.stores is'.tolds = stores-still x.stores is'.tolds (c.noted_at.ensures.effect tells) is'.stores in
