@@ -1,7 +1,7 @@
 -- The media of a world behind acts that write to none.
 use Rattle.std.proofs.Common.{◌≡◌, inl, inr, ℕ, List, [], ◌∷◌, Option, None, Some, refl}
 use Rattle.bk_device.specs.Disk.{Files}
-use Rattle.bk_machine.specs.Acts.{Act, based, created, done, done_all, dropped, goes_online, logged, medium_made, noted, recovered, replaced, restored, says, seated, set_drawn, set_sealed, turned}
+use Rattle.bk_machine.specs.Acts.{Act, based, created, done, done_all, dropped, goes_online, job_set, jobs_dropped, logged, medium_made, noted, readied, recovered, replaced, restored, says, seated, set_drawn, set_sealed, turned}
 use Rattle.bk_machine.specs.MayDo.{MayDo, MayDoAll}
 use Rattle.bk_machine.specs.Sound.{IsSound, SetIn}
 use Rattle.bk_machine.specs.World.{Database, World, database_named}
@@ -16,6 +16,7 @@ same-media : (w : World) (act : Act) → ((path : List ℕ) → ActWrites act pa
 unfolding done says goes_online
 same-media w (turned name) none = refl
 same-media w (seated session) none = refl
+same-media w (readied starts) none = refl
 same-media w (created c) none = refl
 same-media w (dropped name) none = refl
 same-media w (logged name said transactions) none = by (database_named w.databases name) refl
@@ -28,6 +29,8 @@ same-media w set_drawn none = refl
 same-media w (noted row) none = refl
 same-media w (set_sealed path header) none = absurd (none path refl)
 same-media w (based name header) none = refl
+same-media w (job_set name job) none = refl
+same-media w jobs_dropped none = refl
 same-media w (replaced name header) none = refl
 same-media w (restored name base redo) none = refl
 same-media w (recovered name r) none = by (database_named w.databases name) refl
