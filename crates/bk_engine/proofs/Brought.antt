@@ -54,7 +54,8 @@ use Rattle.bk_engine.specs.ActLaws.{IsBehind, up-behind}
 use Rattle.bk_engine.specs.Bringing.{CutsActs, IsSetOn, Laws, MayComeUp, MovesOnly, coming_up, files_on, known_on, last_said, points_at, recovery_of}
 use Rattle.bk_engine.specs.BringingLaws.{hosted-none, known-is, last_record, parked-down, points-are, points-short, recovery-next, recovery-says, set-ends, up-hosts}
 use Rattle.bk_engine.specs.GivenLaws.{pages-same, whole-set}
-use Rattle.bk_engine.specs.PartLaws.{calm-beside, media-beside, world-crash, world-stands}
+use Rattle.bk_engine.specs.CopiedLaws.{copied-set}
+use Rattle.bk_engine.specs.PartLaws.{calm-beside, copied-beside, media-beside, world-crash, world-stands}
 use Rattle.bk_engine.specs.Stands.{IsOurs, IsReady, Kept, StandsFor, own_in}
 use Rattle.bk_engine.proofs.MovedSets.{moved-body, moved-carries}
 use Rattle.bk_engine.proofs.Named.{found-at}
@@ -104,7 +105,7 @@ pub brought-stands : {P : Files → Type 0} (a b : Disk) (e then : Kept) (w : Wo
     → IsHosting b then.hosting (set is.hosted i it.new) → (own_in then).number ≡ (own_in e).number → then.drawn ≡ e.drawn + 1 → then.session ≡ e.session → then.sessions ≡ e.sessions → Effect IsOfStores P a b → StandsFor b then (done_all w (coming_up w name header branch))
 brought-stands a b e then w is name m stored header branch last i files checkpoint known points it hosting number drawn session sessions effect =
     world-stands a b e then w (done_all w (coming_up w name header branch)) 1 (set is.hosted i it.new) is it.behind it.sound it.hosts hosting number drawn session sessions
-    (it.media b.files (media-in w None a.files b.files (media-beside effect) is.media)) (calm-beside effect is.calm)
+    (it.media b.files (media-in w None a.files b.files (media-beside effect) is.media)) (calm-beside effect is.calm) (copied-set b is.hosted i it.new it.up.runs (copied-beside is.hosted effect is.copied))
 
 module _ (laws : Laws) (a : Disk) (e : Kept) (w : World) (name m : List ℕ) (stored : Stored) (header : Header) (branch : Guid) (last i : ℕ) (is : StandsFor a e w) (at : IsMediumFile m) (opened : IsSetOn a.files m stored)
     (moves : MovesOnly stored.header header) (is_header : IsHeader header) (may : MayComeUp w name header branch last) (place : position (names name) is.hosted ≡ Some i) (named : IsString 1 64 name) (guid : IsGuid branch)
@@ -226,6 +227,7 @@ module _ (laws : Laws) (a : Disk) (e : Kept) (w : World) (name m : List ℕ) (st
     none_next = refl;
     none_kept = refl;
     up = refl;
+    runs = refl;
     idle = refl;
   }
 

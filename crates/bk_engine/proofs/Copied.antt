@@ -5,7 +5,6 @@ use Rattle.std.specs.Prelude.{slice_get}
 use Rattle.std.specs.List.{AllByRecursion, AllZip}
 use Rattle.std.proofs.lemmas.Option.{same_Some, slice_get-map}
 use Rattle.bk_device.specs.Disk.{Disk}
-use Rattle.bk_facts.specs.declared.facts.DataFile.{DataFile}
 use Rattle.bk_hosted.specs.Hosted.{Hosted, Hosts, IsHosted, database_of}
 use Rattle.bk_hosting.specs.Hosting.{Tells, WaitsBehind}
 use Rattle.bk_machine.specs.World.{Database, World, log_of}
@@ -14,7 +13,6 @@ use Rattle.bk_store.specs.Store.{Kept as KeptStore}
 use Rattle.bk_store.specs.Told.{Told, data_file}
 use Rattle.bk_stores.specs.ListLaws.{got, got-inside, got-none, got-one}
 use Rattle.bk_stores.specs.Stores.{IsOpen}
-use Rattle.bk_world.specs.declared.database.FileSpec.{FileSpec}
 use Rattle.bk_world.specs.declared.database.Status.TheVariants.{Online}
 use Rattle.bk_engine.specs.Copying.{IsToldOf}
 use Rattle.bk_engine.specs.Stands.{Kept, StandsFor}

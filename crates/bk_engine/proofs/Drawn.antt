@@ -22,4 +22,5 @@ drawn-stands disk e w is sound = record {
   hosting = is.hosting;
   media = media-on w (done w set_drawn) None disk.files refl (λ path header in_it. refl) is.media;
   calm = calm-on refl is.calm;
+  copied = is.copied;
 }

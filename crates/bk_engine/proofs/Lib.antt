@@ -14,3 +14,11 @@ mod Fills
 mod MovedSets
 mod Brought
 mod Viewed
+mod Ended
+mod Ran
+mod Stepped
+mod Stopped
+mod CopiesOn
+mod Taken
+mod Begun
+mod NoneRun

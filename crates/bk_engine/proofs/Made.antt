@@ -23,4 +23,4 @@ hosted-none w c hosted hosts none = have-none c hosted (subst (λ (dbs : List Da
 
 -- what is known of a set is known of the database that it makes
 pub parked-as : (w : World) (header : Header) (known : Known) (points : Points) → points ≡ parked_points header → IsSetKnown w header known → IsParkedAs known points (parking (set_log w header) known.spec.name header)
-parked-as w header known points same set = record { known_is = set.is; points_are = same; down = refl; idle = refl; spelled = set.spelled; some = set.some }
+parked-as w header known points same set = record { known_is = set.is; points_are = same; down = refl; runs = refl; idle = refl; spelled = set.spelled; some = set.some }

@@ -1,5 +1,5 @@
 -- A checkpoint of a hosted database is one of the world's.
-use Rattle.std.proofs.Common.{◌≡◌, ℕ, List, Some, sym, ap, subst, ◌∙◌}
+use Rattle.std.proofs.Common.{◌≡◌, ℕ, List, Some, refl, sym, ap, subst, ◌∙◌}
 use Rattle.std.proofs.lemmas.Option.{same_Some}
 use Rattle.std.specs.Prelude.{set, slice_get}
 use Rattle.std.specs.List.{position}
@@ -13,10 +13,11 @@ use Rattle.bk_machine.specs.MayDo.{MayDo}
 use Rattle.bk_machine.specs.Acts.{logged}
 use Rattle.bk_world.specs.declared.transaction.Open.{Open}
 use Rattle.bk_world.specs.Cut.{end_behind}
-use Rattle.bk_world.specs.Records.{Logged, checkpointed}
+use Rattle.bk_world.specs.Records.{Logged, checkpointed, numbered}
 use Rattle.bk_world.specs.Says.{alone}
 use Rattle.bk_world.specs.Telling.{model}
 use Rattle.bk_engine.specs.Acts.{MayMark, marking}
+use Rattle.bk_engine.specs.Copied.{GoesOn}
 
 -- ---- what the laws say
 
@@ -50,3 +51,7 @@ module _ (w : World) (name : List ℕ) (time kept : ℕ) (db : Database) (hosted
       let here : Hosts (done w (marking name time (database_of h))) (set hosted i (checked h time (kept_next h))) = checks w name time h.transactions hosted i h sound hosts place there its in
       subst (λ (d : Database). Hosts (done w (marking name time d)) (set hosted i (checked h time kept))) (sym same)
       (subst (λ (n : ℕ). Hosts (done w (marking name time (database_of h))) (set hosted i (checked h time n))) (sym kept-same) here)
+
+-- its log goes on
+pub marks-on : (h : Hosted) (time kept : ℕ) → GoesOn h (checked h time kept)
+marks-on h time kept = record { job = refl; files = refl; later = numbered (end_behind h.records) (alone (checkpointed time)); records = refl }

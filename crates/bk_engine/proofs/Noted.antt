@@ -1,5 +1,5 @@
 -- A row comes to its table of msdb, and the world is the one behind that.
-use Rattle.std.proofs.Common.{◌≡◌, ◌⊎◌, inl, inr, ℕ, List, [], ◌∷◌, ◌++◌, Option, None, refl, sym, ap, subst, ◌∙◌, arith}
+use Rattle.std.proofs.Common.{◌≡◌, inl, inr, ℕ, List, [], ◌∷◌, ◌++◌, Option, None, refl, sym, ap, subst, ◌∙◌, arith}
 use Rattle.std.proofs.lemmas.List.{append-nil}
 use Rattle.bk_archive.specs.DiskLaws.{media-after, media-durable}
 use Rattle.bk_archive.specs.Media.{KeepsMedia}
@@ -15,7 +15,7 @@ use Rattle.bk_machine.specs.declared.history_row.HistoryRow.TheVariants.{Backup,
 use Rattle.bk_machine.specs.Sound.{IsSound}
 use Rattle.bk_machine.specs.World.{World}
 use Rattle.bk_msdb.specs.Msdb.{Adds, Shows, msdb_file}
-use Rattle.bk_msdb.specs.Rows.{Tables, with_row}
+use Rattle.bk_msdb.specs.Rows.{with_row}
 use Rattle.bk_stores.specs.Stores.{IsOurs as IsOfStores}
 use Rattle.bk_volume.specs.Names.{medium_file}
 use Rattle.bk_world.specs.declared.msdb.BackupRow.{BackupRow}
@@ -23,7 +23,8 @@ use Rattle.bk_world.specs.declared.msdb.MarkRow.{MarkRow}
 use Rattle.bk_world.specs.declared.msdb.RestoreRow.{RestoreRow}
 use Rattle.bk_engine.specs.Acts.{CutsAct}
 use Rattle.bk_engine.specs.BesideLaws.{hosting-stays}
-use Rattle.bk_engine.specs.NameLaws.{rows-medium, store-rows}
+use Rattle.bk_engine.specs.CopiedLaws.{copied-by, none-spares}
+use Rattle.bk_engine.specs.NameLaws.{rows-medium, staging-rows, store-rows}
 use Rattle.bk_engine.specs.PartLaws.{world-kept}
 use Rattle.bk_engine.specs.Rows.{rows_in}
 use Rattle.bk_engine.specs.Stands.{Covers, IsOurs, IsReady, Kept, StandsFor, own_in}
@@ -63,6 +64,7 @@ module _ (a b : Disk) (e : Kept) (w : World) (row : HistoryRow) (is : StandsFor 
       rows = subst (Shows b.files) (sym (noted-rows w row)) shows;
       durable = durable;
     };
+    copied = copied-by a b is.hosted (none-spares (IsName msdb_file) is.hosted (λ set same. staging-rows (set, sym same))) effect is.copied;
   }
 
   -- a crash leaves the row, or not

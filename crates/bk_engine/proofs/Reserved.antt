@@ -1,16 +1,17 @@
 -- GUIDs are reserved in the record beyond those that were drawn.
-use Rattle.std.proofs.Common.{◌≡◌, ◌≤◌, ◌⊎◌, inl, inr, ℕ, ◌+◌, List, Option, None, sym, subst, ◌∙◌, arith}
+use Rattle.std.proofs.Common.{◌≡◌, ◌≤◌, ◌⊎◌, inl, inr, ℕ, ◌+◌, List, length, Option, None, sym, ap, subst, ◌∙◌, arith}
 use Rattle.bk_archive.specs.Media.{KeepsMedia}
 use Rattle.bk_archive.specs.MediaLaws.{media-in}
 use Rattle.bk_device.specs.Disk.{Disk, Files}
 use Rattle.bk_device.specs.Effects.{Effect}
 use Rattle.bk_hosted.specs.Hosted.{Hosted, Hosts}
-use Rattle.bk_hosting.specs.Hosting.{IsHosting, LeavesHosted}
+use Rattle.bk_hosting.specs.Hosting.{IsHosting, LeavesHosted, own_of, IsReady as AreReady, Kept as KeptHosting}
+use Rattle.bk_ids.specs.declared.guid.Guid.{Guid}
 use Rattle.bk_machine.specs.World.{World}
 use Rattle.bk_master.specs.declared.record.Own.{Own}
 use Rattle.bk_stores.specs.Stores.{IsOurs as IsOfStores}
 use Rattle.bk_engine.specs.ActLaws.{same-behind}
-use Rattle.bk_engine.specs.PartLaws.{calm-beside, media-beside, media-then, stores-wide, world-kept, world-stands}
+use Rattle.bk_engine.specs.PartLaws.{calm-beside, copied-beside, media-beside, media-then, stores-wide, world-kept, world-stands}
 use Rattle.bk_engine.specs.Rows.{KeepsBeside}
 use Rattle.bk_engine.specs.Stands.{Covers, IsOurs, IsReady, Kept, StandsFor, own_in}
 
@@ -41,4 +42,8 @@ reserved-crash a b e w own ready is number counter none effect = stores-wide (λ
 
 pub reserved-stands : {P : Files → Type 0} (a b : Disk) (old new : Kept) (w : World) → (is : StandsFor a old w) → IsHosting b new.hosting is.hosted → (own_in new).number ≡ (own_in old).number → new.drawn ≡ old.drawn → new.session ≡ old.session → new.sessions ≡ old.sessions → Effect IsOfStores P a b → StandsFor b new w
 reserved-stands a b old new w is hosting number drawn session sessions effect =
-    world-stands a b old new w w 0 is.hosted is (same-behind w) is.sound is.hosts hosting number (omega (arith, drawn)) session sessions (media-in w None a.files b.files (media-beside effect) is.media) (calm-beside effect is.calm)
+    world-stands a b old new w w 0 is.hosted is (same-behind w) is.sound is.hosts hosting number (omega (arith, drawn)) session sessions (media-in w None a.files b.files (media-beside effect) is.media) (calm-beside effect is.calm) (copied-beside is.hosted effect is.copied)
+
+-- the sets that it names are few enough for another
+pub few-copied : (x : KeptHosting) (own : Own) (copy : List Guid) → AreReady x → own ≡ own_of x → copy ≡ own.copying → length copy ≤ 16
+few-copied x own copy ready same is = subst (λ (sets : List Guid). length sets ≤ 16) (sym (is ∙ ap (λ (o : Own). o.copying) same)) ready.stores.keeps.own.copying

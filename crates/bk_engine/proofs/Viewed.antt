@@ -84,18 +84,18 @@ not-awaited : (p : Points) (h : Hosted) → p.next_checkpoint ≡ 0 → Counts 1
 not-awaited p h none counts = ap (λ n. has_checkpoint n h.records) none ∙ none-zero 1 h.records (end_behind h.records) (omega arith) counts
 
 -- what is seen of one that can be used
-seen-up : (h : Hosted) (s : Shown) → Shows h.spec.storage.files h.records s → database_in (seen_by h.spec (record { points = folded h.points h.records; transactions = h.transactions; known = None }) s) ≡ database_of h
+seen-up : (h : Hosted) (s : Shown) → Shows h.spec.storage.files h.records s → database_in (seen_by h.spec (record { points = folded h.points h.records; job = h.job; transactions = h.transactions; known = None }) s) ≡ database_of h
 seen-up h s shows = ap (λ n. record (database_of h) { end = n }) (shown-end h.spec.storage.files h.records s shows)
 
 -- and of one that is being restored
-seen-down : (h : Hosted) (s : Shown) → s.end ≡ end_behind h.records → has_checkpoint h.points.next_checkpoint h.records ≡ false → database_in (seen_by h.spec (record { points = h.points; transactions = h.transactions; known = Some (known_at h) }) s) ≡ database_of h
+seen-down : (h : Hosted) (s : Shown) → s.end ≡ end_behind h.records → has_checkpoint h.points.next_checkpoint h.records ≡ false → database_in (seen_by h.spec (record { points = h.points; job = h.job; transactions = h.transactions; known = Some (known_at h) }) s) ≡ database_of h
 seen-down h s is none =
     ap (λ n. record (database_of h) { end = n; kept = h.points.kept; checkpoint = h.points.checkpoint }) is
     ∙ ap (λ b. record (database_of h) { kept = cond b h.points.next_kept h.points.kept; checkpoint = cond b h.points.next_checkpoint h.points.checkpoint }) (sym none)
 
 -- what is kept beside its store, where it can be used or not
 abbrev state_by : Hosted → Bool → State
-state_by h up = record { points = points_by up h; transactions = h.transactions; known = known_by up h }
+state_by h up = record { points = points_by up h; job = h.job; transactions = h.transactions; known = known_by up h }
 
 pub seen-as : (h : Hosted) (slot : Option KeptStore) (st : State) (s : Shown) → st ≡ state_of h → ShowsBy slot h → IsEndOf st s → st.points.next_checkpoint ≡ 0 → IsSeenAs h (seen_by h.spec st (shown_by slot s))
 seen-as h None st s is shows ends none =

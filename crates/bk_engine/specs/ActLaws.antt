@@ -1,7 +1,7 @@
 -- What acts leave of a world's instance, counter, sessions and media.
 use Rattle.std.proofs.Common.{◌≡◌, ◌∙◌, ℕ, ◌+◌, List, Option, Some, None, refl, arith}
 use Rattle.bk_hosted.specs.Hosted.{bringing_up}
-use Rattle.bk_machine.specs.Acts.{Act, Recovery, based, created, done, done_all, dropped, goes_online, logged, medium_made, noted, recovered, replaced, restored, says, seated, set_drawn, set_sealed, turned, where_found}
+use Rattle.bk_machine.specs.Acts.{Act, Recovery, based, created, done, done_all, dropped, goes_online, job_set, jobs_dropped, logged, medium_made, noted, readied, recovered, replaced, restored, says, seated, set_drawn, set_sealed, turned, where_found}
 use Rattle.bk_machine.specs.MayDo.{HoldsOf, MayDo, MayDoAll, MayRecover}
 use Rattle.bk_machine.specs.World.{Database, World, database_named}
 use Rattle.bk_machine.specs.statements.Restore.{base_of}
@@ -24,6 +24,7 @@ done-instance : (w : World) (act : Act) → (done w act).instance ≡ w.instance
 unfolding done says goes_online
 done-instance w (turned name) = refl
 done-instance w (seated session) = refl
+done-instance w (readied starts) = refl
 done-instance w (created c) = refl
 done-instance w (dropped name) = refl
 done-instance w (logged name said transactions) = by (database_named w.databases name)
@@ -36,6 +37,8 @@ done-instance w set_drawn = refl
 done-instance w (set_sealed path header) = refl
 done-instance w (noted row) = refl
 done-instance w (based name header) = refl
+done-instance w (job_set name job) = refl
+done-instance w jobs_dropped = refl
 done-instance w (replaced name header) = refl
 done-instance w (restored name base redo) = refl
 done-instance w (recovered name r) = by (database_named w.databases name)
@@ -49,6 +52,7 @@ done-counter : (w : World) (act : Act) → MayDo w act → (done w act).counter 
 unfolding done says goes_online
 done-counter w (turned name) may = omega arith
 done-counter w (seated session) may = omega arith
+done-counter w (readied starts) may = omega arith
 done-counter w (created c) may = refl
 done-counter w (dropped name) may = omega arith
 done-counter w (logged name said transactions) may = by (database_named w.databases name)
@@ -61,6 +65,8 @@ done-counter w set_drawn may = refl
 done-counter w (set_sealed path header) may = omega arith
 done-counter w (noted row) may = omega arith
 done-counter w (based name header) may = omega arith
+done-counter w (job_set name job) may = omega arith
+done-counter w jobs_dropped may = omega arith
 done-counter w (replaced name header) may = omega arith
 done-counter w (restored name base redo) may = omega arith
 done-counter w (recovered name r) may = by (database_named w.databases name) may
@@ -69,7 +75,7 @@ done-counter w (recovered name r) may = by (database_named w.databases name) may
     by None none = absurd none
     by (Some db) holds = refl
 
--- but for USE, `:session` and rows that are added the sessions stay
+-- but for USE, `:session`, `:start` and rows that are added the sessions stay
 record SeatsStay (w v : World) : Type 0 where
   pub session : v.session ≡ w.session
   pub sessions : v.sessions ≡ w.sessions
@@ -78,6 +84,7 @@ done-seats : (w : World) (act : Act) → (IsAside act → ⊥) → SeatsStay w (
 unfolding done says goes_online
 done-seats w (turned name) other = absurd (other tt)
 done-seats w (seated session) other = absurd (other tt)
+done-seats w (readied starts) other = absurd (other tt)
 done-seats w (created c) other = record { session = refl; sessions = refl }
 done-seats w (dropped name) other = record { session = refl; sessions = refl }
 done-seats w (logged name said transactions) other = by (database_named w.databases name)
@@ -90,6 +97,8 @@ done-seats w set_drawn other = record { session = refl; sessions = refl }
 done-seats w (set_sealed path header) other = record { session = refl; sessions = refl }
 done-seats w (noted row) other = absurd (other tt)
 done-seats w (based name header) other = record { session = refl; sessions = refl }
+done-seats w (job_set name job) other = record { session = refl; sessions = refl }
+done-seats w jobs_dropped other = record { session = refl; sessions = refl }
 done-seats w (replaced name header) other = record { session = refl; sessions = refl }
 done-seats w (restored name base redo) other = record { session = refl; sessions = refl }
 done-seats w (recovered name r) other = by (database_named w.databases name)

@@ -1,5 +1,5 @@
--- A run ends in which nothing is open: then each database is as it is settled.
-use Rattle.std.proofs.Common.{◌≡◌, inr, ℕ, true, List, [], ◌∷◌, map, None, refl, sym, ap, subst, ◌∙◌}
+-- A run ends in which nothing is open and no backup runs: then each database is as it is settled.
+use Rattle.std.proofs.Common.{◌≡◌, inr, ℕ, true, List, [], ◌∷◌, map, Option, None, refl, sym, ap, subst, ◌∙◌}
 use Rattle.std.proofs.lemmas.List.{append-nil}
 use Rattle.std.specs.List.{AllByRecursion}
 use Rattle.bk_archive.specs.Media.{KeepsMedia}
@@ -8,6 +8,7 @@ use Rattle.bk_device.specs.Disk.{Files}
 use Rattle.bk_hosted.specs.Fronts.{settled_by, settling}
 use Rattle.bk_hosted.specs.Hosted.{Hosted, Hosts, IsHosted, database_of}
 use Rattle.bk_hosting.specs.Hosting.{HoldsHosted, LeavesHosted}
+use Rattle.bk_machine.specs.declared.job.Job.{Job}
 use Rattle.bk_machine.specs.Sound.{AreIdle, IsIdle, IsSound, OpenBy, has_begin}
 use Rattle.bk_machine.specs.World.{Database, World, ended}
 use Rattle.bk_machine.specs.statements.Restore.{is_online}
@@ -42,14 +43,15 @@ idle-pends lines h is opens idle online =
     subst (λ (rs : List Logged). AllByRecursion (λ (w : Pending). has_begin h.transactions w.begin ≡ true) (pending rs)) is.log (opens.online online).pending in
     none-pends (pending h.records) (subst (λ (ts : List Open). AllByRecursion (λ (w : Pending). has_begin ts w.begin ≡ true) (pending h.records)) idle all)
 
--- and it is as it is settled
-idle-settles : (lines : RecordLines) (h : Hosted) → IsHosted lines h → OpenBy lines (database_of h) → h.transactions ≡ [] → settling h ≡ h
-idle-settles lines h is opens idle = by h.points.status refl
+-- and it is as it is settled, where no backup of it runs
+idle-settles : (lines : RecordLines) (h : Hosted) → IsHosted lines h → OpenBy lines (database_of h) → h.job ≡ None → h.transactions ≡ [] → settling h ≡ h
+idle-settles lines h is opens none idle = by h.points.status refl
   where
     rests : (status : Status) → h.points.status ≡ status → settled_by (is_online status) h.records ≡ h.records → settling h ≡ h
     rests status same whole =
-        ap (λ (s : Status). record h { records = settled_by (is_online s) h.records; transactions = [] }) same
-        ∙ ap (λ (rs : List Logged). record h { records = rs; transactions = [] }) whole
+        ap (λ (s : Status). record h { records = settled_by (is_online s) h.records; job = None; transactions = [] }) same
+        ∙ ap (λ (rs : List Logged). record h { records = rs; job = None; transactions = [] }) whole
+        ∙ ap (λ (o : Option Job). record h { job = o; transactions = [] }) (sym none)
         ∙ ap (λ (ts : List Open). record h { transactions = ts }) (sym idle)
 
     by : (status : Status) → h.points.status ≡ status → settling h ≡ h
@@ -70,7 +72,7 @@ idle-order lines h is opens idle = λ up. subst PendingRise (sym (idle-pends lin
 all-settled : (lines : RecordLines) (hosted : List Hosted) → AllByRecursion (IsHosted lines) hosted → AllByRecursion (OpenBy lines) (map database_of hosted) → AllByRecursion IsIdle (map database_of hosted) → map settling hosted ≡ hosted
 all-settled lines [] hosts opens idle = refl
 all-settled lines (h ∷ hosted) hosts opens idle =
-    ap (λ (x : Hosted). x ∷ map settling hosted) (idle-settles lines h hosts.0 opens.0 idle.0.transactions) ∙ ap (λ (xs : List Hosted). h ∷ xs) (all-settled lines hosted hosts.1 opens.1 idle.1)
+    ap (λ (x : Hosted). x ∷ map settling hosted) (idle-settles lines h hosts.0 opens.0 idle.0.job idle.0.transactions) ∙ ap (λ (xs : List Hosted). h ∷ xs) (all-settled lines hosted hosts.1 opens.1 idle.1)
 
 all-order : (lines : RecordLines) (hosted : List Hosted) → AllByRecursion (IsHosted lines) hosted → AllByRecursion (OpenBy lines) (map database_of hosted) → AllByRecursion IsIdle (map database_of hosted) → AllByRecursion PendsInOrder hosted
 all-order lines [] hosts opens idle = tt

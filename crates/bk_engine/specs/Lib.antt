@@ -16,6 +16,10 @@ pub mod RowLaws
 pub mod Saying
 pub mod Sealing
 pub mod Copying
+pub mod Copied
+pub mod CopiedLaws
+pub mod Jobs
+pub mod JobLaws
 pub mod Touched
 pub mod TouchLaws
 pub mod Bringing
@@ -23,6 +27,7 @@ pub mod GivenLaws
 pub mod BringingLaws
 pub mod Viewing
 pub mod ViewLaws
+pub use Rattle.bk_fields.specs.Guids
 pub use Rattle.bk_hosting.specs.AskLaws as HostingAskLaws
 pub use Rattle.bk_hosting.specs.Copying as HostingCopying
 pub use Rattle.bk_hosting.specs.Hosting

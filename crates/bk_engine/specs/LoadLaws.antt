@@ -23,6 +23,7 @@ use Rattle.bk_world.specs.Records.{Logged}
 use Rattle.bk_msdb.specs.Laws.{shows_same}
 use Rattle.bk_msdb.specs.Msdb.{Shows, msdb_file}
 use Rattle.bk_engine.specs.NameLaws.{staging-rows}
+use Rattle.bk_engine.specs.CopiedLaws.{copied-settled}
 use Rattle.bk_engine.specs.RowLaws.{calm-by, calm-media, calm-on}
 use Rattle.bk_engine.specs.Rows.{IsCalm, KeepsBeside, rows_in}
 use Rattle.bk_engine.specs.BesideLaws.{IsBeside, beside-rows, beside-store, hosting-stays, medium-apart, stores-keep}
@@ -218,4 +219,5 @@ run-begins disk e w is sound hosts none drawn session sessions = record {
   hosting = is.hosting;
   media = media-on w (opened w) None disk.files refl (λ path header in_it. refl) (subst (λ (making : Option (List ℕ)). KeepsMedia w making disk.files) none is.media);
   calm = calm-on refl is.calm;
+  copied = copied-settled disk is.hosted;
 }

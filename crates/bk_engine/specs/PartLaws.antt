@@ -16,7 +16,10 @@ use Rattle.bk_stores.specs.Stores.{IsOurs as IsOfStores}
 use Rattle.bk_engine.specs.ActLaws.{IsBehind, draws, same-behind}
 use Rattle.bk_engine.specs.Acts.{CutsAct}
 use Rattle.bk_msdb.specs.Msdb.{Shows}
-use Rattle.bk_engine.specs.NameLaws.{store-medium, store-rows}
+use Rattle.bk_volume.specs.Names.{staging_file}
+use Rattle.bk_engine.specs.Copied.{AreCopied}
+use Rattle.bk_engine.specs.CopiedLaws.{copied-by, none-spares}
+use Rattle.bk_engine.specs.NameLaws.{store-medium, store-rows, store-staging}
 use Rattle.bk_engine.specs.RowLaws.{beside-then, calm-by, calm-on}
 use Rattle.bk_engine.specs.Rows.{IsCalm, KeepsBeside}
 use Rattle.bk_engine.specs.Stands.{Covers, IsOurs, IsReady, Kept, StandsFor, own_in}
@@ -30,6 +33,10 @@ media-beside {a = a} {b = b} effect = media-after a b store-medium effect
 pub calm-beside : {P : Files → Type 0} {a b : Disk} {w : World} → Effect IsOfStores P a b → IsCalm a w → IsCalm b w
 calm-beside effect calm = calm-by store-medium store-rows effect calm
 
+-- and the files of sets that are being copied
+pub copied-beside : {P : Files → Type 0} {a b : Disk} (hosted : List Hosted) → Effect IsOfStores P a b → AreCopied a hosted → AreCopied b hosted
+copied-beside {a = a} {b = b} hosted effect all = copied-by a b hosted (none-spares IsOfStores hosted (λ set store. store-staging (staging_file set) (set, refl) store)) effect all
+
 -- and so does a crash meanwhile
 pub media-then : {u : World} (v : World) (making : Option (List ℕ)) (a : Disk) (image : Files) → IsCalm a u → ((name : List ℕ) → (IsOfStores name → ⊥) → IsOurs name → a.may name (image name)) → KeepsMedia v making a.files → KeepsBeside u v making image
 media-then {u = u} v making a image calm others media = beside-then store-medium store-rows u v making a image calm others media
@@ -38,8 +45,8 @@ media-then {u = u} v making a image calm others media = beside-then store-medium
 
 -- a world in which so many GUIDs more are drawn
 pub world-stands : (a b : Disk) (old new : Kept) (w v : World) (n : ℕ) (hosted : List Hosted) → StandsFor a old w → IsBehind w v n → IsSound v → Hosts v hosted → IsHosting b new.hosting hosted → (own_in new).number ≡ (own_in old).number
-    → new.drawn ≡ old.drawn + n → new.session ≡ old.session → new.sessions ≡ old.sessions → KeepsMedia v None b.files → IsCalm b w → StandsFor b new v
-world-stands a b old new w v n hosted is behind sound hosts hosting number drawn session sessions media calm = record {
+    → new.drawn ≡ old.drawn + n → new.session ≡ old.session → new.sessions ≡ old.sessions → KeepsMedia v None b.files → IsCalm b w → AreCopied b hosted → StandsFor b new v
+world-stands a b old new w v n hosted is behind sound hosts hosting number drawn session sessions media calm copied = record {
   sound = sound;
   instance = behind.instance ∙ is.instance ∙ sym number;
   counter = behind.counter ∙ ap (λ k. k + n) is.counter ∙ sym drawn;
@@ -50,6 +57,7 @@ world-stands a b old new w v n hosted is behind sound hosts hosting number drawn
   hosting = hosting;
   media = media;
   calm = calm-on behind.rows calm;
+  copied = copied;
 }
 
 -- ---- what a crash leaves

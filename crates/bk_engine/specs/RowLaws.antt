@@ -1,17 +1,16 @@
 -- What is done under other names leaves media and the rows of msdb, and acts leave the rows but the one that adds one.
-use Rattle.std.proofs.Common.{◌≡◌, inl, inr, ℕ, List, Option, Some, None, refl, sym, ap, subst, ◌∙◌}
-use Rattle.bk_archive.specs.DiskLaws.{calm-nothing as media-nothing, media-after, media-durable}
+use Rattle.std.proofs.Common.{◌≡◌, inl, inr, ℕ, List, Option, Some, None, refl, sym, subst, ◌∙◌}
+use Rattle.bk_archive.specs.DiskLaws.{calm-nothing as media-nothing, media-durable}
 use Rattle.bk_archive.specs.Media.{IsMediumFile, KeepsMedia, MediaAreDurable}
 use Rattle.bk_archive.specs.MediaLaws.{media-in}
 use Rattle.bk_device.specs.Calls.{ChangesNothing}
-use Rattle.bk_device.specs.Disk.{Disk, Files, IsDurable}
+use Rattle.bk_device.specs.Disk.{Disk, Files}
 use Rattle.bk_device.specs.Effects.{Effect}
 use Rattle.bk_device.specs.Laws.{durable_by_nothing}
-use Rattle.bk_machine.specs.Acts.{Act, based, created, done, dropped, goes_online, logged, medium_made, noted, recovered, replaced, restored, says, seated, set_drawn, set_sealed, turned, where_found}
+use Rattle.bk_machine.specs.Acts.{Act, based, created, done, dropped, goes_online, job_set, jobs_dropped, logged, medium_made, noted, readied, recovered, replaced, restored, says, seated, set_drawn, set_sealed, turned, where_found}
 use Rattle.bk_machine.specs.World.{Database, World, database_named}
 use Rattle.bk_msdb.specs.Laws.{shows_same}
 use Rattle.bk_msdb.specs.Msdb.{Shows, msdb_file}
-use Rattle.bk_msdb.specs.Rows.{Tables}
 use Rattle.bk_volume.specs.Names.{medium_file}
 use Rattle.bk_engine.specs.NameLaws.{medium-rows}
 use Rattle.bk_engine.specs.Rows.{IsCalm, KeepsBeside, rows_in}
@@ -66,6 +65,7 @@ rows-then {w = w} a image calm others = shows_same a.files image (rows_in w) (ca
 abbrev pub IsAside : Act → Type 0
 IsAside (turned name) = Unit {0}
 IsAside (seated session) = Unit {0}
+IsAside (readied starts) = Unit {0}
 IsAside (noted row) = Unit {0}
 IsAside _ = ⊥
 
@@ -78,6 +78,7 @@ pub done-rows : (w : World) (act : Act) → (IsAside act → ⊥) → rows_in (d
 unfolding done says goes_online rows_in
 done-rows w (turned name) other = refl
 done-rows w (seated session) other = refl
+done-rows w (readied starts) other = refl
 done-rows w (created c) other = refl
 done-rows w (dropped name) other = refl
 done-rows w (logged name said transactions) other = said-rows w (database_named w.databases name) (λ db. says w db said transactions) (λ db. refl)
@@ -86,6 +87,8 @@ done-rows w set_drawn other = refl
 done-rows w (set_sealed path header) other = refl
 done-rows w (noted row) other = absurd (other tt)
 done-rows w (based name header) other = refl
+done-rows w (job_set name job) other = refl
+done-rows w jobs_dropped other = refl
 done-rows w (replaced name header) other = refl
 done-rows w (restored name base redo) other = refl
 done-rows w (recovered name r) other = said-rows w (database_named w.databases name) (λ db. goes_online w db r) (λ db. refl)

@@ -1,6 +1,6 @@
 -- The rows of msdb that an instance keeps in its own file, beside its media.
 -- SQL Server: "backupset (Transact-SQL)", "restorehistory (Transact-SQL)", "logmarkhistory (Transact-SQL)".
-use Rattle.std.specs.Prelude.{◌≡◌, ℕ, List, Option}
+use Rattle.std.specs.Prelude.{ℕ, List, Option}
 use Rattle.bk_archive.specs.Media.{KeepsMedia, MediaAreDurable}
 use Rattle.bk_device.specs.Disk.{Disk, Files, IsDurable}
 use Rattle.bk_machine.specs.World.{World}

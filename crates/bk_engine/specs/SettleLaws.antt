@@ -1,9 +1,9 @@
 -- Databases that were settled in part settle to the same.
-use Rattle.std.proofs.Common.{◌≡◌, ◌≤◌, ℕ, zero, suc, ◌+◌, ◌-◌, Bool, true, false, List, [], ◌∷◌, ◌++◌, drop, length, map, reverse, take, refl, sym, ap, subst, ◌∙◌, append_assoc, arith}
+use Rattle.std.proofs.Common.{◌≡◌, ◌≤◌, ℕ, zero, suc, ◌+◌, ◌-◌, Bool, true, false, List, [], ◌∷◌, ◌++◌, drop, length, map, None, reverse, take, refl, sym, ap, subst, ◌∙◌, append_assoc, arith}
 use Rattle.std.proofs.lemmas.List.{append-nil, take-append-drop, take-map, take_all}
 use Rattle.std.specs.List.{AllByRecursion, AllZip}
 use Rattle.bk_hosted.specs.Fronts.{settled_by, settling}
-use Rattle.bk_hosted.specs.Hosted.{Hosted, is_up}
+use Rattle.bk_hosted.specs.Hosted.{Hosted, is_up, running}
 use Rattle.bk_hosting.specs.Loading.{IsUndoing}
 use Rattle.bk_world.specs.Cut.{end_behind, settled}
 use Rattle.bk_world.specs.Pending.{Pending, PendingRise, pending}
@@ -66,9 +66,9 @@ rise-front rs k rise enough =
 pub undoing-settles : (h front : Hosted) → PendsInOrder h → IsUndoing h front → settling front ≡ settling h
 undoing-settles h front rise is = ap settling is.same ∙ by (is_up h) refl
   where
-    by : (up : Bool) → is_up h ≡ up → record h { records = settled_by up (take is.k (settled_by up h.records)); transactions = [] } ≡ record h { records = settled_by up h.records; transactions = [] }
-    by true up = ap (λ (rs : List Logged). record h { records = rs; transactions = [] }) (settled-front h.records is.k (rise up) is.enough)
-    by false up = ap (λ (rs : List Logged). record h { records = rs; transactions = [] }) (take_all is.k h.records is.enough)
+    by : (up : Bool) → is_up h ≡ up → record h { records = settled_by up (take is.k (settled_by up h.records)); job = None; transactions = [] } ≡ record h { records = settled_by up h.records; job = None; transactions = [] }
+    by true up = ap (λ (rs : List Logged). record h { records = rs; job = None; transactions = [] }) (settled-front h.records is.k (rise up) is.enough)
+    by false up = ap (λ (rs : List Logged). record h { records = rs; job = None; transactions = [] }) (take_all is.k h.records is.enough)
 
 pub all-settle : (hosted fronts : List Hosted) → AllByRecursion PendsInOrder hosted → AllZip IsUndoing hosted fronts → map settling fronts ≡ map settling hosted
 all-settle [] [] rise is = refl
@@ -91,24 +91,33 @@ all-pend (h ∷ hosted) (front ∷ fronts) rise is = (undoing-pends h front rise
 
 -- ---- all is undone
 
--- a database in which all is undone
-settling-undoes : (h : Hosted) → IsUndoing h (settling h)
+-- a database in which all is undone, once no backup of it runs
+settling-undoes : (h : Hosted) → IsUndoing (running None h) (settling h)
 settling-undoes h = record {
   k = k;
   enough = let some : length h.records ≤ k = omega arith in some;
-  same = ap (λ (rs : List Logged). record h { records = rs; transactions = [] }) (sym (take_all k (settled_by (is_up h) h.records) (omega arith)));
+  same = ap (λ (rs : List Logged). record h { records = rs; job = None; transactions = [] }) (sym (take_all k (settled_by (is_up h) h.records) (omega arith)));
 }
   where
     k : ℕ
     k = length h.records + length (settled_by (is_up h) h.records)
 
-all-undone : (hosted : List Hosted) → AllZip IsUndoing hosted (map settling hosted)
+all-undone : (hosted : List Hosted) → AllZip IsUndoing (map (running None) hosted) (map settling hosted)
 all-undone [] = tt
 all-undone (h ∷ hosted) = (settling-undoes h, all-undone hosted)
 
+-- a backup that runs is no matter
+jobless-settle : (hosted : List Hosted) → map settling (map (running None) hosted) ≡ map settling hosted
+jobless-settle [] = refl
+jobless-settle (h ∷ hosted) = ap (λ (xs : List Hosted). settling h ∷ xs) (jobless-settle hosted)
+
+jobless-pend : (hosted : List Hosted) → AllByRecursion PendsInOrder hosted → AllByRecursion PendsInOrder (map (running None) hosted)
+jobless-pend [] rise = tt
+jobless-pend (h ∷ hosted) rise = (rise.0, jobless-pend hosted rise.1)
+
 -- settles to itself, and in it what is pending comes in order
 pub settled-settle : (hosted : List Hosted) → AllByRecursion PendsInOrder hosted → map settling (map settling hosted) ≡ map settling hosted
-settled-settle hosted rise = all-settle hosted (map settling hosted) rise (all-undone hosted)
+settled-settle hosted rise = all-settle (map (running None) hosted) (map settling hosted) (jobless-pend hosted rise) (all-undone hosted) ∙ jobless-settle hosted
 
 pub settled-pend : (hosted : List Hosted) → AllByRecursion PendsInOrder hosted → AllByRecursion PendsInOrder (map settling hosted)
-settled-pend hosted rise = all-pend hosted (map settling hosted) rise (all-undone hosted)
+settled-pend hosted rise = all-pend (map (running None) hosted) (map settling hosted) (jobless-pend hosted rise) (all-undone hosted)

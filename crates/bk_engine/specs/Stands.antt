@@ -15,6 +15,7 @@ use Rattle.bk_master.specs.declared.record.Own.{Own}
 use Rattle.bk_msdb.specs.Msdb.{Shows, msdb_file}
 use Rattle.bk_stores.specs.Stores.{IsOurs as IsOfStores}
 use Rattle.bk_volume.specs.Names.{staging_file}
+use Rattle.bk_engine.specs.Copied.{AreCopied}
 use Rattle.bk_engine.specs.Rows.{IsCalm, rows_in}
 
 -- ---- an instance
@@ -43,7 +44,7 @@ pub record IsReady (e : Kept) : Type 0 where
   pub no_less : e.drawn ≤ (own_in e).counter
   pub no_more : (own_in e).counter ≤ e.drawn + 1024
 
--- It stands for a sound world, with what is open in it: it hosts the world's databases, and keeps its media and its rows of msdb, in which nothing is pending.
+-- It stands for a sound world, with what is open in it: it hosts the world's databases, keeps its media and its rows of msdb, in which nothing is pending, and what isn't left of backups that run was copied.
 pub record StandsFor (disk : Disk) (e : Kept) (w : World) : Type 0 where
   pub sound : IsSound w
   pub instance : w.instance ≡ (own_in e).number
@@ -55,6 +56,7 @@ pub record StandsFor (disk : Disk) (e : Kept) (w : World) : Type 0 where
   pub hosting : IsHosting disk e.hosting hosted
   pub media : KeepsMedia w None disk.files
   pub calm : IsCalm disk w
+  pub copied : AreCopied disk hosted
 
 -- ---- what a crash leaves
 

@@ -75,6 +75,7 @@ seen_by spec st shown = record {
   base = st.points.base;
   status = st.points.status;
   units = st.points.units;
+  job = st.job;
   transactions = st.transactions;
   shown = shown;
 }

@@ -12,6 +12,7 @@ ghost use Rattle.bk_engine.specs.Stands.{Covers, IsOurs, IsReady, StandsFor, own
 ghost use Rattle.bk_engine.specs.Touched.{NoMedium, TouchesOnly};
 
 use crate::engine::Engine;
+use crate::staging::copied_sets;
 use bk_device::Device;
 use bk_hosted::hosted_databases_follow_acts;
 use bk_machine::runs_begin_and_end_in_sound_worlds;
@@ -40,11 +41,13 @@ impl Engine {
         if own.counter == self.drawn {
             return Ok(());
         }
+        let copying = copied_sets(self.alloc, own.copying.as_slice())?;
         let next = Own {
             number: own.number,
             counter: self.drawn,
             making: None,
             staging: own.staging,
+            copying,
         };
         self.hosting.put_own(self.alloc, dev, next)
     }

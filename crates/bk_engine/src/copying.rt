@@ -5,12 +5,16 @@ ghost use Rattle.bk_body.specs.Body.{Extent};
 ghost use Rattle.bk_copying.specs.Extents.{extents_of};
 ghost use Rattle.bk_device.specs.Counts.{HasCause};
 ghost use Rattle.bk_device.specs.Effects.{Effect};
+ghost use Rattle.bk_fields.specs.Guids.{IsGuid};
 ghost use Rattle.bk_hosted.specs.Hosted.{Hosted, names};
 ghost use Rattle.bk_hosting.specs.Asking.{AreDescribed};
 ghost use Rattle.bk_hosting.specs.Copying.{AreAsBefore, HaveExtents, HoldsCopies, HoldsLog};
+ghost use Rattle.bk_ids.specs.declared.guid.Guid.{Guid};
+ghost use Rattle.bk_kept.specs.Jobs.{IsApart};
 ghost use Rattle.bk_machine.specs.World.{Database, World, log_of};
 ghost use Rattle.bk_store.specs.Told.{Told, data_file};
 ghost use Rattle.bk_stores.specs.Standing.{AreStanding};
+ghost use Rattle.bk_volume.specs.Names.{staging_file};
 ghost use Rattle.bk_volume.specs.Staging.{HoldsParts, IsStaged};
 ghost use Rattle.bk_world.specs.declared.database.Status.TheVariants.{Online};
 ghost use Rattle.bk_engine.specs.Copying.{IsToldOf};
@@ -75,7 +79,7 @@ impl Engine {
         ensures name { staged.new.name ≡ staged.old.name }
         ensures standing { D.tells → OnOk result (AreStanding (D.disk dev.new) self.new.hosting.stores) }
         ensures staged { D.tells → OnOk result (IsStaged (D.disk dev.new) staged.new) }
-        ensures stands { D.tells → (w : World) → StandsFor (D.disk dev.old) self.old w → OnOk result (StandsFor (D.disk dev.new) self.new w) }
+        ensures stands { D.tells → (w : World) → StandsFor (D.disk dev.old) self.old w → (set : Guid) → IsGuid set → staged.old.name ≡ staging_file set → IsApart w set → OnOk result (StandsFor (D.disk dev.new) self.new w) }
         ensures added { D.tells → (w : World) (db : Database) → StandsFor (D.disk dev.old) self.old w → slice_get w.databases at ≡ Some db → (before : List Extent) → HoldsParts (D.disk dev.old) staged.old before []
             → OnOk result ((told : Told) × IsToldOf w db told × HoldsCopies (D.disk dev.new) staged.new before told extents.now) }
         ensures crash { D.tells → (w : World) → StandsFor (D.disk dev.old) self.old w → Effect IsOurs (Covers w) (D.disk dev.old) (D.disk dev.new) }
@@ -107,7 +111,7 @@ impl Engine {
         ensures name { staged.new.name ≡ staged.old.name }
         ensures standing { D.tells → AreStanding (D.disk dev.new) self.now.hosting.stores }
         ensures staged { D.tells → OnOk result (IsStaged (D.disk dev.new) staged.new) }
-        ensures stands { D.tells → (w : World) → StandsFor (D.disk dev.old) self.now w → StandsFor (D.disk dev.new) self.now w }
+        ensures stands { D.tells → (w : World) → StandsFor (D.disk dev.old) self.now w → (set : Guid) → IsGuid set → staged.old.name ≡ staging_file set → IsApart w set → StandsFor (D.disk dev.new) self.now w }
         ensures added { D.tells → (w : World) (db : Database) → StandsFor (D.disk dev.old) self.now w → slice_get w.databases at ≡ Some db → (extents : List Extent) (before : List ℕ) → HoldsParts (D.disk dev.old) staged.old extents before
             → OnOk result (HoldsLog (D.disk dev.new) staged.new extents before (log_of w.history db) from to) }
         ensures crash { D.tells → (w : World) → StandsFor (D.disk dev.old) self.now w → Effect IsOurs (Covers w) (D.disk dev.old) (D.disk dev.new) }

@@ -1,5 +1,5 @@
-// What a run that was cut off left behind: a medium that was being made, and what was written of a set.
-ghost use Rattle.std.specs.Prelude.{◌≡◌, ◌⊎◌, ℕ, true, None, IfErr, OnOk, IsErrOf};
+// What a run that was cut off left behind: a medium that was being made, and what was written of sets.
+ghost use Rattle.std.specs.Prelude.{◌≡◌, ◌⊎◌, ℕ, [], true, None, IfErr, OnOk, IsErrOf};
 ghost use Rattle.bk_archive.specs.Calls.{HasFinished, LeavesFinishing};
 ghost use Rattle.bk_archive.specs.Media.{IfDurable, IsMediumFile, MediaAreDurable};
 ghost use Rattle.bk_device.specs.Calls.{ChangesNothing};
@@ -18,7 +18,7 @@ ghost use Rattle.bk_engine.specs.Touched.{IsMadeAt, NoMedium, TouchesOnly};
 use bk_archive::{ArchiveError, finish_medium};
 use bk_device::Device;
 use bk_hosting::Hosting;
-use bk_ids::{Guid, Text};
+use bk_ids::{Guid, Sequence, Text};
 use bk_master::Own;
 use bk_stores::StoresError;
 use bk_volume::{WriteError, remove_staged};
@@ -90,7 +90,35 @@ fn remove_set<D: Device>(
     }
 }
 
-// Finishes the medium that a record names as being made, or takes it away, and removes what was written of the set that it names.
+// Removes what was written of these sets.
+pub(crate) fn remove_sets<D: Device>(
+    alloc: Global,
+    dev: &mut D,
+    sets: &[Guid],
+) -> Result<(), StoresError>
+    ensures crash { D.tells → Effect IsStagingFile (λ image. Unit {0}) (D.disk dev.old) (D.disk dev.new) }
+    ensures touches { D.tells → TouchesOnly NoMedium (D.disk dev.old) (D.disk dev.new) }
+    ensures trouble { IfErr result IsTrouble }
+    ensures cause { HasCause D.disk_faults D.tell_faults dev.old dev.new (IsErrOf result StoresError.Fault) }
+{
+    for set in sets {
+        remove_at(alloc, dev, *set)?;
+    }
+    Ok(())
+}
+
+// Removes what was written of the sets that a record names.
+fn remove_named<D: Device>(alloc: Global, dev: &mut D, own: &Own) -> Result<(), StoresError>
+    ensures crash { D.tells → Effect IsStagingFile (λ image. Unit {0}) (D.disk dev.old) (D.disk dev.new) }
+    ensures touches { D.tells → TouchesOnly NoMedium (D.disk dev.old) (D.disk dev.new) }
+    ensures trouble { IfErr result IsTrouble }
+    ensures cause { HasCause D.disk_faults D.tell_faults dev.old dev.new (IsErrOf result StoresError.Fault) }
+{
+    remove_set(alloc, dev, own.staging)?;
+    remove_sets(alloc, dev, own.copying.as_slice())
+}
+
+// Finishes the medium that a record names as being made, or takes it away, and removes what was written of the sets that it names.
 fn clear<D: Device>(alloc: Global, dev: &mut D, hosting: &Hosting) -> Result<(), StoresError>
     requires standing { D.tells → AreStanding (D.disk dev.old) hosting.now.stores }
     ensures standing { D.tells → AreStanding (D.disk dev.new) hosting.now.stores }
@@ -104,15 +132,16 @@ fn clear<D: Device>(alloc: Global, dev: &mut D, hosting: &Hosting) -> Result<(),
     let own = hosting.own();
     finish_making(alloc, dev, &own.making)?;
     hosting.at_rest(dev);
-    remove_set(alloc, dev, own.staging)
+    remove_named(alloc, dev, own)
 }
 
 // Whether nothing was being made.
 fn is_whole(own: &Own) -> bool
     ensures whole { result ≡ true → (own.now.making ≡ None) × (own.now.staging ≡ None) }
-    ensures all { own.now.making ≡ None → own.now.staging ≡ None → result ≡ true }
+    ensures copied { result ≡ true → own.now.copying ≡ [] }
+    ensures all { own.now.making ≡ None → own.now.staging ≡ None → own.now.copying ≡ [] → result ≡ true }
 {
-    own.making.is_none() && own.staging.is_none()
+    own.making.is_none() && own.staging.is_none() && own.copying.as_slice().is_empty()
 }
 
 /// Clears up what a run that was cut off left behind, and then the record names nothing as being made.
@@ -127,11 +156,12 @@ pub(crate) fn finish<D: Device>(
     requires standing { D.tells → AreStanding (D.disk dev.old) hosting.old.stores }
     ensures ready { OnOk result (AreReady hosting.new) }
     ensures none { OnOk result (((own_of hosting.new).making ≡ None) × ((own_of hosting.new).staging ≡ None)) }
+    ensures copied { OnOk result ((own_of hosting.new).copying ≡ []) }
     ensures standing { D.tells → OnOk result (AreStanding (D.disk dev.new) hosting.new.stores) }
     ensures stands { D.tells → (w : World) → Opened (D.disk dev.old) hosting.old w → OnOk result (Opened (D.disk dev.new) hosting.new w) }
     ensures crash { D.tells → (number : ℕ) (w : World) → Opened (D.disk dev.old) hosting.old w → Effect IsOurs (λ image. Stands number image w) (D.disk dev.old) (D.disk dev.new) }
     ensures touches { D.tells → TouchesOnly (IsMadeAt (own_of hosting.old).making) (D.disk dev.old) (D.disk dev.new) }
-    ensures still { D.tells → (own_of hosting.old).making ≡ None → (own_of hosting.old).staging ≡ None → OnOk result (ChangesNothing (D.disk dev.old) (D.disk dev.new)) }
+    ensures still { D.tells → (own_of hosting.old).making ≡ None → (own_of hosting.old).staging ≡ None → (own_of hosting.old).copying ≡ [] → OnOk result (ChangesNothing (D.disk dev.old) (D.disk dev.new)) }
     ensures trouble { IfErr result IsTrouble }
     ensures cause { HasCause D.disk_faults D.tell_faults dev.old dev.new (IsErrOf result StoresError.Fault) }
 {
@@ -146,6 +176,7 @@ pub(crate) fn finish<D: Device>(
         counter: own.counter,
         making: None,
         staging: None,
+        copying: Sequence::new(Vec::new(alloc)),
     };
     hosting.put_own(alloc, dev, next)
 }

@@ -19,6 +19,7 @@ mod noting;
 mod parking;
 mod reserving;
 mod resting;
+mod running;
 mod saying;
 mod sealing;
 mod seating;
@@ -27,3 +28,4 @@ mod viewing;
 
 pub use bk_stores::StoresError;
 pub use engine::Engine;
+pub use running::Finishing;

@@ -10,6 +10,8 @@ ghost use Rattle.bk_record.specs.Spelling.{KeepsLimits};
 ghost use Rattle.bk_stores.specs.Errors.{IsTrouble};
 ghost use Rattle.bk_stores.specs.Standing.{AreStanding};
 ghost use Rattle.bk_world.specs.Records.{Said};
+ghost use Rattle.bk_ids.specs.declared.guid.Guid.{Guid};
+ghost use Rattle.bk_volume.specs.Names.{staging_file};
 ghost use Rattle.bk_engine.specs.Acts.{CutsSaying, MaySayIn};
 ghost use Rattle.bk_engine.specs.Stands.{IsOurs, IsReady, NamesSet, StandsFor, own_in};
 ghost use Rattle.bk_engine.specs.Touched.{NoMedium, TouchesOnly};
@@ -44,6 +46,7 @@ impl Engine {
         ensures stands { D.tells → (w : World) (said : List Said) → StandsFor (D.disk dev.old) self.old w → MaySayIn w name.now said transactions records.now lasting → OnOk result (StandsFor (D.disk dev.new) self.new (done w (logged name.now said transactions))) }
         ensures crash { D.tells → (w : World) (said : List Said) → StandsFor (D.disk dev.old) self.old w → MaySayIn w name.now said transactions records.now lasting → Effect IsOurs (CutsSaying w name.now said transactions) (D.disk dev.old) (D.disk dev.new) }
         ensures touches { D.tells → TouchesOnly NoMedium (D.disk dev.old) (D.disk dev.new) }
+        ensures sets { D.tells → (set : Guid) → (D.disk dev.new).files (staging_file set) ≡ (D.disk dev.old).files (staging_file set) }
         ensures trouble { IfErr result IsTrouble }
         ensures cause { HasCause D.disk_faults D.tell_faults dev.old dev.new (IsErrOf result StoresError.Fault) }
     {

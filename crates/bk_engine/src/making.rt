@@ -20,6 +20,7 @@ ghost use Rattle.bk_engine.specs.Stands.{Covers, IsOurs, IsReady, NamesSet, Stan
 ghost use Rattle.bk_engine.specs.Touched.{IsAt, NoMedium, TouchesOnly};
 
 use crate::engine::Engine;
+use crate::staging::copied_sets;
 use bk_archive::{ArchiveError, make_medium, media_stay};
 use bk_device::Device;
 use bk_hosted::hosted_databases_follow_acts;
@@ -80,12 +81,15 @@ impl Engine {
         ensures trouble { IfErr result IsTrouble }
         ensures cause { HasCause D.disk_faults D.tell_faults dev.old dev.new (IsErrOf result StoresError.Fault) }
     {
+        self.hosting.at_rest(dev);
         let own = self.hosting.own();
+        let copying = copied_sets(self.alloc, own.copying.as_slice())?;
         let next = Own {
             number: own.number,
             counter: own.counter,
             making,
             staging: own.staging,
+            copying,
         };
         self.hosting.put_own(self.alloc, dev, next)
     }

@@ -10,6 +10,7 @@ ghost use Rattle.bk_engine.specs.Stands.{Covers, IsOurs, IsReady, NamesSet, Stan
 ghost use Rattle.bk_engine.specs.Touched.{NoMedium, TouchesOnly};
 
 use crate::engine::Engine;
+use crate::staging::copied_sets;
 use bk_device::Device;
 use bk_master::Own;
 use bk_stores::StoresError;
@@ -48,11 +49,13 @@ impl Engine {
         if self.drawn + n <= own.counter {
             return Ok(());
         }
+        let copying = copied_sets(self.alloc, own.copying.as_slice())?;
         let next = Own {
             number: own.number,
             counter: self.drawn + MORE,
             making: None,
             staging: own.staging,
+            copying,
         };
         self.hosting.put_own(self.alloc, dev, next)
     }

@@ -77,6 +77,7 @@ fn joined<'a>(spec: &'a DatabaseSpec, state: &'a State, shown: &'a Shown) -> Dat
         base: state.points.base,
         status: &state.points.status,
         units: &state.points.units,
+        job: &state.job,
         transactions: &state.transactions,
         shown,
     }

@@ -41,10 +41,10 @@ pub returns-clause-touches : goal.returns-clause-touches
 returns-clause-touches g c = λ tells. effect_then (moved g.D.Device.disk c.args.dev.now c.at_rest.new.dev c.at_rest.ensures.same (c.clear.ensures.touches tells)) (stores-touch (c.put_own.ensures.touches tells))
 
 pub returns-then-is_whole-clause-still : goal.returns-then-is_whole-clause-still
-returns-then-is_whole-clause-still g c = λ tells no_medium no_set. rest-still g.D.Device.disk c.args.dev.now c.at_rest.new.dev c.at_rest.ensures.same
+returns-then-is_whole-clause-still g c = λ tells no_medium no_set no_copy. rest-still g.D.Device.disk c.args.dev.now c.at_rest.new.dev c.at_rest.ensures.same
 
 pub returns-clause-still : goal.returns-clause-still
-returns-clause-still g c = λ tells no_medium no_set.
-    let whole : c.is_whole.result ≡ true = c.is_whole.ensures.all (ap (λ (o : Own). o.making) c.own.ensures ∙ no_medium) (ap (λ (o : Own). o.staging) c.own.ensures ∙ no_set) in
+returns-clause-still g c = λ tells no_medium no_set no_copy.
+    let whole : c.is_whole.result ≡ true = c.is_whole.ensures.all (ap (λ (o : Own). o.making) c.own.ensures ∙ no_medium) (ap (λ (o : Own). o.staging) c.own.ensures ∙ no_set) (ap (λ (o : Own). o.copying) c.own.ensures ∙ no_copy) in
     let both : false ≡ true = sym c.if-is_whole.false ∙ whole in
     absurd (cc (both))

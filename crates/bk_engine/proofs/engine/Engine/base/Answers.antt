@@ -9,7 +9,8 @@ use Rattle.bk_hosting.specs.AskLaws.{described}
 use Rattle.bk_machine.specs.Acts.{done, based}
 use Rattle.bk_master.specs.declared.record.Own.{Own}
 use Rattle.bk_engine.specs.ActLaws.{done-behind}
-use Rattle.bk_engine.specs.PartLaws.{act-crash, calm-beside, media-beside, rest-crash, world-stands}
+use Rattle.bk_engine.specs.CopiedLaws.{copied-on, goes-same}
+use Rattle.bk_engine.specs.PartLaws.{act-crash, calm-beside, copied-beside, media-beside, rest-crash, world-stands}
 use Rattle.bk_engine.specs.Stands.{IsReady, Kept, StandsFor}
 use Rattle.bk_engine.proofs.Named.{found-at, of-ok, on-all, own-kept}
 use Rattle.bk_engine.proofs.Changed.{based-hosts}
@@ -40,7 +41,8 @@ returns-clause-stands g c = λ tells. on-all c.base.result (λ value ok. λ w is
     (done-behind w (based c.args.name.now c.args.header.now) may (λ turn. turn)) (c.acts_keep_worlds_sound.ensures.act w (based c.args.name.now c.args.header.now) is'.sound may)
     (based-hosts c.hosted_databases_follow_acts.ensures.folded c.hosted_databases_follow_acts.ensures.based w c.args.name.now c.args.header.now is'.hosted at there.0 is'.sound is'.hosts place there.1)
     (of-ok c.base.result value ok (c.base.ensures.stands tells is'.hosted there.0 is'.hosting there.1)) (ap (λ (o : Own). o.number) (of-ok c.base.result value ok c.base.ensures.own))
-    (omega arith) refl refl media (calm-beside effect is'.calm))
+    (omega arith) refl refl media (calm-beside effect is'.calm)
+    (copied-on b is'.hosted at there.0 (basing c.args.header.now (folding there.0)) there.1 (goes-same there.0 (basing c.args.header.now (folding there.0)) refl refl refl) (copied-beside is'.hosted effect is'.copied)))
 
 pub returns-clause-crash : goal.returns-clause-crash
 returns-clause-crash g c = λ tells w is.

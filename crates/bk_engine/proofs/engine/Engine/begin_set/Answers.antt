@@ -1,49 +1,22 @@
-use Rattle.std.proofs.Common.{inr, sym, subst, refl}
-use Rattle.bk_hosting.specs.Hosting.{own_of}
-use Rattle.bk_engine.specs.Stands.{IsReady, Kept, StandsFor}
-use Rattle.bk_engine.proofs.Named.{moved, on-all}
 use Rattle.bk_device.specs.Compose.{effect_then}
-use Rattle.bk_device.specs.Effects.{MayLeaveOwn}
-use Rattle.bk_hosting.specs.Hosting.{LeavesHosted}
-use Rattle.bk_stores.specs.Stores.{IsOurs as IsOfStores}
-use Rattle.bk_engine.specs.AmidLaws.{amid-stands, staging-amid, staging-crash, stands-amid}
-use Rattle.bk_engine.specs.BesideLaws.{stores-keep, stores-stand}
-use Rattle.bk_engine.specs.TouchLaws.{staged-touch, stores-touch}
-use Rattle.bk_volume.specs.Names.{staging_file}
+use Rattle.bk_engine.proofs.Named.{on-all}
+use Rattle.bk_engine.specs.TouchLaws.{stores-touch}
 use Rattle.bk_engine.proofs.engine.Engine.begin_set.Goals as goal
 
 pub returns-clause-standing : goal.returns-clause-standing
-returns-clause-standing g c = λ tells. on-all c.begin_at.result (λ value ok.
-    stores-stand c.name_set.new.self.hosting.stores (stores-keep (λ name at. inr (c.args.set, at)) (moved g.D.Device.disk c.name_set.new.dev c.at_rest.new.dev c.at_rest.ensures.same (c.begin_at.ensures.crash tells))) (c.in_ok-name_set.ensures.standing tells))
+returns-clause-standing g c = λ tells. on-all c.begin_staged.result (λ value ok. c.begin_staged.ensures.standing tells)
 
 pub returns-clause-stands : goal.returns-clause-stands
-returns-clause-stands g c = λ tells w is.
-    let a = g.D.Device.disk c.name_set.new.dev in
-    let b = g.D.Device.disk c.begin_at.new.dev in
-    let e : Kept = record { hosting = c.self.inside.hosting; drawn = c.self.inside.drawn; session = c.self.inside.session; sessions = c.self.inside.sessions.items } in
-    let is' : StandsFor a e w = subst (λ (k : Kept). StandsFor a k w) (sym c.self.view_is) (c.in_ok-name_set.ensures.stands tells w is) in
-    let ready' : IsReady e = subst IsReady (sym c.self.view_is) c.in_ok-name_set.ensures.ready in
-    let effect = moved g.D.Device.disk c.name_set.new.dev c.at_rest.new.dev c.at_rest.ensures.same (c.begin_at.ensures.crash tells) in
-    on-all c.begin_at.result (λ value ok. subst (λ (k : Kept). StandsFor b k w) c.self.view_is
-    (amid-stands b e w (staging-amid a b e.hosting w (stands-amid a e w ready' is') (λ name at. (c.args.set, at)) effect) is'.sound ready'.no_medium is'.counter is'.session is'.sessions))
+returns-clause-stands g c = λ tells w is apart. on-all c.begin_staged.result (λ value ok. c.begin_staged.ensures.stands tells w c.in_ok-name_set.ensures.ready (c.in_ok-name_set.ensures.stands tells w is) apart)
 
 pub returns-clause-crash : goal.returns-clause-crash
-unfolding stands-amid
-returns-clause-crash g c = λ tells w is.
-    let a = g.D.Device.disk c.name_set.new.dev in
-    let b = g.D.Device.disk c.begin_at.new.dev in
-    let e : Kept = record { hosting = c.self.inside.hosting; drawn = c.self.inside.drawn; session = c.self.inside.session; sessions = c.self.inside.sessions.items } in
-    let is' : StandsFor a e w = subst (λ (k : Kept). StandsFor a k w) (sym c.self.view_is) (c.in_ok-name_set.ensures.stands tells w is) in
-    let ready' : IsReady e = subst IsReady (sym c.self.view_is) c.in_ok-name_set.ensures.ready in
-    let effect = moved g.D.Device.disk c.name_set.new.dev c.at_rest.new.dev c.at_rest.ensures.same (c.begin_at.ensures.crash tells) in
-    let left = subst (λ d. (image : _) → MayLeaveOwn IsOfStores (g.D.Device.disk d) image → LeavesHosted (own_of e.hosting) is'.hosted image) c.at_rest.ensures.same (λ image mine. (c.at_rest.ensures.crash tells is'.hosted is'.hosting).now image mine) in
-    effect_then (c.name_set.ensures.crash tells w is) (staging-crash a b e.hosting w (stands-amid a e w ready' is') (λ name at. (c.args.set, at)) left effect)
+returns-clause-crash g c = λ tells w is. effect_then (c.name_set.ensures.crash tells w is) (c.begin_staged.ensures.crash tells w c.in_ok-name_set.ensures.ready (c.in_ok-name_set.ensures.stands tells w is))
 
 pub returns-clause-own : goal.returns-clause-own
-returns-clause-own g c = on-all c.begin_at.result (λ value ok. c.in_ok-name_set.ensures.own)
+returns-clause-own g c = on-all c.begin_staged.result (λ value ok. c.in_ok-name_set.ensures.own)
 
 pub returns-in_err-name_set-clause-touches : goal.returns-in_err-name_set-clause-touches
 returns-in_err-name_set-clause-touches g c = λ tells. stores-touch (c.name_set.ensures.touches tells)
 
 pub returns-clause-touches : goal.returns-clause-touches
-returns-clause-touches g c = λ tells. effect_then (stores-touch (c.name_set.ensures.touches tells)) (moved g.D.Device.disk c.name_set.new.dev c.at_rest.new.dev c.at_rest.ensures.same (staged-touch (staging_file c.args.set) (c.args.set, refl) (c.begin_at.ensures.crash tells)))
+returns-clause-touches g c = λ tells. effect_then (stores-touch (c.name_set.ensures.touches tells)) (c.begin_staged.ensures.touches tells)

@@ -11,9 +11,10 @@ use Rattle.bk_machine.specs.Acts.{done}
 use Rattle.bk_master.specs.declared.record.Own.{Own}
 use Rattle.bk_engine.specs.ActLaws.{done-behind, same-behind}
 use Rattle.bk_engine.specs.Acts.{marking}
-use Rattle.bk_engine.specs.PartLaws.{calm-beside, media-beside, media-then, rest-crash, stores-wide, world-kept, world-left, world-stands}
+use Rattle.bk_engine.specs.CopiedLaws.{copied-on}
+use Rattle.bk_engine.specs.PartLaws.{calm-beside, copied-beside, media-beside, media-then, rest-crash, stores-wide, world-kept, world-left, world-stands}
 use Rattle.bk_engine.specs.Stands.{IsReady, Kept, StandsFor}
-use Rattle.bk_engine.proofs.Marked.{checks-hosts, notes-hosts}
+use Rattle.bk_engine.proofs.Marked.{checks-hosts, marks-on, notes-hosts}
 use Rattle.bk_engine.proofs.Named.{found-at, of-ok, on-all, own-kept}
 use Rattle.bk_engine.specs.TouchLaws.{rest-touch, stores-touch}
 use Rattle.bk_engine.proofs.engine.Engine.checkpoint.Goals as goal
@@ -44,7 +45,8 @@ returns-clause-stands g c = λ tells w db is may.
     (done-behind w act may.may (λ turn. turn)) (c.acts_keep_worlds_sound.ensures.act w act is'.sound may.may)
     (checks-hosts w name c.args.time c.args.kept db is'.hosted at there.0 is'.sound is'.hosts place there.1 may c.hosted_databases_follow_acts.ensures.checkpoint)
     (of-ok c.checkpoint.result value ok (c.checkpoint.ensures.stands tells is'.hosted there.0 is'.hosting there.1)) (ap (λ (o : Own). o.number) (of-ok c.checkpoint.result value ok c.checkpoint.ensures.own))
-    (omega arith) refl refl media (calm-beside effect is'.calm))
+    (omega arith) refl refl media (calm-beside effect is'.calm)
+    (copied-on b is'.hosted at there.0 (checked there.0 c.args.time c.args.kept) there.1 (marks-on there.0 c.args.time c.args.kept) (copied-beside is'.hosted effect is'.copied)))
 
 pub returns-clause-crash : goal.returns-clause-crash
 returns-clause-crash g c = λ tells w db is may.

@@ -1,8 +1,11 @@
-use Rattle.std.proofs.Common.{◌∙◌, sym, ap, subst}
+use Rattle.std.proofs.Common.{◌∙◌, ℕ, List, sym, ap, subst}
 use Rattle.bk_master.specs.declared.record.Own.{Own}
 use Rattle.bk_engine.specs.Amid.{Amid}
 use Rattle.bk_engine.specs.Stands.{IsReady, Kept, StandsFor}
 use Rattle.bk_engine.proofs.Named.{of-ok, on-all, own-kept}
+use Rattle.bk_device.specs.Effects.{IsName}
+use Rattle.bk_engine.specs.Copied.{SparesSets}
+use Rattle.bk_engine.specs.CopiedLaws.{apart-spares}
 use Rattle.bk_engine.specs.AmidLaws.{amid-stands, copied-amid, copied-crash, stands-amid}
 use Rattle.bk_engine.proofs.Copied.{there-is, told-there}
 use Rattle.bk_hosting.specs.Copying.{HaveExtents}
@@ -19,7 +22,7 @@ copy_extents-requires-clause-there g c = subst (λ (k : Kept). HaveExtents k.hos
 
 pub returns-clause-stands : goal.returns-clause-stands
 unfolding stands-amid
-returns-clause-stands g c = λ tells w is.
+returns-clause-stands g c = λ tells w is set guid named apart.
     let a = g.D.Device.disk c.args.dev.now in
     let e : Kept = record { hosting = c.self.inside.hosting; drawn = c.self.inside.drawn; session = c.self.inside.session; sessions = c.self.inside.sessions.items } in
     let is' : StandsFor a e w = subst (λ (k : Kept). StandsFor a k w) (sym c.self.view_is) is in
@@ -29,7 +32,7 @@ returns-clause-stands g c = λ tells w is.
     on-all c.copy_extents.result (λ value ok.
     let own = of-ok c.copy_extents.result value ok c.copy_extents.ensures.own in
     amid-stands b (record { hosting = c.copy_extents.new.self; drawn = c.self.inside.drawn; session = c.self.inside.session; sessions = c.self.inside.sessions.items }) w
-    (copied-amid a b e.hosting c.copy_extents.new.self w c.args.staged.now amid c.requires.named own (of-ok c.copy_extents.result value ok (c.copy_extents.ensures.stands tells is'.hosted is'.hosting)) (c.copy_extents.ensures.crash tells is'.hosted is'.hosting))
+    (copied-amid a b e.hosting c.copy_extents.new.self w c.args.staged.now amid c.requires.named own (of-ok c.copy_extents.result value ok (c.copy_extents.ensures.stands tells is'.hosted is'.hosting)) (subst (λ (name : List ℕ). SparesSets (IsName name) is'.hosted) (sym named) (apart-spares w set is'.hosted is'.hosts guid apart)) (c.copy_extents.ensures.crash tells is'.hosted is'.hosting))
     is'.sound (ap (λ (o : Own). o.making) own ∙ ready'.no_medium) is'.counter is'.session is'.sessions)
 
 pub returns-clause-added : goal.returns-clause-added

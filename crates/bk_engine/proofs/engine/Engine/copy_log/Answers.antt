@@ -1,6 +1,9 @@
-use Rattle.std.proofs.Common.{◌∙◌, refl, sym, ap, subst}
+use Rattle.std.proofs.Common.{◌∙◌, ℕ, List, refl, sym, ap, subst}
 use Rattle.bk_engine.specs.Stands.{IsReady, Kept, StandsFor}
 use Rattle.bk_engine.proofs.Named.{of-ok, on-all}
+use Rattle.bk_device.specs.Effects.{IsName}
+use Rattle.bk_engine.specs.Copied.{SparesSets}
+use Rattle.bk_engine.specs.CopiedLaws.{apart-spares}
 use Rattle.bk_engine.specs.AmidLaws.{amid-stands, copied-amid, copied-crash, stands-amid}
 use Rattle.bk_engine.proofs.Copied.{there-is}
 use Rattle.bk_volume.specs.Laws.{staging_letter}
@@ -13,7 +16,7 @@ copy_log-requires-clause-named g c = ap letter c.requires.named.1 ∙ staging_le
 
 pub returns-clause-stands : goal.returns-clause-stands
 unfolding stands-amid
-returns-clause-stands g c = λ tells w is.
+returns-clause-stands g c = λ tells w is set guid named apart.
     let a = g.D.Device.disk c.args.dev.now in
     let e : Kept = record { hosting = c.self.inside.hosting; drawn = c.self.inside.drawn; session = c.self.inside.session; sessions = c.self.inside.sessions.items } in
     let is' : StandsFor a e w = subst (λ (k : Kept). StandsFor a k w) (sym c.self.view_is) is in
@@ -21,7 +24,7 @@ returns-clause-stands g c = λ tells w is.
     let b = g.D.Device.disk c.copy_log.new.dev in
     subst (λ (k : Kept). StandsFor b k w) c.self.view_is
     (amid-stands b e w
-    (copied-amid a b e.hosting e.hosting w c.args.staged.now (stands-amid a e w ready' is') c.requires.named refl (c.copy_log.ensures.stands tells is'.hosted is'.hosting) (c.copy_log.ensures.crash tells is'.hosted is'.hosting))
+    (copied-amid a b e.hosting e.hosting w c.args.staged.now (stands-amid a e w ready' is') c.requires.named refl (c.copy_log.ensures.stands tells is'.hosted is'.hosting) (subst (λ (name : List ℕ). SparesSets (IsName name) is'.hosted) (sym named) (apart-spares w set is'.hosted is'.hosts guid apart)) (c.copy_log.ensures.crash tells is'.hosted is'.hosting))
     is'.sound ready'.no_medium is'.counter is'.session is'.sessions)
 
 pub returns-clause-added : goal.returns-clause-added

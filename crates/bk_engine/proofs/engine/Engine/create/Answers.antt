@@ -13,7 +13,8 @@ use Rattle.bk_hosting.specs.Making.{HaveNoFile, newly}
 use Rattle.bk_known.specs.declared.known.DatabaseSpec.{DatabaseSpec}
 use Rattle.bk_stores.specs.Stores.{IsOurs as IsOfStores}
 use Rattle.bk_engine.specs.ActLaws.{done-behind}
-use Rattle.bk_engine.specs.PartLaws.{act-crash, calm-beside, media-beside, world-stands}
+use Rattle.bk_engine.specs.CopiedLaws.{copied-more}
+use Rattle.bk_engine.specs.PartLaws.{act-crash, calm-beside, copied-beside, media-beside, world-stands}
 use Rattle.bk_engine.proofs.Made.{hosted-none}
 use Rattle.bk_engine.specs.TouchLaws.{stores-touch}
 use Rattle.bk_engine.proofs.engine.Engine.create.Goals as goal
@@ -69,7 +70,7 @@ returns-clause-stands g c = λ tells w is may none.
     (done-behind w (created c.args.creation) may (λ turn. turn)) (c.acts_keep_worlds_sound.ensures.act w (created c.args.creation) is'.sound may)
     (c.hosted_databases_follow_acts.ensures.created w c.args.creation is'.hosted is'.sound may is'.hosts)
     (subst (λ (s : DatabaseSpec). IsHosting b c.create.new.self (is'.hosted ++ newly s c.args.creation.time c.args.creation.branch ∷ [])) c.in_ok-spec.ensures (c.in_ok-create.ensures.stands tells is'.hosted is'.hosting without))
-    (ap (λ (o : Own). o.number) c.in_ok-create.ensures.own) refl refl refl media (calm-beside effect is'.calm)
+    (ap (λ (o : Own). o.number) c.in_ok-create.ensures.own) refl refl refl media (calm-beside effect is'.calm) (copied-more b is'.hosted (creating c.args.creation) refl (copied-beside is'.hosted effect is'.copied))
 
 pub returns-clause-own : goal.returns-clause-own
 returns-clause-own g c =

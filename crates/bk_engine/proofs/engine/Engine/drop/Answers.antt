@@ -10,7 +10,8 @@ use Rattle.bk_machine.specs.Acts.{done, dropped}
 use Rattle.bk_master.specs.declared.record.Own.{Own}
 use Rattle.bk_stores.specs.ListLaws.{got-inside}
 use Rattle.bk_engine.specs.ActLaws.{done-behind}
-use Rattle.bk_engine.specs.PartLaws.{act-crash, calm-beside, media-beside, rest-crash, world-stands}
+use Rattle.bk_engine.specs.CopiedLaws.{copied-less}
+use Rattle.bk_engine.specs.PartLaws.{act-crash, calm-beside, copied-beside, media-beside, rest-crash, world-stands}
 use Rattle.bk_engine.specs.Stands.{IsReady, Kept, StandsFor}
 use Rattle.bk_engine.proofs.Named.{found-at, of-ok, on-all, own-kept}
 use Rattle.bk_engine.specs.TouchLaws.{rest-touch, stores-touch}
@@ -41,7 +42,7 @@ returns-clause-stands g c = λ tells. on-all c.drop.result (λ value ok. λ w is
     (done-behind w (dropped c.args.name.now) may (λ turn. turn)) (c.acts_keep_worlds_sound.ensures.act w (dropped c.args.name.now) is'.sound may)
     (c.hosted_databases_follow_acts.ensures.dropped w c.args.name.now is'.hosted at there.0 is'.sound is'.hosts place there.1)
     (of-ok c.drop.result value ok (c.drop.ensures.stands tells is'.hosted is'.hosting inside)) (ap (λ (o : Own). o.number) (of-ok c.drop.result value ok c.drop.ensures.own))
-    (omega arith) refl refl media (calm-beside effect is'.calm))
+    (omega arith) refl refl media (calm-beside effect is'.calm) (copied-less b is'.hosted at (copied-beside is'.hosted effect is'.copied)))
 
 pub returns-clause-crash : goal.returns-clause-crash
 returns-clause-crash g c = λ tells w is.

@@ -1,9 +1,8 @@
-use Rattle.std.proofs.Common.{◌≡◌, ◌∙◌, ℕ, List, map, Option, Some, None, ap, subst}
+use Rattle.std.proofs.Common.{◌≡◌, ◌∙◌, List, map, Some, None, ap, subst}
 use Rattle.std.specs.Option.{option_map}
 use Rattle.std.specs.Prelude.{IfOk, slice_get}
 use Rattle.bk_copying.specs.Extents.{extents_of}
 use Rattle.bk_facts.specs.declared.facts.DataFile.{DataFile}
-use Rattle.bk_store.specs.Store.{Kept as KeptStore}
 use Rattle.bk_store.specs.Told.{data_file}
 use Rattle.bk_engine.specs.Stands.{Kept}
 use Rattle.bk_engine.proofs.Copied.{files-there, open-there}

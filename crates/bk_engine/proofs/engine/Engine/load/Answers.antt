@@ -67,7 +67,7 @@ returns-clause-still g c = λ tells settled quiet.
     let here : AreQuiet b.files = quiet-moved call quiet in
     let same : c.in_ok-hosting.hosting.stores.master.record ≡ here.«record» = quiet-record c.in_ok-hosting.hosting.stores.master (c.in_ok-hosting.ensures.standing tells).master here in
     nothing_then (g.met.D.Device.lawful tells c.args.dev.now) call
-    (c.in_ok-finish.ensures.still tells (ap (λ (r : Record). r.own.making) same ∙ here.no_medium) (ap (λ (r : Record). r.own.staging) same ∙ here.no_set))
+    (c.in_ok-finish.ensures.still tells (ap (λ (r : Record). r.own.making) same ∙ here.no_medium) (ap (λ (r : Record). r.own.staging) same ∙ here.no_set) (ap (λ (r : Record). r.own.copying) same ∙ here.no_copy))
 
 pub returns-in_err-hosting-clause-spares : goal.returns-in_err-hosting-clause-spares
 returns-in_err-hosting-clause-spares g c = λ tells settled w is. stores-touch (effect_weaken (λ image left. tt) (c.load.ensures.crash tells settled is.own is.hosted is.holds))

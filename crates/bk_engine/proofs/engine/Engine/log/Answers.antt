@@ -9,7 +9,10 @@ use Rattle.bk_hosting.specs.AskLaws.{described}
 use Rattle.bk_machine.specs.Acts.{done, logged}
 use Rattle.bk_master.specs.declared.record.Own.{Own}
 use Rattle.bk_engine.specs.ActLaws.{said-behind}
-use Rattle.bk_engine.specs.PartLaws.{calm-beside, media-beside, rest-crash, world-stands}
+use Rattle.bk_engine.specs.CopiedLaws.{copied-on, goes-says}
+use Rattle.bk_volume.specs.Names.{staging_file}
+use Rattle.bk_engine.specs.NameLaws.{store-staging}
+use Rattle.bk_engine.specs.PartLaws.{calm-beside, copied-beside, media-beside, rest-crash, world-stands}
 use Rattle.bk_engine.specs.Stands.{IsReady, Kept, StandsFor}
 use Rattle.bk_engine.proofs.Named.{found-at, of-ok, on-all, own-kept, says-now, says-up}
 use Rattle.bk_engine.proofs.Logged.{said-crash, said-kept}
@@ -44,7 +47,8 @@ returns-clause-stands g c = λ tells w said is may.
     (said-behind w c.args.name.now said c.args.transactions) (c.acts_keep_worlds_sound.ensures.act w (logged c.args.name.now said c.args.transactions) is'.sound may.may)
     (c.hosted_databases_follow_acts.ensures.front w c.args.name.now said c.args.transactions is'.hosted at there.0 is'.sound is'.hosts place there.1 up may.plain)
     (of-ok c.log.result value ok (c.log.ensures.stands tells is'.hosted there.0 said is'.hosting there.1 now)) (ap (λ (o : Own). o.number) (of-ok c.log.result value ok c.log.ensures.own))
-    (omega arith) refl refl (media-in (done w (logged c.args.name.now said c.args.transactions)) None a.files b.files (media-beside effect) kept) (calm-beside effect is'.calm))
+    (omega arith) refl refl (media-in (done w (logged c.args.name.now said c.args.transactions)) None a.files b.files (media-beside effect) kept) (calm-beside effect is'.calm)
+    (copied-on b is'.hosted at there.0 (saying said c.args.transactions there.0) there.1 (goes-says said c.args.transactions there.0) (copied-beside is'.hosted effect is'.copied)))
 
 pub returns-clause-crash : goal.returns-clause-crash
 returns-clause-crash g c = λ tells w said is may.
@@ -69,3 +73,9 @@ returns-in_default-clause-touches g c = λ tells. rest-touch g.D.Device.disk c.a
 
 pub returns-clause-touches : goal.returns-clause-touches
 returns-clause-touches g c = λ tells. stores-touch (c.log.ensures.touches tells)
+
+pub returns-in_default-clause-sets : goal.returns-in_default-clause-sets
+returns-in_default-clause-sets g c = λ tells set. ap (λ d. (g.D.Device.disk d).files (staging_file set)) c.at_rest.ensures.same
+
+pub returns-clause-sets : goal.returns-clause-sets
+returns-clause-sets g c = λ tells set. (c.log.ensures.touches tells).others (staging_file set) (λ store. store-staging (staging_file set) (set, refl) store)

@@ -2,9 +2,8 @@ use Rattle.std.proofs.Common.{sym, subst}
 use Rattle.bk_device.specs.Disk.{IsDurable}
 use Rattle.bk_device.specs.Effects.{Effect, IsName, MayLeaveOwn}
 use Rattle.bk_hosting.specs.Hosting.{LeavesHosted, own_of}
-use Rattle.bk_machine.specs.Acts.{done, noted}
+use Rattle.bk_machine.specs.Acts.{noted}
 use Rattle.bk_msdb.specs.Msdb.{Adds, Shows, msdb_file}
-use Rattle.bk_msdb.specs.Rows.{with_row}
 use Rattle.bk_stores.specs.Stores.{IsOurs as IsOfStores}
 use Rattle.bk_engine.specs.BesideLaws.{stores-stand}
 use Rattle.bk_engine.specs.Rows.{rows_in}

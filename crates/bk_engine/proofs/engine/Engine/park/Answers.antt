@@ -12,7 +12,8 @@ use Rattle.bk_hosting.specs.AskLaws.{described}
 use Rattle.bk_hosting.specs.Hosting.{IsHosting}
 use Rattle.bk_machine.specs.Acts.{done, replaced}
 use Rattle.bk_engine.specs.ActLaws.{done-behind}
-use Rattle.bk_engine.specs.PartLaws.{act-crash, calm-beside, media-beside, rest-crash, world-stands}
+use Rattle.bk_engine.specs.CopiedLaws.{copied-more, copied-set}
+use Rattle.bk_engine.specs.PartLaws.{act-crash, calm-beside, copied-beside, media-beside, rest-crash, world-stands}
 use Rattle.bk_engine.proofs.Made.{parked-as}
 use Rattle.bk_engine.specs.TouchLaws.{rest-touch, stores-touch}
 use Rattle.bk_engine.proofs.engine.Engine.park.Goals as goal
@@ -48,7 +49,7 @@ returns-in-Some-clause-stands g c = λ tells w is may known.
     (done-behind w act may (λ turn. turn)) (c.acts_keep_worlds_sound.ensures.act w act is'.sound may)
     (c.hosted_databases_follow_restores.ensures.replaced w name header is'.hosted at is'.sound is'.hosts may place)
     (of-ok c.park_at.result value ok (c.park_at.ensures.stands tells is'.hosted there.0 h hosting there.1 parked)) (ap (λ (o : Own). o.number) (of-ok c.park_at.result value ok c.park_at.ensures.own))
-    (omega arith) refl refl media (calm-beside effect is'.calm))
+    (omega arith) refl refl media (calm-beside effect is'.calm) (copied-set b is'.hosted at h refl (copied-beside is'.hosted effect is'.copied)))
 
 pub returns-in-Some-clause-crash : goal.returns-in-Some-clause-crash
 returns-in-Some-clause-crash g c = λ tells w is may known.
@@ -91,7 +92,7 @@ returns-in-None-clause-stands g c = λ tells w is may known.
     (done-behind w act may (λ turn. turn)) (c.acts_keep_worlds_sound.ensures.act w act is'.sound may)
     (c.hosted_databases_follow_restores.ensures.new w name header is'.hosted is'.sound is'.hosts may place)
     (of-ok c.park.result value ok (c.park.ensures.stands tells is'.hosted h hosting parked)) (ap (λ (o : Own). o.number) (of-ok c.park.result value ok c.park.ensures.own))
-    (omega arith) refl refl media (calm-beside effect is'.calm))
+    (omega arith) refl refl media (calm-beside effect is'.calm) (copied-more b is'.hosted h refl (copied-beside is'.hosted effect is'.copied)))
 
 pub returns-in-None-clause-crash : goal.returns-in-None-clause-crash
 returns-in-None-clause-crash g c = λ tells w is may known.

@@ -6,7 +6,7 @@ use Rattle.bk_engine.specs.PartLaws.{rest-crash}
 use Rattle.bk_engine.specs.Stands.{IsReady, Kept, StandsFor}
 use Rattle.bk_engine.proofs.Closed.{closed-crash}
 use Rattle.bk_engine.proofs.Named.{moved, of-ok, on-all}
-use Rattle.bk_engine.proofs.Reserved.{reserved-stands}
+use Rattle.bk_engine.proofs.Reserved.{few-copied, reserved-stands}
 use Rattle.bk_engine.specs.TouchLaws.{rest-touch, stores-touch}
 use Rattle.bk_engine.proofs.engine.Engine.release.Goals as goal
 
@@ -44,3 +44,19 @@ returns-then-own-self-clause-touches g c = λ tells. rest-touch g.D.Device.disk 
 
 pub returns-clause-touches : goal.returns-clause-touches
 returns-clause-touches g c = λ tells. moved g.D.Device.disk c.args.dev.now c.at_rest.new.dev c.at_rest.ensures.same (stores-touch (c.put_own.ensures.touches tells))
+
+pub put_own-requires-clause-own : goal.put_own-requires-clause-own
+put_own-requires-clause-own g c =
+    let ready = subst IsReady (sym c.self.view_is) c.requires.ready in
+    record { path = tt; copying = few-copied c.self.inside.hosting c.own-own.result.now c.in_ok-copying.copying ready.hosting c.own-own.ensures (c.in_ok-copying.ensures ∙ c.as_slice.ensures) }
+
+pub returns-in_err-copying-clause-touches : goal.returns-in_err-copying-clause-touches
+returns-in_err-copying-clause-touches g c = λ tells. rest-touch g.D.Device.disk c.args.dev.now c.at_rest.new.dev c.at_rest.ensures.same
+
+pub returns-in_err-copying-clause-crash : goal.returns-in_err-copying-clause-crash
+returns-in_err-copying-clause-crash g c = λ tells number w is idle.
+    let a = g.D.Device.disk c.args.dev.now in
+    let e : Kept = record { hosting = c.self.inside.hosting; drawn = c.self.inside.drawn; session = c.self.inside.session; sessions = c.self.inside.sessions.items } in
+    let is' : StandsFor a e w = subst (λ (k : Kept). StandsFor a k w) (sym c.self.view_is) is in
+    let ready' : IsReady e = subst IsReady (sym c.self.view_is) c.requires.ready in
+    effect_weaken (λ image covers. inl covers) (rest-crash a (g.D.Device.disk c.at_rest.new.dev) e w ready' is' (c.at_rest.ensures.crash tells is'.hosted is'.hosting))
