@@ -1,97 +1,63 @@
 -- What was copied of a database may be sealed: it carries what its path shows.
-use Rattle.std.proofs.Common.{◌≡◌, ◌≤◌, ◌<◌, ℕ, ◌-◌, ◌^◌, true, List, [], ◌∷◌, length, map, None, refl, sym, ◌∙◌, ap, subst, arith}
+use Rattle.std.proofs.Common.{◌≡◌, ◌≤◌, ◌<◌, ℕ, ◌^◌, true, List, [], ◌∷◌, length, map, None, refl, sym, ◌∙◌, ap, subst, arith}
 use Rattle.std.specs.List.{AllByRecursion}
-use Rattle.std.proofs.lemmas.List.{length-drop, length-map, take_all}
+use Rattle.std.proofs.lemmas.List.{length-map}
 use Rattle.bk_body.specs.Body.{Body, Extent}
 use Rattle.bk_body.specs.Conditions.{ExtentsRise, IsLogOf, KeepsExtent, KeepsRecords, has_extent, holds_extent}
-use Rattle.bk_carried.specs.Carried.{HoldsLog, IsCopied, data_extents, id_of, is_there}
-use Rattle.bk_carried.specs.Copied.{IsHeaderOf}
-use Rattle.bk_copying.specs.Copying.{AreCopies, IsCopy}
-use Rattle.bk_copying.specs.Extents.{extents_of}
+use Rattle.bk_carried.specs.Carried.{Carries, data_extents, id_of, is_there}
+use Rattle.bk_carried.specs.Copied.{IsCopy, IsHeaderOf, WasRead}
 use Rattle.bk_device.specs.Disk.{Disk}
 use Rattle.bk_engine.specs.Sealing.{MaySeal}
 use Rattle.bk_engine.specs.Stands.{Kept, StandsFor}
 use Rattle.bk_header.specs.Conditions.{AreNumbered, KeepsConditions, total_extents}
-use Rattle.bk_ids.specs.declared.record.ExtentId.{ExtentId}
 use Rattle.bk_ids.specs.declared.record.Rec.{Rec}
 use Rattle.bk_machine.specs.Fits.{FitsLog}
-use Rattle.bk_machine.specs.Sound.{AreNumbered as AreTablesNumbered}
-use Rattle.bk_machine.specs.World.{World, log_of}
-use Rattle.bk_paged.specs.Paged.{from_to}
-use Rattle.bk_paths.specs.PageLaws.{page_since}
-use Rattle.bk_paths.specs.Paths.{IsPath, end_of, kept_from}
+use Rattle.bk_machine.specs.Sound.{AreNumbered as AreTablesNumbered, storage_of}
+use Rattle.bk_machine.specs.World.{Database, World, log_of}
+use Rattle.bk_paths.specs.Paths.{kept_from}
 use Rattle.bk_record.specs.Log.{IsLog}
-use Rattle.bk_redo.specs.PageStates.{page_of}
-use Rattle.bk_shown.specs.Shown.{ArePlaced}
-use Rattle.bk_store.specs.Copying.{IsExtentOf, page_of_extent}
-use Rattle.bk_store.specs.Told.{Told, data_file}
+use Rattle.bk_store.specs.Told.{Told}
 use Rattle.bk_undo.specs.Spelled.{spelled}
 use Rattle.bk_volume.specs.Staging.{HoldsParts, Staging}
 use Rattle.bk_world.specs.declared.database.FileSpec.{FileSpec}
 use Rattle.bk_world.specs.declared.database.TableSpec.{TableSpec}
 use Rattle.bk_world.specs.declared.header.Header.{Header}
 use Rattle.bk_world.specs.declared.header.HeaderFile.{HeaderFile}
-use Rattle.bk_world.specs.Lines.{log_below}
+use Rattle.bk_world.specs.Lines.{RecordLines, log_below}
 use Rattle.bk_world.specs.Records.{Counts, Logged}
 use Rattle.bk_world.specs.SoundLogs.{IsSound as IsSoundLog}
 use Rattle.bk_world.specs.Telling as telling
 use Rattle.bk_sealing.specs.Copied.{HoldsCopy}
 use Rattle.bk_sealing.specs.Sealing.{IsSetNow, in_set}
 use Rattle.bk_sealing.proofs.Kept.{keeps-records}
-use Rattle.bk_sealing.proofs.Listed.{IsLow, copies-are, extents-are, extents-low}
+use Rattle.bk_sealing.proofs.Listed.{IsLow, extents-are, extents-low}
 use Rattle.bk_sealing.proofs.Named.{IsKeptLog, found-log}
 
--- what is said elsewhere of extents that are those of files
+-- what is said elsewhere: of copies of a database, and of extents that are those of files
 pub record Laws : Type 0 where
+  pub carries : (lines : RecordLines) (told : Told) (body : Body) → log_below lines body.header.path body.header.last ≡ told.records → IsCopy told body → Carries lines body
   pub there : (files : List HeaderFile) (extents : List Extent) → map id_of extents ≡ data_extents files → (file extent : ℕ) → has_extent files file extent ≡ true → is_there extents file extent ≡ true
   pub rise : (files : List HeaderFile) (extents : List Extent) → AreNumbered 1 files → map id_of extents ≡ data_extents files → ExtentsRise extents
   pub held : (files : List HeaderFile) (extents : List Extent) → AllByRecursion (λ (f : HeaderFile). f.in_set ≡ true) files → map id_of extents ≡ data_extents files → AllByRecursion (λ (e : Extent). holds_extent files e.file e.extent ≡ true) extents
 
 -- ---- extents
 
-own-extent : (told : Told) (x : ExtentId) (c : Extent) → IsCopy told x c → IsExtentOf told c.file c.extent c.bytes
-own-extent told x c copy = subst (λ (n : ℕ). IsExtentOf told n c.extent c.bytes) (sym copy.file) (subst (λ (n : ℕ). IsExtentOf told x.file n c.bytes) (sym copy.number) copy.is_extent)
-
-copied-one : (told : Told) (since : ℕ) (c : Extent) → since ≤ end_of (map spelled told.records) → IsExtentOf told c.file c.extent c.bytes → IsCopied (map spelled told.records) since c
-copied-one told since c early is = λ i low.
-    let page = is.pages i low in record {
-      sound = page.sound;
-      place = page.place;
-      is_page = page_since (map spelled told.records) (end_of (map spelled told.records)) since (page_of_extent c.file c.extent i) (page_of _) early page.is_page;
-    }
-
-copied-all : (told : Told) (since : ℕ) (ids : List ExtentId) (copies : List Extent) → since ≤ end_of (map spelled told.records) → AreCopies told ids copies → AllByRecursion (IsCopied (map spelled told.records) since) copies
-copied-all told since [] [] early are = tt
-copied-all told since [] (c ∷ copies) early are = absurd are
-copied-all told since (x ∷ ids) [] early are = absurd are
-copied-all told since (x ∷ ids) (c ∷ copies) early are = (copied-one told since c early (own-extent told x c are.0), copied-all told since ids copies early are.1)
-
-keeps-one : (told : Told) (files : List HeaderFile) (c : Extent) → IsExtentOf told c.file c.extent c.bytes → holds_extent files c.file c.extent ≡ true → IsLow 17 (id_of c) → KeepsExtent files c
-keeps-one told files c is held low = record {
+keeps-one : (rs : List Logged) (since : ℕ) (files : List HeaderFile) (e : Extent) → WasRead rs since e → holds_extent files e.file e.extent ≡ true → IsLow 17 (id_of e) → KeepsExtent files e
+keeps-one rs since files e read held low = record {
   file = omega (arith, low.0);
   number = omega (arith, low.1);
-  size = omega (arith, is.whole);
+  size = let whole = read.pages.whole in omega (arith, whole);
   there = held;
-  pages = λ j small. let page = is.pages j small in record { of_file = page.place.file; of_number = page.place.number; digest = page.sound.digest };
+  pages = λ j small. let page = read.pages.pages j small in record { of_file = page.place.file; of_number = page.place.number; digest = page.sound.digest };
 }
 
-keeps-all : (told : Told) (files : List HeaderFile) (ids : List ExtentId) (copies : List Extent) → AreCopies told ids copies → AllByRecursion (λ (e : Extent). holds_extent files e.file e.extent ≡ true) copies → AllByRecursion (IsLow 17) (map id_of copies) → AllByRecursion (KeepsExtent files) copies
-keeps-all told files [] [] are held low = tt
-keeps-all told files [] (c ∷ copies) are held low = absurd are
-keeps-all told files (x ∷ ids) [] are held low = absurd are
-keeps-all told files (x ∷ ids) (c ∷ copies) are held low = (keeps-one told files c (own-extent told x c are.0) held.0 low.0, keeps-all told files ids copies are.1 held.1 low.1)
+keeps-all : (rs : List Logged) (since : ℕ) (files : List HeaderFile) (extents : List Extent) → AllByRecursion (WasRead rs since) extents → AllByRecursion (λ (e : Extent). holds_extent files e.file e.extent ≡ true) extents → AllByRecursion (IsLow 17) (map id_of extents) → AllByRecursion (KeepsExtent files) extents
+keeps-all rs since files [] read held low = tt
+keeps-all rs since files (e ∷ extents) read held low = (keeps-one rs since files e read.0 held.0 low.0, keeps-all rs since files extents read.1 held.1 low.1)
 
 all-in : (files : List FileSpec) → AllByRecursion (λ (f : HeaderFile). f.in_set ≡ true) (in_set files)
 all-in [] = tt
 all-in (f ∷ files) = (refl, all-in files)
-
--- ---- the log
-
--- the bytes from the first number to the end are the rest of the path
-whole-log : (records : List Rec) (first last : ℕ) (bytes : List ℕ) → 1 ≤ first → first ≤ last → last ≡ end_of records → IsLog bytes (from_to first last records) None → IsLog bytes (kept_from first records) None
-whole-log records first last bytes some order ends log =
-    let size : length (kept_from first records) ≤ last - first = omega (arith, length-drop (first - 1) records, some, order, ends) in
-    subst (λ (rs : List Rec). IsLog bytes rs None) (take_all (last - first) (kept_from first records) size) log
 
 -- ---- the set
 
@@ -99,10 +65,14 @@ whole-log records first last bytes some order ends log =
 abbrev pub body_of : Header → List TableSpec → List Extent → List ℕ → Body
 body_of header tables extents log = record { header = header; tables = tables; extents = extents; log = log }
 
+-- a database of a world, as its store tells it
+abbrev told_of : World → Database → Told
+told_of w db = record { spec = record { name = db.name; family = db.family; path = db.path; storage = storage_of db }; note = []; records = log_of w.history db }
+
 module _ (disk : Disk) (e : Kept) (w : World) (header : Header) (tables : List TableSpec) (set : Staging) (stands : StandsFor disk e w) (is : IsSetNow w header) (keeps : KeepsConditions header) (same : tables ≡ telling.tables (log_of w.history is.db))
-    (copy : HoldsCopy w is.db header.first header.last disk set) (laws : Laws) where
-  its-header : IsHeaderOf copy.told header
-  its-header = is.of_it copy.told copy.is_told.files copy.is_told.records
+    (copy : HoldsCopy w is.db header.checkpoint header.first header.last disk set) (laws : Laws) where
+  its-header : IsHeaderOf (told_of w is.db) header
+  its-header = is.of_it (told_of w is.db) refl refl
 
   few-files : length is.db.files ≤ 16
   few-files = let all : length (in_set is.db.files) ≡ length is.db.files = length-map is.db.files (λ (f : FileSpec). record { spec = f; in_set = true }) in
@@ -116,7 +86,7 @@ module _ (disk : Disk) (e : Kept) (w : World) (header : Header) (tables : List T
   small = subst (λ (fs : List HeaderFile). total_extents fs ≤ 4096) is.files keeps.files.small
 
   listed : map id_of copy.extents ≡ data_extents header.files
-  listed = copies-are copy.told (extents_of (map data_file is.db.files)) copy.extents copy.copies ∙ extents-are is.db.files few-files numbers small ∙ ap data_extents (sym is.files)
+  listed = copy.order ∙ extents-are is.db.files few-files numbers small ∙ ap data_extents (sym is.files)
 
   low : AllByRecursion (IsLow 17) (map id_of copy.extents)
   low = subst (AllByRecursion (IsLow 17)) (sym listed) (extents-low header.files keeps.files.few keeps.files.numbered keeps.files.small)
@@ -127,43 +97,31 @@ module _ (disk : Disk) (e : Kept) (w : World) (header : Header) (tables : List T
   its-log : IsKeptLog w is.db
   its-log = found-log disk e w header.database is.db stands is.found is.online
 
-  back : log_of w.history is.db ≡ copy.told.records
-  back = sym copy.is_told.records
-
-  ends : header.last ≡ end_of (map spelled copy.told.records)
-  ends = let last = its-header.ends in let size : length (map spelled copy.told.records) ≡ length copy.told.records = length-map copy.told.records spelled in omega (arith, last, size)
-
-  placed : ArePlaced is.db.files [] copy.told.records
-  placed = subst (λ (rs : List Logged). ArePlaced is.db.files [] rs) back its-log.placed
-
-  holds : HoldsLog copy.told.records (body_of header tables copy.extents copy.log)
-  holds = record {
-    tables = same ∙ ap telling.tables back;
-    path = subst (λ (rs : List Logged). IsPath (map spelled rs)) back its-log.path;
-    placed = subst (λ (fs : List FileSpec). ArePlaced fs [] copy.told.records) (sym (its-header.files ∙ copy.is_told.files)) placed;
-    log = whole-log (map spelled copy.told.records) header.first header.last copy.log its-header.some (let a = its-header.order in let b = its-header.inside in omega (arith, a, b)) ends
-        (subst (λ (rs : List Logged). IsLog copy.log (from_to header.first header.last (map spelled rs)) None) back copy.is_log);
-    some = its-header.some;
-    order = its-header.order;
-    inside = its-header.inside;
-    begun = its-header.begun;
-    there = laws.there header.files copy.extents listed;
-    pages = copied-all copy.told header.checkpoint (extents_of (map data_file is.db.files)) copy.extents (let a = its-header.inside in omega (arith, a, ends)) copy.copies;
-  }
-
-  reads : log_below w.history header.path header.last ≡ copy.told.records
+  reads : log_below w.history header.path header.last ≡ log_of w.history is.db
   unfolding log_of
-  reads = ap (λ p. log_below w.history p header.last) is.path ∙ ap (λ (n : ℕ). log_below w.history is.db.path n) is.ends ∙ back
+  reads = ap (λ p. log_below w.history p header.last) is.path ∙ ap (λ (n : ℕ). log_below w.history is.db.path n) is.ends
+
+  holds : Carries w.history (body_of header tables copy.extents copy.log)
+  holds = laws.carries w.history (told_of w is.db) (body_of header tables copy.extents copy.log) reads (record {
+    path = its-log.path;
+    placed = its-log.placed;
+    header = its-header;
+    tables = same;
+    log = copy.is_log;
+    there = laws.there header.files copy.extents listed;
+    read = copy.read;
+  })
 
   -- the log fits the header and the tables
   kept : IsLogOf header tables copy.log
   kept =
-      let rest : List Rec = kept_from header.first (map spelled copy.told.records) in
-      let its : KeepsRecords header (telling.tables copy.told.records) rest =
-      keeps-records header is.db.files copy.told.records is.files (subst (λ (rs : List Logged). Counts 1 rs header.last) reads is.sound.log.counts) (subst IsSoundLog reads is.sound.log.sound) placed
+      let log : List Logged = log_of w.history is.db in
+      let rest : List Rec = kept_from header.first (map spelled log) in
+      let its : KeepsRecords header (telling.tables log) rest =
+      keeps-records header is.db.files log is.files (subst (λ (rs : List Logged). Counts 1 rs header.last) reads is.sound.log.counts) (subst IsSoundLog reads is.sound.log.sound) its-log.placed
       (subst (λ (rs : List Logged). AreTablesNumbered 1 (telling.tables rs)) reads is.sound.log.tables) (subst (FitsLog (length header.groups)) reads is.sound.fits.log) its-header.some
       (let a = its-header.order in let b = its-header.inside in omega (arith, a, b)) in
-      (rest, holds.log, subst (λ (ts : List TableSpec). KeepsRecords header ts rest) (sym holds.tables) its)
+      (rest, subst (λ (rs : List Logged). IsLog copy.log (kept_from header.first (map spelled rs)) None) reads holds.log, subst (λ (ts : List TableSpec). KeepsRecords header ts rest) (sym same) its)
 
   pub may-seal : (then : Disk) → HoldsParts then set copy.extents copy.log → set.extents < 2 ^ 32 → set.log < 2 ^ 64 → MaySeal then w set header tables (body_of header tables copy.extents copy.log)
   may-seal then parts few short = record {
@@ -176,10 +134,10 @@ module _ (disk : Disk) (e : Kept) (w : World) (header : Header) (tables : List T
         header = keeps;
         few = let count = parts.count in omega (arith, count, few);
         rise = laws.rise header.files copy.extents keeps.files.numbered listed;
-        extents = keeps-all copy.told header.files (extents_of (map data_file is.db.files)) copy.extents copy.copies (laws.held header.files copy.extents all-held listed) low;
+        extents = keeps-all (log_of w.history is.db) header.checkpoint header.files copy.extents copy.read (laws.held header.files copy.extents all-held listed) low;
         log = kept;
         log_short = let size = parts.size in omega (arith, size, short);
       };
     };
-    carries = subst (λ (rs : List Logged). HoldsLog rs (body_of header tables copy.extents copy.log)) (sym reads) holds;
+    carries = holds;
   }

@@ -4,3 +4,4 @@ mod Listed
 mod Named
 mod Seen
 mod Still
+mod Fronts

@@ -1,5 +1,5 @@
 -- Effects: on devices that are the same, of acts that are cut off, and of what is done to no medium.
-use Rattle.std.proofs.Common.{◌≡◌, ◌⊎◌, ℕ, List, inl, inr, subst}
+use Rattle.std.proofs.Common.{◌≡◌, ◌⊎◌, ℕ, List, inl, inr, sym, subst}
 use Rattle.bk_device.specs.Compose.{effect_weaken}
 use Rattle.bk_device.specs.Disk.{Disk, Files}
 use Rattle.bk_device.specs.Effects.{Effect}
@@ -11,6 +11,10 @@ use Rattle.bk_engine.specs.TouchLaws.{wider-touch}
 -- what was done from a device on was done from one that is the same
 pub moved : {D : Type 0} {own : List ℕ → Type 0} {P : Files → Type 0} (disk : D → Disk) (x y : D) {b : Disk} → y ≡ x → Effect own P (disk y) b → Effect own P (disk x) b
 moved {own = own} {P = P} disk x y {b = b} same effect = subst (λ d. Effect own P (disk d) b) same effect
+
+-- and what was done to one was done to one that is the same
+pub moved-on : {D : Type 0} {own : List ℕ → Type 0} {P : Files → Type 0} (disk : D → Disk) (x y : D) {a : Disk} → y ≡ x → Effect own P a (disk x) → Effect own P a (disk y)
+moved-on {own = own} {P = P} disk x y {a = a} same effect = subst (λ d. Effect own P a (disk d)) (sym same) effect
 
 -- ---- what a crash leaves of an act
 

@@ -6,4 +6,4 @@ mod error;
 mod sealing;
 
 pub use error::SealError;
-pub use sealing::seal_database;
+pub use sealing::{seal_database, seal_finishing};

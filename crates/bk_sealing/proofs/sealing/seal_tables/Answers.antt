@@ -14,7 +14,7 @@ returns-in_err-seal_set-clause-crash g c = λ tells w is stands same copy.
     let b = g.D.Device.disk c.at_rest.new.dev in
     let here : StandsFor b c.args.engine.now w = subst (λ d. StandsFor (g.D.Device.disk d) c.args.engine.now w) (sym c.at_rest.ensures.same) stands in
     let parts : HoldsParts b c.args.staged.now copy.extents copy.log = subst (λ d. HoldsParts (g.D.Device.disk d) c.args.staged.now copy.extents copy.log) (sym c.at_rest.ensures.same) copy.parts in
-    let laws : Laws = record { there = c.extents_lie_in_order.ensures.there; rise = c.extents_lie_in_order.ensures.rise; held = c.extents_lie_in_order.ensures.held } in
+    let laws : Laws = record { carries = c.backups_carry.ensures.carries; there = c.extents_lie_in_order.ensures.there; rise = c.extents_lie_in_order.ensures.rise; held = c.extents_lie_in_order.ensures.held } in
     let may : MaySeal b w c.args.staged.now c.args.header.now c.args.tables.now (body_of c.args.header.now c.args.tables.now copy.extents copy.log) =
     may-seal (g.D.Device.disk c.args.dev.now) c.args.engine.now w c.args.header.now c.args.tables.now c.args.staged.now stands is c.requires.keeps same copy laws b parts c.size_law.ensures.few c.size_law.ensures.short in
     moved g.D.Device.disk c.args.dev.now c.at_rest.new.dev c.at_rest.ensures.same (c.seal_set.ensures.crash tells w (body_of c.args.header.now c.args.tables.now copy.extents copy.log) here may)
@@ -24,7 +24,7 @@ returns-clause-stands g c = λ tells w is stands same copy.
     let b = g.D.Device.disk c.at_rest.new.dev in
     let here : StandsFor b c.args.engine.now w = subst (λ d. StandsFor (g.D.Device.disk d) c.args.engine.now w) (sym c.at_rest.ensures.same) stands in
     let parts : HoldsParts b c.args.staged.now copy.extents copy.log = subst (λ d. HoldsParts (g.D.Device.disk d) c.args.staged.now copy.extents copy.log) (sym c.at_rest.ensures.same) copy.parts in
-    let laws : Laws = record { there = c.extents_lie_in_order.ensures.there; rise = c.extents_lie_in_order.ensures.rise; held = c.extents_lie_in_order.ensures.held } in
+    let laws : Laws = record { carries = c.backups_carry.ensures.carries; there = c.extents_lie_in_order.ensures.there; rise = c.extents_lie_in_order.ensures.rise; held = c.extents_lie_in_order.ensures.held } in
     let may : MaySeal b w c.args.staged.now c.args.header.now c.args.tables.now (body_of c.args.header.now c.args.tables.now copy.extents copy.log) =
     may-seal (g.D.Device.disk c.args.dev.now) c.args.engine.now w c.args.header.now c.args.tables.now c.args.staged.now stands is c.requires.keeps same copy laws b parts c.size_law.ensures.few c.size_law.ensures.short in
     c.in_ok-seal_set.ensures.stands tells w (body_of c.args.header.now c.args.tables.now copy.extents copy.log) here may
@@ -34,7 +34,7 @@ returns-clause-crash g c = λ tells w is stands same copy.
     let b = g.D.Device.disk c.at_rest.new.dev in
     let here : StandsFor b c.args.engine.now w = subst (λ d. StandsFor (g.D.Device.disk d) c.args.engine.now w) (sym c.at_rest.ensures.same) stands in
     let parts : HoldsParts b c.args.staged.now copy.extents copy.log = subst (λ d. HoldsParts (g.D.Device.disk d) c.args.staged.now copy.extents copy.log) (sym c.at_rest.ensures.same) copy.parts in
-    let laws : Laws = record { there = c.extents_lie_in_order.ensures.there; rise = c.extents_lie_in_order.ensures.rise; held = c.extents_lie_in_order.ensures.held } in
+    let laws : Laws = record { carries = c.backups_carry.ensures.carries; there = c.extents_lie_in_order.ensures.there; rise = c.extents_lie_in_order.ensures.rise; held = c.extents_lie_in_order.ensures.held } in
     let may : MaySeal b w c.args.staged.now c.args.header.now c.args.tables.now (body_of c.args.header.now c.args.tables.now copy.extents copy.log) =
     may-seal (g.D.Device.disk c.args.dev.now) c.args.engine.now w c.args.header.now c.args.tables.now c.args.staged.now stands is c.requires.keeps same copy laws b parts c.size_law.ensures.few c.size_law.ensures.short in
     moved g.D.Device.disk c.args.dev.now c.at_rest.new.dev c.at_rest.ensures.same (c.seal_set.ensures.crash tells w (body_of c.args.header.now c.args.tables.now copy.extents copy.log) here may)
