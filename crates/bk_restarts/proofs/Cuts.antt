@@ -8,7 +8,7 @@ use Rattle.bk_hosted.specs.Fronts.{TellsLast}
 use Rattle.bk_ids.specs.Name.{same_name}
 use Rattle.bk_ids.specs.declared.record.RecoveryModel.{RecoveryModel}
 use Rattle.bk_lemmas.specs.Lists.{all_both}
-use Rattle.bk_machine.specs.Acts.{Act, based, created, done, done_all, dropped, gone_on, logged, medium_made, noted, pointed, pointed_by, recovered, replaced, restored, says, seated, set_drawn, set_sealed, turned, where_found}
+use Rattle.bk_machine.specs.Acts.{Act, based, created, done, done_all, dropped, gone_on, job_set, jobs_dropped, logged, medium_made, noted, pointed, pointed_by, readied, recovered, replaced, restored, says, seated, set_drawn, set_sealed, turned, where_found}
 use Rattle.bk_machine.specs.Crash.{IsQuiet, begins_in, front_of, open_begins}
 use Rattle.bk_machine.specs.SaysLaws.{point-over}
 use Rattle.bk_machine.specs.Sound.{IsSound, OpenBy}
@@ -101,6 +101,7 @@ first-opens before w (logged name said transactions ∷ acts) good (suc n) =
     says-less before w name said (take (suc n) said) transactions (opens-at before (done w (logged name said transactions)) (good 1))
 first-opens before w (turned name ∷ acts) good (suc n) = opens-at before w (good 0)
 first-opens before w (seated session ∷ acts) good (suc n) = opens-at before w (good 0)
+first-opens before w (readied starts ∷ acts) good (suc n) = opens-at before w (good 0)
 first-opens before w (created c ∷ acts) good (suc n) = opens-at before w (good 0)
 first-opens before w (dropped name ∷ acts) good (suc n) = opens-at before w (good 0)
 first-opens before w (medium_made path ∷ acts) good (suc n) = opens-at before w (good 0)
@@ -108,6 +109,8 @@ first-opens before w (set_drawn ∷ acts) good (suc n) = opens-at before w (good
 first-opens before w (noted row ∷ acts) good (suc n) = opens-at before w (good 0)
 first-opens before w (set_sealed path header ∷ acts) good (suc n) = opens-at before w (good 0)
 first-opens before w (based name header ∷ acts) good (suc n) = opens-at before w (good 0)
+first-opens before w (job_set name job ∷ acts) good (suc n) = opens-at before w (good 0)
+first-opens before w (jobs_dropped ∷ acts) good (suc n) = opens-at before w (good 0)
 first-opens before w (replaced name header ∷ acts) good (suc n) = opens-at before w (good 0)
 first-opens before w (restored name base redo ∷ acts) good (suc n) = opens-at before w (good 0)
 first-opens before w (recovered name r ∷ acts) good (suc n) = opens-at before w (good 0)
@@ -142,6 +145,7 @@ first-cut w (logged name said transactions ∷ acts) last (suc n) = elim (cases_
 ]
 first-cut w (turned name ∷ acts) last (suc n) = still w (turned name ∷ acts) w refl
 first-cut w (seated session ∷ acts) last (suc n) = still w (seated session ∷ acts) w refl
+first-cut w (readied starts ∷ acts) last (suc n) = still w (readied starts ∷ acts) w refl
 first-cut w (created c ∷ acts) last (suc n) = still w (created c ∷ acts) w refl
 first-cut w (dropped name ∷ acts) last (suc n) = still w (dropped name ∷ acts) w refl
 first-cut w (medium_made path ∷ acts) last (suc n) = still w (medium_made path ∷ acts) w refl
@@ -149,6 +153,8 @@ first-cut w (set_drawn ∷ acts) last (suc n) = still w (set_drawn ∷ acts) w r
 first-cut w (noted row ∷ acts) last (suc n) = still w (noted row ∷ acts) w refl
 first-cut w (set_sealed path header ∷ acts) last (suc n) = still w (set_sealed path header ∷ acts) w refl
 first-cut w (based name header ∷ acts) last (suc n) = still w (based name header ∷ acts) w refl
+first-cut w (job_set name job ∷ acts) last (suc n) = still w (job_set name job ∷ acts) w refl
+first-cut w (jobs_dropped ∷ acts) last (suc n) = still w (jobs_dropped ∷ acts) w refl
 first-cut w (replaced name header ∷ acts) last (suc n) = still w (replaced name header ∷ acts) w refl
 first-cut w (restored name base redo ∷ acts) last (suc n) = still w (restored name base redo ∷ acts) w refl
 first-cut w (recovered name r ∷ acts) last (suc n) = still w (recovered name r ∷ acts) w refl
