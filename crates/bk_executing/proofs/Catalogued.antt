@@ -5,7 +5,6 @@ use Rattle.bk_device.specs.Disk.{Disk, Files, IsLawful}
 use Rattle.bk_engine.specs.Rows.{rows_in}
 use Rattle.bk_engine.specs.Stands.{Kept, StandsFor}
 use Rattle.bk_items.specs.declared.item.Catalog.{Catalog}
-use Rattle.bk_items.specs.declared.item.Catalog.TheVariants.{BackupSet, RestoreHistory, LogMarkHistory, Databases}
 use Rattle.bk_items.specs.declared.item.ScriptEntry.{ScriptEntry}
 use Rattle.bk_items.specs.declared.item.ScriptItem.TheVariants as script
 use Rattle.bk_machine.specs.Checks.{Checked, or_refuse}
@@ -18,7 +17,6 @@ use Rattle.bk_msdb.specs.Msdb.{Shows}
 use Rattle.bk_msdb.specs.Rows.{Tables}
 use Rattle.bk_plans.specs.declared.parts.Plan.TheVariants as plan
 use Rattle.bk_world.specs.declared.reply.Listing.{Listing}
-use Rattle.bk_world.specs.declared.reply.Listing.TheVariants.{Backups, Restores, Marks}
 use Rattle.bk_world.specs.declared.reply.Reply.{Reply}
 use Rattle.bk_world.specs.declared.rule.Rule.TheVariants.{NotBuilt}
 use Rattle.bk_executing.specs.Listing.{listed}

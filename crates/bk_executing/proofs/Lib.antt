@@ -15,3 +15,5 @@ pub mod RestoringFound
 pub mod RestoringSet
 pub mod Results
 pub mod Stored
+pub mod Waited
+pub mod WaitDone

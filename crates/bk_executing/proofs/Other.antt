@@ -17,35 +17,35 @@ use Rattle.bk_plans.specs.Planning.{ReadsNoMedium}
 use Rattle.bk_executing.proofs.Planned.{Knows, none-planned}
 
 -- it writes to none
-reads-none : (item : ScriptItem) → ReadsNoMedium item → (path : List ℕ) → StatementWrites item path → ⊥
-reads-none (script.BackupDatabase a b c d) reads path writes = reads
-reads-none (script.RestoreDatabase a b c d) reads path writes = reads
-reads-none (script.CreateDatabase a b c d) reads path writes = writes
-reads-none (script.BackupLog a b c) reads path writes = writes
-reads-none (script.RestoreLog a b c) reads path writes = writes
-reads-none (script.QueryMedium a b c) reads path writes = reads
-reads-none (script.CreateTable a b) reads path writes = writes
-reads-none (script.Rows a b) reads path writes = writes
-reads-none (script.Begin a) reads path writes = writes
-reads-none script.Commit reads path writes = writes
-reads-none script.Rollback reads path writes = writes
-reads-none script.Checkpoint reads path writes = writes
-reads-none (script.Use a) reads path writes = writes
-reads-none (script.SetRecovery a b) reads path writes = writes
-reads-none (script.DropDatabase a) reads path writes = writes
-reads-none (script.SelectCatalog a) reads path writes = writes
-reads-none (script.Session a) reads path writes = writes
-reads-none script.Start reads path writes = writes
-reads-none (script.Step a) reads path writes = writes
-reads-none script.Wait reads path writes = writes
-reads-none (script.Syntax a) reads path writes = writes
-reads-none script.TooLong reads path writes = writes
+reads-none : (w : World) (item : ScriptItem) → ReadsNoMedium item → (path : List ℕ) → StatementWrites w item path → ⊥
+reads-none w (script.BackupDatabase a b c d) reads path writes = reads
+reads-none w (script.RestoreDatabase a b c d) reads path writes = reads
+reads-none w (script.CreateDatabase a b c d) reads path writes = writes
+reads-none w (script.BackupLog a b c) reads path writes = writes
+reads-none w (script.RestoreLog a b c) reads path writes = writes
+reads-none w (script.QueryMedium a b c) reads path writes = reads
+reads-none w (script.CreateTable a b) reads path writes = writes
+reads-none w (script.Rows a b) reads path writes = writes
+reads-none w (script.Begin a) reads path writes = writes
+reads-none w script.Commit reads path writes = writes
+reads-none w script.Rollback reads path writes = writes
+reads-none w script.Checkpoint reads path writes = writes
+reads-none w (script.Use a) reads path writes = writes
+reads-none w (script.SetRecovery a b) reads path writes = writes
+reads-none w (script.DropDatabase a) reads path writes = writes
+reads-none w (script.SelectCatalog a) reads path writes = writes
+reads-none w (script.Session a) reads path writes = writes
+reads-none w script.Start reads path writes = writes
+reads-none w (script.Step a) reads path writes = writes
+reads-none w script.Wait reads path writes = reads
+reads-none w (script.Syntax a) reads path writes = writes
+reads-none w script.TooLong reads path writes = writes
 
 abbrev pub DoWhatTheyMay : Type 0
 DoWhatTheyMay = (w : World) (s : ScriptEntry) (now : ℕ) (outcome : Outcome) → IsSound w → May w s now outcome → MayDoAll w outcome.acts
 
 abbrev pub WriteToMedia : Type 0
-WriteToMedia = (w : World) (s : ScriptEntry) (now : ℕ) (outcome : Outcome) (path : List ℕ) → May w s now outcome → ActsWrite outcome.acts path → StatementWrites s.item path
+WriteToMedia = (w : World) (s : ScriptEntry) (now : ℕ) (outcome : Outcome) (path : List ℕ) → May w s now outcome → ActsWrite outcome.acts path → StatementWrites w s.item path
 
 pub knows-other : {tells : Type 0} (e : Kept) (a : Disk) (s : ScriptEntry) (now : ℕ) (plan : Plan) (outcome : Outcome) → (tells → IsLawful a) → ReadsNoMedium s.item → DoWhatTheyMay → WriteToMedia → Knows tells e a a (λ w. Unit {0}) plan s now outcome
 knows-other e a s now plan outcome lawful reads does media = record {
@@ -53,5 +53,5 @@ knows-other e a s now plan outcome lawful reads does media = record {
   call = λ told. nothing_yet a;
   known = λ told w stands. tt;
   may = λ w sound may. does w s now outcome sound may;
-  sets = λ w sound may acts. none-planned w plan outcome.acts acts (λ path writes. reads-none s.item reads path (media w s now outcome path may writes));
+  sets = λ w sound may acts. none-planned w plan outcome.acts acts (λ path writes. reads-none w s.item reads path (media w s now outcome path may writes));
 }

@@ -1,18 +1,19 @@
 -- Parts that are done one after the other.
-use Rattle.std.proofs.Common.{◌≡◌, inl, inr, ℕ, zero, suc, List, [], ◌∷◌, ◌++◌, take, Some, refl, sym, ap, subst}
+use Rattle.std.proofs.Common.{◌≡◌, Bool, inl, inr, ℕ, zero, suc, List, [], ◌∷◌, ◌++◌, take, Some, refl, sym, ap, subst}
 use Rattle.std.specs.Prelude.{slice_get}
-use Rattle.bk_device.specs.Compose.{effect_weaken}
+use Rattle.bk_device.specs.Compose.{effect_then, effect_weaken}
 use Rattle.bk_device.specs.Disk.{Disk, Files}
 use Rattle.bk_device.specs.Effects.{Effect}
 use Rattle.bk_engine.specs.Stands.{Covers, IsOurs, Kept, StandsFor}
-use Rattle.bk_machine.specs.Acts.{Act, based, created, done, done_all, dropped, logged, medium_made, noted, recovered, replaced, restored, seated, set_drawn, set_sealed, turned}
+use Rattle.bk_machine.specs.Acts.{Act, based, created, done, done_all, dropped, job_set, jobs_dropped, logged, medium_made, noted, readied, recovered, replaced, restored, seated, set_drawn, set_sealed, turned}
+use Rattle.bk_machine.specs.ClosingLaws.{done-joined}
 use Rattle.bk_machine.specs.Crash.{front_of}
 use Rattle.bk_machine.specs.World.{World}
 use Rattle.bk_plans.specs.declared.parts.Part.{Part}
 use Rattle.bk_restarts.specs.Crashes.{CutIn}
 use Rattle.bk_restarts.specs.Cuts.{cut_in}
 use Rattle.bk_restarts.specs.CutLaws.{cut-first, cut-later}
-use Rattle.bk_executing.specs.Parts.{CutsPart, CutsParts, DoesPart, DoesParts, MayDoPart, MayDoParts, PartWrites, PartsWrite}
+use Rattle.bk_executing.specs.Parts.{CutsPart, CutsParts, CutsReadying, DoesPart, DoesParts, DoesReadying, MayDoPart, MayDoParts, PartWrites, PartsWrite}
 
 -- ---- where acts are cut
 
@@ -34,6 +35,9 @@ front-same (suc n) set_drawn a b = refl
 front-same (suc n) (set_sealed path header) a b = refl
 front-same (suc n) (noted row) a b = refl
 front-same (suc n) (based name header) a b = refl
+front-same (suc n) (readied starts) a b = refl
+front-same (suc n) (job_set name job) a b = refl
+front-same (suc n) jobs_dropped a b = refl
 front-same (suc n) (replaced name header) a b = refl
 front-same (suc n) (restored name base at) a b = refl
 front-same (suc n) (recovered name r) a b = refl
@@ -112,6 +116,29 @@ parts-cut old mid first before after parts i p there does cuts w acts stands are
     let split = split-at w parts acts i p are there in
     effect_weaken (λ image cut. subst (λ (all : List Act). CutIn w all image) (sym split.splits) (cut-behind w (take i acts) (split.act ∷ split.rest) image cut))
     (cuts (done_all w (take i acts)) split.act split.rest (does w (take i acts) stands split.front) split.is)
+
+-- ---- and the session's next backup only starts, or it doesn't any more
+
+module _ (old mid : Kept) (a b c : Disk) (parts : List Part) (starts : Bool) (does : DoesParts old a parts mid b) where
+  pub ready-does : (new : Kept) → ((w : World) → StandsFor b mid w → StandsFor c new (done w (readied starts))) → DoesReadying old a parts starts new c
+  ready-does new last w acts stands is =
+      let turn : List Act = readied starts ∷ [] in
+      subst (λ (all : List Act). StandsFor c new (done_all w all)) (sym is.are)
+      (subst (StandsFor c new) (sym (done-joined w is.front turn)) (last (done_all w is.front) (does w is.front stands is.parts_are)))
+
+  pub ready-cuts : CutsParts old a parts b → ((w : World) → StandsFor b mid w → Effect IsOurs (Covers w) b c) → CutsReadying old a parts starts c
+  ready-cuts cuts last w acts stands is =
+      let turn : List Act = readied starts ∷ [] in
+      let behind : Effect IsOurs (Covers (done_all w is.front)) b c = last (done_all w is.front) (does w is.front stands is.parts_are) in
+      subst (λ (all : List Act). Effect IsOurs (CutIn w all) a c) (sym is.are)
+      (effect_then (effect_weaken (λ image cut. cut-before w is.front turn image cut) (cuts w is.front stands is.parts_are))
+      (effect_weaken (λ image covers. cut-behind w is.front turn image (cut-first (done_all w is.front) turn image covers)) behind))
+
+-- the parts were cut off
+pub front-cuts : (old : Kept) (a b : Disk) (parts : List Part) (starts : Bool) → CutsParts old a parts b → CutsReadying old a parts starts b
+front-cuts old a b parts starts cuts w acts stands is =
+    subst (λ (all : List Act). Effect IsOurs (CutIn w all) a b) (sym is.are)
+    (effect_weaken (λ image cut. cut-before w is.front (readied starts ∷ []) image cut) (cuts w is.front stands is.parts_are))
 
 -- ---- what they write to
 

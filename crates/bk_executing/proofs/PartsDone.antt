@@ -4,18 +4,23 @@ use Rattle.bk_device.specs.Compose.{effect_weaken}
 use Rattle.bk_device.specs.Disk.{Disk}
 use Rattle.bk_device.specs.Effects.{Effect}
 use Rattle.bk_engine.specs.Acts.{CutsAct}
-use Rattle.bk_engine.specs.Stands.{IsOurs, Kept, StandsFor}
-use Rattle.bk_machine.specs.Acts.{Act, done, done_all, medium_made, noted, seated, set_drawn, set_sealed, turned}
+use Rattle.bk_engine.specs.Jobs.{StartsSet, StepsSet}
+use Rattle.bk_engine.specs.Stands.{Covers, IsOurs, Kept, StandsFor}
+use Rattle.bk_kept.specs.Jobs.{IsApart}
+use Rattle.bk_machine.specs.Acts.{Act, done, done_all, job_set, medium_made, noted, seated, set_drawn, set_sealed, turned}
 use Rattle.bk_machine.specs.declared.history_row.HistoryRow.{HistoryRow}
 use Rattle.bk_machine.specs.declared.history_row.HistoryRow.TheVariants as history
+use Rattle.bk_machine.specs.declared.job.Job.{Job}
 use Rattle.bk_machine.specs.MayDo.{MayDo}
+use Rattle.bk_machine.specs.statements.Job.{stepped}
 use Rattle.bk_machine.specs.World.{World}
+use Rattle.bk_plans.specs.declared.parts.Part.{Part}
 use Rattle.bk_plans.specs.declared.parts.Part.TheVariants as part
 use Rattle.bk_plans.specs.declared.parts.Plan.TheVariants as plan
-use Rattle.bk_plans.specs.Planning.{IsShortStop, KeepsRow}
+use Rattle.bk_plans.specs.Planning.{IsShortStop, KeepsRow, StartsJob, StepsJob}
 use Rattle.bk_msdb.specs.Spelling.{IsShortStop as IsShortSpelled, KeepsRow as KeepsSpelled}
 use Rattle.bk_restarts.specs.Crashes.{CutIn}
-use Rattle.bk_restarts.specs.CutLaws.{cut-act}
+use Rattle.bk_restarts.specs.CutLaws.{cut-act, cut-first}
 use Rattle.bk_sealing.specs.Sealing.{IsSetNow}
 use Rattle.bk_world.specs.declared.header.Header.{Header}
 use Rattle.bk_world.specs.Medium.{medium_at}
@@ -44,11 +49,11 @@ drawn-cuts old a b cuts w act acts stands is = whole-cut w set_drawn act acts is
 
 -- ---- a set is sealed
 
-pub set-does : (old new : Kept) (a b : Disk) (path : List ℕ) (header : Header) → ((w : World) → StandsFor a old w → IsSetNow w header → StandsFor b new (done w (set_sealed path header))) → DoesPart old a (part.SetSealed path header) new b
-set-does old new a b path header does w act stands is = subst (λ (x : Act). StandsFor b new (done w x)) (sym is.0.is) (does w stands is.1)
+pub set-does : (old new : Kept) (a b : Disk) (path : List ℕ) (header : Header) → ((w : World) → StandsFor a old w → IsSetNow w header → IsApart w header.set → StandsFor b new (done w (set_sealed path header))) → DoesPart old a (part.SetSealed path header) new b
+set-does old new a b path header does w act stands is = subst (λ (x : Act). StandsFor b new (done w x)) (sym is.0.is) (does w stands is.1.0 is.1.1)
 
-pub set-cuts : (old : Kept) (a b : Disk) (path : List ℕ) (header : Header) → ((w : World) → StandsFor a old w → IsSetNow w header → Effect IsOurs (CutsAct w (set_sealed path header)) a b) → CutsPart old a (part.SetSealed path header) b
-set-cuts old a b path header cuts w act acts stands is = whole-cut w (set_sealed path header) act acts is.0.is (cuts w stands is.1)
+pub set-cuts : (old : Kept) (a b : Disk) (path : List ℕ) (header : Header) → ((w : World) → StandsFor a old w → IsSetNow w header → IsApart w header.set → Effect IsOurs (CutsAct w (set_sealed path header)) a b) → CutsPart old a (part.SetSealed path header) b
+set-cuts old a b path header cuts w act acts stands is = whole-cut w (set_sealed path header) act acts is.0.is (cuts w stands is.1.0 is.1.1)
 
 -- ---- a row comes to its table of msdb
 
@@ -67,6 +72,37 @@ noted-does old a b row does w act stands is = subst (λ (x : Act). StandsFor b o
 
 pub noted-cuts : (old : Kept) (a b : Disk) (row : HistoryRow) → ((w : World) → StandsFor a old w → Effect IsOurs (CutsAct w (noted row)) a b) → CutsPart old a (part.Noted row) b
 noted-cuts old a b row cuts w act acts stands is = whole-cut w (noted row) act acts is.0 (cuts w stands)
+
+-- ---- backups that run beside the sessions
+
+-- what a plan says of one that starts is what the call asks for
+starts-set : (w : World) (name : List ℕ) (job : Job) → StartsJob w name job → StartsSet w name job
+starts-set w name job is = record { db = is.db; found = is.found; none = is.none; may = is.may; whole = is.whole; apart = is.apart }
+
+module _ (old : Kept) (a b : Disk) (name : List ℕ) (job copy : Job) (same : copy ≡ job) where
+  pub begun-does : (new : Kept) → ((w : World) → StandsFor a old w → StartsSet w name copy → StandsFor b new (done w (job_set name (Some copy)))) → DoesPart old a (part.JobBegun name job) new b
+  begun-does new does w act stands is =
+      let made : StandsFor b new (done w (job_set name (Some copy))) = does w stands (subst (StartsSet w name) (sym same) (starts-set w name job is.0.starts)) in
+      subst (λ (x : Act). StandsFor b new (done w x)) (sym is.0.is) (subst (λ (j : Job). StandsFor b new (done w (job_set name (Some j)))) same made)
+
+  pub begun-cuts : ((w : World) → StandsFor a old w → StartsSet w name copy → Effect IsOurs (CutsAct w (job_set name (Some copy))) a b) → CutsPart old a (part.JobBegun name job) b
+  begun-cuts cuts w act acts stands is =
+      let cut : Effect IsOurs (CutsAct w (job_set name (Some copy))) a b = cuts w stands (subst (StartsSet w name) (sym same) (starts-set w name job is.0.starts)) in
+      whole-cut w (job_set name (Some job)) act acts is.0.is (subst (λ (j : Job). Effect IsOurs (CutsAct w (job_set name (Some j))) a b) same cut)
+
+-- nothing of a part was done yet
+pub part-none : (old : Kept) (a b : Disk) (p : Part) → ((w : World) → StandsFor a old w → Effect IsOurs (Covers w) a b) → CutsPart old a p b
+part-none old a b p here w act acts stands is = effect_weaken (λ image covers. cut-first w (act ∷ acts) image covers) (here w stands)
+
+-- and of one that goes on
+steps-set : (w : World) (name : List ℕ) (count : ℕ) (act : Act) (is : StepsJob w name count act) → StepsSet w name count is.job
+steps-set w name count act is = record { db = is.db; found = is.found; runs = is.runs; may = subst (MayDo w) is.is is.may }
+
+pub stepped-does : (old new : Kept) (a b : Disk) (name : List ℕ) (count : ℕ) → ((w : World) (job : Job) → StandsFor a old w → StepsSet w name count job → StandsFor b new (done w (job_set name (Some (stepped count job))))) → DoesPart old a (part.JobStepped name count) new b
+stepped-does old new a b name count does w act stands is = subst (λ (x : Act). StandsFor b new (done w x)) (sym is.0.is) (does w is.0.job stands (steps-set w name count act is.0))
+
+pub stepped-cuts : (old : Kept) (a b : Disk) (name : List ℕ) (count : ℕ) → ((w : World) (job : Job) → StandsFor a old w → StepsSet w name count job → Effect IsOurs (Covers w) a b) → CutsPart old a (part.JobStepped name count) b
+stepped-cuts old a b name count cuts w act acts stands is = effect_weaken (λ image covers. cut-first w (act ∷ acts) image covers) (cuts w is.0.job stands (steps-set w name count act is.0))
 
 -- ---- sessions
 

@@ -1,5 +1,5 @@
 -- A statement that was planned, and whose plan is followed.
-use Rattle.std.proofs.Common.{◌≡◌, inl, inr, ℕ, List, [], ◌∷◌, None, Ok, Err, refl, sym, ◌∙◌, subst}
+use Rattle.std.proofs.Common.{◌≡◌, inl, inr, ℕ, List, [], ◌∷◌, ◌++◌, None, Ok, Err, refl, sym, ◌∙◌, subst}
 use Rattle.std.specs.Prelude.{Result, IfOk, OnOk, OnErr}
 use Rattle.bk_engine.specs.RowLaws.{calm-nothing}
 use Rattle.bk_archive.specs.MediaLaws.{media-in}
@@ -9,6 +9,7 @@ use Rattle.bk_device.specs.Disk.{Disk, IsLawful}
 use Rattle.bk_device.specs.Effects.{Effect}
 use Rattle.bk_device.specs.Laws.{effect_after_nothing, nothing_then}
 use Rattle.bk_engine.specs.BesideLaws.{hosting-stays, stores-stand}
+use Rattle.bk_engine.specs.CopiedLaws.{copied-nothing}
 use Rattle.bk_engine.specs.Stands.{IsOurs, Kept, StandsFor}
 use Rattle.bk_engine.specs.Touched.{IsPath, TouchesOnly}
 use Rattle.bk_engine.specs.TouchLaws.{wider-touch}
@@ -19,7 +20,7 @@ use Rattle.bk_items.specs.declared.item.ScriptItem.{ScriptItem}
 use Rattle.bk_items.specs.declared.options.RestoreOptions.{RestoreOptions}
 use Rattle.bk_kept.specs.declared.kept.Kept.{Kept as KeptOf}
 use Rattle.bk_kept.specs.Keeps.{Sees}
-use Rattle.bk_machine.specs.Acts.{Act, done}
+use Rattle.bk_machine.specs.Acts.{Act, done, readied}
 use Rattle.bk_machine.specs.Machine.{May}
 use Rattle.bk_machine.specs.MayDo.{MayDoAll}
 use Rattle.bk_machine.specs.Outcome.{Outcome}
@@ -29,10 +30,12 @@ use Rattle.bk_machine.specs.Writes.{ActWrites, ActsWrite, IsStill}
 use Rattle.bk_media_plans.specs.declared.restore_plan.RestorePlan.{RestorePlan}
 use Rattle.bk_media_plans.specs.Found.{Found}
 use Rattle.bk_media_plans.specs.RestorePlans.{PlansRestore}
+use Rattle.bk_media_plans.specs.declared.wait_plan.WaitPlan.{WaitPlan}
+use Rattle.bk_media_plans.specs.Waits.{HasSets, PlansWait}
 use Rattle.bk_plans.specs.declared.parts.Part.{Part}
-use Rattle.bk_plans.specs.declared.parts.Part.TheVariants.{MediumMade, Noted, SetDrawn, SetSealed, Stored}
+use Rattle.bk_plans.specs.declared.parts.Part.TheVariants.{JobBegun, JobStepped, MediumMade, Noted, SetDrawn, SetSealed, Stored}
 use Rattle.bk_plans.specs.declared.parts.Plan.{Plan}
-use Rattle.bk_plans.specs.declared.parts.Plan.TheVariants.{Answered, Parts, Refused, Seated, Turned}
+use Rattle.bk_plans.specs.declared.parts.Plan.TheVariants.{Answered, Parts, Readied, Refused, Seated, Turned}
 use Rattle.bk_plans.specs.Planning.{AreActsOf, AreParts, Plans, reply_of}
 use Rattle.bk_restarts.specs.Crashes.{CutIn}
 use Rattle.bk_stores.specs.Standing.{AreStanding}
@@ -43,8 +46,8 @@ use Rattle.bk_world.specs.declared.rule.Rule.{Rule}
 use Rattle.bk_executing.specs.declared.error.ExecuteError.{ExecuteError}
 use Rattle.bk_executing.specs.Executing.{Executed, Failed, Rests}
 use Rattle.bk_executing.specs.Parts.{CutsPlan, DoesPlan, HasNoParts, MayDoParts, MayFollow, PlanWrites, SealsNow}
-use Rattle.bk_executing.specs.Planned.{IsPlanned, IsRestorePlanned}
-use Rattle.bk_executing.proofs.Outcomes.{plan-writes, still-plan}
+use Rattle.bk_executing.specs.Planned.{IsPlanned, IsRestorePlanned, IsWaitPlanned}
+use Rattle.bk_executing.proofs.Outcomes.{plan-writes, still-plan, writes-before}
 
 -- ---- a device that was read alone
 
@@ -60,6 +63,7 @@ stands-nothing a b e w call is = record {
   hosting = hosting-stays e.hosting is.hosted (record { same = λ name at. call.files name; nothing_more = λ name at. call.nothing_more name }) is.hosting;
   media = media-in w None a.files b.files (λ path are. call.files (medium_file path)) is.media;
   calm = calm-nothing call is.calm;
+  copied = copied-nothing a b is.hosted call is.copied;
 }
 
 pub standing-nothing : (a b : Disk) (s : KeptStores) → ChangesNothing a b → AreStanding a s → AreStanding b s
@@ -92,6 +96,14 @@ restore-planned k e Known options found s now (Ok plan) sees plans = record {
 }
 restore-planned k e Known options found s now (Err error) sees plans = tt
 
+pub wait-planned : (k : KeptOf) (e : Kept) (sets : ℕ) (s : ScriptEntry) (now : ℕ) (plan : WaitPlan) → ((w : World) → Remembers e w → Sees w k) → PlansWait k (λ w. HasSets w sets) sets s now plan → IsWaitPlanned e sets s now plan
+wait-planned k e sets s now plan sees plans = record {
+  outcome = plans.outcome;
+  replies = plans.replies;
+  may = λ w sound has known. plans.may w sound (sees w has) known;
+  acts = λ w sound has known. plans.acts w sound (sees w has) known;
+}
+
 -- ---- sets that are sealed
 
 -- each is one of its database as it is
@@ -101,6 +113,7 @@ SetsNow w _ _ = Unit {0}
 
 abbrev pub PlanSets : World → Plan → List Act → Type 0
 PlanSets w (Parts parts answer) acts = SetsNow w parts.items acts
+PlanSets w (Readied parts starts answer) acts = (front : List Act) → AreParts w parts.items front → acts ≡ front ++ readied starts ∷ [] → SetsNow w parts.items front
 PlanSets w _ acts = Unit {0}
 
 parts-may : (w : World) (parts : List Part) (acts : List Act) → AreParts w parts acts → SetsNow w parts acts → MayDoParts w parts acts
@@ -115,6 +128,7 @@ plan-may w (Answered answer) acts are may sets = are
 plan-may w (Turned name) acts are may sets = are
 plan-may w (Seated session) acts are may sets = (are, (subst (MayDoAll w) are may).0)
 plan-may w (Parts parts answer) acts are may sets = parts-may w parts.items acts are sets
+plan-may w (Readied parts starts answer) acts are may sets = record { front = are.front; parts_are = parts-may w parts.items are.front are.parts_are (sets are.front are.parts_are are.are); are = are.are }
 
 -- where no act writes to a medium there is none
 none-sealed : (w : World) (parts : List Part) (acts : List Act) → AreParts w parts acts → ((path : List ℕ) → ActsWrite acts path → ⊥) → SetsNow w parts acts
@@ -124,6 +138,8 @@ none-sealed w (Stored stored ∷ parts) (act ∷ acts) are none = (tt, none-seal
 none-sealed w (MediumMade path ∷ parts) (act ∷ acts) are none = (tt, none-sealed (done w act) parts acts are.1 (λ other writes. none other (inr writes)))
 none-sealed w (SetDrawn ∷ parts) (act ∷ acts) are none = (tt, none-sealed (done w act) parts acts are.1 (λ other writes. none other (inr writes)))
 none-sealed w (Noted row ∷ parts) (act ∷ acts) are none = (tt, none-sealed (done w act) parts acts are.1 (λ other writes. none other (inr writes)))
+none-sealed w (JobBegun name job ∷ parts) (act ∷ acts) are none = (tt, none-sealed (done w act) parts acts are.1 (λ other writes. none other (inr writes)))
+none-sealed w (JobStepped name count ∷ parts) (act ∷ acts) are none = (tt, none-sealed (done w act) parts acts are.1 (λ other writes. none other (inr writes)))
 none-sealed w (SetSealed path header ∷ parts) (act ∷ acts) are none = absurd (none path (inl (subst (λ (a : Act). ActWrites a path) (sym are.0.is) refl)))
 
 pub none-planned : (w : World) (plan : Plan) (acts : List Act) → AreActsOf w plan acts → ((path : List ℕ) → ActsWrite acts path → ⊥) → PlanSets w plan acts
@@ -132,6 +148,8 @@ none-planned w (Answered answer) acts are none = tt
 none-planned w (Turned name) acts are none = tt
 none-planned w (Seated session) acts are none = tt
 none-planned w (Parts parts answer) acts are none = none-sealed w parts.items acts are none
+none-planned w (Readied parts starts answer) acts are none = λ front parts_are is.
+    none-sealed w parts.items front parts_are (λ path writes. none path (subst (λ (all : List Act). ActsWrite all path) (sym is) (writes-before front (readied starts ∷ []) path writes)))
 
 -- ---- a plan is followed
 

@@ -63,7 +63,7 @@ holds-some : (P : Database → Type 0) (o : Option Database) → HoldsOf o P →
 holds-some P None holds = absurd holds
 holds-some P (Some db) holds = (db, refl, holds)
 
-holds-at : (P : Database → Type 0) (o : Option Database) (db : Database) → o ≡ Some db → HoldsOf o P → P db
+pub holds-at : (P : Database → Type 0) (o : Option Database) (db : Database) → o ≡ Some db → HoldsOf o P → P db
 holds-at P o db is holds = subst (λ x. HoldsOf x P) is holds
 
 abbrev first_number : List Rec → ℕ

@@ -1,17 +1,18 @@
 -- What an engine does with the parts of statements.
-use Rattle.std.specs.Prelude.{◌≡◌, ◌⊎◌, ℕ, List, [], ◌∷◌}
+use Rattle.std.specs.Prelude.{◌≡◌, ◌⊎◌, ℕ, Bool, List, [], ◌∷◌, ◌++◌}
 use Rattle.bk_acts.specs.declared.act.StoredAct.{StoredAct}
 use Rattle.bk_device.specs.Disk.{Disk}
 use Rattle.bk_device.specs.Effects.{Effect}
 use Rattle.bk_engine.specs.Stands.{IsOurs, Kept, StandsFor}
+use Rattle.bk_kept.specs.Jobs.{IsApart}
 use Rattle.bk_kept.specs.Stored.{IsDone}
-use Rattle.bk_machine.specs.Acts.{Act, done, done_all, seated}
+use Rattle.bk_machine.specs.Acts.{Act, done, done_all, readied, seated}
 use Rattle.bk_machine.specs.MayDo.{MayDo}
 use Rattle.bk_machine.specs.World.{World}
 use Rattle.bk_plans.specs.declared.parts.Part.{Part}
-use Rattle.bk_plans.specs.declared.parts.Part.TheVariants.{Stored, MediumMade, SetDrawn, SetSealed, Noted}
+use Rattle.bk_plans.specs.declared.parts.Part.TheVariants.{Stored, MediumMade, SetDrawn, SetSealed, Noted, JobBegun, JobStepped}
 use Rattle.bk_plans.specs.declared.parts.Plan.{Plan}
-use Rattle.bk_plans.specs.declared.parts.Plan.TheVariants.{Parts, Seated}
+use Rattle.bk_plans.specs.declared.parts.Plan.TheVariants.{Parts, Readied, Seated}
 use Rattle.bk_plans.specs.Planning.{AreActsOf, IsPart}
 use Rattle.bk_restarts.specs.Crashes.{CutIn}
 use Rattle.bk_sealing.specs.Sealing.{IsSetNow}
@@ -28,13 +29,15 @@ CutsStored old before stored after = (w : World) (act : Act) (acts : List Act) �
 
 -- ---- parts
 
--- a set that is sealed is one of its database as it is
+-- a set that is sealed is one of its database as it is, and of no backup that runs
 abbrev pub SealsNow : World → Part → Type 0
-SealsNow w (SetSealed path header) = IsSetNow w header
+SealsNow w (SetSealed path header) = IsSetNow w header × IsApart w header.set
 SealsNow w (Stored stored) = Unit {0}
 SealsNow w (MediumMade path) = Unit {0}
 SealsNow w SetDrawn = Unit {0}
 SealsNow w (Noted row) = Unit {0}
+SealsNow w (JobBegun name job) = Unit {0}
+SealsNow w (JobStepped name count) = Unit {0}
 
 -- a part is this act, which may be done so
 abbrev pub MayDoPart : World → Part → Act → Type 0
@@ -60,9 +63,22 @@ CutsParts old before parts after = (w : World) (acts : List Act) → StandsFor b
 
 -- ---- plans
 
+-- parts are these acts but for the last, by which the current session's next backup only starts, or it doesn't any more
+pub record MayReady (w : World) (parts : List Part) (starts : Bool) (acts : List Act) : Type 0 where
+  pub front : List Act
+  pub parts_are : MayDoParts w parts front
+  pub are : acts ≡ front ++ readied starts ∷ []
+
+abbrev pub DoesReadying : Kept → Disk → List Part → Bool → Kept → Disk → Type 0
+DoesReadying old before parts starts new after = (w : World) (acts : List Act) → StandsFor before old w → MayReady w parts starts acts → StandsFor after new (done_all w acts)
+
+abbrev pub CutsReadying : Kept → Disk → List Part → Bool → Disk → Type 0
+CutsReadying old before parts starts after = (w : World) (acts : List Act) → StandsFor before old w → MayReady w parts starts acts → Effect IsOurs (CutIn w acts) before after
+
 -- a plan is these acts, each of which may be done behind those before it
 abbrev pub MayFollow : World → Plan → List Act → Type 0
 MayFollow w (Parts parts answer) acts = MayDoParts w parts.items acts
+MayFollow w (Readied parts starts answer) acts = MayReady w parts.items starts acts
 MayFollow w (Seated session) acts = (acts ≡ seated session ∷ []) × MayDo w (seated session)
 MayFollow w plan acts = AreActsOf w plan acts
 
@@ -75,6 +91,7 @@ CutsPlan old before plan after = (w : World) (acts : List Act) → StandsFor bef
 -- a plan stores nothing
 abbrev pub HasNoParts : Plan → Type 0
 HasNoParts (Parts parts answer) = parts.items ≡ []
+HasNoParts (Readied parts starts answer) = parts.items ≡ []
 HasNoParts _ = Unit {0}
 
 -- ---- who writes to the medium at a path
@@ -85,6 +102,8 @@ PartWrites (MediumMade at) path = path ≡ at
 PartWrites SetDrawn path = ⊥
 PartWrites (SetSealed at header) path = path ≡ at
 PartWrites (Noted row) path = ⊥
+PartWrites (JobBegun name job) path = ⊥
+PartWrites (JobStepped name count) path = ⊥
 
 abbrev pub PartsWrite : List Part → List ℕ → Type 0
 PartsWrite [] path = ⊥
@@ -92,4 +111,5 @@ PartsWrite (part ∷ parts) path = PartWrites part path ⊎ PartsWrite parts pat
 
 abbrev pub PlanWrites : Plan → List ℕ → Type 0
 PlanWrites (Parts parts answer) path = PartsWrite parts.items path
+PlanWrites (Readied parts starts answer) path = PartsWrite parts.items path
 PlanWrites _ path = ⊥

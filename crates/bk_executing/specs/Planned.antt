@@ -11,6 +11,8 @@ use Rattle.bk_machine.specs.World.{World}
 use Rattle.bk_media_plans.specs.declared.restore_plan.RestorePlan.{RestorePlan}
 use Rattle.bk_media_plans.specs.Found.{Found}
 use Rattle.bk_media_plans.specs.RestorePlans.{AreRestoreActs, restore_reply}
+use Rattle.bk_media_plans.specs.declared.wait_plan.WaitPlan.{WaitPlan}
+use Rattle.bk_media_plans.specs.Waits.{AreWaitActs, HasSets, wait_reply}
 use Rattle.bk_plans.specs.declared.parts.Plan.{Plan}
 use Rattle.bk_plans.specs.Planning.{AreActsOf, reply_of}
 use Rattle.bk_world.specs.declared.rule.Rule.{Rule}
@@ -28,3 +30,10 @@ pub record IsRestorePlanned (e : Kept) (Known : World → Type 0) (options : Res
   pub replies : outcome.reply ≡ restore_reply found plan
   pub may : (w : World) → IsSound w → Remembers e w → Known w → May w s now outcome
   pub acts : (w : World) → IsSound w → Remembers e w → Known w → AreRestoreActs w now options found plan outcome.acts
+
+-- So it is with `:wait`, where so many sets are on the medium of the backup that runs.
+pub record IsWaitPlanned (e : Kept) (sets : ℕ) (s : ScriptEntry) (now : ℕ) (plan : WaitPlan) : Type 0 where
+  pub outcome : Outcome
+  pub replies : outcome.reply ≡ wait_reply plan
+  pub may : (w : World) → IsSound w → Remembers e w → HasSets w sets → May w s now outcome
+  pub acts : (w : World) → IsSound w → Remembers e w → HasSets w sets → AreWaitActs w now sets plan outcome.acts

@@ -1,5 +1,5 @@
 // How a run ends.
-ghost use Rattle.std.specs.Prelude.{◌≡◌, ℕ, List, None, map, take, IfOk, IfSome, IfErr, OnOk, IsErrOf};
+ghost use Rattle.std.specs.Prelude.{◌≡◌, ℕ, List, [], ◌∷◌, None, map, IfOk, IfSome, IfErr, OnOk, IsErrOf};
 ghost use Rattle.bk_acts.specs.Conditions.{KeepsAct};
 ghost use Rattle.bk_device.specs.Calls.{ChangesNothing};
 ghost use Rattle.bk_device.specs.Counts.{HasCause};
@@ -8,15 +8,16 @@ ghost use Rattle.bk_engine.specs.Loading.{Leaves};
 ghost use Rattle.bk_engine.specs.Stands.{IsOurs, IsReady, NamesSet, StandsFor, own_in};
 ghost use Rattle.bk_engine.specs.Touched.{NoMedium, TouchesOnly};
 ghost use Rattle.bk_engine.specs.Viewing.{Remembers};
-ghost use Rattle.bk_executing.specs.Closing.{CutsEnd, RollsFirst, RollsSeen};
-ghost use Rattle.bk_restarts.specs.Crashes.{CutIn};
+ghost use Rattle.bk_executing.specs.Closing.{CutsClosing, CutsEnd, DropsJobs, RollsAll, RollsFirst, RollsSeen};
 ghost use Rattle.bk_executing.specs.declared.error.ExecuteError.TheVariants.{Broken, Fault};
 ghost use Rattle.bk_kept.specs.Keeps.{database_of};
-ghost use Rattle.bk_machine.specs.Acts.{Act, done_all};
+ghost use Rattle.bk_machine.specs.Acts.{Act, done, done_all};
 ghost use Rattle.bk_machine.specs.Closing as closing;
-ghost use Rattle.bk_machine.specs.Closing.{AreClosing};
+ghost use Rattle.bk_machine.specs.Closing.{AreClosing, IsFirst};
 ghost use Rattle.bk_machine.specs.Sound.{AreIdle};
-ghost use Rattle.bk_machine.specs.World.{World, ended};
+ghost use Rattle.bk_machine.specs.World.{Held, World, ended};
+ghost use Rattle.bk_machine.specs.statements.Rollback.{rolls_back};
+ghost use Rattle.bk_restarts.specs.Crashes.{CutIn};
 ghost use Rattle.bk_stores.specs.Errors.{IsTrouble};
 ghost use Rattle.bk_stores.specs.Standing.{AreStanding};
 
@@ -84,6 +85,26 @@ fn rolling_back(engine: &Engine) -> Result<Option<StoredAct>, AllocError>
     Ok(act)
 }
 
+// No backup runs any more. A crash leaves the world before it.
+fn drop_jobs<D: Device>(engine: &mut Engine, dev: &mut D) -> Result<(), StoresError>
+    requires ready { IsReady engine.old }
+    requires none { (own_in engine.old).staging ≡ None }
+    requires standing { D.tells → AreStanding (D.disk dev.old) engine.old.hosting.stores }
+    ensures ready { OnOk result (IsReady engine.new) }
+    ensures own { OnOk result (NamesSet None engine.old engine.new) }
+    ensures standing { D.tells → OnOk result (AreStanding (D.disk dev.new) engine.new.hosting.stores) }
+    ensures drops { D.tells → (w : World) → StandsFor (D.disk dev.old) engine.old w → OnOk result (DropsJobs w (D.disk dev.old) engine.new (D.disk dev.new)) }
+    ensures crash { D.tells → (w : World) → StandsFor (D.disk dev.old) engine.old w → CutsClosing w (D.disk dev.old) (D.disk dev.new) }
+    ensures still { D.tells → (w : World) → StandsFor (D.disk dev.old) engine.old w → AreIdle w → (dev.new ≡ dev.old) × OnOk result (engine.new ≡ engine.old) }
+    ensures touches { D.tells → TouchesOnly NoMedium (D.disk dev.old) (D.disk dev.new) }
+    ensures trouble { IfErr result IsTrouble }
+    ensures cause { HasCause D.disk_faults D.tell_faults dev.old dev.new (IsErrOf result StoresError.Fault) }
+{
+    runs_are_closed_one_by_one();
+    engine.drop_sets(dev)?;
+    Ok(())
+}
+
 // Rolls the first open transaction back, if one is open.
 fn roll_back<D: Device>(engine: &mut Engine, dev: &mut D) -> Result<(), StoresError>
     requires ready { IsReady engine.old }
@@ -91,8 +112,8 @@ fn roll_back<D: Device>(engine: &mut Engine, dev: &mut D) -> Result<(), StoresEr
     ensures ready { OnOk result (IsReady engine.new) }
     ensures own { OnOk result (NamesSet (own_in engine.old).staging engine.old engine.new) }
     ensures standing { D.tells → OnOk result (AreStanding (D.disk dev.new) engine.new.hosting.stores) }
-    ensures rolls { D.tells → (w : World) (acts : List Act) → StandsFor (D.disk dev.old) engine.old w → AreClosing w acts → OnOk result (StandsFor (D.disk dev.new) engine.new (done_all w (take 1 acts))) }
-    ensures crash { D.tells → (w : World) (acts : List Act) → StandsFor (D.disk dev.old) engine.old w → AreClosing w acts → Effect IsOurs (CutIn w acts) (D.disk dev.old) (D.disk dev.new) }
+    ensures rolls { D.tells → (w : World) (held : Held) → StandsFor (D.disk dev.old) engine.old w → IsFirst w held → OnOk result (StandsFor (D.disk dev.new) engine.new (done w (rolls_back w held))) }
+    ensures crash { D.tells → (w : World) (held : Held) → StandsFor (D.disk dev.old) engine.old w → IsFirst w held → Effect IsOurs (CutIn w (rolls_back w held ∷ [])) (D.disk dev.old) (D.disk dev.new) }
     ensures touches { D.tells → TouchesOnly NoMedium (D.disk dev.old) (D.disk dev.new) }
     ensures trouble { IfErr result IsTrouble }
     ensures cause { HasCause D.disk_faults D.tell_faults dev.old dev.new (IsErrOf result StoresError.Fault) }
@@ -114,14 +135,13 @@ fn roll_all_back<D: Device>(engine: &mut Engine, dev: &mut D) -> Result<(), Stor
     ensures ready { OnOk result (IsReady engine.new) }
     ensures own { OnOk result (NamesSet (own_in engine.old).staging engine.old engine.new) }
     ensures standing { D.tells → OnOk result (AreStanding (D.disk dev.new) engine.new.hosting.stores) }
-    ensures rolls { D.tells → (w : World) (acts : List Act) → StandsFor (D.disk dev.old) engine.old w → AreClosing w acts → OnOk result (StandsFor (D.disk dev.new) engine.new (done_all w acts)) }
-    ensures crash { D.tells → (w : World) (acts : List Act) → StandsFor (D.disk dev.old) engine.old w → AreClosing w acts → Effect IsOurs (CutIn w acts) (D.disk dev.old) (D.disk dev.new) }
+    ensures rolls { D.tells → (w : World) → StandsFor (D.disk dev.old) engine.old w → OnOk result (RollsAll w (D.disk dev.old) engine.new (D.disk dev.new)) }
+    ensures crash { D.tells → (w : World) → StandsFor (D.disk dev.old) engine.old w → CutsClosing w (D.disk dev.old) (D.disk dev.new) }
     ensures still { D.tells → (w : World) → StandsFor (D.disk dev.old) engine.old w → AreIdle w → (dev.new ≡ dev.old) × OnOk result (engine.new ≡ engine.old) }
     ensures touches { D.tells → TouchesOnly NoMedium (D.disk dev.old) (D.disk dev.new) }
     ensures trouble { IfErr result IsTrouble }
     ensures cause { HasCause D.disk_faults D.tell_faults dev.old dev.new (IsErrOf result StoresError.Fault) }
 {
-    runs_are_closed();
     runs_are_closed_one_by_one();
     engine.at_rest(dev);
     let count = count_open(engine)?;
@@ -131,8 +151,8 @@ fn roll_all_back<D: Device>(engine: &mut Engine, dev: &mut D) -> Result<(), Stor
     Ok(())
 }
 
-/// Ends the run: what is open is rolled back, by rising session, its sessions are closed, and no GUID stays reserved. Where nothing is open and no GUID reserved, nothing is changed. A crash leaves a front of the
-/// rollbacks, or the world behind them in which the run has ended. The engine isn't used again.
+/// Ends the run: backups that run are dropped, what is open is rolled back, by rising session, its sessions are closed, and no GUID stays reserved. Where no backup runs, nothing is open and no GUID reserved, nothing is
+/// changed. A crash leaves a front of this, or the world behind it in which the run has ended. The engine isn't used again.
 ///
 /// `Broken` comes only where the engine stands for no world.
 pub fn close<D: Device>(engine: &mut Engine, dev: &mut D) -> Result<(), ExecuteError>
@@ -140,7 +160,7 @@ pub fn close<D: Device>(engine: &mut Engine, dev: &mut D) -> Result<(), ExecuteE
     requires none { (own_in engine.old).staging ≡ None }
     requires standing { D.tells → AreStanding (D.disk dev.old) engine.old.hosting.stores }
     ensures standing { D.tells → OnOk result (AreStanding (D.disk dev.new) engine.new.hosting.stores) }
-    ensures closes { D.tells → (number : ℕ) (w : World) → StandsFor (D.disk dev.old) engine.old w → OnOk result ((acts : List Act) × AreClosing w acts × Leaves number (D.disk dev.new) (ended (done_all w acts))) }
+    ensures closes { D.tells → (number : ℕ) (w : World) → StandsFor (D.disk dev.old) engine.old w → OnOk result ((acts : List Act) × AreClosing w acts × Leaves number (D.disk dev.new) (ended (done_all w acts)) × Effect IsOurs (CutsEnd number w acts) (D.disk dev.old) (D.disk dev.new)) }
     ensures crash { D.tells → (number : ℕ) (w : World) → StandsFor (D.disk dev.old) engine.old w → (acts : List Act) × AreClosing w acts × Effect IsOurs (CutsEnd number w acts) (D.disk dev.old) (D.disk dev.new) }
     ensures still { D.tells → (own_in engine.old).counter ≡ engine.old.drawn → (w : World) → StandsFor (D.disk dev.old) engine.old w → AreIdle w → ChangesNothing (D.disk dev.old) (D.disk dev.new) }
     ensures touches { D.tells → TouchesOnly NoMedium (D.disk dev.old) (D.disk dev.new) }
@@ -148,6 +168,8 @@ pub fn close<D: Device>(engine: &mut Engine, dev: &mut D) -> Result<(), ExecuteE
     ensures cause { HasCause D.disk_faults D.tell_faults dev.old dev.new (IsErrOf result Fault) }
 {
     runs_are_closed();
+    runs_are_closed_one_by_one();
+    drop_jobs(engine, dev)?;
     roll_all_back(engine, dev)?;
     engine.close(dev)?;
     Ok(())

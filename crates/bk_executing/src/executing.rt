@@ -16,6 +16,7 @@ use crate::listing::list;
 use crate::planning::plan_kept;
 use crate::querying::answer;
 use crate::restoring::restore;
+use crate::waiting::wait;
 use bk_device::Device;
 use bk_engine::Engine;
 use bk_items::{ScriptEntry, ScriptItem};
@@ -69,6 +70,7 @@ pub fn execute<R: Threads + Sync, D: Device>(
             let reply = list(engine.alloc(), dev, line, *catalog)?;
             follow(engine, dev, Plan::Answered { reply })
         }
+        ScriptItem::Wait => wait(engine, dev, now),
         _ => execute_other(engine, dev, statement, now),
     }
 }

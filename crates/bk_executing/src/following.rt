@@ -2,11 +2,14 @@
 ghost use Rattle.std.specs.Prelude.{◌≡◌, [], None, IfOk, OnOk, IsErrOf};
 ghost use Rattle.std.specs.List.{AllByRecursion};
 ghost use Rattle.bk_device.specs.Counts.{HasCause};
-ghost use Rattle.bk_engine.specs.Stands.{IsReady, NamesSet, own_in};
+ghost use Rattle.bk_device.specs.Effects.{Effect};
+ghost use Rattle.bk_engine.specs.Stands.{Covers, IsOurs, IsReady, NamesSet, StandsFor, own_in};
 ghost use Rattle.bk_engine.specs.Touched.{NoMedium, TouchesOnly};
 ghost use Rattle.bk_executing.specs.Executing.{Rests};
-ghost use Rattle.bk_executing.specs.Parts.{CutsPart, CutsParts, CutsPlan, DoesPart, DoesParts, DoesPlan, HasNoParts, PartWrites, PartsWrite, PlanWrites};
+ghost use Rattle.bk_executing.specs.Parts.{CutsPart, CutsParts, CutsPlan, CutsReadying, DoesPart, DoesParts, DoesPlan, DoesReadying, HasNoParts, PartWrites, PartsWrite, PlanWrites};
 ghost use Rattle.bk_executing.specs.declared.error.ExecuteError.TheVariants.{Broken, Fault};
+ghost use Rattle.bk_machine.specs.Acts.{done, readied};
+ghost use Rattle.bk_machine.specs.World.{World};
 ghost use Rattle.bk_plans.specs.Planning.{KeepsPart, KeepsPlan, reply_of};
 ghost use Rattle.bk_plans.specs.declared.parts.Part.TheVariants as part;
 ghost use Rattle.bk_plans.specs.declared.parts.Plan.TheVariants as plan;
@@ -17,8 +20,8 @@ use crate::error::ExecuteError;
 use bk_acts::StoredAct;
 use bk_device::Device;
 use bk_engine::Engine;
-use bk_ids::Text;
-use bk_machine::HistoryRow;
+use bk_ids::{Name, Text};
+use bk_machine::{HistoryRow, Job};
 use bk_plans::{Part, Plan};
 use bk_sealing::seal_database;
 use bk_world::{Header, Reply};
@@ -126,6 +129,56 @@ fn note<D: Device>(engine: &mut Engine, dev: &mut D, row: &HistoryRow) -> Result
     Ok(())
 }
 
+// The backup of the database of this name starts.
+fn begin_job<D: Device>(
+    engine: &mut Engine,
+    dev: &mut D,
+    name: &Name,
+    job: &Job,
+) -> Result<(), ExecuteError>
+    requires ready { IsReady engine.old }
+    requires keeps { KeepsPart (part.JobBegun name.now job.now) }
+    requires none { (own_in engine.old).staging ≡ None }
+    requires standing { D.tells → AreStanding (D.disk dev.old) engine.old.hosting.stores }
+    ensures ready { OnOk result (IsReady engine.new) }
+    ensures own { OnOk result (NamesSet None engine.old engine.new) }
+    ensures standing { D.tells → OnOk result (AreStanding (D.disk dev.new) engine.new.hosting.stores) }
+    ensures does { D.tells → OnOk result (DoesPart engine.old (D.disk dev.old) (part.JobBegun name.now job.now) engine.new (D.disk dev.new)) }
+    ensures crash { D.tells → CutsPart engine.old (D.disk dev.old) (part.JobBegun name.now job.now) (D.disk dev.new) }
+    ensures touches { D.tells → TouchesOnly (PartWrites (part.JobBegun name.now job.now)) (D.disk dev.old) (D.disk dev.new) }
+    ensures sound { IsErrOf result Broken → ⊥ }
+    ensures cause { HasCause D.disk_faults D.tell_faults dev.old dev.new (IsErrOf result Fault) }
+{
+    engine.at_rest(dev);
+    let job = job.copy(engine.alloc())?;
+    engine.start_set(dev, name.as_str(), job)?;
+    Ok(())
+}
+
+// So many more of the extents are copied that are left to the backup of the database of this name.
+fn step_job<D: Device>(
+    engine: &mut Engine,
+    dev: &mut D,
+    name: &Name,
+    count: u64,
+) -> Result<(), ExecuteError>
+    requires ready { IsReady engine.old }
+    requires keeps { KeepsPart (part.JobStepped name.now count) }
+    requires none { (own_in engine.old).staging ≡ None }
+    requires standing { D.tells → AreStanding (D.disk dev.old) engine.old.hosting.stores }
+    ensures ready { OnOk result (IsReady engine.new) }
+    ensures own { OnOk result (NamesSet None engine.old engine.new) }
+    ensures standing { D.tells → OnOk result (AreStanding (D.disk dev.new) engine.new.hosting.stores) }
+    ensures does { D.tells → OnOk result (DoesPart engine.old (D.disk dev.old) (part.JobStepped name.now count) engine.new (D.disk dev.new)) }
+    ensures crash { D.tells → CutsPart engine.old (D.disk dev.old) (part.JobStepped name.now count) (D.disk dev.new) }
+    ensures touches { D.tells → TouchesOnly (PartWrites (part.JobStepped name.now count)) (D.disk dev.old) (D.disk dev.new) }
+    ensures sound { IsErrOf result Broken → ⊥ }
+    ensures cause { HasCause D.disk_faults D.tell_faults dev.old dev.new (IsErrOf result Fault) }
+{
+    engine.step_set(dev, name.as_str(), count)?;
+    Ok(())
+}
+
 // Does one part. A crash leaves what it may leave inside of its act.
 fn do_part<D: Device>(engine: &mut Engine, dev: &mut D, part: &Part) -> Result<(), ExecuteError>
     requires ready { IsReady engine.old }
@@ -147,6 +200,8 @@ fn do_part<D: Device>(engine: &mut Engine, dev: &mut D, part: &Part) -> Result<(
         Part::SetDrawn => draw_set(engine, dev),
         Part::SetSealed { path, header } => seal_set(engine, dev, path, header),
         Part::Noted { row } => note(engine, dev, row),
+        Part::JobBegun { name, job } => begin_job(engine, dev, name, job),
+        Part::JobStepped { name, count } => step_job(engine, dev, name, *count),
     }
 }
 
@@ -174,6 +229,52 @@ fn carry_out<D: Device>(
     for part in parts {
         do_part(engine, dev, part)?;
     }
+    Ok(())
+}
+
+// The current session's next backup only starts from now on, or it doesn't any more.
+fn make_ready<D: Device>(engine: &mut Engine, dev: &mut D, starts: bool) -> Result<(), ExecuteError>
+    requires ready { IsReady engine.old }
+    requires none { (own_in engine.old).staging ≡ None }
+    requires standing { D.tells → AreStanding (D.disk dev.old) engine.old.hosting.stores }
+    ensures ready { OnOk result (IsReady engine.new) }
+    ensures own { OnOk result (NamesSet None engine.old engine.new) }
+    ensures standing { D.tells → OnOk result (AreStanding (D.disk dev.new) engine.new.hosting.stores) }
+    ensures does { D.tells → (w : World) → StandsFor (D.disk dev.old) engine.old w → OnOk result (StandsFor (D.disk dev.new) engine.new (done w (readied starts))) }
+    ensures crash { D.tells → (w : World) → StandsFor (D.disk dev.old) engine.old w → Effect IsOurs (Covers w) (D.disk dev.old) (D.disk dev.new) }
+    ensures still { D.tells → OnOk result (Rests engine.old (D.disk dev.old) engine.new (D.disk dev.new)) }
+    ensures touches { D.tells → TouchesOnly NoMedium (D.disk dev.old) (D.disk dev.new) }
+    ensures sound { IsErrOf result Broken → ⊥ }
+    ensures cause { HasCause D.disk_faults D.tell_faults dev.old dev.new (IsErrOf result Fault) }
+{
+    engine.at_rest(dev);
+    engine.ready_backup(dev, starts)?;
+    Ok(())
+}
+
+// Does parts, one after the other, and then the current session's next backup only starts, or it doesn't any more. A crash leaves what it may leave inside of their acts.
+fn carry_out_readying<D: Device>(
+    engine: &mut Engine,
+    dev: &mut D,
+    parts: &[Part],
+    starts: bool,
+) -> Result<(), ExecuteError>
+    requires ready { IsReady engine.old }
+    requires keep { AllByRecursion KeepsPart parts.now }
+    requires none { (own_in engine.old).staging ≡ None }
+    requires standing { D.tells → AreStanding (D.disk dev.old) engine.old.hosting.stores }
+    ensures ready { OnOk result (IsReady engine.new) }
+    ensures own { OnOk result (NamesSet None engine.old engine.new) }
+    ensures standing { D.tells → OnOk result (AreStanding (D.disk dev.new) engine.new.hosting.stores) }
+    ensures does { D.tells → OnOk result (DoesReadying engine.old (D.disk dev.old) parts.now starts engine.new (D.disk dev.new)) }
+    ensures crash { D.tells → CutsReadying engine.old (D.disk dev.old) parts.now starts (D.disk dev.new) }
+    ensures still { D.tells → parts.now ≡ [] → OnOk result (Rests engine.old (D.disk dev.old) engine.new (D.disk dev.new)) }
+    ensures touches { D.tells → TouchesOnly (PartsWrite parts.now) (D.disk dev.old) (D.disk dev.new) }
+    ensures sound { IsErrOf result Broken → ⊥ }
+    ensures cause { HasCause D.disk_faults D.tell_faults dev.old dev.new (IsErrOf result Fault) }
+{
+    carry_out(engine, dev, parts)?;
+    make_ready(engine, dev, starts)?;
     Ok(())
 }
 
@@ -255,6 +356,16 @@ pub(crate) fn follow<D: Device>(
         }
         Plan::Parts { parts, reply } => {
             let done = carry_out(engine, dev, &parts);
+            drop(parts);
+            done?;
+            Ok(reply)
+        }
+        Plan::Readied {
+            parts,
+            starts,
+            reply,
+        } => {
+            let done = carry_out_readying(engine, dev, &parts, starts);
             drop(parts);
             done?;
             Ok(reply)

@@ -13,6 +13,7 @@ mod parking;
 mod planning;
 mod querying;
 mod restoring;
+mod waiting;
 
 pub use bk_engine::Engine;
 pub use closing::close;

@@ -1,16 +1,20 @@
 // What statements come to over what an engine has in memory.
-ghost use Rattle.std.specs.Prelude.{◌≡◌, true, IfOk, IsErrOf};
+ghost use Rattle.std.specs.Prelude.{◌≡◌, ℕ, true, IfOk, IsErrOf};
+ghost use Rattle.std.specs.Option.{option_map};
 ghost use Rattle.bk_engine.specs.Stands.{IsReady};
 ghost use Rattle.bk_engine.specs.Viewing.{Remembers};
-ghost use Rattle.bk_executing.specs.Planned.{IsPlanned, IsRestorePlanned};
+ghost use Rattle.bk_executing.specs.Planned.{IsPlanned, IsRestorePlanned, IsWaitPlanned};
 ghost use Rattle.bk_items.specs.declared.item.ScriptItem.TheVariants as script;
 ghost use Rattle.bk_machine.specs.Sound.{IsSound};
 ghost use Rattle.bk_machine.specs.World.{World};
+ghost use Rattle.bk_machine.specs.Writes.{current_job};
 ghost use Rattle.bk_machine.specs.statements.Backup.{ShowsRoom};
 ghost use Rattle.bk_machine.specs.statements.Restore.{position_of};
 ghost use Rattle.bk_media_plans.specs.Found.{FindsSet};
 ghost use Rattle.bk_media_plans.specs.Restoring as request;
 ghost use Rattle.bk_media_plans.specs.RestorePlans.{KeepsRestore};
+ghost use Rattle.bk_media_plans.specs.Waits.{KeepsWait};
+ghost use Rattle.bk_kept.specs.Keeps.{Sees};
 ghost use Rattle.bk_plans.specs.Planning.{KeepsPlan, Plans, ReadsNoMedium};
 ghost use Rattle.bk_shown.specs.declared.error.TakeError.TheVariants.{Unfit};
 ghost use Rattle.bk_world.specs.Medium.{medium_at};
@@ -19,7 +23,9 @@ use bk_engine::Engine;
 use bk_ids::{Sequence, Text};
 use bk_items::{BackupOptions, RestoreOptions, RestoredUnits, ScriptEntry, UnitName};
 use bk_kept::{InstanceView, leave_numbers};
-use bk_media_plans::{RestorePlan, SetView, plan_backup, plan_restore};
+use bk_media_plans::{
+    RestorePlan, SetView, WaitPlan, job_medium, plan_backup, plan_restore, plan_wait,
+};
 use bk_planning::plan;
 use bk_plans::Plan;
 use bk_shown::TakeError;
@@ -106,4 +112,37 @@ pub(crate) fn plan_kept_restore(
     let ends = engine.ends(alloc)?;
     let seen = engine.view(alloc, &ends)?;
     plan_restore(&seen, alloc, line, database, units, disk, options, set, now)
+}
+
+// The path of the medium of the backup that runs in the current database that is seen, if one runs.
+fn path_seen(seen: &InstanceView<'_>, alloc: Global) -> Result<Option<Text>, AllocError>
+    ensures { IfOk result (λ path. (w : World) → Sees w seen.now → path ≡ option_map (λ job. job.medium) (current_job w)) }
+{
+    match job_medium(seen) {
+        Some(path) => Ok(Some(path.copy(alloc)?)),
+        None => Ok(None),
+    }
+}
+
+/// The path of the medium of the backup that runs in the current database, if one runs.
+pub(crate) fn job_path(engine: &Engine) -> Result<Option<Text>, AllocError>
+    requires ready { IsReady engine.now }
+    ensures { IfOk result (λ path. (w : World) → Remembers engine.now w → path ≡ option_map (λ job. job.medium) (current_job w)) }
+{
+    let ends = engine.ends(engine.alloc())?;
+    let seen = engine.view(engine.alloc(), &ends)?;
+    let path = path_seen(&seen, engine.alloc())?;
+    Ok(path)
+}
+
+/// What `:wait` on any line comes to at `now`, in milliseconds since 1970-01-01 00:00:00 UTC, where so many sets are on the medium of the backup that runs in the current database.
+pub(crate) fn plan_kept_wait(engine: &Engine, sets: u64, now: u64) -> Result<WaitPlan, AllocError>
+    requires ready { IsReady engine.now }
+    ensures plans { IfOk result (λ plan. (line : ℕ) → IsWaitPlanned engine.now sets (record { item = script.Wait; line = line }) now plan) }
+    ensures keeps { IfOk result KeepsWait }
+{
+    let ends = engine.ends(engine.alloc())?;
+    let seen = engine.view(engine.alloc(), &ends)?;
+    let plan = plan_wait(&seen, engine.alloc(), sets, now)?;
+    Ok(plan)
 }

@@ -30,7 +30,7 @@ pub returns-clause-executed : goal.returns-clause-executed
 returns-clause-executed g c =
     plan-executed c.args.engine.now c.follow.new.engine (g.D.Device.disk c.args.dev.now) (g.D.Device.disk c.room_at.new.dev) (g.D.Device.disk c.follow.new.dev) _ c.args.now c.in_ok-plan.plan c.in_ok-plan.ensures.plans
     (knows-backup c.args.engine.now (g.D.Device.disk c.args.dev.now) (g.D.Device.disk c.room_at.new.dev) c.args.line c.args.database.now c.args.units.now c.args.disk.now c.args.options.now c.args.now c.in_ok-room.room c.in_ok-plan.plan _ (λ t. g.met.D.Device.lawful t c.args.dev.now) c.room_at.ensures.effect
-    (record { sound = c.acts_keep_worlds_sound.ensures.act; found = c.what_is_said_comes_last.ensures.found; log = c.what_is_said_comes_last.ensures.log; header = c.full_headers_are_of_databases.ensures })
+    (record { says = record { sound = c.acts_keep_worlds_sound.ensures.act; found = c.what_is_said_comes_last.ensures.found; log = c.what_is_said_comes_last.ensures.log }; header = c.full_headers_are_of_databases.ensures })
     c.statements_do_what_they_may.ensures.may (λ t w stands. room-there w c.args.disk.now c.as_str.result.now c.in_ok-room.room c.as_str.ensures (c.in_ok-room.ensures.room t w stands.media)))
     c.follow.result (record { replies = c.follow.ensures.replies; does = c.follow.ensures.does; crash = c.follow.ensures.crash; still = c.follow.ensures.still; touches = c.follow.ensures.touches })
 
@@ -38,7 +38,7 @@ pub returns-clause-failed : goal.returns-clause-failed
 returns-clause-failed g c =
     plan-failed c.args.engine.now c.follow.new.engine (g.D.Device.disk c.args.dev.now) (g.D.Device.disk c.room_at.new.dev) (g.D.Device.disk c.follow.new.dev) _ c.args.now c.in_ok-plan.plan c.in_ok-plan.ensures.plans
     (knows-backup c.args.engine.now (g.D.Device.disk c.args.dev.now) (g.D.Device.disk c.room_at.new.dev) c.args.line c.args.database.now c.args.units.now c.args.disk.now c.args.options.now c.args.now c.in_ok-room.room c.in_ok-plan.plan _ (λ t. g.met.D.Device.lawful t c.args.dev.now) c.room_at.ensures.effect
-    (record { sound = c.acts_keep_worlds_sound.ensures.act; found = c.what_is_said_comes_last.ensures.found; log = c.what_is_said_comes_last.ensures.log; header = c.full_headers_are_of_databases.ensures })
+    (record { says = record { sound = c.acts_keep_worlds_sound.ensures.act; found = c.what_is_said_comes_last.ensures.found; log = c.what_is_said_comes_last.ensures.log }; header = c.full_headers_are_of_databases.ensures })
     c.statements_do_what_they_may.ensures.may (λ t w stands. room-there w c.args.disk.now c.as_str.result.now c.in_ok-room.room c.as_str.ensures (c.in_ok-room.ensures.room t w stands.media)))
     c.follow.result (record { replies = c.follow.ensures.replies; does = c.follow.ensures.does; crash = c.follow.ensures.crash; still = c.follow.ensures.still; touches = c.follow.ensures.touches })
 

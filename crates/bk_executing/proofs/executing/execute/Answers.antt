@@ -58,3 +58,11 @@ returns-in_ok-reply-in-SelectCatalog-clause-failed g c =
 
 pub returns-in_ok-reply-in-SelectCatalog-clause-touches : goal.returns-in_ok-reply-in-SelectCatalog-clause-touches
 returns-in_ok-reply-in-SelectCatalog-clause-touches g c tells = plan-touches (g.D.Device.disk c.args.dev.now) (g.D.Device.disk c.list.new.dev) (g.D.Device.disk c.follow-in-SelectCatalog.new.dev) (c.list.ensures.effect tells) (c.follow-in-SelectCatalog.ensures.touches tells)
+
+pub returns-in-Wait-clause-executed : goal.returns-in-Wait-clause-executed
+returns-in-Wait-clause-executed g c =
+    executed-by g.D.Device.tells c.args.engine.now c.wait.new.engine (g.D.Device.disk c.args.dev.now) (g.D.Device.disk c.wait.new.dev) c.args.statement.now _ c.args.now c.wait.result c.in-Wait.is (c.wait.ensures.executed c.args.statement.now.line)
+
+pub returns-in-Wait-clause-failed : goal.returns-in-Wait-clause-failed
+returns-in-Wait-clause-failed g c =
+    failed-by g.D.Device.tells c.args.engine.now (g.D.Device.disk c.args.dev.now) (g.D.Device.disk c.wait.new.dev) c.args.statement.now _ c.args.now c.wait.result c.in-Wait.is (c.wait.ensures.failed c.args.statement.now.line)

@@ -53,3 +53,23 @@ returns-in-Noted-clause-crash g c tells = subst (λ (p : Part). CutsPart c.args.
 
 pub returns-in-Noted-clause-touches : goal.returns-in-Noted-clause-touches
 returns-in-Noted-clause-touches g c tells = subst (λ (p : Part). TouchesOnly (PartWrites p) (g.D.Device.disk c.args.dev.now) (g.D.Device.disk c.note.new.dev)) (sym c.in-Noted.is) (c.note.ensures.touches tells)
+
+pub returns-in-JobBegun-clause-does : goal.returns-in-JobBegun-clause-does
+returns-in-JobBegun-clause-does g c tells =
+    subst (λ (p : Part). OnOk c.begin_job.result (DoesPart c.args.engine.now (g.D.Device.disk c.args.dev.now) p c.begin_job.new.engine (g.D.Device.disk c.begin_job.new.dev))) (sym c.in-JobBegun.is) (c.begin_job.ensures.does tells)
+
+pub returns-in-JobBegun-clause-crash : goal.returns-in-JobBegun-clause-crash
+returns-in-JobBegun-clause-crash g c tells = subst (λ (p : Part). CutsPart c.args.engine.now (g.D.Device.disk c.args.dev.now) p (g.D.Device.disk c.begin_job.new.dev)) (sym c.in-JobBegun.is) (c.begin_job.ensures.crash tells)
+
+pub returns-in-JobBegun-clause-touches : goal.returns-in-JobBegun-clause-touches
+returns-in-JobBegun-clause-touches g c tells = subst (λ (p : Part). TouchesOnly (PartWrites p) (g.D.Device.disk c.args.dev.now) (g.D.Device.disk c.begin_job.new.dev)) (sym c.in-JobBegun.is) (c.begin_job.ensures.touches tells)
+
+pub returns-in-JobStepped-clause-does : goal.returns-in-JobStepped-clause-does
+returns-in-JobStepped-clause-does g c tells =
+    subst (λ (p : Part). OnOk c.step_job.result (DoesPart c.args.engine.now (g.D.Device.disk c.args.dev.now) p c.step_job.new.engine (g.D.Device.disk c.step_job.new.dev))) (sym c.in-JobStepped.is) (c.step_job.ensures.does tells)
+
+pub returns-in-JobStepped-clause-crash : goal.returns-in-JobStepped-clause-crash
+returns-in-JobStepped-clause-crash g c tells = subst (λ (p : Part). CutsPart c.args.engine.now (g.D.Device.disk c.args.dev.now) p (g.D.Device.disk c.step_job.new.dev)) (sym c.in-JobStepped.is) (c.step_job.ensures.crash tells)
+
+pub returns-in-JobStepped-clause-touches : goal.returns-in-JobStepped-clause-touches
+returns-in-JobStepped-clause-touches g c tells = subst (λ (p : Part). TouchesOnly (PartWrites p) (g.D.Device.disk c.args.dev.now) (g.D.Device.disk c.step_job.new.dev)) (sym c.in-JobStepped.is) (c.step_job.ensures.touches tells)

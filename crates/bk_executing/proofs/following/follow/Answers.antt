@@ -10,7 +10,7 @@ use Rattle.bk_plans.specs.declared.parts.Plan.{Plan}
 use Rattle.bk_restarts.specs.CutLaws.{cut-first}
 use Rattle.bk_stores.specs.Standing.{AreStanding}
 use Rattle.bk_executing.specs.Executing.{Rests}
-use Rattle.bk_executing.specs.Parts.{CutsParts, CutsPlan, DoesPlan, PartsWrite, PlanWrites}
+use Rattle.bk_executing.specs.Parts.{CutsParts, CutsPlan, CutsReadying, DoesPlan, PartsWrite, PlanWrites}
 use Rattle.bk_executing.proofs.following.follow.Goals as goal
 
 pub returns-in-Refused-clause-standing : goal.returns-in-Refused-clause-standing
@@ -96,3 +96,23 @@ pub returns-in_err-done-in-Parts-clause-touches : goal.returns-in_err-done-in-Pa
 returns-in_err-done-in-Parts-clause-touches g c tells =
     subst (λ (p : Plan). TouchesOnly (PlanWrites p) (g.D.Device.disk c.args.dev.now) (g.D.Device.disk c.carry_out-done.new.dev)) (sym c.in-Parts.is)
     (subst (λ (ps : List Part). TouchesOnly (PartsWrite ps) (g.D.Device.disk c.args.dev.now) (g.D.Device.disk c.carry_out-done.new.dev)) c.deref.ensures.value (c.carry_out-done.ensures.touches tells))
+
+pub returns-in_ok-done-in-Readied-clause-crash : goal.returns-in_ok-done-in-Readied-clause-crash
+returns-in_ok-done-in-Readied-clause-crash g c tells =
+    subst (λ (p : Plan). CutsPlan c.args.engine.now (g.D.Device.disk c.args.dev.now) p (g.D.Device.disk c.carry_out_readying-done.new.dev)) (sym c.in-Readied.is)
+    (subst (λ (ps : List Part). CutsReadying c.args.engine.now (g.D.Device.disk c.args.dev.now) ps c.in-Readied.starts (g.D.Device.disk c.carry_out_readying-done.new.dev)) c.deref-in-Readied.ensures.value (c.carry_out_readying-done.ensures.crash tells))
+
+pub returns-in_ok-done-in-Readied-clause-touches : goal.returns-in_ok-done-in-Readied-clause-touches
+returns-in_ok-done-in-Readied-clause-touches g c tells =
+    subst (λ (p : Plan). TouchesOnly (PlanWrites p) (g.D.Device.disk c.args.dev.now) (g.D.Device.disk c.carry_out_readying-done.new.dev)) (sym c.in-Readied.is)
+    (subst (λ (ps : List Part). TouchesOnly (PartsWrite ps) (g.D.Device.disk c.args.dev.now) (g.D.Device.disk c.carry_out_readying-done.new.dev)) c.deref-in-Readied.ensures.value (c.carry_out_readying-done.ensures.touches tells))
+
+pub returns-in_err-done-in-Readied-clause-crash : goal.returns-in_err-done-in-Readied-clause-crash
+returns-in_err-done-in-Readied-clause-crash g c tells =
+    subst (λ (p : Plan). CutsPlan c.args.engine.now (g.D.Device.disk c.args.dev.now) p (g.D.Device.disk c.carry_out_readying-done.new.dev)) (sym c.in-Readied.is)
+    (subst (λ (ps : List Part). CutsReadying c.args.engine.now (g.D.Device.disk c.args.dev.now) ps c.in-Readied.starts (g.D.Device.disk c.carry_out_readying-done.new.dev)) c.deref-in-Readied.ensures.value (c.carry_out_readying-done.ensures.crash tells))
+
+pub returns-in_err-done-in-Readied-clause-touches : goal.returns-in_err-done-in-Readied-clause-touches
+returns-in_err-done-in-Readied-clause-touches g c tells =
+    subst (λ (p : Plan). TouchesOnly (PlanWrites p) (g.D.Device.disk c.args.dev.now) (g.D.Device.disk c.carry_out_readying-done.new.dev)) (sym c.in-Readied.is)
+    (subst (λ (ps : List Part). TouchesOnly (PartsWrite ps) (g.D.Device.disk c.args.dev.now) (g.D.Device.disk c.carry_out_readying-done.new.dev)) c.deref-in-Readied.ensures.value (c.carry_out_readying-done.ensures.touches tells))
