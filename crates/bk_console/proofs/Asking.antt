@@ -8,6 +8,7 @@ use Rattle.bk_device.specs.Compose.{durable_kept, keeps_by_telling, keeps_by_eff
 use Rattle.bk_device.specs.Disk.{Files, Disk, MayLeave}
 use Rattle.bk_device.specs.Effects.{Effect, KeepsFiles, LeavesSince}
 use Rattle.bk_executing.specs.EngineBesideLaws.{hosting-stays, stores-stand}
+use Rattle.bk_executing.specs.EngineCopiedLaws.{copied-files}
 use Rattle.bk_executing.specs.EngineStands.{IsOurs, Kept, StandsFor}
 use Rattle.bk_executing.specs.EngineTouched.{IsPath, TouchesOnly}
 use Rattle.bk_executing.specs.declared.error.ExecuteError.{ExecuteError}
@@ -102,6 +103,7 @@ told-stands e before after w bytes tells is = record {
     rows = shows_same before.files after.files (rows_in w) (tells.files msdb_file) is.calm.rows;
     durable = durable_kept {names = λ (name : List ℕ). Unit {0}} msdb_file tt (keeps_by_telling tells) is.calm.durable;
   };
+  copied = copied-files before after is.hosted tells.files is.copied;
 }
 
 -- One statement.

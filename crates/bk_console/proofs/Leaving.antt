@@ -1,6 +1,5 @@
 -- What a crash of a run leaves, from the files that it leaves.
-use Rattle.std.proofs.Common.{◌≡◌, ◌<◌, ◌≤◌, ◌⊎◌, ℕ, List, [], ◌∷◌, ◌++◌, length, take, drop, None, inl, inr, refl, sym, ◌∙◌, ap, subst, arith, length-append}
-use Rattle.std.specs.List.{AllByRecursion}
+use Rattle.std.proofs.Common.{◌≡◌, ◌<◌, ◌≤◌, ◌⊎◌, ℕ, List, [], ◌∷◌, ◌++◌, length, take, drop, inl, inr, refl, sym, ◌∙◌, ap, subst, arith, length-append}
 use Rattle.std.proofs.lemmas.List.{append-nil, take-append-le, take_all, length-map, map-append}
 use Rattle.std.proofs.lemmas.Bool.{cases_lt}
 use Rattle.std.proofs.lemmas.Grind.{flat_map-append}
@@ -10,16 +9,14 @@ use Rattle.bk_device.specs.Disk.{Files}
 use Rattle.bk_executing.specs.EngineLoading.{Stands}
 use Rattle.bk_executing.specs.EngineStands.{Covers}
 use Rattle.bk_items.specs.declared.item.ScriptEntry.{ScriptEntry}
-use Rattle.bk_machine.specs.Acts.{Act, done, done_all}
+use Rattle.bk_machine.specs.Acts.{Act, done_all}
 use Rattle.bk_machine.specs.Closing.{AreClosing, closed_by}
-use Rattle.bk_machine.specs.ClosingLaws.{first-alone}
 use Rattle.bk_machine.specs.Crash.{Leaves, next_acts}
 use Rattle.bk_machine.specs.Machine.{May, behind}
 use Rattle.bk_machine.specs.Outcome.{Outcome}
 use Rattle.bk_machine.specs.Run.{IsRun, behind_all, replies_of}
 use Rattle.bk_machine.specs.Sound.{IsSound}
-use Rattle.bk_machine.specs.World.{Database, World, ended, held_by, held_in, opened, transaction_of}
-use Rattle.bk_machine.specs.statements.Rollback.{rolls_back}
+use Rattle.bk_machine.specs.World.{World, ended, opened}
 use Rattle.bk_restarts.specs.Crashes.{CrashLaws, CutIn, LeavesFrom}
 use Rattle.bk_restarts.specs.CutLaws.{cut-first}
 use Rattle.bk_report.specs.Listing.{listing_text}
@@ -49,22 +46,6 @@ replies-more os o = map-append (λ (o : Outcome). o.reply) os (o ∷ [])
 
 pub replies-length : (os : List Outcome) → length (replies_of os) ≡ length os
 replies-length os = length-map os (λ (o : Outcome). o.reply)
-
--- Closing.
-
--- where none is open, no session has one
-none-held : (dbs : List Database) (session : ℕ) → AllByRecursion (λ (db : Database). db.transactions ≡ []) dbs → held_in dbs session ≡ None
-none-held [] session none = refl
-none-held (db ∷ dbs) session none = ap (λ ts. held_by db (transaction_of ts session) (held_in dbs session)) none.0 ∙ none-held dbs session none.1
-
--- just one list of acts closes a world
-pub closing-alone : (w : World) (a b : List Act) → AreClosing w a → AreClosing w b → a ≡ b
-closing-alone w [] [] one two = refl
-closing-alone w [] (act ∷ b) none (held, first, is, rest) = let no : ⊥ = cc (none-held w.databases held.transaction.session none, first.there) in absurd no
-closing-alone w (act ∷ a) [] (held, first, is, rest) none = let no : ⊥ = cc (none-held w.databases held.transaction.session none, first.there) in absurd no
-closing-alone w (act ∷ a) (next ∷ b) (held, first, is, rest) (other, second, so, more) =
-    let same : act ≡ next = is ∙ ap (rolls_back w) (first-alone w held other first second) ∙ sym so in
-    ap (λ x. x ∷ a) same ∙ ap (λ xs. next ∷ xs) (closing-alone (done w next) a b (subst (λ x. AreClosing (done w x) a) same rest) more)
 
 -- Bytes.
 

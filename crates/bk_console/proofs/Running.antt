@@ -42,7 +42,7 @@ use Rattle.bk_console.specs.declared.status.Status.TheVariants as status
 use Rattle.bk_console.specs.Answers.{NoneRefused, EndsRefused, GoesOnAccepted, Asked, LeavesOf, CrashLeaves, Runs, AnsweredAll, Stopped, AnsweredBy, CutAll}
 use Rattle.bk_console.proofs.Answering.{none-front}
 use Rattle.bk_console.proofs.Asking.{left-elapses}
-use Rattle.bk_console.proofs.Leaving.{LeavesOf-none, LeavesOf-closing, LeavesOf-ended, closing-alone}
+use Rattle.bk_console.proofs.Leaving.{LeavesOf-none, LeavesOf-closing, LeavesOf-ended}
 use Rattle.bk_console.specs.Run.{code_of, ended_status, words_status, read_status, answer_status, load_status, close_status, script_bytes, MayBegin, asked_number, IsWhole, LeavesRun, Closes, Executed, Ran}
 use Rattle.bk_console.specs.Spares.{AreStill, IsMaking, LeavesAlone, NoName, OutcomesWrite, ReservesNone, RunWrites, Spares}
 use Rattle.bk_console.specs.Words.{WordOptions}
@@ -209,8 +209,16 @@ pub record Ends (device_tells : Type 0) (finish : Kept) (disk disk_after : Disk)
 
 -- What was closed.
 pub record Closed (device_tells : Type 0) (finish : Kept) (disk disk_after : Disk) : Type 0 where
-  pub closes : device_tells → (number : ℕ) (w : World) → StandsFor disk finish w → (acts : List Act) × AreClosing w acts × Leaves number disk_after (ended (done_all w acts))
+  pub closes : device_tells → (number : ℕ) (w : World) → StandsFor disk finish w
+      → (acts : List Act) × AreClosing w acts × Leaves number disk_after (ended (done_all w acts)) × Effect IsOurs (CutsEnd number w acts) disk disk_after
   pub made : device_tells → IsMade disk_after.files
+
+-- Acts close a world, wherever that is cut off; and files stand for the world in which the run has ended, where it was done.
+pub record ClosesTo (number : ℕ) (w : World) (was_done : Type 0) (disk disk_after : Disk) : Type 0 where
+  pub acts : List Act
+  pub closing : AreClosing w acts
+  pub cuts : Effect IsOurs (CutsEnd number w acts) disk disk_after
+  pub stands : was_done → (image : Files) → MayLeave disk_after image → Stands number image (ended (done_all w acts))
 
 module _ (laws : Laws) (options : WordOptions) (statements : List ScriptEntry) (ct : Type 0) (coming coming_after : ℕ → ℕ) (dt : Type 0) (disk disk1 : Disk) (loads : Loads dt options.instance disk disk1) where
   since-load : dt → IsSettled disk → (w : World) → Stands options.instance disk.files w → (outcomes : List Outcome)
@@ -352,12 +360,12 @@ module _ (laws : Laws) (options : WordOptions) (statements : List ScriptEntry) (
 
       -- the instance was closed, or it failed
       pub ended-by : (code : ℕ) → (code ≡ 4 → ⊥)
-          → (dt → (code ≡ 0) ⊎ (code ≡ 1) → (w : World) (acts : List Act) → StandsFor disk2 finish w → AreClosing w acts → (image : Files) → MayLeave disk3 image → Stands options.instance image (ended (done_all w acts)))
+          → (dt → (w : World) → StandsFor disk2 finish w → ClosesTo options.instance w ((code ≡ 0) ⊎ (code ≡ 1)) disk2 disk3)
           → (dt → (code ≡ 0) ⊎ (code ≡ 1) → IsMade disk3.files)
           → (code ≡ 0 → (length there.outcomes ≡ length statements) × (options.stop ≡ true → NoneRefused (replies_of there.outcomes)))
           → (code ≡ 1 → (options.stop ≡ true) × EndsRefused (replies_of there.outcomes))
           → Executed (Some options) statements ct coming coming_after dt disk disk3 code
-      ended-by code not_cut stood made all refused = record {
+      ended-by code not_cut to_end made all refused = record {
         moments = there.moments;
         outcomes = there.outcomes;
         asked = there.asked;
@@ -366,13 +374,13 @@ module _ (laws : Laws) (options : WordOptions) (statements : List ScriptEntry) (
             subst (λ ms. IsRun (opened w) (take (length there.outcomes) statements) ms there.outcomes) (sym moments-are) (run-there t settled w may).0;
         closes = λ t settled w may.
             let last = (run-there t settled w may).1 in
-            let cuts = ends.crash t options.instance (behind_all (opened w) there.outcomes) last in
+            let to = to_end t (behind_all (opened w) there.outcomes) last in
             record {
-              acts = cuts.0;
-              closing = cuts.1;
-              stands = λ h. stood t h (behind_all (opened w) there.outcomes) cuts.0 last cuts.1 disk3.files (ends.lawful t).reads;
-              lasts = λ h. stood t h (behind_all (opened w) there.outcomes) cuts.0 last cuts.1;
-              crashes = since-close t settled w may cuts.0 cuts.1 cuts.2;
+              acts = to.acts;
+              closing = to.closing;
+              stands = λ h. to.stands h disk3.files (ends.lawful t).reads;
+              lasts = λ h. to.stands h;
+              crashes = since-close t settled w may to.acts to.closing to.cuts;
             };
         made = made;
         spares = spares-close;
@@ -386,7 +394,8 @@ module _ (laws : Laws) (options : WordOptions) (statements : List ScriptEntry) (
 
       -- closing failed
       pub not-closed : (e : ExecuteError) → Executed (Some options) statements ct coming coming_after dt disk disk3 (code_of (close_status e))
-      not-closed e = ended-by (code_of (close_status e)) (not_cut e) (λ t h. absurd (not_ended _ (above e) h))
+      not-closed e = ended-by (code_of (close_status e)) (not_cut e)
+          (λ t w stands. let cut = ends.crash t options.instance w stands in record { acts = cut.0; closing = cut.1; cuts = cut.2; stands = λ h. absurd (not_ended _ (above e) h) })
           (λ t h. absurd (not_ended _ (above e) h)) (λ h. absurd (not_ended _ (above e) (inl h))) (λ h. absurd (not_ended _ (above e) (inr h)))
         where
           above : (e : ExecuteError) → 1 < code_of (close_status e)
@@ -399,23 +408,22 @@ module _ (laws : Laws) (options : WordOptions) (statements : List ScriptEntry) (
           not_cut execute.NoMemory h = omega (arith, h)
           not_cut execute.Broken h = omega (arith, h)
 
-    -- the acts by which it was closed are those that close its world
-    closed-stands : {finish : Kept} {disk3 : Disk} → dt → Closed dt finish disk2 disk3 → (w : World) (acts : List Act) → StandsFor disk2 finish w → AreClosing w acts
-        → (image : Files) → MayLeave disk3 image → Stands options.instance image (ended (done_all w acts))
-    closed-stands {finish} {disk3} t closed w acts stands closes image left =
+    -- it was closed
+    closed-to : {finish : Kept} {disk3 : Disk} (was_done : Type 0) → dt → Closed dt finish disk2 disk3 → (w : World) → StandsFor disk2 finish w → ClosesTo options.instance w was_done disk2 disk3
+    closed-to {finish} {disk3} was_done t closed w stands =
         let one = closed.closes t options.instance w stands in
-        subst (λ xs. Stands options.instance image (ended (done_all w xs))) (closing-alone w one.0 acts one.1 closes) (one.2 image (λ name ours. left name))
+        record { acts = one.0; closing = one.1; cuts = one.3; stands = λ h image left. one.2 image (λ name ours. left name) }
 
     -- the statements were answered, and the instance closed
     pub closed-there : (disk3 : Disk) (finish : Kept) (end' : Ended) → AnsweredBy end' options.stop start finish statements ct coming coming_after dt disk1 disk2 → Ends dt finish disk2 disk3 → Closed dt finish disk2 disk3
         → Executed (Some options) statements ct coming coming_after dt disk disk3 (code_of (ended_status end'))
     closed-there disk3 finish AtTheEnd all ends closed =
         ended-by disk3 finish (came-all options.stop start finish statements ct coming coming_after dt disk1 disk2 all) ends 0 (λ h. omega (arith, h))
-        (λ t h w acts stands closes. closed-stands t closed w acts stands closes)
+        (λ t w stands. closed-to _ t closed w stands)
         (λ t h. closed.made t) (λ h. (all.each_outcome, all.accepted)) (λ h. absurd (omega (arith, h)))
     closed-there disk3 finish AtARefusal there ends closed =
         ended-by disk3 finish (came-stopped options.stop start finish statements ct coming coming_after dt disk1 disk2 there) ends 1 (λ h. omega (arith, h))
-        (λ t h w acts stands closes. closed-stands t closed w acts stands closes)
+        (λ t w stands. closed-to _ t closed w stands)
         (λ t h. closed.made t) (λ h. absurd (omega (arith, h))) (λ h. (there.stops, there.refused))
 
 -- Runs.

@@ -10,7 +10,7 @@ use Rattle.bk_executing.specs.EngineStands.{Kept, StandsFor}
 use Rattle.bk_executing.specs.EngineTouched.{IsTouched, TouchesOnly}
 use Rattle.bk_executing.specs.Executing.{Failed, Rests}
 use Rattle.bk_items.specs.declared.item.ScriptEntry.{ScriptEntry}
-use Rattle.bk_machine.specs.Acts.{Act, done, done_all, turned, seated, created, dropped, logged, medium_made, set_drawn, noted, set_sealed, based, replaced, restored, recovered}
+use Rattle.bk_machine.specs.Acts.{Act, done, done_all, turned, seated, readied, created, dropped, logged, medium_made, set_drawn, noted, set_sealed, based, job_set, jobs_dropped, replaced, restored, recovered}
 use Rattle.bk_machine.specs.Machine.{May}
 use Rattle.bk_machine.specs.Outcome.{Outcome}
 use Rattle.bk_machine.specs.Run.{behind_all}
@@ -95,6 +95,7 @@ unfolding done
 turns-idle w [] all idle = idle
 turns-idle w (turned name ∷ acts) all idle = turns-idle (done w (turned name)) acts all.1 idle
 turns-idle w (seated session ∷ acts) all idle = turns-idle (done w (seated session)) acts all.1 idle
+turns-idle w (readied starts ∷ acts) all idle = turns-idle (done w (readied starts)) acts all.1 idle
 turns-idle w (created c ∷ acts) all idle = absurd all.0
 turns-idle w (dropped name ∷ acts) all idle = absurd all.0
 turns-idle w (logged name said transactions ∷ acts) all idle = absurd all.0
@@ -103,6 +104,8 @@ turns-idle w (set_drawn ∷ acts) all idle = absurd all.0
 turns-idle w (noted row ∷ acts) all idle = absurd all.0
 turns-idle w (set_sealed path header ∷ acts) all idle = absurd all.0
 turns-idle w (based name header ∷ acts) all idle = absurd all.0
+turns-idle w (job_set name job ∷ acts) all idle = absurd all.0
+turns-idle w (jobs_dropped ∷ acts) all idle = absurd all.0
 turns-idle w (replaced name header ∷ acts) all idle = absurd all.0
 turns-idle w (restored name base redo ∷ acts) all idle = absurd all.0
 turns-idle w (recovered name r ∷ acts) all idle = absurd all.0
