@@ -48,6 +48,20 @@ fn guid(word: &str) -> Option<Guid> {
     })
 }
 
+// Sets of instance 1 with commas between, 16 at most.
+fn sets(alloc: Global, word: &str) -> Result<Sequence<Guid>, AllocError>
+    ensures { IfOk result (λ sets. length sets ≤ 16) }
+{
+    let mut sets = Vec::new(alloc);
+    for part in word.split(',') {
+        if let Some(set) = guid(part) {
+            sets.push(set)?;
+        }
+    }
+    sets.truncate(16);
+    Ok(Sequence::new(sets))
+}
+
 // The number of a store that a word spells; 0 where it spells none.
 fn store(word: &str) -> u32 {
     word.parse().unwrap_or(0)
@@ -118,6 +132,7 @@ fn record_in(alloc: Global, instance: u64, words: &[&str]) -> Result<Record, All
         counter: number(word(words, 1)),
         making,
         staging: guid(word(words, 3)),
+        copying: sets(alloc, word(words, 7))?,
     };
     let databases = entries(alloc, word(words, 5))?;
     let unfinished = unfinished(alloc, word(words, 6))?;
@@ -129,7 +144,7 @@ fn record_in(alloc: Global, instance: u64, words: &[&str]) -> Result<Record, All
     })
 }
 
-// The call that a line says: `put COUNTER MAKING STAGING NEXT DATABASES UNFINISHED`.
+// The call that a line says: `put COUNTER MAKING STAGING NEXT DATABASES UNFINISHED COPYING`.
 fn call(
     alloc: Global,
     device: &mut MemDevice,
@@ -188,7 +203,18 @@ fn show_unfinished(list: &[Unfinished], out: &mut String) -> Result<(), AllocErr
     Ok(())
 }
 
-// What the record says: its own part, the next store's number, the databases, and behind `unfinished` the stores that are being made or removed.
+// The sets that are being copied, behind `copying`, where there are any.
+fn show_copying(sets: &[Guid], out: &mut String) -> Result<(), AllocError> {
+    if !sets.is_empty() {
+        out.push_str(" copying")?;
+    }
+    for set in sets {
+        write!(out, " {}:{}", set.high, set.low)?;
+    }
+    Ok(())
+}
+
+// What the record says: its own part, the next store's number, the databases, and behind `unfinished` the stores that are being made or removed; the sets that are being copied come last.
 fn shown(alloc: Global, record: &Record) -> Result<String, AllocError> {
     let mut out = String::new(alloc);
     show_own(&record.own, &mut out)?;
@@ -196,6 +222,7 @@ fn shown(alloc: Global, record: &Record) -> Result<String, AllocError> {
     show_entries(record.databases.as_slice(), &mut out)?;
     out.push_str(" unfinished")?;
     show_unfinished(record.unfinished.as_slice(), &mut out)?;
+    show_copying(record.own.copying.as_slice(), &mut out)?;
     Ok(out)
 }
 
