@@ -46,6 +46,13 @@ fn show_rows(rows: &BTreeMap<u64, String>, out: &mut String) -> Result<(), Alloc
     writeln!(out, "({count} rows)")
 }
 
+// A set: where a restore of it ends, in decimal, and what it holds.
+#[derive(Drop)]
+struct Set {
+    last: String,
+    held: Held,
+}
+
 // A row that a transaction wrote, or that is gone by it.
 #[derive(Drop)]
 struct Write {
@@ -76,12 +83,13 @@ struct Session {
     writes: Vec<Write>,
 }
 
-/// The databases, the sets by their paths, and the sessions.
+/// The databases, the sets of the media by their paths, the media of the backups that run beside the sessions by the names of their databases, and the sessions.
 #[derive(Drop)]
 pub struct Plain {
     alloc: Global,
     databases: BTreeMap<String, Held>,
-    sets: BTreeMap<String, Held>,
+    media: BTreeMap<String, Vec<Set>>,
+    jobs: BTreeMap<String, String>,
     sessions: Vec<Session>,
     session: usize,
 }
@@ -106,9 +114,27 @@ fn text_in(words: &str) -> &str {
     between(words, "'", "'")
 }
 
+// The position of the set that an item names.
+fn position_in(words: &str) -> usize {
+    between(words, "FILE = ", ",").parse().unwrap_or(1)
+}
+
+// The LSN behind the set of a backup that ended with this reply.
+fn last_in(reply: &str) -> &str {
+    between(reply, "last ", ".")
+}
+
 /// The database that an item names.
 pub fn database_in(words: &str) -> &str {
     between(words, "DATABASE ", " ")
+}
+
+/// The medium that a backup made with this reply; none where it is no backup.
+pub fn made_by<'a>(item: &'a str, reply: &str) -> Option<&'a str> {
+    if item.starts_with("BACKUP ") && reply.starts_with("Set ") {
+        return Some(text_in(item));
+    }
+    None
 }
 
 impl Plain {
@@ -124,7 +150,8 @@ impl Plain {
         Ok(Plain {
             alloc,
             databases: BTreeMap::new(alloc),
-            sets: BTreeMap::new(alloc),
+            media: BTreeMap::new(alloc),
+            jobs: BTreeMap::new(alloc),
             sessions,
             session: 1,
         })
@@ -180,8 +207,9 @@ impl Plain {
                 self.databases.remove(between(words, "DATABASE ", ";"));
                 Ok(())
             }
-            "BACKUP" => self.back_up(database_in(words), text_in(words)),
-            "RESTORE" => self.restore(database_in(words), text_in(words)),
+            "BACKUP" => self.back_up(database_in(words), text_in(words), reply),
+            ":wait" => self.wait(last_in(reply)),
+            "RESTORE" => self.restore(words),
             _ => self.take_in_session(verb, words),
         }
     }
@@ -238,22 +266,62 @@ impl Plain {
         self.set_database(name, Held::Down(word))
     }
 
-    fn back_up(&mut self, name: &str, path: &str) -> Result<(), AllocError> {
+    /// A medium is there, without a set where it wasn't there before.
+    pub fn make_medium(&mut self, path: &str) -> Result<(), AllocError> {
+        if self.media.contains_key(path) {
+            return Ok(());
+        }
+        let path = String::from_str(self.alloc, path)?;
+        self.media.insert(path, Vec::new(self.alloc))?;
+        Ok(())
+    }
+
+    // A backup that starts, and ends if that is its reply.
+    fn back_up(&mut self, name: &str, path: &str, reply: &str) -> Result<(), AllocError> {
+        self.make_medium(path)?;
+        if reply != "Job started." {
+            return self.seal(name, path, last_in(reply));
+        }
+        let name = String::from_str(self.alloc, name)?;
+        let path = String::from_str(self.alloc, path)?;
+        self.jobs.insert(name, path)?;
+        Ok(())
+    }
+
+    // The backup of the session's database ends.
+    fn wait(&mut self, last: &str) -> Result<(), AllocError> {
+        let Some(session) = self.sessions.get(self.session) else {
+            return Ok(());
+        };
+        let name = String::from_str(self.alloc, session.current.as_str())?;
+        match self.jobs.remove(name.as_str()) {
+            Some(path) => self.seal(name.as_str(), path.as_str(), last),
+            None => Ok(()),
+        }
+    }
+
+    // A medium has one set more, of what a database holds now.
+    fn seal(&mut self, name: &str, path: &str, last: &str) -> Result<(), AllocError> {
         let Some(held) = self.databases.get(name) else {
             return Ok(());
         };
         let held = held.copy(self.alloc)?;
-        let path = String::from_str(self.alloc, path)?;
-        self.sets.insert(path, held)?;
+        let last = String::from_str(self.alloc, last)?;
+        if let Some(sets) = self.media.get_mut(path) {
+            sets.push(Set { last, held })?;
+        }
         Ok(())
     }
 
-    fn restore(&mut self, name: &str, path: &str) -> Result<(), AllocError> {
-        let Some(held) = self.sets.get(path) else {
+    fn restore(&mut self, words: &str) -> Result<(), AllocError> {
+        let Some(sets) = self.media.get(text_in(words)) else {
             return Ok(());
         };
-        let held = held.copy(self.alloc)?;
-        self.set_database(name, held)
+        let Some(set) = sets.get(position_in(words).saturating_sub(1)) else {
+            return Ok(());
+        };
+        let held = set.held.copy(self.alloc)?;
+        self.set_database(database_in(words), held)
     }
 
     fn turn(&mut self, name: &str) -> Result<(), AllocError> {
@@ -264,9 +332,10 @@ impl Plain {
         Ok(())
     }
 
-    // No session has a database or a transaction any more.
+    // No session has a database or a transaction any more, and no backup runs beside them.
     fn end_run(&mut self) {
         self.session = 1;
+        self.jobs.clear();
         for session in self.sessions.iter_mut() {
             session.current.clear();
             session.is_open = false;
@@ -320,14 +389,32 @@ impl Plain {
         Ok(())
     }
 
-    /// What a look shows: the replies to the USE and the SELECT in each of its lines.
-    pub fn shown(&self, look: &str) -> Result<String, AllocError> {
+    /// What a look shows: the replies to the USE and the SELECT in each of its lines, and those to the VERIFYONLY and the RESTORE before them.
+    pub fn shown(&mut self, look: &str) -> Result<String, AllocError> {
         let mut text = String::new(self.alloc);
         let mut current = String::new(self.alloc);
         for line in look.lines() {
+            if let Some((_, words)) = line.split_once("; RESTORE ") {
+                self.show_set(text_in(words), position_in(words), &mut text)?;
+                self.restore(words)?;
+            }
             self.show_line(between(line, "USE ", ";"), &mut current, &mut text)?;
         }
         Ok(text)
+    }
+
+    // The replies to a VERIFYONLY and to a RESTORE of a set.
+    fn show_set(&self, path: &str, position: usize, out: &mut String) -> Result<(), AllocError> {
+        let Some(sets) = self.media.get(path) else {
+            return out.push_str("Refused 30 MediaMissing\nRefused 30 MediaMissing\n");
+        };
+        if let Some(set) = sets.get(position.saturating_sub(1)) {
+            let last = set.last.as_str();
+            return writeln!(out, "Set {position} is valid.\nRecovered at {last}.");
+        }
+        let count = sets.len();
+        writeln!(out, "Refused 32 NoSuchSet {position} {count}")?;
+        writeln!(out, "Refused 32 NoSuchSet {position} {count}")
     }
 
     // The replies to a USE of this name, behind which it is the current one if it is there, and to a SELECT.

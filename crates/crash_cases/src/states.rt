@@ -1,6 +1,6 @@
 // What a look may show behind a run that was cut short.
 
-use crate::plain::{Plain, database_in};
+use crate::plain::{Plain, database_in, made_by};
 use crate::script::answered_at;
 use crate::tried::Tried;
 use std::alloc::AllocError;
@@ -14,7 +14,7 @@ pub struct States {
 
 // What the look shows behind the script's front with so many items that are answered.
 fn state(tried: &Tried<'_>, answered: usize) -> Result<String, AllocError> {
-    let plain = Plain::behind(tried.alloc, tried.before, tried.script, answered)?;
+    let mut plain = Plain::behind(tried.alloc, tried.before, tried.script, answered)?;
     let text = plain.shown(tried.look);
     drop(plain);
     text
@@ -35,6 +35,16 @@ fn state_without(
     text
 }
 
+// The same where a medium is made, without a set.
+fn state_with(tried: &Tried<'_>, answered: usize, path: &str) -> Result<String, AllocError> {
+    let mut plain = Plain::behind(tried.alloc, tried.before, tried.script, answered)?;
+    let made = plain.make_medium(path);
+    let text = plain.shown(tried.look);
+    drop(plain);
+    made?;
+    text
+}
+
 impl States {
     /// What it may show where none was.
     pub fn new(tried: &Tried<'_>) -> Result<Self, AllocError> {
@@ -52,19 +62,27 @@ impl States {
         }
     }
 
-    // What the answered items leave, and those with one more; within a restore also that its database is down.
+    // What the answered items leave, and those with one more; within it also that the database of a restore is down, or that the medium of a backup is made.
     fn add(&mut self, tried: &Tried<'_>) -> Result<(), AllocError> {
         let before = state(tried, self.answered)?;
         self.texts.push(before)?;
         let behind = state(tried, self.answered.saturating_add(1))?;
         self.texts.push(behind)?;
         match answered_at(tried.script, self.answered) {
-            Some((item, reply)) if reply.starts_with("Recovered ") => self.add_down(
-                tried,
-                database_in(item),
-            ),
-            _ => Ok(()),
+            Some((item, reply)) => self.add_within(tried, item, reply),
+            None => Ok(()),
         }
+    }
+
+    fn add_within(&mut self, tried: &Tried<'_>, item: &str, reply: &str) -> Result<(), AllocError> {
+        if reply.starts_with("Recovered ") {
+            return self.add_down(tried, database_in(item));
+        }
+        if let Some(path) = made_by(item, reply) {
+            let made = state_with(tried, self.answered, path)?;
+            self.texts.push(made)?;
+        }
+        Ok(())
     }
 
     fn add_down(&mut self, tried: &Tried<'_>, name: &str) -> Result<(), AllocError> {
