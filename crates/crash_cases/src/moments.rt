@@ -1,11 +1,9 @@
 // The files of a run that was recorded, deed by deed.
-ghost use Rattle.std.specs.Prelude.{◌≡◌, ◌≤◌, IfOk, IsSomeAnd, length, true};
-ghost use Rattle.bk_device.specs.Calls.{contents};
-ghost use Rattle.bk_device.specs.Replay.{disk_of};
 
 use crate::recorder::Deed;
 use bk_device::{Device, Failed, MemDevice};
 use std::alloc::{AllocError, Global};
+use trials::{cut_inside, write_inside};
 
 /// What a crash leaves behind some of the deeds: one that keeps what wasn't synced, and one that loses it.
 #[derive(Drop)]
@@ -15,38 +13,6 @@ pub struct Moments {
     lost: MemDevice,
     told: Vec<u8>,
     is_lost_new: bool,
-}
-
-// Whether a write from this place on would begin inside the file, or at its end.
-fn begins_inside(device: &mut MemDevice, name: &str, at: u64) -> Result<bool, Failed>
-    ensures { IfOk result (λ yes. yes ≡ true → at ≤ length (contents ((disk_of device.new).files name.now))) }
-{
-    let len = device.len(name)?;
-    Ok(at <= len.unwrap_or(0))
-}
-
-// Whether the file is there and has at least so many bytes.
-fn has_bytes(device: &mut MemDevice, name: &str, len: u64) -> Result<bool, Failed>
-    ensures { IfOk result (λ yes. yes ≡ true → IsSomeAnd ((disk_of device.new).files name.now) (λ content. len ≤ length content)) }
-{
-    match device.len(name)? {
-        Some(length) => Ok(len <= length),
-        None => Ok(false),
-    }
-}
-
-fn write_inside(device: &mut MemDevice, name: &str, at: u64, bytes: &[u8]) -> Result<(), Failed> {
-    if !begins_inside(device, name, at)? {
-        return Err(Failed);
-    }
-    device.write(name, at, bytes)
-}
-
-fn cut_inside(device: &mut MemDevice, name: &str, len: u64) -> Result<(), Failed> {
-    if !has_bytes(device, name, len)? {
-        return Err(Failed);
-    }
-    device.cut(name, len)
 }
 
 // A file's whole content, where it is there.

@@ -1,127 +1,77 @@
 // Calls on the device itself.
-ghost use Rattle.std.specs.Prelude.{◌≡◌, ◌≤◌, ◌<◌, ◌+◌, true, length, IfOk, IsSomeAnd};
-ghost use Rattle.bk_device.specs.Replay.{disk_of};
-
-use crate::words::{bytes, number, shown, word};
-use bk_device::{Device, Failed, MemDevice};
+use crate::words::{bytes, number, word};
+use bk_device::{Device, Failed};
 use std::alloc::{AllocError, Global};
+use trials::Untold;
 
-// Whether a file is there and has so many bytes. No call on the device.
-pub(crate) fn has(device: &MemDevice, name: &str, count: u64) -> Result<bool, AllocError>
-    ensures { IfOk result (λ is. is ≡ true → IsSomeAnd ((disk_of device.now).files name.now) (λ content. count ≤ length content)) }
-{
-    let mut copy = device.copy()?;
-    match copy.len(name) {
-        Ok(Some(there)) => Ok(count <= there),
-        Ok(None) => Ok(false),
-        Err(_) => Err(AllocError),
-    }
-}
-
-fn answered(alloc: Global, outcome: Result<(), Failed>) -> Result<String, AllocError> {
-    match outcome {
-        Ok(()) => String::from_str(alloc, "ok"),
-        Err(error) => format!(in alloc; "{error}"),
-    }
-}
-
-fn write(alloc: Global, device: &mut MemDevice, words: &[&str]) -> Result<String, AllocError> {
-    let (name, at) = (word(words, 1), number(word(words, 2)));
-    let content = bytes(alloc, word(words, 3))?;
-    if at > 0 && !has(device, name, at)? {
-        return String::from_str(alloc, "no such place");
-    }
-    answered(alloc, device.write(name, at, &content))
-}
-
-fn cut(alloc: Global, device: &mut MemDevice, name: &str, len: u64) -> Result<String, AllocError> {
-    if !has(device, name, len)? {
-        return String::from_str(alloc, "no such place");
-    }
-    answered(alloc, device.cut(name, len))
-}
-
-fn damage(
-    alloc: Global,
-    device: &mut MemDevice,
-    name: &str,
-    at: u64,
-) -> Result<String, AllocError> {
-    if at == u64::MAX || !has(device, name, at + 1)? {
-        return String::from_str(alloc, "no such place");
-    }
-    device.damage(name, at);
-    answered(alloc, Ok(()))
-}
-
-// Reads into a buffer of full stops.
-fn read(alloc: Global, device: &mut MemDevice, words: &[&str]) -> Result<String, AllocError> {
-    let (at, room) = (number(word(words, 2)), number(word(words, 3)));
-    let mut buffer = vec![in alloc; b'.'; room as usize]?;
-    match device.read(word(words, 1), at, &mut buffer) {
-        Ok(count) => {
-            let buffer = shown(alloc, &buffer)?;
-            format!(in alloc; "{count} {buffer}")
-        }
-        Err(error) => format!(in alloc; "{error}"),
+fn show_done(done: Result<(), Failed>, out: &mut String) -> Result<(), AllocError> {
+    match done {
+        Ok(()) => out.push_str("ok"),
+        Err(error) => write!(out, "{error}"),
     }
 }
 
 // Whether these bytes stand at a place of a file.
-fn holds(alloc: Global, device: &mut MemDevice, words: &[&str]) -> Result<String, AllocError> {
-    let wanted = bytes(alloc, word(words, 3))?;
-    let mut buffer = vec![in alloc; 0u8; wanted.len()]?;
-    match device.read(word(words, 1), number(word(words, 2)), &mut buffer) {
-        Ok(count) if count == wanted.len() && buffer.as_slice() == wanted.as_slice() => {
-            String::from_str(alloc, "yes")
+fn holds(device: &mut Untold, name: &str, at: u64, wanted: &[u8]) -> Result<bool, AllocError> {
+    let mut there = [0u8; 1];
+    for (i, byte) in wanted.iter().enumerate() {
+        let place = at.saturating_add(i as u64);
+        let is_there = device
+            .read(name, place, &mut there)
+            .is_ok_and(|count| count == 1);
+        if !is_there || there[0] != *byte {
+            return Ok(false);
         }
-        Ok(_) => String::from_str(alloc, "no"),
-        Err(error) => format!(in alloc; "{error}"),
     }
+    Ok(true)
 }
 
-fn len(alloc: Global, device: &mut MemDevice, name: &str) -> Result<String, AllocError> {
+fn show_len(device: &mut Untold, name: &str, out: &mut String) -> Result<(), AllocError> {
     match device.len(name) {
-        Ok(Some(len)) => format!(in alloc; "{len}"),
-        Ok(None) => String::from_str(alloc, "none"),
-        Err(error) => format!(in alloc; "{error}"),
+        Ok(Some(len)) => write!(out, "{len}"),
+        Ok(None) => out.push_str("none"),
+        Err(error) => write!(out, "{error}"),
     }
 }
 
-// `len NAME`, `read NAME AT ROOM`, `holds NAME AT BYTES`, `write NAME AT BYTES`, `sync NAME`, `cut NAME LENGTH`, `remove NAME`, `tell BYTES`,
-// `told`, and what `plan` says.
+// `holds NAME AT BYTES` and `write NAME AT BYTES`.
+fn with_bytes(
+    alloc: Global,
+    device: &mut Untold,
+    words: &[&str],
+    out: &mut String,
+) -> Result<(), AllocError> {
+    let (name, at) = (word(words, 1), number(words, 2));
+    let content = bytes(alloc, word(words, 3))?;
+    if word(words, 0) == "write" {
+        return show_done(device.write(name, at, &content), out);
+    }
+    let is_so = holds(device, name, at, &content)?;
+    write!(out, "{is_so}")
+}
+
+// `restart keep` or `restart lose`: a crash after which what wasn't synced is there, or is gone.
+fn restart(device: &mut Untold, how: &str, out: &mut String) -> Result<(), AllocError> {
+    device.restart(how == "keep");
+    out.push_str("ok")
+}
+
+// Those, `len NAME`, `sync NAME`, `cut NAME LENGTH`, `remove NAME`, and `damage NAME AT`.
 pub(crate) fn call(
     alloc: Global,
-    device: &mut MemDevice,
+    device: &mut Untold,
     words: &[&str],
-) -> Result<String, AllocError> {
+    out: &mut String,
+) -> Result<(), AllocError> {
     let name = word(words, 1);
     match word(words, 0) {
-        "len" => len(alloc, device, name),
-        "read" => read(alloc, device, words),
-        "holds" => holds(alloc, device, words),
-        "write" => write(alloc, device, words),
-        "sync" => answered(alloc, device.sync(name)),
-        "cut" => cut(alloc, device, name, number(word(words, 2))),
-        "remove" => answered(alloc, device.remove(name)),
-        "tell" => {
-            let content = bytes(alloc, name)?;
-            answered(alloc, device.tell(&content))
-        }
-        "told" => shown(alloc, device.told()),
-        _ => plan(alloc, device, words),
+        "len" => show_len(device, name, out),
+        "holds" | "write" => with_bytes(alloc, device, words, out),
+        "sync" => show_done(device.sync(name), out),
+        "cut" => show_done(device.cut(name, number(words, 2)), out),
+        "remove" => show_done(device.remove(name), out),
+        "damage" => write!(out, "{}", device.damage(name, number(words, 2))),
+        "restart" => restart(device, name, out),
+        _ => out.push_str("no such command"),
     }
-}
-
-// `fail-at CALL`, `stop-at WRITE`, `damage NAME AT`, `lose NAME`.
-fn plan(alloc: Global, device: &mut MemDevice, words: &[&str]) -> Result<String, AllocError> {
-    let name = word(words, 1);
-    match word(words, 0) {
-        "fail-at" => device.fail_at(number(name))?,
-        "stop-at" => device.stop_at(number(name)),
-        "damage" => return damage(alloc, device, name, number(word(words, 2))),
-        "lose" => device.lose(name),
-        _ => return String::from_str(alloc, "no such command"),
-    }
-    answered(alloc, Ok(()))
 }

@@ -1,210 +1,107 @@
-// Sessions with a gate file.
-ghost use Rattle.std.specs.Prelude.{◌≡◌, ◌≤◌, None, false, IfOk, OnOk, IsSome};
-ghost use Rattle.bk_device.specs.Disk.{IsSettled};
-ghost use Rattle.bk_device.specs.Replay.{disk_of};
-ghost use Rattle.bk_gate.specs.Gate.{IsGate};
+// Gate files.
+ghost use Rattle.std.specs.Prelude.{◌≡◌, None, false, IfOk, OnOk};
 
-use crate::session::Session;
-use crate::words::{bytes, shown};
-use bk_device::{Device, MemDevice};
+use crate::words::{bytes, show, word};
+use bk_device::Device;
 use bk_gate::{Gate, GateError};
 use std::alloc::{AllocError, Global};
+use trials::Untold;
 
-fn open(session: &Session, device: &mut MemDevice) -> Result<Gate, GateError>
-    requires { IsSettled (disk_of device.old) }
-    ensures fit { IfOk result (λ g. g.failed ≡ false) }
-    ensures none { IfOk result (λ g. g.begun ≡ None) }
-    ensures stands { IfOk result (λ g. IsGate (disk_of device.new) g) }
-{
-    if session.how == "make" {
-        Gate::make(session.alloc, device, session.name)
-    } else {
-        Gate::load(session.alloc, device, session.name)
-    }
-}
-
-// Begins a blob, and adds what each of these words spells.
-fn fill(
-    alloc: Global,
-    device: &mut MemDevice,
-    gate: &mut Gate,
-    words: &str,
-) -> Result<(), GateError>
-    requires fit { gate.old.failed ≡ false }
-    requires none { gate.old.begun ≡ None }
-    requires stands { IsGate (disk_of device.old) gate.old }
-    ensures fit { OnOk result (gate.new.failed ≡ false) }
-    ensures begun { OnOk result (IsSome gate.new.begun) }
-    ensures spare { OnOk result (gate.new.spare ≡ gate.old.spare) }
-    ensures stands { OnOk result (IsGate (disk_of device.new) gate.new) }
-{
-    gate.begin();
-    for word in words.split_whitespace() {
-        let part = bytes(alloc, word)?;
-        gate.add(device, &part)?;
-    }
-    Ok(())
-}
-
+// Seals a blob of two parts.
 fn seal(
     alloc: Global,
-    device: &mut MemDevice,
+    device: &mut Untold,
     gate: &mut Gate,
-    words: &str,
+    words: &[&str],
 ) -> Result<(), GateError>
     requires fit { gate.old.failed ≡ false }
     requires none { gate.old.begun ≡ None }
-    requires stands { IsGate (disk_of device.old) gate.old }
     ensures fit { OnOk result (gate.new.failed ≡ false) }
-    ensures none { OnOk result (gate.new.begun ≡ None) }
-    ensures stands { OnOk result (IsGate (disk_of device.new) gate.new) }
 {
-    fill(alloc, device, gate, words)?;
-    gate.seal(device)?;
-    Ok(())
-}
-
-fn seal_reserved(
-    alloc: Global,
-    device: &mut MemDevice,
-    gate: &mut Gate,
-    words: &str,
-) -> Result<(), GateError>
-    requires fit { gate.old.failed ≡ false }
-    requires none { gate.old.begun ≡ None }
-    requires stands { IsGate (disk_of device.old) gate.old }
-    ensures fit { OnOk result (gate.new.failed ≡ false) }
-    ensures none { OnOk result (gate.new.begun ≡ None) }
-    ensures stands { OnOk result (IsGate (disk_of device.new) gate.new) }
-{
+    let (first, second) = (bytes(alloc, word(words, 3))?, bytes(alloc, word(words, 4))?);
     gate.reserve(1)?;
-    fill(alloc, device, gate, words)?;
+    gate.begin();
+    gate.add(device, &first)?;
+    gate.add(device, &second)?;
     gate.seal_reserved(device)?;
     Ok(())
 }
 
-// Reserves a place, and seals a blob of what the word spells.
+// Seals a blob that is given whole.
 fn append(
     alloc: Global,
-    device: &mut MemDevice,
+    device: &mut Untold,
     gate: &mut Gate,
-    word: &str,
+    words: &[&str],
 ) -> Result<(), GateError>
     requires fit { gate.old.failed ≡ false }
     requires none { gate.old.begun ≡ None }
-    requires stands { IsGate (disk_of device.old) gate.old }
     ensures fit { OnOk result (gate.new.failed ≡ false) }
-    ensures none { OnOk result (gate.new.begun ≡ None) }
-    ensures stands { OnOk result (IsGate (disk_of device.new) gate.new) }
 {
-    let blob = bytes(alloc, word)?;
+    let blob = bytes(alloc, word(words, 3))?;
     gate.reserve(1)?;
     gate.append_reserved(device, &blob)?;
     Ok(())
 }
 
-fn drop_begun(
-    alloc: Global,
-    device: &mut MemDevice,
-    gate: &mut Gate,
-    words: &str,
-) -> Result<(), GateError>
-    requires fit { gate.old.failed ≡ false }
-    requires none { gate.old.begun ≡ None }
-    requires stands { IsGate (disk_of device.old) gate.old }
-    ensures fit { OnOk result (gate.new.failed ≡ false) }
-    ensures none { OnOk result (gate.new.begun ≡ None) }
-    ensures stands { OnOk result (IsGate (disk_of device.new) gate.new) }
+// `make`, `seal PART PART`, `append BLOB`, `clear`, or nothing.
+fn call(alloc: Global, device: &mut Untold, words: &[&str]) -> Result<Gate, GateError>
+    ensures { IfOk result (λ g. g.failed ≡ false) }
 {
-    fill(alloc, device, gate, words)?;
-    gate.drop_begun(device)?;
-    Ok(())
-}
-
-// The call that a line says: `seal`, `seal-reserved` or `drop`, each with the parts of its blob, `append` with a blob, or `clear`.
-fn call(alloc: Global, device: &mut MemDevice, gate: &mut Gate, line: &str) -> Result<(), GateError>
-    requires fit { gate.old.failed ≡ false }
-    requires none { gate.old.begun ≡ None }
-    requires stands { IsGate (disk_of device.old) gate.old }
-    ensures fit { OnOk result (gate.new.failed ≡ false) }
-    ensures none { OnOk result (gate.new.begun ≡ None) }
-    ensures stands { OnOk result (IsGate (disk_of device.new) gate.new) }
-{
-    let (what, words) = line.split_once(' ').unwrap_or((line, ""));
-    match what {
-        "seal" => seal(alloc, device, gate, words),
-        "seal-reserved" => seal_reserved(alloc, device, gate, words),
-        "append" => append(alloc, device, gate, words),
-        "drop" => drop_begun(alloc, device, gate, words),
-        _ => {
-            gate.clear(device)?;
-            Ok(())
-        }
+    if word(words, 2) == "make" {
+        return Gate::make(alloc, device, word(words, 1));
     }
-}
-
-fn play(session: &Session, device: &mut MemDevice) -> Result<Gate, GateError>
-    requires { IsSettled (disk_of device.old) }
-    ensures fit { IfOk result (λ g. g.failed ≡ false) }
-{
-    let mut gate = open(session, device)?;
-    for line in session.calls.lines() {
-        call(session.alloc, device, &mut gate, line)?;
+    let mut gate = Gate::load(alloc, device, word(words, 1))?;
+    match word(words, 2) {
+        "seal" => seal(alloc, device, &mut gate, words)?,
+        "append" => append(alloc, device, &mut gate, words)?,
+        "clear" => gate.clear(device)?,
+        _ => {}
     }
     Ok(gate)
 }
 
-// The name of its file, and where its blobs lie: each as its place and its length.
-fn spans(alloc: Global, gate: &Gate) -> Result<String, AllocError>
-    requires { gate.now.failed ≡ false }
-{
-    let mut all = String::from_str(alloc, gate.name())?;
-    for i in 0..gate.count() {
-        let (at, length) = gate.span(i);
-        write!(all, " {at}+{length}")?;
-    }
-    Ok(all)
-}
-
-// Bytes of a file.
-fn part(
+// A blob: its place and its bytes.
+fn show_blob(
     alloc: Global,
-    device: &mut MemDevice,
+    device: &mut Untold,
     name: &str,
     span: (u64, u64),
-) -> Result<String, AllocError> {
-    let mut part = vec![in alloc; 0u8; span.1 as usize]?;
-    match device.read(name, span.0, &mut part) {
-        Ok(_) => shown(alloc, &part),
-        Err(error) => format!(in alloc; "{error}"),
+    out: &mut String,
+) -> Result<(), AllocError> {
+    let (at, len) = span;
+    let mut blob = vec![in alloc; 0u8; len as usize]?;
+    write!(out, " {at}:")?;
+    match device.read(name, at, &mut blob) {
+        Ok(_) => show(alloc, &blob, out),
+        Err(error) => write!(out, "{error}"),
     }
 }
 
 // How many blobs there are, and each one.
-fn blobs(alloc: Global, device: &mut MemDevice, gate: &Gate) -> Result<String, AllocError>
+fn show_all(
+    alloc: Global,
+    device: &mut Untold,
+    gate: &Gate,
+    out: &mut String,
+) -> Result<(), AllocError>
     requires { gate.now.failed ≡ false }
 {
-    let count = gate.count();
-    let mut all = format!(in alloc; "{count}")?;
-    for i in 0..count {
-        let blob = part(alloc, device, gate.name(), gate.span(i))?;
-        write!(all, " {blob}")?;
+    write!(out, "{}", gate.count())?;
+    for i in 0..gate.count() {
+        show_blob(alloc, device, gate.name(), gate.span(i), out)?;
     }
-    Ok(all)
+    Ok(())
 }
 
-pub(crate) fn run(session: &Session, device: &mut MemDevice) -> Result<String, AllocError>
-    requires { IsSettled (disk_of device.old) }
-{
-    match play(session, device) {
-        Ok(gate) => spans(session.alloc, &gate),
-        Err(error) => format!(in session.alloc; "{error}"),
-    }
-}
-
-pub(crate) fn find(session: &Session, device: &mut MemDevice) -> Result<String, AllocError> {
-    match Gate::load(session.alloc, device, session.name) {
-        Ok(gate) => blobs(session.alloc, device, &gate),
-        Err(error) => format!(in session.alloc; "{error}"),
+pub(crate) fn run(
+    alloc: Global,
+    device: &mut Untold,
+    words: &[&str],
+    out: &mut String,
+) -> Result<(), AllocError> {
+    match call(alloc, device, words) {
+        Ok(gate) => show_all(alloc, &mut device.copy()?, &gate, out),
+        Err(error) => write!(out, "{error}"),
     }
 }

@@ -1,6 +1,4 @@
 // The words of a command.
-ghost use Rattle.std.specs.Prelude.{◌<◌};
-
 use std::alloc::{AllocError, Global};
 
 // The word of this number; an empty one where there is none.
@@ -8,9 +6,19 @@ pub(crate) fn word<'a>(words: &[&'a str], i: usize) -> &'a str {
     words.get(i).copied().unwrap_or("")
 }
 
-// The number that a word spells; 0 where it spells none.
-pub(crate) fn number(word: &str) -> u64 {
-    word.parse().unwrap_or(0)
+// The number that the word of this number spells; 0 where it spells none.
+pub(crate) fn number(words: &[&str], i: usize) -> u64 {
+    word(words, i).parse().unwrap_or(0)
+}
+
+// The number below 65,536 that the word of this number spells; a greater one is taken modulo that.
+pub(crate) fn number16(words: &[&str], i: usize) -> u16 {
+    (number(words, i) % 0x1_0000) as u16
+}
+
+// The number below 2^32 that the word of this number spells; a greater one is taken modulo that.
+pub(crate) fn number32(words: &[&str], i: usize) -> u32 {
+    (number(words, i) % 0x1_0000_0000) as u32
 }
 
 // The bytes that a word spells: its parts, with `+` between, one behind the other.
@@ -22,8 +30,7 @@ pub(crate) fn bytes(alloc: Global, word: &str) -> Result<Vec<u8>, AllocError> {
     Ok(all)
 }
 
-// Appends what a part spells: `hex:00ff` those bytes, `zeros:3` so many, `count:3` so many that count up from 0 to 250
-// and begin again, anything else itself.
+// Appends what a part spells: `hex:00ff` those bytes, `zeros:3` so many, anything else itself.
 fn append(alloc: Global, all: &mut Vec<u8>, part: &str) -> Result<(), AllocError> {
     if let Some(digits) = part.strip_prefix("hex:") {
         return match hex::decode(alloc, digits) {
@@ -31,38 +38,33 @@ fn append(alloc: Global, all: &mut Vec<u8>, part: &str) -> Result<(), AllocError
             Err(_) => Err(AllocError),
         };
     }
-    if let Some(length) = part.strip_prefix("zeros:") {
-        return count(all, number(length), 1);
-    }
-    match part.strip_prefix("count:") {
-        Some(length) => count(all, number(length), 251),
+    match part.strip_prefix("zeros:") {
+        Some(length) => append_zeros(all, length.parse().unwrap_or(0)),
         None => all.extend_from_slice(part.as_bytes()),
     }
 }
 
-// Appends so many bytes, each its place modulo this number.
-fn count(all: &mut Vec<u8>, length: u64, modulus: u64) -> Result<(), AllocError>
-    requires positive { 0 < modulus }
-    requires small { modulus < 256 }
-{
-    for i in 0..length {
-        all.push((i % modulus) as u8)?;
+fn append_zeros(all: &mut Vec<u8>, length: u64) -> Result<(), AllocError> {
+    for _ in 0..length {
+        all.push(0)?;
     }
     Ok(())
 }
 
-// Bytes as an answer shows them: visible ASCII as itself, else in hex; `-` where there are none, and their number alone
-// where there are more than 40.
-pub(crate) fn shown(alloc: Global, bytes: &[u8]) -> Result<String, AllocError> {
+// Shows bytes: visible ASCII as itself, else in hex; `-` where there are none, and their number alone where there are more
+// than 40.
+pub(crate) fn show(alloc: Global, bytes: &[u8], out: &mut String) -> Result<(), AllocError> {
     if bytes.is_empty() {
-        return String::from_str(alloc, "-");
+        return out.push_str("-");
     }
     if bytes.len() > 40 {
-        let length = bytes.len();
-        return format!(in alloc; "{length} bytes");
+        return write!(out, "{} bytes", bytes.len());
     }
     match std::str::from_utf8(bytes) {
-        Ok(text) if text.bytes().all(|b| b.is_ascii_graphic()) => String::from_str(alloc, text),
-        _ => hex::encode(alloc, bytes),
+        Ok(text) if text.bytes().all(|b| b.is_ascii_graphic()) => out.push_str(text),
+        _ => {
+            let digits = hex::encode(alloc, bytes)?;
+            out.push_str(digits.as_str())
+        }
     }
 }

@@ -1,10 +1,8 @@
 //! What the commands of a case work on.
 
-use crate::beside::redo_beside;
 use crate::framing::answer_frames;
 use crate::grouping::answer_groups;
-use crate::mapping::answer_maps;
-use crate::paging::{answer_page, count_stored, show_digests};
+use crate::paging::{answer_page, show_digests};
 use crate::pooling::answer_pool;
 use crate::records::{append_bytes, append_records};
 use crate::redoing::redo_frames;
@@ -13,20 +11,18 @@ use crate::undoing::{show_losers, show_part};
 use crate::words::{number, word};
 use bk_frames::Frames;
 use bk_groups::Groups;
-use bk_maps::Maps;
 use bk_pool::Pool;
 use bk_shown::Shown;
 use cases::Subject;
 use std::alloc::{AllocError, Global};
 use std::thread::Threads;
 
-/// Some frames, a pool, change maps, filegroups, a log, and what is shown of one.
+/// Some frames, a pool, filegroups, a log, and what is shown of one.
 #[derive(Drop)]
 pub(crate) struct Floor {
     alloc: Global,
     frames: Frames,
     pool: Pool,
-    maps: Maps,
     groups: Groups,
     log: Vec<u8>,
     shown: Shown,
@@ -39,7 +35,6 @@ impl Floor {
             alloc,
             frames: Frames::new(alloc, 0)?,
             pool: Pool::new(alloc, 0)?,
-            maps: Maps::new(alloc, &[])?,
             groups: Groups::new(alloc, &[])?,
             log: Vec::new(alloc),
             shown: Shown::new(alloc, &[])?,
@@ -56,17 +51,14 @@ pub(crate) fn answer_command<R: Threads + Sync>(
 ) -> Result<(), AllocError> {
     let (head, lines) = command.split_once('\n').unwrap_or((command, ""));
     match word(head, 0) {
-        "frames" => answer_frames(rt, floor.alloc, &mut floor.frames, head, out),
+        "frames" => answer_frames(floor.alloc, &mut floor.frames, head, out),
         "page" => answer_page(&mut floor.frames, head, out),
         "digests" => show_digests(rt, floor.alloc, &floor.frames, out),
-        "stored" => count_stored(rt, floor.alloc, &floor.frames, out),
         "pool" => answer_pool(floor.alloc, &mut floor.pool, head, out),
-        "maps" => answer_maps(floor.alloc, &mut floor.maps, head, out),
         "groups" => answer_groups(floor.alloc, &mut floor.groups, head, out),
         "log" => append_records(floor.alloc, &mut floor.log, lines),
         "bytes" => append_bytes(&mut floor.log, head),
         "redo" => redo_frames(rt, floor.alloc, &mut floor.frames, &floor.log, head, out),
-        "beside" => redo_beside(rt, floor.alloc, &mut floor.frames, &floor.log, out),
         "shown" => answer_shown(floor.alloc, &mut floor.shown, &floor.log, head, out),
         "part" => show_part(floor.alloc, &floor.log, number(head, 1), out),
         "losers" => show_losers(floor.alloc, &floor.log, number(head, 1), out),

@@ -1,6 +1,7 @@
 //! Commands on filegroups.
 
 ghost use Rattle.std.specs.Prelude.{◌≡◌, ◌≤◌, IfOk};
+ghost use Rattle.bk_groups.specs.Groups.{AreFiles};
 
 use crate::words::{number, word};
 use bk_groups::Groups;
@@ -17,9 +18,6 @@ pub(crate) fn answer_groups(
     match word(command, 1) {
         "new" => *groups = groups_of(alloc, command)?,
         "table" => return add_table(groups, command, out),
-        "touch" => return touch(groups, command, out),
-        "group" => return show_group(groups, command, out),
-        "fresh" => return show_fresh(groups, command, out),
         "is-free" => return show_free(groups, command, out),
         "fill" | "put" | "free" | "find" => return answer_row(groups, command, out),
         _ => return out.push_str("no such command\n"),
@@ -27,21 +25,23 @@ pub(crate) fn answer_groups(
     Ok(())
 }
 
-// Two files, each of a filegroup, with so many extents.
 fn groups_of(alloc: Global, command: &str) -> Result<Groups, AllocError> {
-    let mut files = Vec::new(alloc);
-    files.push(file(alloc, 1, word(command, 2), word(command, 3))?)?;
-    files.push(file(alloc, 2, word(command, 4), word(command, 5))?)?;
+    let files = files_of(alloc, command)?;
     Groups::new(alloc, &files)
 }
 
+/// Two files, each of a filegroup, with so many extents.
+pub(crate) fn files_of(alloc: Global, command: &str) -> Result<Vec<FileSpec>, AllocError>
+    ensures { IfOk result (λ files. AreFiles files.items) }
+{
+    let mut files = Vec::new(alloc);
+    files.push(file(alloc, 1, word(command, 2), word(command, 3))?)?;
+    files.push(file(alloc, 2, word(command, 4), word(command, 5))?)?;
+    Ok(files)
+}
+
 // The file of this number, of a filegroup and with so many extents, at most 4,096.
-pub(crate) fn file(
-    alloc: Global,
-    number: u16,
-    group: &str,
-    extents: &str,
-) -> Result<FileSpec, AllocError>
+fn file(alloc: Global, number: u16, group: &str, extents: &str) -> Result<FileSpec, AllocError>
     ensures number { IfOk result (λ file. file.number ≡ number) }
     ensures extents { IfOk result (λ file. file.extents ≤ 4096) }
 {
@@ -61,31 +61,6 @@ fn add_table(groups: &mut Groups, command: &str, out: &mut String) -> Result<(),
         return out.push_str("there is such a table\n");
     }
     groups.add_table(table, word(command, 3).parse().unwrap_or(0))
-}
-
-fn touch(groups: &mut Groups, command: &str, out: &mut String) -> Result<(), AllocError> {
-    let file = word(command, 2).parse().unwrap_or(0);
-    let extent = word(command, 3).parse().unwrap_or(0);
-    if !groups.has_extent(file, extent) {
-        return out.push_str("no such extent\n");
-    }
-    groups.touch(file, extent);
-    Ok(())
-}
-
-fn show_group(groups: &Groups, command: &str, out: &mut String) -> Result<(), AllocError> {
-    match groups.group(word(command, 2).parse().unwrap_or(0)) {
-        Some(group) => writeln!(out, "filegroup {group}"),
-        None => out.push_str("no such table\n"),
-    }
-}
-
-fn show_fresh(groups: &Groups, command: &str, out: &mut String) -> Result<(), AllocError> {
-    writeln!(
-        out,
-        "{} fresh",
-        groups.fresh(word(command, 2).parse().unwrap_or(0))
-    )
 }
 
 // The place that a command names by its file, page and slot, if it is one of a cell.

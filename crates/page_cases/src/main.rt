@@ -1,14 +1,11 @@
-//! Cases of the floor of pages: frames, pages, a pool, change maps, filegroups, redo, undo, and what a log shows.
+//! Cases of the floor of pages: frames, pages, a pool, filegroups, redo, undo, and what a log shows.
 //!
 //! What the commands of a case mean stands at the head of each file of cases in `data/`.
 #![tactic(auto)]
 
-mod beside;
 mod floor;
 mod framing;
 mod grouping;
-mod lending;
-mod mapping;
 mod paging;
 mod pooling;
 mod records;

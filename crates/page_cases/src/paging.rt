@@ -5,8 +5,8 @@ ghost use Rattle.std.specs.Prelude.{◌<◌};
 use crate::words::{index, number, word};
 use bk_frames::{Frames, Page};
 use bk_page::{
-    Cell, check, format_page, page_digests, page_file, page_lsn, page_number, read_cell,
-    seal_digest, set_page_lsn, write_cell,
+    Cell, check, format_page, page_digests, page_lsn, read_cell, seal_digest, set_page_lsn,
+    write_cell,
 };
 use std::alloc::{AllocError, Global};
 use std::thread::Threads;
@@ -21,7 +21,7 @@ pub(crate) fn answer_page(
         return out.push_str("no such page\n");
     }
     match word(command, 1) {
-        "header" | "bytes" | "cell" | "used" | "check" => return show(frames.page(i), command, out),
+        "bytes" | "cell" | "used" | "check" => return show(frames.page(i), command, out),
         "format" | "lsn" | "write" | "byte" | "seal" => change(frames.page_mut(i), command),
         _ => return out.push_str("no such command\n"),
     }
@@ -30,7 +30,6 @@ pub(crate) fn answer_page(
 
 fn show(page: &Page, command: &str, out: &mut String) -> Result<(), AllocError> {
     match word(command, 1) {
-        "header" => show_header(page, out),
         "bytes" => show_bytes(page, index(command, 3), index(command, 4), out),
         "cell" => show_cell(read_cell(page, slot_in(command)), out),
         "used" => show_used(page, out),
@@ -81,11 +80,6 @@ fn set_byte(page: &mut Page, at: usize, byte: u8) {
     }
 }
 
-fn show_header(page: &Page, out: &mut String) -> Result<(), AllocError> {
-    let (lsn, file, number) = (page_lsn(page), page_file(page), page_number(page));
-    writeln!(out, "lsn {lsn} file {file} number {number}")
-}
-
 fn show_bytes(bytes: &[u8], from: usize, to: usize, out: &mut String) -> Result<(), AllocError> {
     match bytes.get(from..to) {
         Some(bytes) => show_hex(bytes, out),
@@ -133,13 +127,6 @@ fn show_check(page: &Page, out: &mut String) -> Result<(), AllocError> {
     }
 }
 
-// Formats each page as that of its index, in file 1.
-pub(crate) fn format_all(frames: &mut Frames) {
-    for (i, page) in frames.as_mut_slice().iter_mut().enumerate() {
-        format_page(page, 1, u32::try_from(i).unwrap_or(0));
-    }
-}
-
 // The digest of each page.
 pub(crate) fn show_digests<R: Threads + Sync>(
     rt: &R,
@@ -151,25 +138,4 @@ pub(crate) fn show_digests<R: Threads + Sync>(
         show_hex(digest, out)?;
     }
     Ok(())
-}
-
-// How many of the pages store their digest.
-pub(crate) fn count_stored<R: Threads + Sync>(
-    rt: &R,
-    alloc: Global,
-    frames: &Frames,
-    out: &mut String,
-) -> Result<(), AllocError> {
-    let digests = page_digests(rt, alloc, frames)?;
-    let mut stored = 0usize;
-    for (page, digest) in frames.as_slice().iter().zip(&digests) {
-        if is_stored(page, digest) {
-            stored = stored.wrapping_add(1);
-        }
-    }
-    writeln!(out, "{stored} of {}", digests.len())
-}
-
-fn is_stored(page: &Page, digest: &[u8; 32]) -> bool {
-    page[32..64] == digest[..]
 }

@@ -1,13 +1,9 @@
 //! Commands on what a log shows.
 
-ghost use Rattle.std.specs.Prelude.{IfOk};
-ghost use Rattle.bk_groups.specs.Groups.{AreFiles};
-
-use crate::grouping::{file, show_place};
+use crate::grouping::{files_of, show_place};
 use crate::words::{number, word};
-use bk_record::{Records, cursor};
+use bk_record::cursor;
 use bk_shown::Shown;
-use bk_world::FileSpec;
 use std::alloc::{AllocError, Global};
 
 pub(crate) fn answer_shown(
@@ -20,7 +16,6 @@ pub(crate) fn answer_shown(
     match word(command, 1) {
         "new" => *shown = shown_of(alloc, command)?,
         "take" => return take(shown, log, out),
-        "restored" => return restore(alloc, shown, log, command, out),
         "tables" => return show_tables(shown, out),
         "rows" => return show_rows(alloc, shown, command, out),
         _ => return show_row(shown, command, out),
@@ -28,53 +23,10 @@ pub(crate) fn answer_shown(
     Ok(())
 }
 
-// Two files, each of a filegroup, with so many extents.
-fn files_of(alloc: Global, command: &str) -> Result<Vec<FileSpec>, AllocError>
-    ensures { IfOk result (λ files. AreFiles files.items) }
-{
-    let mut files = Vec::new(alloc);
-    files.push(file(alloc, 1, word(command, 2), word(command, 3))?)?;
-    files.push(file(alloc, 2, word(command, 4), word(command, 5))?)?;
-    Ok(files)
-}
-
-// Nothing in these files.
+// Nothing in two files, each of a filegroup and with so many extents.
 fn shown_of(alloc: Global, command: &str) -> Result<Shown, AllocError> {
     let files = files_of(alloc, command)?;
     Shown::new(alloc, &files)
-}
-
-// What is shown, anew: from its tables, its committed rows, and the log from the record of a number on.
-fn restore(
-    alloc: Global,
-    shown: &mut Shown,
-    log: &[u8],
-    command: &str,
-    out: &mut String,
-) -> Result<(), AllocError> {
-    let Some(whole) = Records::read(alloc, log)? else {
-        return out.push_str("no log\n");
-    };
-    let log = whole.from(alloc, number(command, 6))?;
-    let files = files_of(alloc, command)?;
-    let rows = shown.placed_rows(alloc)?;
-    let restored = Shown::restored(
-        alloc,
-        &files,
-        shown.tables(),
-        &rows,
-        &log,
-        shown.model(),
-        shown.time(),
-        shown.end(),
-    );
-    match restored {
-        Ok(restored) => {
-            *shown = restored;
-            Ok(())
-        }
-        Err(error) => writeln!(out, "{error}"),
-    }
 }
 
 // Takes the records of the log from the end on.

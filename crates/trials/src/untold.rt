@@ -1,10 +1,9 @@
 // A device in memory of which nothing is claimed, so that a case may open whatever files there are.
-ghost use Rattle.std.specs.Prelude.{◌≡◌, ◌≤◌, ◌<◌, ◌+◌, ◌^◌, true, Ok, IfOk, OnErr, OnOk, IsSomeAnd, length};
-ghost use Rattle.bk_device.specs.Calls.{contents};
+ghost use Rattle.std.specs.Prelude.{◌≡◌, ◌≤◌, Ok, IfOk, OnErr};
 ghost use Rattle.bk_device.specs.Counts.{HasRisen, one_more};
 ghost use Rattle.bk_device.specs.Disk.{unknown_disk};
-ghost use Rattle.bk_device.specs.Replay.{disk_of};
 
+use crate::inside::{cut_inside, has_bytes, write_inside};
 use bk_device::{Device, Failed, MemDevice};
 use std::alloc::{AllocError, Global};
 use std::mem;
@@ -17,40 +16,6 @@ pub struct Untold {
     // how often a call on a file, or on the output, failed
     disk_faults: u64,
     tell_faults: u64,
-}
-
-// Whether a write from this place on would begin inside the file, or at its end.
-fn begins_inside(device: &mut MemDevice, name: &str, at: u64) -> Result<bool, Failed>
-    ensures { IfOk result (λ yes. yes ≡ true → at ≤ length (contents ((disk_of device.new).files name.now))) }
-{
-    let len = device.len(name)?;
-    Ok(at <= len.unwrap_or(0))
-}
-
-// Whether the file is there and has at least so many bytes.
-fn has_bytes(device: &mut MemDevice, name: &str, len: u64) -> Result<bool, Failed>
-    ensures { IfOk result (λ yes. yes ≡ true → IsSomeAnd ((disk_of device.new).files name.now) (λ content. len ≤ length content)) }
-{
-    match device.len(name)? {
-        Some(length) => Ok(len <= length),
-        None => Ok(false),
-    }
-}
-
-fn write_inside(device: &mut MemDevice, name: &str, at: u64, bytes: &[u8]) -> Result<(), Failed>
-    ensures { OnOk result (at + length bytes.now < 2 ^ 62) }
-{
-    if !begins_inside(device, name, at)? {
-        return Err(Failed);
-    }
-    device.write(name, at, bytes)
-}
-
-fn cut_inside(device: &mut MemDevice, name: &str, len: u64) -> Result<(), Failed> {
-    if !has_bytes(device, name, len)? {
-        return Err(Failed);
-    }
-    device.cut(name, len)
 }
 
 // Puts another byte at a place of a file. Tells whether there is such a place.

@@ -1,19 +1,14 @@
-//! Cases over the values that are spelled as bytes or texts: fields, names, times, log records, headers, and sets on media.
+//! Cases over the values that are spelled as bytes or texts: names, times, cells, log records, headers, and sets on media.
 //!
 //! Each command speaks of the bytes that `bytes` and `more` gave, or of the words behind it. The files of `data/` are the cases.
 #![tactic(auto)]
 
-mod fault;
-mod fields;
 mod headers;
 mod ids;
-mod paths;
+mod media;
 mod records;
 mod sets;
-mod shelf;
 mod spelled;
-mod splits;
-mod times;
 mod values;
 mod words;
 

@@ -1,19 +1,17 @@
 // Sets on media, over a device in memory.
-ghost use Rattle.std.specs.Prelude.{◌≡◌, ◌≢◌, ◌≤◌, ◌<◌, ◌+◌, ◌^◌, false, length, IfOk, OnOk};
+ghost use Rattle.std.specs.Prelude.{◌≡◌, ◌≢◌, false, OnOk};
 ghost use Rattle.bk_header.specs.Conditions.{KeepsConditions};
 ghost use Rattle.bk_ids.specs.declared.guid.Guid.{Guid};
 ghost use Rattle.bk_volume.specs.Names.{staging_file};
 
-use crate::fault::Fault;
 use crate::records;
 use crate::words::{number, word};
-use bk_body::{Front, keeps_extent, read_front};
+use bk_body::{Front, read_front};
 use bk_bytes::{get_u16, get_u32, get_u64};
-use bk_header::{decode, keeps};
+use bk_header::keeps;
 use bk_ids::Digest;
 use bk_reading::Unread;
-use bk_volume::{Medium, ReadError, SetError, Staged, StoredSet, WriteError, name_law};
-use bk_world::{Header, TableSpec};
+use bk_volume::{Medium, SetError, Staged, StoredSet, WriteError, name_law};
 use std::alloc::{AllocError, Global};
 use trials::Untold;
 
@@ -27,53 +25,28 @@ const PAGE: usize = 8192;
 // No set has more tables.
 const MOST_TABLES: usize = 64;
 
-/// What is done with the medium at a path.
-#[derive(Clone, Copy)]
-pub enum Act {
-    /// It is made, without sets.
-    Make,
-    /// A set is added.
-    Add,
-    /// It is opened.
-    Load,
-    /// The set at this position is read.
-    Read(usize),
-    /// All its sets are taken away.
-    Empty,
-}
-
-/// An act, its medium's path, and the bytes of the set that is to be added.
-#[derive(Clone, Copy)]
-pub struct Task<'p, 's> {
-    pub act: Act,
-    pub path: &'p str,
-    pub set: &'s [u8],
-}
-
-// The act that a word names. Behind the path stands the position that is read.
-fn act_in(act: &str, words: &[&str]) -> Result<Act, Fault> {
-    match act {
-        "make" => Ok(Act::Make),
-        "add" => Ok(Act::Add),
-        "load" => Ok(Act::Load),
-        "read" => Ok(Act::Read(number(words, 2)? as usize)),
-        "empty" => Ok(Act::Empty),
-        _ => Err(Fault::Misspelled),
+/// `make`, `add`, `load`, `empty` or `read`, and a path: a medium is made, the set that the bytes spell is added to it, it is
+/// opened, all its sets are taken away, or the set at the position behind the path is read.
+pub fn run(
+    alloc: Global,
+    device: &mut Untold,
+    words: &[&str],
+    set: &[u8],
+    out: &mut String,
+) -> Result<(), AllocError> {
+    let path = word(words, 1);
+    match word(words, 0) {
+        "make" => make(alloc, device, path, out),
+        "add" => add(alloc, device, path, set, out),
+        "load" | "empty" | "read" => opened(alloc, device, words, out),
+        _ => out.push_str("no such command\n"),
     }
-}
-
-/// The task that words spell: an act's name, the path, and for a read the position.
-pub fn task_in<'p, 's>(words: &[&'p str], set: &'s [u8]) -> Result<Task<'p, 's>, Fault> {
-    let path = word(words, 1)?;
-    let act = act_in(word(words, 0)?, words)?;
-    Ok(Task { act, path, set })
 }
 
 fn show_count(medium: &Medium, out: &mut String) -> Result<(), AllocError>
     requires { medium.now.failed ≡ false }
 {
-    let count = medium.count();
-    writeln!(out, "{count} sets")
+    writeln!(out, "{} sets", medium.count())
 }
 
 fn make(
@@ -88,30 +61,29 @@ fn make(
     }
 }
 
-fn load(
+// What is done with a medium that is opened.
+fn opened(
     alloc: Global,
     device: &mut Untold,
-    path: &str,
+    words: &[&str],
     out: &mut String,
 ) -> Result<(), AllocError> {
-    match Medium::load(alloc, device, path) {
-        Ok(medium) => show_count(&medium, out),
-        Err(error) => writeln!(out, "{error}"),
-    }
-}
-
-fn empty(
-    alloc: Global,
-    device: &mut Untold,
-    path: &str,
-    out: &mut String,
-) -> Result<(), AllocError> {
-    let mut medium = match Medium::load(alloc, device, path) {
+    let mut medium = match Medium::load(alloc, device, word(words, 1)) {
         Ok(medium) => medium,
         Err(error) => return writeln!(out, "{error}"),
     };
+    match word(words, 0) {
+        "empty" => empty(device, &mut medium, out),
+        "read" => read(alloc, device, &medium, number(words, 2) as usize, out),
+        _ => show_count(&medium, out),
+    }
+}
+
+fn empty(device: &mut Untold, medium: &mut Medium, out: &mut String) -> Result<(), AllocError>
+    requires { medium.old.failed ≡ false }
+{
     match medium.empty(device) {
-        Ok(()) => show_count(&medium, out),
+        Ok(()) => show_count(medium, out),
         Err(_) => out.push_str("the device has failed\n"),
     }
 }
@@ -165,7 +137,6 @@ fn seal_parts(
     device: &mut Untold,
     medium: &mut Medium,
     staged: &mut Staged,
-    header: &Header,
     front: &Front,
     bytes: &[u8],
 ) -> Result<(), WriteError>
@@ -173,15 +144,15 @@ fn seal_parts(
     requires fit { staged.old.failed ≡ false }
     requires first { staged.old.log ≡ 0 }
     requires apart { staged.old.name ≢ medium.old.name }
-    requires keeps { KeepsConditions header.now }
+    requires keeps { KeepsConditions front.now.header }
     ensures whole { OnOk result (medium.new.failed ≡ false) }
 {
     add_parts(device, staged, front.extents as usize, bytes)?;
-    let tables: &[TableSpec] = front.tables.as_slice();
+    let tables = front.tables.as_slice();
     if tables.len() > MOST_TABLES {
         return Ok(());
     }
-    medium.seal_set(alloc, device, &*staged, header, tables)
+    medium.seal_set(alloc, device, &*staged, &front.header, tables)
 }
 
 // Adds a set to a medium: its parts are written into a file of their own, which is removed then.
@@ -189,65 +160,42 @@ fn add_to(
     alloc: Global,
     device: &mut Untold,
     medium: &mut Medium,
-    header: &Header,
     front: &Front,
     bytes: &[u8],
 ) -> Result<(), WriteError>
     requires whole { medium.old.failed ≡ false }
     requires apart { (set : Guid) → staging_file set ≢ medium.old.name }
-    requires keeps { KeepsConditions header.now }
+    requires keeps { KeepsConditions front.now.header }
     ensures whole { OnOk result (medium.new.failed ≡ false) }
 {
-    let mut staged = Staged::begin(alloc, device, header.set)?;
-    let sealed = seal_parts(alloc, device, medium, &mut staged, header, front, bytes);
+    let mut staged = Staged::begin(alloc, device, front.header.set)?;
+    let sealed = seal_parts(alloc, device, medium, &mut staged, front, bytes);
     let removed = staged.remove(device);
     sealed?;
     removed?;
     Ok(())
 }
 
-// Adds a set with this header to the medium at a path.
-fn add_at(
+// Adds a set with this front, behind which these bytes stand.
+fn add_front(
     alloc: Global,
     device: &mut Untold,
     path: &str,
-    header: &Header,
     front: &Front,
     bytes: &[u8],
     out: &mut String,
-) -> Result<(), AllocError>
-    requires keeps { KeepsConditions header.now }
-{
+) -> Result<(), AllocError> {
+    if !keeps(&front.header) {
+        return out.push_str("no set\n");
+    }
     name_law();
     let mut medium = match Medium::load(alloc, device, path) {
         Ok(medium) => medium,
         Err(error) => return writeln!(out, "{error}"),
     };
-    match add_to(alloc, device, &mut medium, header, front, bytes) {
+    match add_to(alloc, device, &mut medium, front, bytes) {
         Ok(()) => show_count(&medium, out),
         Err(error) => writeln!(out, "{error}"),
-    }
-}
-
-// Adds the set that bytes spell, whose header is this one.
-fn add_with(
-    alloc: Global,
-    device: &mut Untold,
-    path: &str,
-    set: &[u8],
-    header: &Header,
-    out: &mut String,
-) -> Result<(), AllocError>
-    requires keeps { KeepsConditions header.now }
-{
-    match read_front(alloc, set) {
-        Ok((front, bytes)) => {
-            let done = add_at(alloc, device, path, header, &front, bytes, out);
-            drop(front);
-            done
-        }
-        Err(Unread::Unspelled) => out.push_str("no set\n"),
-        Err(Unread::NoMemory) => Err(AllocError),
     }
 }
 
@@ -258,13 +206,14 @@ fn add(
     set: &[u8],
     out: &mut String,
 ) -> Result<(), AllocError> {
-    match decode(alloc, set)? {
-        Some((header, _)) => {
-            let done = add_with(alloc, device, path, set, &header, out);
-            drop(header);
+    match read_front(alloc, set) {
+        Ok((front, bytes)) => {
+            let done = add_front(alloc, device, path, &front, bytes, out);
+            drop(front);
             done
         }
-        None => out.push_str("no set\n"),
+        Err(Unread::Unspelled) => out.push_str("no set\n"),
+        Err(Unread::NoMemory) => Err(AllocError),
     }
 }
 
@@ -274,17 +223,10 @@ fn show_pages(pages: &[u8], out: &mut String) -> Result<(), AllocError> {
         let number = get_u64(page, 0).unwrap_or(0);
         write!(out, " {number}")?;
     }
-    Ok(())
+    out.push('\n')
 }
 
-// Whether bytes are the pages of this extent, which one of the header's files that are in the set has.
-fn is_kept(header: &Header, file: u16, extent: u32, pages: &[u8]) -> bool
-    requires { length pages.now ≡ 65536 }
-{
-    keeps(header) && keeps_extent(header.files.as_slice(), file, extent, pages)
-}
-
-// The file and the number of the extent at an index, whether it is one of the set's files, and its pages' numbers.
+// The file and the number of the extent at an index, and its pages' numbers.
 fn show_extent(
     alloc: Global,
     device: &mut Untold,
@@ -292,17 +234,13 @@ fn show_extent(
     set: &StoredSet,
     i: u32,
     out: &mut String,
-) -> Result<(), AllocError>
-    requires { medium.now.failed ≡ false }
-{
+) -> Result<(), AllocError> {
     let mut pages = vec![in alloc; 0u8; 65_536]?;
     let Ok(Some((file, extent))) = medium.extent_at(device, set, i, &mut pages) else {
         return out.push_str("no extent\n");
     };
-    let is_kept = is_kept(set.header(), file, extent, &pages);
-    write!(out, "extent {file} {extent} {is_kept}")?;
-    show_pages(&pages, out)?;
-    out.push('\n')
+    write!(out, "extent {file} {extent}")?;
+    show_pages(&pages, out)
 }
 
 fn show_extents(
@@ -311,29 +249,11 @@ fn show_extents(
     medium: &Medium,
     set: &StoredSet,
     out: &mut String,
-) -> Result<(), AllocError>
-    requires { medium.now.failed ≡ false }
-{
+) -> Result<(), AllocError> {
     for i in 0..set.extents() {
         show_extent(alloc, device, medium, set, i, out)?;
     }
     Ok(())
-}
-
-fn show_log(
-    alloc: Global,
-    device: &mut Untold,
-    medium: &Medium,
-    set: &StoredSet,
-    out: &mut String,
-) -> Result<(), AllocError>
-    requires { medium.now.failed ≡ false }
-{
-    match medium.log_of(alloc, device, set) {
-        Ok(log) => records::show(&log, out),
-        Err(ReadError::Fault) => out.push_str("the device has failed\n"),
-        Err(ReadError::NoMemory) => Err(AllocError),
-    }
 }
 
 // The database, the tables, the extents and the log of a set.
@@ -343,17 +263,13 @@ fn show_set(
     medium: &Medium,
     set: &StoredSet,
     out: &mut String,
-) -> Result<(), AllocError>
-    requires { medium.now.failed ≡ false }
-{
-    let database = set.header().database.as_str();
-    writeln!(out, "database {database}")?;
-    for table in set.tables() {
-        let (number, name, group) = (table.number, table.name.as_str(), table.group);
-        writeln!(out, "table {number} {name} group {group}")?;
-    }
+) -> Result<(), AllocError> {
+    writeln!(out, "{:?} {:?}", set.header().database, set.tables())?;
     show_extents(alloc, device, medium, set, out)?;
-    show_log(alloc, device, medium, set, out)
+    match medium.log_of(alloc, device, set) {
+        Ok(log) => records::show(alloc, &log, out),
+        Err(error) => writeln!(out, "{error}"),
+    }
 }
 
 // The two digests of a set that is damaged.
@@ -372,37 +288,19 @@ fn show_digests(
 fn read(
     alloc: Global,
     device: &mut Untold,
-    path: &str,
+    medium: &Medium,
     position: usize,
     out: &mut String,
-) -> Result<(), AllocError> {
-    let medium = match Medium::load(alloc, device, path) {
-        Ok(medium) => medium,
-        Err(error) => return writeln!(out, "{error}"),
-    };
+) -> Result<(), AllocError>
+    requires { medium.now.failed ≡ false }
+{
     match medium.open_set(alloc, device, position) {
         Ok(set) => {
-            let done = show_set(alloc, device, &medium, &set, out);
+            let done = show_set(alloc, device, medium, &set, out);
             drop(set);
             done
         }
         Err(SetError::Damaged { stored, found }) => show_digests(alloc, stored, found, out),
         Err(error) => writeln!(out, "{error}"),
-    }
-}
-
-/// Does a task on a device, and appends what is answered.
-pub fn run(
-    alloc: Global,
-    task: Task<'_, '_>,
-    device: &mut Untold,
-    out: &mut String,
-) -> Result<(), AllocError> {
-    match task.act {
-        Act::Make => make(alloc, device, task.path, out),
-        Act::Add => add(alloc, device, task.path, task.set, out),
-        Act::Load => load(alloc, device, task.path, out),
-        Act::Read(position) => read(alloc, device, task.path, position, out),
-        Act::Empty => empty(alloc, device, task.path, out),
     }
 }
